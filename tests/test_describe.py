@@ -108,7 +108,7 @@ def sizes(lef: str) -> dict[str, tuple[int, int]]:
     return {name: (round(float(width) * 1000), round(float(height) * 1000)) for name, width, height in found}
 
 
-def told_of(text: str, lef: str) -> list[Line]:
+def reported_of(text: str, lef: str) -> list[Line]:
     """The lines of a DEF text of the forms above, except the rules that cells break, and the totals."""
     name = re.search(r"^DESIGN (\S+) ;$", text, re.MULTILINE)
     assert name
@@ -173,7 +173,7 @@ class Describe(InFolder):
         words = self.design(text)
         lines = self.described(words, status)
         judged = [{key: value for key, value in line.items() if key not in ("rule", "other")} for line in lines[:-1]]
-        self.assertEqual(judged, told_of(text, LEF.read_text()))
+        self.assertEqual(judged, reported_of(text, LEF.read_text()))
         checked, report, said = run(["check", *words])
         self.assertEqual((checked, said), (status, ""))
         found = json.loads(report)

@@ -46,7 +46,7 @@ fn words(rt: &HostRuntime) -> Result<Vec<String>, UsageFault> {
 }
 
 /// Borrows the words. `Err(OutOfMemory)` if an allocation fails.
-fn lent(alloc: Global, words: &[String]) -> Result<Vec<&str>, UsageFault> {
+fn borrowed_view(alloc: Global, words: &[String]) -> Result<Vec<&str>, UsageFault> {
     let mut texts = Vec::new(alloc);
     for word in words {
         if texts.push(word.as_str()).is_err() {
@@ -87,9 +87,9 @@ fn complain(rt: &HostRuntime, words: &[&str]) {
             return;
         }
         let line = line.trim();
-        let told = line.strip_prefix("error: ").unwrap_or(line);
-        if !told.is_empty() {
-            let _ = eprintln!(rt; "lefence: {told}");
+        let reported = line.strip_prefix("error: ").unwrap_or(line);
+        if !reported.is_empty() {
+            let _ = eprintln!(rt; "lefence: {reported}");
         }
     }
 }
@@ -100,7 +100,7 @@ fn answer(rt: &HostRuntime, words: &[&str], fault: UsageFault) -> u8 {
     match lf_app::help_of(words) {
         Some(help) if matches!(fault, UsageFault::Usage) => show(rt, help),
         _ => {
-            tell(rt, &fault, words);
+            report_it(rt, &fault, words);
             usage_status(&fault)
         }
     }
@@ -129,7 +129,7 @@ fn perform(rt: &HostRuntime, task: &Task<'_>) -> TaskExit {
 /// Does the task that the words name, and returns the exit status.
 fn run(rt: &HostRuntime) -> Result<u8, UsageFault> {
     let words = words(rt)?;
-    let texts = lent(rt.alloc(), words.as_slice())?;
+    let texts = borrowed_view(rt.alloc(), words.as_slice())?;
     let task = match lf_app::command_of(rt.alloc(), texts.as_slice()) {
         Ok(task) => task,
         Err(fault) => return Ok(answer(rt, texts.as_slice(), fault)),
@@ -138,7 +138,7 @@ fn run(rt: &HostRuntime) -> Result<u8, UsageFault> {
 }
 
 /// Prints a usage fault of these words, and the usage. A failure to write it is no further fault.
-fn tell(rt: &HostRuntime, fault: &UsageFault, words: &[&str]) {
+fn report_it(rt: &HostRuntime, fault: &UsageFault, words: &[&str]) {
     let _ = eprintln!(rt; "lefence: {fault}");
     if matches!(fault, UsageFault::Usage) {
         complain(rt, words);
@@ -150,7 +150,7 @@ fn main(rt: HostRuntime) -> ExitCode {
     match run(&rt) {
         Ok(status) => ExitCode::from(status),
         Err(fault) => {
-            tell(&rt, &fault, &[]);
+            report_it(&rt, &fault, &[]);
             ExitCode::from(usage_status(&fault))
         }
     }

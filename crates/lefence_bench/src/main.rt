@@ -18,18 +18,18 @@ use std::time::Instant;
 use std::{fs, io};
 
 /// Prints the time since `start`.
-fn tell_time<R: Clock + Eprint>(rt: &R, start: &Instant) -> io::Result<()> {
+fn print_time<R: Clock + Eprint>(rt: &R, start: &Instant) -> io::Result<()> {
     let taken = start.elapsed(rt)?;
     eprintln!(rt; "{} ns", taken.as_nanos())
 }
 
 /// Prints why a text or a design was refused.
-fn tell_fault<R: Print>(rt: &R, fault: &LoadFault<'_>) -> io::Result<()> {
+fn print_fault<R: Print>(rt: &R, fault: &LoadFault<'_>) -> io::Result<()> {
     println!(rt; "{fault:?}")
 }
 
 /// Prints the words that the program takes.
-fn tell_usage<R: Eprint>(rt: &R) -> io::Result<()> {
+fn print_usage<R: Eprint>(rt: &R) -> io::Result<()> {
     eprintln!(rt; "lex FILE, lef FILE, def FILE or load LEF DEF")
 }
 
@@ -47,7 +47,7 @@ fn count_tokens(text: &[u8]) -> u64 {
 fn lex<R: Clock + Print + Eprint>(rt: &R, text: &[u8]) -> io::Result<()> {
     let start = Instant::now(rt)?;
     let tokens = count_tokens(text);
-    tell_time(rt, &start)?;
+    print_time(rt, &start)?;
     println!(rt; "tokens {tokens}")
 }
 
@@ -61,10 +61,10 @@ fn count_library<'a>(alloc: Global, text: &'a [u8]) -> Result<(usize, usize), Lo
 fn lef<R: AllocGlobal + Clock + Print + Eprint>(rt: &R, text: &[u8]) -> io::Result<()> {
     let start = Instant::now(rt)?;
     let counts = count_library(rt.alloc(), text);
-    tell_time(rt, &start)?;
+    print_time(rt, &start)?;
     match counts {
         Ok((sites, macros)) => println!(rt; "sites {sites} macros {macros}"),
-        Err(fault) => tell_fault(rt, &fault),
+        Err(fault) => print_fault(rt, &fault),
     }
 }
 
@@ -84,12 +84,12 @@ fn count_document<'a>(
 fn def<R: AllocGlobal + Clock + Print + Eprint>(rt: &R, text: &[u8]) -> io::Result<()> {
     let start = Instant::now(rt)?;
     let counts = count_document(rt.alloc(), text);
-    tell_time(rt, &start)?;
+    print_time(rt, &start)?;
     match counts {
         Ok((rows, components, groups)) => {
             println!(rt; "rows {rows} components {components} groups {groups}")
         }
-        Err(fault) => tell_fault(rt, &fault),
+        Err(fault) => print_fault(rt, &fault),
     }
 }
 
@@ -122,10 +122,10 @@ fn load_document<R: AllocGlobal + Clock + Print + Eprint>(
 ) -> io::Result<()> {
     let start = Instant::now(rt)?;
     let counts = count_design(rt.alloc(), library, document);
-    tell_time(rt, &start)?;
+    print_time(rt, &start)?;
     match counts {
         Ok((rows, fences, cells)) => println!(rt; "rows {rows} fences {fences} cells {cells}"),
-        Err(fault) => tell_fault(rt, &fault),
+        Err(fault) => print_fault(rt, &fault),
     }
 }
 
@@ -137,7 +137,7 @@ fn load_text<R: AllocGlobal + Clock + Print + Eprint>(
 ) -> io::Result<()> {
     match read_def(rt.alloc(), text) {
         Ok(document) => load_document(rt, library, &document),
-        Err(fault) => tell_fault(rt, &fault),
+        Err(fault) => print_fault(rt, &fault),
     }
 }
 
@@ -150,7 +150,7 @@ fn load_design<R: AllocGlobal + Clock + Print + Eprint>(
     let mut library = Library::new(rt.alloc());
     match read_lef(&mut library, lef) {
         Ok(()) => load_text(rt, &library, def),
-        Err(fault) => tell_fault(rt, &fault),
+        Err(fault) => print_fault(rt, &fault),
     }
 }
 
@@ -165,7 +165,7 @@ fn read<R: Files + AllocGlobal + Clock + Print + Eprint>(
         "lex" => lex(rt, &text),
         "lef" => lef(rt, &text),
         "def" => def(rt, &text),
-        _ => tell_usage(rt),
+        _ => print_usage(rt),
     }
 }
 
@@ -178,6 +178,6 @@ fn main(rt: HostRuntime) -> io::Result<()> {
             let def = fs::read(&rt, def.as_str())?;
             load_design(&rt, &lef, &def)
         }
-        _ => tell_usage(&rt),
+        _ => print_usage(&rt),
     }
 }

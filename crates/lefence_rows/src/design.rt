@@ -38,7 +38,7 @@ const MOST_LINES: u32 = 1_000;
 
 /// The outputs that a row requests.
 #[derive(Clone, Copy)]
-pub struct Asked<'a> {
+pub struct Requested<'a> {
     /// Whether only the contents of its texts are requested.
     pub is_read: bool,
     /// Whether its report is requested.
@@ -147,10 +147,10 @@ impl Design {
     /// Writes the output of the design: its refusal; or what its texts contain, if requested; or
     /// `loaded`, its report if requested, the replies, and the exported text if requested. Replies
     /// and text by the plain seeker are written too if they differ.
-    pub fn answer<W: Write>(&self, asked: &Asked<'_>, writer: &mut W) -> io::Result<()> {
+    pub fn answer<W: Write>(&self, requested: &Requested<'_>, writer: &mut W) -> io::Result<()> {
         let mut library = Library::new(self.alloc);
         match read_lef(&mut library, &self.lef) {
-            Ok(()) => self.answer_on(&library, asked, writer),
+            Ok(()) => self.answer_on(&library, requested, writer),
             Err(fault) => put_fault(self.alloc, writer, &fault),
         }
     }
@@ -159,11 +159,11 @@ impl Design {
     fn answer_on<W: Write>(
         &self,
         library: &Library,
-        asked: &Asked<'_>,
+        requested: &Requested<'_>,
         writer: &mut W,
     ) -> io::Result<()> {
         match read_def(self.alloc, &self.def) {
-            Ok(document) => self.answer_over(library, &document, asked, writer),
+            Ok(document) => self.answer_over(library, &document, requested, writer),
             Err(fault) => put_fault(self.alloc, writer, &fault),
         }
     }
@@ -173,19 +173,19 @@ impl Design {
         &self,
         library: &Library,
         document: &DefDoc,
-        asked: &Asked<'_>,
+        requested: &Requested<'_>,
         writer: &mut W,
     ) -> io::Result<()> {
-        if asked.is_read {
+        if requested.is_read {
             put_library(writer, library)?;
             return put_document(writer, document);
         }
         match load(self.alloc, library, document, self.limits) {
             Ok(loaded) => {
-                self.put_head(&loaded, asked, writer)?;
-                let replies = replies_by_index(self.alloc, loaded, document, asked)?;
-                self.put_shipped(asked, &replies, writer)?;
-                self.compare(library, document, asked, &replies, writer)
+                self.put_head(&loaded, requested, writer)?;
+                let replies = replies_by_index(self.alloc, loaded, document, requested)?;
+                self.put_shipped(requested, &replies, writer)?;
+                self.compare(library, document, requested, &replies, writer)
             }
             Err(fault) => put_fault(self.alloc, writer, &fault),
         }
@@ -205,11 +205,11 @@ impl Design {
     fn put_head<W: Write>(
         &self,
         loaded: &Loaded,
-        asked: &Asked<'_>,
+        requested: &Requested<'_>,
         writer: &mut W,
     ) -> io::Result<()> {
         writer.write_all(b"loaded\n")?;
-        if !asked.is_checked {
+        if !requested.is_checked {
             return Ok(());
         }
         let report = report_line(self.alloc, loaded)?;
@@ -224,14 +224,14 @@ impl Design {
     /// `lefence replay`, and those of the library too if they differ.
     fn put_shipped<W: Write>(
         &self,
-        asked: &Asked<'_>,
+        requested: &Requested<'_>,
         replies: &[u8],
         writer: &mut W,
     ) -> io::Result<()> {
-        if self.is_limited || !asked.is_exported {
+        if self.is_limited || !requested.is_exported {
             return writer.write_all(replies);
         }
-        let shipped = shipped_program::replay(&self.texts(), asked.lines)?;
+        let shipped = shipped_program::replay(&self.texts(), requested.lines)?;
         let mut text = shipped.written;
         put_lines(&mut text, &shipped.exported)?;
         put_both(writer, &text, b"but by export\n", replies)
@@ -242,17 +242,17 @@ impl Design {
         &self,
         library: &Library,
         document: &DefDoc,
-        asked: &Asked<'_>,
+        requested: &Requested<'_>,
         replies: &[u8],
         writer: &mut W,
     ) -> io::Result<()> {
-        if asked.is_by_index_alone {
+        if requested.is_by_index_alone {
             return Ok(());
         }
         let Ok(loaded) = load(self.alloc, library, document, self.limits) else {
             return writer.write_all(b"not loaded again\n");
         };
-        let plain = replies_by(self.alloc, loaded, document, PlainSeeker, asked)?;
+        let plain = replies_by(self.alloc, loaded, document, PlainSeeker, requested)?;
         if plain.as_slice() == replies {
             return Ok(());
         }
@@ -328,15 +328,15 @@ fn put_export<S: Seeker + Drop>(
 fn put_answers<S: Seeker + Drop>(
     alloc: Global,
     floor: &mut Floor<S>,
-    asked: &Asked<'_>,
+    requested: &Requested<'_>,
     replies: &mut Vec<u8>,
 ) -> Result<(), AllocError>
     ensures { floor.new.components ≡ floor.old.components }
 {
-    if asked.is_run {
-        return put_run(alloc, floor, asked.lines, replies);
+    if requested.is_run {
+        return put_run(alloc, floor, requested.lines, replies);
     }
-    let mut reader = asked.lines;
+    let mut reader = requested.lines;
     let mut source = FromRead::new(&mut reader);
     let mut sink = ToWrite::new(replies);
     match serve_lines_within(alloc, floor, &mut source, &mut sink, MOST_LINES) {
@@ -352,14 +352,14 @@ fn put_replies<S: Seeker + Drop>(
     alloc: Global,
     floor: &mut Floor<S>,
     document: &DefDoc<'_>,
-    asked: &Asked<'_>,
+    requested: &Requested<'_>,
     replies: &mut Vec<u8>,
 ) -> Result<(), AllocError>
     requires fits { (s : FloorState) (places : List (ℕ × Option Place)) → s.components ≡ floor.old.components → AreCommittedPlaces s places
         → AreExportable document.now.components places }
 {
-    put_answers(alloc, floor, asked, replies)?;
-    if !asked.is_exported {
+    put_answers(alloc, floor, requested, replies)?;
+    if !requested.is_exported {
         return Ok(());
     }
     put_export(alloc, floor, document, replies)
@@ -372,7 +372,7 @@ fn replies_by<S: Seeker + Drop>(
     loaded: Loaded,
     document: &DefDoc<'_>,
     seeker: S,
-    asked: &Asked<'_>,
+    requested: &Requested<'_>,
 ) -> Result<Vec<u8>, AllocError>
     requires loads { (library : Contents) × (limits : TheLimits) × IsLoadedFrom (inputs library document.now limits) loaded }
 {
@@ -380,7 +380,7 @@ fn replies_by<S: Seeker + Drop>(
     places_follow_design();
     let mut floor = Floor::start(alloc, loaded, seeker)?;
     let mut replies = Vec::new(alloc);
-    match put_replies(alloc, &mut floor, document, asked, &mut replies) {
+    match put_replies(alloc, &mut floor, document, requested, &mut replies) {
         Ok(()) => Ok(replies),
         Err(error) => Err(error),
     }
@@ -391,10 +391,10 @@ fn replies_by_index(
     alloc: Global,
     loaded: Loaded,
     document: &DefDoc<'_>,
-    asked: &Asked<'_>,
+    requested: &Requested<'_>,
 ) -> Result<Vec<u8>, AllocError>
     requires loads { (library : Contents) × (limits : TheLimits) × IsLoadedFrom (inputs library document.now limits) loaded }
 {
     let seeker = IndexSeeker::build(alloc, &loaded.frame)?;
-    replies_by(alloc, loaded, document, seeker, asked)
+    replies_by(alloc, loaded, document, seeker, requested)
 }

@@ -3,8 +3,8 @@
 
 use itoa::Buffer;
 use lf_def::{
-    Blockage, Component, DefDoc, Group, Header, PlacementClause, PlacementKind, Region, RegionKind,
-    Row,
+    Blockage, Component, DefDoc, DocumentHeader, Group, PlacementClause, PlacementKind, Region,
+    RegionKind, RowStatement,
 };
 use lf_floorplan::{Macro, Site};
 use lf_lef::Library;
@@ -101,7 +101,7 @@ pub fn put_library<W: Write>(writer: &mut W, library: &Library) -> io::Result<()
 
 /// Writes the header: the design, the version, the divider, the brackets, and the units if they are
 /// given.
-fn put_header<W: Write>(writer: &mut W, header: &Header) -> io::Result<()> {
+fn put_header<W: Write>(writer: &mut W, header: &DocumentHeader) -> io::Result<()> {
     writer.write_all(b"design")?;
     put_word(writer, header.design.as_bytes())?;
     put_word(writer, header.version.as_bytes())?;
@@ -114,7 +114,7 @@ fn put_header<W: Write>(writer: &mut W, header: &Header) -> io::Result<()> {
 }
 
 /// Writes a row: its name, site and location, its sites across and up, and its step if it is given.
-fn put_row<W: Write>(writer: &mut W, row: &Row) -> io::Result<()> {
+fn put_row<W: Write>(writer: &mut W, row: &RowStatement) -> io::Result<()> {
     writer.write_all(b"row")?;
     put_word(writer, row.name.as_bytes())?;
     put_word(writer, row.site.as_bytes())?;

@@ -1,6 +1,6 @@
 //! A row: the lines with its settings and requests.
 
-use crate::design::{Asked, Design};
+use crate::design::{Design, Requested};
 use lf_frame::Limits;
 use lf_units::read_fixed;
 use std::alloc::{AllocError, Global};
@@ -130,7 +130,7 @@ impl Row {
         if !self.is_begun {
             return Ok(());
         }
-        let asked = Asked {
+        let requested = Requested {
             is_read: self.is_read,
             is_checked: self.is_checked,
             is_by_index_alone: self.is_by_index_alone,
@@ -138,6 +138,6 @@ impl Row {
             is_run: self.is_run,
             lines: &self.lines,
         };
-        self.design.answer(&asked, writer)
+        self.design.answer(&requested, writer)
     }
 }

@@ -4,10 +4,10 @@ use Rattle.lf_cli.specs.declared.parse.Task.{Task}
 use Rattle.lf_cli.specs.declared.parse.Task.TheVariants.{Demo, Replay, Serve, Check, Describe, Repair}
 use Rattle.lf_cli.specs.Command.{Job, ReadsNone, as_job, check, demo, describe, repair, replay, serve}
 use Rattle.lf_task_designs.specs.declared.faults.Fault.{Fault}
-use Rattle.lf_task_designs.specs.declared.faults.Fault.TheVariants.{Refused, File, NoState, NoTeam, ReadFault, WriteFault, TooManyLines, OutOfMemory, Output, Bind, Accept, Unwritten, Unsaved, Unlisted, NoMemory, NoRoom}
+use Rattle.lf_task_designs.specs.declared.faults.Fault.TheVariants.{Refused, File, RefusedState, NoTeam, ReadFault, WriteFault, TooManyLines, OutOfMemory, Output, Bind, Accept, Unwritten, Unsaved, Unlisted, SetupOutOfMemory, OutputOutOfMemory}
 use Rattle.lf_task_designs.specs.Designs.{ReadsFile}
 use Rattle.lf_task_designs.specs.Faults.{status_of}
-use Rattle.lf_app.specs.Exits.{IsOutcome}
+use Rattle.lf_app.specs.Exits.{IsJobOutcome}
 use Rattle.lf_task_serve.specs.Exits.{Streams}
 use Rattle.lf_task_files.specs.Faults.{IsDone, IsFailure}
 
@@ -15,7 +15,7 @@ use Rattle.lf_task_files.specs.Faults.{IsDone, IsFailure}
 pub failing : (fault : Fault) (status : ℕ) → status ≡ status_of fault → IsFailure status
 failing (Refused file refusal) status is = inl is
 failing (File file why) status is = inr is
-failing (NoState path refusal) status is = inl is
+failing (RefusedState path refusal) status is = inl is
 failing (NoTeam name) status is = inl is
 failing ReadFault status is = inr is
 failing WriteFault status is = inr is
@@ -27,8 +27,8 @@ failing Accept status is = inr is
 failing (Unwritten path why) status is = inr is
 failing (Unsaved path why) status is = inr is
 failing (Unlisted path why) status is = inr is
-failing NoMemory status is = inl is
-failing NoRoom status is = inl is
+failing SetupOutOfMemory status is = inl is
+failing OutputOutOfMemory status is = inl is
 
 -- No task both succeeds and fails.
 pub not_both : (status : ℕ) → IsDone status → IsFailure status → ⊥
@@ -38,16 +38,16 @@ not_both status (inr is) (inl fails) = omega (arith, is, fails)
 not_both status (inr is) (inr fails) = omega (arith, is, fails)
 
 -- The status of the outcome of a job is that of a task that succeeded.
-pub succeeds : (gives : ReadsFile) (job : Job) (io : Streams) (status : ℕ) → IsOutcome gives job io status → IsDone status
+pub succeeds : (gives : ReadsFile) (job : Job) (io : Streams) (status : ℕ) → IsJobOutcome gives job io status → IsDone status
 succeeds gives demo io status (limits, slots, is) = inl is.3
 succeeds gives (replay def lefs state number lines save export) io status (limits, slots, is) = inl is.1
 succeeds gives (serve def lefs state number port connections save export) io status (limits, slots, is) = inl is.1
 succeeds gives (check def lefs state number) io status (limits, slots, is) = is.2.done
 succeeds gives (describe def lefs state number) io status (limits, slots, is) = is.shown.2.done
-succeeds gives (repair def lefs teams legal export lines) io status (limits, slots, is) = is.repaired.judged.done
+succeeds gives (repair def lefs teams legal export lines) io status (limits, slots, is) = is.repaired.committed_checked.done
 
 -- Only a check, a description or a repair has status 4.
-pub checked : (gives : ReadsFile) (task : Task) (io : Streams) (status : ℕ) → IsOutcome gives (as_job task) io status → status ≡ 4 → ReadsNone task
+pub checked : (gives : ReadsFile) (task : Task) (io : Streams) (status : ℕ) → IsJobOutcome gives (as_job task) io status → status ≡ 4 → ReadsNone task
 checked gives Demo io status (limits, slots, is) four = let zero : status ≡ 0 = is.3 in absurd (omega (arith, zero, four))
 checked gives (Replay def lefs state number lines save export) io status (limits, slots, is) four =
     let zero : status ≡ 0 = is.1 in absurd (omega (arith, zero, four))

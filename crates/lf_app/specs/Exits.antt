@@ -12,10 +12,10 @@ use Rattle.lf_task_designs.specs.declared.faults.TaskExit.{TaskExit}
 use Rattle.lf_task_designs.specs.Checks.{IsNotReported}
 use Rattle.lf_task_designs.specs.Designs.{AreWithSlots, ReadsFile, IsDesignFault, IsTextDesign, IsTextFault}
 use Rattle.lf_task_designs.specs.Faults.{EndsWith}
-use Rattle.lf_task_serve.specs.Lines.{most_lines}
+use Rattle.lf_task_serve.specs.Lines.{default_most_lines}
 use Rattle.lf_task_files.specs.States.{IsFloorFault, IsViewedDesignOf}
 use Rattle.lf_task_files.specs.Exits.{IsOpenDescribed}
-use Rattle.lf_task_serve.specs.Exits.{IsAnswered, EndsWithFault, IsJobStop, IsLinesFault, IsOffered}
+use Rattle.lf_task_serve.specs.Exits.{AnswersInput, EndsWithFault, IsJobStop, IsLinesFault, IsOffered}
 use Rattle.lf_task_repair.specs.Exits.{IsNotRepaired, IsOpenRepaired}
 use Rattle.lf_task_files.specs.Exits.{IsOpenUndescribed, IsReported}
 use Rattle.lf_task_serve.specs.Exits.{IsServiceFault, IsUndone, IsServedDesign, Streams}
@@ -26,18 +26,18 @@ EndsTask why old new failed exit = (fault : Fault) × why fault × EndsWith faul
 
 -- A job that requests no final state and no commands of a repair: nothing is written after the
 -- exported text.
-abbrev pub AsksForNoState : Job → Type 0
-AsksForNoState (replay def lefs state slots lines save export) = save ≡ None
-AsksForNoState (serve def lefs state slots port connections save export) = save ≡ None
-AsksForNoState (repair def lefs teams legal export lines) = lines ≡ None
-AsksForNoState job = Unit {0}
+abbrev pub NamesNoState : Job → Type 0
+NamesNoState (replay def lefs state slots lines save export) = save ≡ None
+NamesNoState (serve def lefs state slots port connections save export) = save ≡ None
+NamesNoState (repair def lefs teams legal export lines) = lines ≡ None
+NamesNoState job = Unit {0}
 
 -- A job that requests no text to be written to a file.
-abbrev pub AsksForNoFile : Job → Type 0
-AsksForNoFile (replay def lefs state slots lines save export) = (save ≡ None) × (export ≡ None)
-AsksForNoFile (serve def lefs state slots port connections save export) = (save ≡ None) × (export ≡ None)
-AsksForNoFile (repair def lefs teams legal export lines) = (lines ≡ None) × (export ≡ None)
-AsksForNoFile job = Unit {0}
+abbrev pub NamesNoFile : Job → Type 0
+NamesNoFile (replay def lefs state slots lines save export) = (save ≡ None) × (export ≡ None)
+NamesNoFile (serve def lefs state slots port connections save export) = (save ≡ None) × (export ≡ None)
+NamesNoFile (repair def lefs teams legal export lines) = (lines ≡ None) × (export ≡ None)
+NamesNoFile job = Unit {0}
 
 -- A job that repairs nothing: no progress is reported.
 abbrev pub RepairsNothing : Job → Type 0
@@ -51,26 +51,26 @@ ReadsNoInput (replay def lefs state slots lines save export) = ⊥
 ReadsNoInput job = Unit {0}
 
 -- The number of session slots of each team of a job's design.
-abbrev pub slots_of : Job → ℕ
-slots_of (check def lefs state slots) = slots
-slots_of (describe def lefs state slots) = slots
-slots_of (replay def lefs state slots lines save export) = slots
-slots_of (serve def lefs state slots port connections save export) = slots
-slots_of _ = 8
+abbrev pub job_slots : Job → ℕ
+job_slots (check def lefs state slots) = slots
+job_slots (describe def lefs state slots) = slots
+job_slots (replay def lefs state slots lines save export) = slots
+job_slots (serve def lefs state slots port connections save export) = slots
+job_slots _ = 8
 
 -- The most lines of its input that a job answers.
 abbrev pub reads_of : Job → ℕ
 reads_of (replay def lefs state slots lines save export) = lines
-reads_of _ = most_lines
+reads_of _ = default_most_lines
 
 -- The outcome of a job that succeeds on a design within these limits, with this status.
 abbrev pub IsOutcomeWithin : Limits → ReadsFile → Job → Streams → ℕ → Type 0
 IsOutcomeWithin limits gives demo io status =
     (loaded : Loaded) × IsTextDesign limits DEMO_DEF.now DEMO_LEF.now loaded
-    × ((floor : FloorState) × IsAnswered most_lines (initial_floor loaded) floor io.input io.left io.before io.after)
+    × ((floor : FloorState) × AnswersInput default_most_lines (initial_floor loaded) floor io.input io.left io.before io.after)
     × (status ≡ 0)
 IsOutcomeWithin limits gives (replay def lefs state slots lines save export) io status =
-    IsServedDesign limits gives def lefs state save export (λ begin floor io. IsAnswered lines begin floor io.input io.left io.before io.after) io × (status ≡ 0)
+    IsServedDesign limits gives def lefs state save export (λ begin floor io. AnswersInput lines begin floor io.input io.left io.before io.after) io × (status ≡ 0)
 IsOutcomeWithin limits gives (serve def lefs state slots port connections save export) io status =
     IsServedDesign limits gives def lefs state save export
     (λ begin floor io. IsOffered begin floor connections io.before io.after io.old_accepted io.new_accepted) io × (status ≡ 0)
@@ -81,8 +81,8 @@ IsOutcomeWithin limits gives (repair def lefs teams legal export lines) io statu
     IsOpenRepaired limits gives def lefs teams legal export lines io.before io.after io.old_puts io.new_puts status
 
 -- The outcome of a job that succeeds, with this status.
-abbrev pub IsOutcome : ReadsFile → Job → Streams → ℕ → Type 0
-IsOutcome gives job io status = (limits : Limits) × AreWithSlots (slots_of job) limits × IsOutcomeWithin limits gives job io status
+abbrev pub IsJobOutcome : ReadsFile → Job → Streams → ℕ → Type 0
+IsJobOutcome gives job io status = (limits : Limits) × AreWithSlots (job_slots job) limits × IsOutcomeWithin limits gives job io status
 
 -- ---- faults
 
@@ -92,11 +92,11 @@ IsOutcome gives job io status = (limits : Limits) × AreWithSlots (slots_of job)
 abbrev pub IsJobFaultWithin : Limits → ReadsFile → Job → Fault → Streams → Type 0
 IsJobFaultWithin limits gives demo fault io =
     IsJobStop (IsTextFault limits DEMO_DEF.now DEMO_LEF.now) (IsTextDesign limits DEMO_DEF.now DEMO_LEF.now)
-    (λ loaded fault io. IsLinesFault most_lines (initial_floor loaded) fault io.input io.left io.before io.after) fault io
+    (λ loaded fault io. IsLinesFault default_most_lines (initial_floor loaded) fault io.input io.left io.before io.after) fault io
 IsJobFaultWithin limits gives (replay def lefs state slots lines save export) fault io =
     IsUndone limits gives def lefs state save export
     (λ begin fault io. EndsWithFault lines begin fault io.input io.left io.before io.after)
-    (λ begin floor io. IsAnswered lines begin floor io.input io.left io.before io.after) fault io
+    (λ begin floor io. AnswersInput lines begin floor io.input io.left io.before io.after) fault io
 IsJobFaultWithin limits gives (serve def lefs state slots port connections save export) fault io =
     IsUndone limits gives def lefs state save export
     (λ begin fault io. IsServiceFault port connections begin fault io.before io.after io.old_accepted io.new_accepted)
@@ -111,4 +111,4 @@ IsJobFaultWithin limits gives (repair def lefs teams legal export lines) fault i
 
 -- Why a job fails.
 abbrev pub IsJobFault : ReadsFile → Job → Fault → Streams → Type 0
-IsJobFault gives job fault io = (limits : Limits) × AreWithSlots (slots_of job) limits × IsJobFaultWithin limits gives job fault io
+IsJobFault gives job fault io = (limits : Limits) × AreWithSlots (job_slots job) limits × IsJobFaultWithin limits gives job fault io

@@ -7,13 +7,13 @@ ghost use Rattle.lf_floor_model.specs.Designs.{initial_floor};
 ghost use Rattle.lf_floor_model.specs.States.{FloorState};
 ghost use Rattle.lf_task_designs.specs.Designs.{IsTextDesign, IsTextFault};
 ghost use Rattle.lf_task_designs.specs.Faults.{IsEarly};
-ghost use Rattle.lf_task_serve.specs.Exits.{IsAnswered, IsJobStop, IsLinesFault, alone};
+ghost use Rattle.lf_task_serve.specs.Exits.{AnswersInput, IsJobStop, IsLinesFault, streams_alone};
 ghost use Rattle.lf_task_files.specs.Faults.{IsDone, IsFailure};
 ghost use Rattle.lf_task_serve.specs.Faults.{BlamesStreams};
-ghost use Rattle.lf_task_serve.specs.Lines.{most_lines};
+ghost use Rattle.lf_task_serve.specs.Lines.{default_most_lines};
 ghost use Rattle.lf_task_serve.specs.Surroundings.{BlamesEnvironment, IsReady, KeepsDevices, io_of};
-ghost use Rattle.lf_app.specs.Exits.{AsksForNoFile, AsksForNoState, EndsTask, IsJobFault, IsJobFaultWithin, IsOutcome, IsOutcomeWithin, ReadsNoInput, RepairsNothing};
-ghost use Rattle.lf_app.specs.Exits.{reads_of, slots_of};
+ghost use Rattle.lf_app.specs.Exits.{NamesNoFile, NamesNoState, EndsTask, IsJobFault, IsJobFaultWithin, IsJobOutcome, IsOutcomeWithin, ReadsNoInput, RepairsNothing};
+ghost use Rattle.lf_app.specs.Exits.{reads_of, job_slots};
 ghost use Rattle.lf_app.specs.Offers.{IsOfferOf};
 
 use lf_cli::{Slots, Task};
@@ -43,14 +43,14 @@ fn demo<'a, R: Source, W: Sink>(
     writer: &mut W,
 ) -> Result<u8, Fault<'a>>
     requires ready { IsReady R.has_failed R.reads W.has_failed reader.old writer.old }
-    ensures ok { IfOk result (λ status. (loaded : Loaded) × IsTextDesign limits W_DEF.now W_LEF.now loaded × ((floor : FloorState)
-        × IsAnswered most_lines (initial_floor loaded) floor (R.remaining reader.old) (R.remaining reader.new) (W.contents writer.old) (W.contents writer.new))
+    ensures ok { IfOk result (λ status. (loaded : Loaded) × IsTextDesign limits DEMO_DEF.now DEMO_LEF.now loaded × ((floor : FloorState)
+        × AnswersInput default_most_lines (initial_floor loaded) floor (R.remaining reader.old) (R.remaining reader.new) (W.contents writer.old) (W.contents writer.new))
         × (status ≡ 0)) }
     ensures err { IfErr result (λ fault.
-        IsJobStop (IsTextFault limits W_DEF.now W_LEF.now) (IsTextDesign limits W_DEF.now W_LEF.now)
-        (λ loaded fault io. IsLinesFault most_lines (initial_floor loaded) fault io.input io.left io.before io.after) fault
-        (alone (R.remaining reader.old) (R.remaining reader.new) (W.contents writer.old) (W.contents writer.new))
-        × BlamesStreams most_lines fault (writer.new ≡ writer.old) (R.has_failed reader.new) (R.reads reader.old) (R.reads reader.new)
+        IsJobStop (IsTextFault limits DEMO_DEF.now DEMO_LEF.now) (IsTextDesign limits DEMO_DEF.now DEMO_LEF.now)
+        (λ loaded fault io. IsLinesFault default_most_lines (initial_floor loaded) fault io.input io.left io.before io.after) fault
+        (streams_alone (R.remaining reader.old) (R.remaining reader.new) (W.contents writer.old) (W.contents writer.new))
+        × BlamesStreams default_most_lines fault (writer.new ≡ writer.old) (R.has_failed reader.new) (R.reads reader.old) (R.reads reader.new)
         (W.has_failed writer.new)) }
     ensures reader_held { R.holds reader.new ≡ R.holds reader.old }
     ensures writer_held { W.holds writer.new ≡ W.holds writer.old }
@@ -82,8 +82,8 @@ fn outcome_within<
         (io_of R.remaining W.contents E.puts V.accepted around.old around.new)
         × BlamesEnvironment E.has_failed V.has_failed R.has_failed R.reads W.has_failed (reads_of (as_job task.now)) around.old around.new fault) }
     ensures unread { ReadsNoInput (as_job task.now) → around.new.reader ≡ around.old.reader }
-    ensures unput { AsksForNoState (as_job task.now) → OnErr result (E.puts around.new.exports ≡ E.puts around.old.exports) }
-    ensures unasked { AsksForNoFile (as_job task.now) → around.new.exports ≡ around.old.exports }
+    ensures unput { NamesNoState (as_job task.now) → OnErr result (E.puts around.new.exports ≡ E.puts around.old.exports) }
+    ensures unasked { NamesNoFile (as_job task.now) → around.new.exports ≡ around.old.exports }
     ensures offered { OnOk result (IsOfferOf (as_job task.now) (V.offers around.old.services) (V.offers around.new.services)) }
     ensures unoffered { (V.offers around.new.services ≡ V.offers around.old.services)
         ⊎ IsOfferOf (as_job task.now) (V.offers around.old.services) (V.offers around.new.services) }
@@ -176,7 +176,7 @@ fn outcome_within<
             export,
             lines,
         } => {
-            let asked = RepairJob {
+            let requested = RepairJob {
                 def: *def,
                 lefs: lefs.as_slice(),
                 teams: teams.as_slice(),
@@ -188,14 +188,14 @@ fn outcome_within<
             let exports = &mut around.exports;
             let writer = &mut around.writer;
             let progress = &mut around.progress;
-            repair(alloc, &around.texts, exports, writer, progress, &asked)
+            repair(alloc, &around.texts, exports, writer, progress, &requested)
         }
     }
 }
 
 /// Returns the session slots of each team of the task's design.
 fn slots_of(task: &Task<'_>) -> Slots
-    ensures { result.number ≡ slots_of (as_job task.now) }
+    ensures { result.number ≡ job_slots (as_job task.now) }
 {
     match task {
         Task::Check { slots, .. } => *slots,
@@ -214,13 +214,13 @@ fn outcome<'a, T: InputFiles, E: OutputFiles, V: PortListener, R: Source, W: Sin
     task: &'a Task<'_>,
 ) -> Result<u8, Fault<'a>>
     requires ready { IsReady R.has_failed R.reads W.has_failed around.old.reader around.old.writer }
-    ensures ok { IfOk result (IsOutcome (T.gives around.old.texts) (as_job task.now) (io_of R.remaining W.contents E.puts V.accepted around.old around.new)) }
+    ensures ok { IfOk result (IsJobOutcome (T.gives around.old.texts) (as_job task.now) (io_of R.remaining W.contents E.puts V.accepted around.old around.new)) }
     ensures err { IfErr result (λ fault. IsJobFault (T.gives around.old.texts) (as_job task.now) fault
         (io_of R.remaining W.contents E.puts V.accepted around.old around.new)
         × BlamesEnvironment E.has_failed V.has_failed R.has_failed R.reads W.has_failed (reads_of (as_job task.now)) around.old around.new fault) }
     ensures unread { ReadsNoInput (as_job task.now) → around.new.reader ≡ around.old.reader }
-    ensures unput { AsksForNoState (as_job task.now) → OnErr result (E.puts around.new.exports ≡ E.puts around.old.exports) }
-    ensures unasked { AsksForNoFile (as_job task.now) → around.new.exports ≡ around.old.exports }
+    ensures unput { NamesNoState (as_job task.now) → OnErr result (E.puts around.new.exports ≡ E.puts around.old.exports) }
+    ensures unasked { NamesNoFile (as_job task.now) → around.new.exports ≡ around.old.exports }
     ensures offered { OnOk result (IsOfferOf (as_job task.now) (V.offers around.old.services) (V.offers around.new.services)) }
     ensures unoffered { (V.offers around.new.services ≡ V.offers around.old.services)
         ⊎ IsOfferOf (as_job task.now) (V.offers around.old.services) (V.offers around.new.services) }
@@ -270,18 +270,18 @@ pub fn perform_over<
     requires fresh { R.reads around.old.reader ≡ 0 }
     requires writable { W.has_failed around.old.writer ≡ false }
     ensures status { IsDone result.status ⊎ IsFailure result.status }
-    ensures outcome { IsDone result.status → IsOutcome (T.gives around.old.texts) (as_job task.now)
+    ensures outcome { IsDone result.status → IsJobOutcome (T.gives around.old.texts) (as_job task.now)
         (io_of R.remaining W.contents E.puts V.accepted around.old around.new) result.status }
     ensures done { IsDone result.status → around.new.faults ≡ around.old.faults }
-    ensures told { IsDone result.status → IsTrue result.is_told }
+    ensures reported { IsDone result.status → IsTrue result.is_printed }
     ensures fault { IsFailure result.status → EndsTask (λ fault. IsJobFault (T.gives around.old.texts) (as_job task.now) fault
         (io_of R.remaining W.contents E.puts V.accepted around.old around.new)
         × BlamesEnvironment E.has_failed V.has_failed R.has_failed R.reads W.has_failed (reads_of (as_job task.now)) around.old around.new fault)
         (F.contents around.old.faults) (F.contents around.new.faults) (F.has_failed around.new.faults) result }
     ensures checked { result.status ≡ 4 → ReadsNone task.now }
     ensures unread { ReadsNoInput (as_job task.now) → around.new.reader ≡ around.old.reader }
-    ensures unput { AsksForNoState (as_job task.now) → IsFailure result.status → E.puts around.new.exports ≡ E.puts around.old.exports }
-    ensures unasked { AsksForNoFile (as_job task.now) → around.new.exports ≡ around.old.exports }
+    ensures unput { NamesNoState (as_job task.now) → IsFailure result.status → E.puts around.new.exports ≡ E.puts around.old.exports }
+    ensures unasked { NamesNoFile (as_job task.now) → around.new.exports ≡ around.old.exports }
     ensures offered { IsDone result.status → IsOfferOf (as_job task.now) (V.offers around.old.services) (V.offers around.new.services) }
     ensures unoffered { (V.offers around.new.services ≡ V.offers around.old.services)
         ⊎ IsOfferOf (as_job task.now) (V.offers around.old.services) (V.offers around.new.services) }
@@ -319,14 +319,14 @@ fn perform_with<T: Files + Net + AllocGlobal, R: Source + Drop, W: Sink + Drop, 
     requires fresh { R.reads reader ≡ 0 }
     requires writable { W.has_failed writer ≡ false }
     ensures status { IsDone result.exit.status ⊎ IsFailure result.exit.status }
-    ensures outcome { IsDone result.exit.status → IsOutcome (λ path text. ⊤) (as_job task.now)
-        (alone (R.remaining reader) (R.remaining result.reader) (W.contents writer) (W.contents result.writer)) result.exit.status }
+    ensures outcome { IsDone result.exit.status → IsJobOutcome (λ path text. ⊤) (as_job task.now)
+        (streams_alone (R.remaining reader) (R.remaining result.reader) (W.contents writer) (W.contents result.writer)) result.exit.status }
     ensures done { IsDone result.exit.status → result.faults ≡ faults }
-    ensures told { IsDone result.exit.status → IsTrue result.exit.is_told }
+    ensures reported { IsDone result.exit.status → IsTrue result.exit.is_printed }
     ensures fault { IsFailure result.exit.status → EndsTask (λ fault. IsJobFault (λ path text. ⊤) (as_job task.now) fault
-        (alone (R.remaining reader) (R.remaining result.reader) (W.contents writer) (W.contents result.writer))
+        (streams_alone (R.remaining reader) (R.remaining result.reader) (W.contents writer) (W.contents result.writer))
         × (IsEarly fault → result.writer ≡ writer))
-        (F.contents faults) (F.contents result.faults) (not result.exit.is_told) result.exit }
+        (F.contents faults) (F.contents result.faults) (not result.exit.is_printed) result.exit }
     ensures checked { result.exit.status ≡ 4 → ReadsNone task.now }
     ensures unread { ReadsNoInput (as_job task.now) → result.reader ≡ reader }
     ensures reader_held { R.holds result.reader ≡ R.holds reader }
@@ -368,20 +368,20 @@ pub fn perform<T: Files + Net + AllocGlobal, R: Read, W: Write, F: Write>(
     faults: &mut F,
 ) -> TaskExit
     ensures status { IsDone result.status ⊎ IsFailure result.status }
-    ensures outcome { IsDone result.status → IsOutcome (λ path text. ⊤) (as_job task.now)
-        (alone (R.remaining reader.old) (R.remaining reader.new) (W.contents writer.old) (W.contents writer.new)) result.status }
+    ensures outcome { IsDone result.status → IsJobOutcome (λ path text. ⊤) (as_job task.now)
+        (streams_alone (R.remaining reader.old) (R.remaining reader.new) (W.contents writer.old) (W.contents writer.new)) result.status }
     ensures done { IsDone result.status → faults.new ≡ faults.old }
-    ensures told { IsDone result.status → IsTrue result.is_told }
+    ensures reported { IsDone result.status → IsTrue result.is_printed }
     ensures fault { IsFailure result.status → EndsTask (λ fault. IsJobFault (λ path text. ⊤) (as_job task.now) fault
-        (alone (R.remaining reader.old) (R.remaining reader.new) (W.contents writer.old) (W.contents writer.new))
+        (streams_alone (R.remaining reader.old) (R.remaining reader.new) (W.contents writer.old) (W.contents writer.new))
         × (IsEarly fault → writer.new ≡ writer.old))
-        (F.contents faults.old) (F.contents faults.new) (not result.is_told) result }
+        (F.contents faults.old) (F.contents faults.new) (not result.is_printed) result }
     ensures checked { result.status ≡ 4 → ReadsNone task.now }
     ensures unread { ReadsNoInput (as_job task.now) → reader.new ≡ reader.old }
 {
     let source = FromRead::new(reader);
     let sink = ToWrite::new(writer);
-    let told = ToWrite::new(faults);
-    let performed = perform_with(rt, task, source, sink, told);
+    let reported = ToWrite::new(faults);
+    let performed = perform_with(rt, task, source, sink, reported);
     performed.exit
 }

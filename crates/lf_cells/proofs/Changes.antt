@@ -4,7 +4,7 @@ use Rattle.lf_floorplan.specs.declared.place.Place.{Place}
 use Rattle.lf_cells.specs.declared.cell.Cell.{Cell}
 use Rattle.lf_cells.specs.declared.records.CellRecord.{CellRecord}
 use Rattle.lf_cells.specs.Cells.{moved, as_committed}
-use Rattle.lf_cells.specs.Slots.{cell_in, cells_in, components_in, labels, labels_in, moved_records, committed_record}
+use Rattle.lf_cells.specs.Records.{cell_with_name, cells_in, components_in, labels, labels_in, moved_records, committed_record}
 use Rattle.lf_cells.proofs.Lists.{same_seen, change_seen}
 
 -- A write to the field of one cell moves that cell.
@@ -22,10 +22,10 @@ moved_past (s ∷ ss) (suc own) place past = ap (λ (r : List CellRecord). s ∷
 -- ---- one team
 
 cells_moved : (names : List (List ℕ)) (slots : List CellRecord) (own : ℕ) (place : Option Place)
-    → map (cell_in names) (moved_records slots own place) ≡ moved (map (cell_in names) slots) own place
+    → map (cell_with_name names) (moved_records slots own place) ≡ moved (map (cell_with_name names) slots) own place
 cells_moved names [] own place = refl
 cells_moved names (s ∷ ss) zero place = refl
-cells_moved names (s ∷ ss) (suc own) place = ap (λ (r : List Cell). cell_in names s ∷ r) (cells_moved names ss own place)
+cells_moved names (s ∷ ss) (suc own) place = ap (λ (r : List Cell). cell_with_name names s ∷ r) (cells_moved names ss own place)
 
 labels_moved : (slots : List CellRecord) (own : ℕ) (place : Option Place) → labels (moved_records slots own place) ≡ labels slots
 labels_moved [] own place = refl
@@ -41,9 +41,9 @@ components_moved [] own place = refl
 components_moved (s ∷ ss) zero place = refl
 components_moved (s ∷ ss) (suc own) place = ap (λ (r : List ℕ). s.component ∷ r) (components_moved ss own place)
 
-cells_committed : (names : List (List ℕ)) (slots : List CellRecord) → map (cell_in names) (map committed_record slots) ≡ map as_committed (map (cell_in names) slots)
+cells_committed : (names : List (List ℕ)) (slots : List CellRecord) → map (cell_with_name names) (map committed_record slots) ≡ map as_committed (map (cell_with_name names) slots)
 cells_committed names [] = refl
-cells_committed names (s ∷ ss) = ap (λ (r : List Cell). as_committed (cell_in names s) ∷ r) (cells_committed names ss)
+cells_committed names (s ∷ ss) = ap (λ (r : List Cell). as_committed (cell_with_name names s) ∷ r) (cells_committed names ss)
 
 labels_committed : (slots : List CellRecord) → labels (map committed_record slots) ≡ labels slots
 labels_committed [] = refl
@@ -60,7 +60,7 @@ pub all_moved : (names : List (List ℕ)) (teams : List (List CellRecord)) (team
     → cells_in names (set teams team (moved_records (get_or teams team []) own place))
     ≡ set (cells_in names teams) team (moved (get_or (cells_in names teams) team []) own place)
 all_moved names teams team own place =
-    change_seen (λ (slots : List CellRecord). map (cell_in names) slots) (λ (cells : List Cell). moved cells own place) teams team []
+    change_seen (λ (slots : List CellRecord). map (cell_with_name names) slots) (λ (cells : List Cell). moved cells own place) teams team []
     (moved_records (get_or teams team []) own place) (cells_moved names (get_or teams team []) own place)
 
 pub labels_all_moved : (teams : List (List CellRecord)) (team own : ℕ) (place : Option Place)
@@ -78,7 +78,7 @@ pub all_committed : (names : List (List ℕ)) (teams : List (List CellRecord)) (
     → cells_in names (set teams team (map committed_record (get_or teams team [])))
     ≡ set (cells_in names teams) team (map as_committed (get_or (cells_in names teams) team []))
 all_committed names teams team =
-    change_seen (λ (slots : List CellRecord). map (cell_in names) slots) (λ (cells : List Cell). map as_committed cells) teams team []
+    change_seen (λ (slots : List CellRecord). map (cell_with_name names) slots) (λ (cells : List Cell). map as_committed cells) teams team []
     (map committed_record (get_or teams team [])) (cells_committed names (get_or teams team []))
 
 pub labels_all_committed : (teams : List (List CellRecord)) (team : ℕ) → labels_in (set teams team (map committed_record (get_or teams team []))) ≡ labels_in teams

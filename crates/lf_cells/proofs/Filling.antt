@@ -14,7 +14,7 @@ use Rattle.lf_cells.specs.declared.cell.CellId.{CellId}
 use Rattle.lf_cells.specs.declared.records.CellRecord.{CellRecord}
 use Rattle.lf_cells.specs.declared.table_parts.TableParts.{TableParts}
 use Rattle.lf_cells.specs.Cells.{id_of}
-use Rattle.lf_cells.specs.Slots.{initial_record, own_records, labels, labels_in, label_at, IsIndex, AreListed, AddsCell, AreAdded}
+use Rattle.lf_cells.specs.Records.{initial_record, own_records, labels, labels_in, label_at, IsIndex, AreListed, AddsCell, AreAdded}
 use Rattle.lf_cells.proofs.Lists.{map_at, get_kept, get_last, IsOneOf, Earlier, Last, one_of}
 
 -- ---- one more position of a name, after the others of its team
@@ -204,9 +204,9 @@ one_more names cells k count c old new within is inside before one =
         let after : get_or new.teams.items c.team [] ≡ get_or old.teams.items c.team [] ++ initial_record (length old.owners.items) c ∷ [] =
         ap (λ (teams : List (List CellRecord)). get_or teams c.team []) one.teams
         ∙ get_or-set_same old.teams.items c.team (get_or old.teams.items c.team [] ++ initial_record (length old.owners.items) c ∷ []) [] inside in
-        let behind : own_last number (length old.owners.items) c ≡ initial_record (length old.owners.items) c ∷ [] = last_yes number e in
+        let after_it : own_last number (length old.owners.items) c ≡ initial_record (length old.owners.items) c ∷ [] = last_yes number e in
         rw same (after ∙ ap (λ (slots : List CellRecord). slots ++ initial_record (length old.owners.items) c ∷ []) (before.each c.team))
-        ∙ ap (λ (slots : List CellRecord). own_records number 0 (take k cells) ++ slots) (sym behind) ∙ sym (last_own number)
+        ∙ ap (λ (slots : List CellRecord). own_records number 0 (take k cells) ++ slots) (sym after_it) ∙ sym (last_own number)
     own_each number false e =
         let apart : number ≢ c.team = λ same. false≢true (sym e ∙ eq-eqb c.team number (sym same)) in
         ap (λ (teams : List (List CellRecord)). get_or teams number []) one.teams

@@ -8,13 +8,13 @@ use Rattle.std.proofs.lemmas.Option.{slice_get-get_or, slice_get_within, get_or_
 use Rattle.std.proofs.lemmas.List.{length-map}
 use Rattle.std.proofs.lemmas.Slice.Eq.{bytes_eq-Decides}
 use Rattle.lf_names.specs.Names.{position_of}
-use Rattle.lf_names.proofs.Positions.{found_there, stands_there}
+use Rattle.lf_names.proofs.Positions.{found_there, is_found_there}
 use Rattle.lf_cells.specs.declared.cell.Cell.{Cell}
 use Rattle.lf_cells.specs.declared.cell.CellId.{CellId}
 use Rattle.lf_cells.specs.declared.records.CellRecord.{CellRecord}
 use Rattle.lf_cells.specs.declared.table_parts.TableParts.{TableParts}
 use Rattle.lf_cells.specs.Cells.{Cells, cells_of, cell_named, id_of, ids_of}
-use Rattle.lf_cells.specs.Slots.{cell_in, labels, labels_in, AreIndexed, table_of}
+use Rattle.lf_cells.specs.Records.{cell_with_name, labels, labels_in, AreIndexed, table_of}
 use Rattle.lf_cells.proofs.Lists.{map_at}
 
 -- The search for the first cell with this name.
@@ -24,26 +24,26 @@ search_from name n cells = position_from (λ (c : Cell). bytes_eq c.name name) n
 first_from : (names : List (List ℕ)) (slots : List CellRecord) (name : List ℕ) (label own n : ℕ) → bytes_eq (get_or names label []) name ≡ true
     → slice_get (labels slots) own ≡ Some label
     → ((k l : ℕ) → k < own → slice_get (labels slots) k ≡ Some l → bytes_eq (get_or names l []) name ≡ false)
-    → search_from name n (map (cell_in names) slots) ≡ Some (n + own)
+    → search_from name n (map (cell_with_name names) slots) ≡ Some (n + own)
 unfolding search_from
 first_from names [] name label own n is at early = cc
 first_from names (s ∷ ss) name label zero n is at early =
     let same : s.label ≡ label = cc in
     let test : bytes_eq (get_or names s.label []) name ≡ true = rw same is in
-    ap (λ (t : Bool). cond t (Some n) (search_from name (n + 1) (map (cell_in names) ss))) test ∙ ap (λ (k : ℕ). Some k) (sym (add-zero n))
+    ap (λ (t : Bool). cond t (Some n) (search_from name (n + 1) (map (cell_with_name names) ss))) test ∙ ap (λ (k : ℕ). Some k) (sym (add-zero n))
 first_from names (s ∷ ss) name label (suc own) n is at early =
     let shift : n + 1 + own ≡ n + suc own = omega arith in
-    ap (λ (t : Bool). cond t (Some n) (search_from name (n + 1) (map (cell_in names) ss))) (early 0 s.label (omega arith) refl)
+    ap (λ (t : Bool). cond t (Some n) (search_from name (n + 1) (map (cell_with_name names) ss))) (early 0 s.label (omega arith) refl)
     ∙ first_from names ss name label own (n + 1) is at (λ k l below there. early (suc k) l (omega (arith, below)) there)
     ∙ ap (λ (k : ℕ). Some k) shift
 
 none_from : (names : List (List ℕ)) (slots : List CellRecord) (name : List ℕ) (n : ℕ)
     → ((k l : ℕ) → slice_get (labels slots) k ≡ Some l → bytes_eq (get_or names l []) name ≡ false)
-    → search_from name n (map (cell_in names) slots) ≡ None
+    → search_from name n (map (cell_with_name names) slots) ≡ None
 unfolding search_from
 none_from names [] name n fails = refl
 none_from names (s ∷ ss) name n fails =
-    ap (λ (t : Bool). cond t (Some n) (search_from name (n + 1) (map (cell_in names) ss))) (fails 0 s.label refl)
+    ap (λ (t : Bool). cond t (Some n) (search_from name (n + 1) (map (cell_with_name names) ss))) (fails 0 s.label refl)
     ∙ none_from names ss name (n + 1) (λ k l there. fails (suc k) l there)
 
 -- The team's cells in the lists of a table.
@@ -51,12 +51,12 @@ own_of : TableParts → ℕ → List CellRecord
 own_of p team = get_or p.teams.items team []
 
 named_is : (p : TableParts) (table : Cells) (name : List ℕ) (team : ℕ) → table_of p ≡ table
-    → cell_named name (cells_of table team) ≡ search_from name 0 (map (cell_in p.names) (own_of p team))
+    → cell_named name (cells_of table team) ≡ search_from name 0 (map (cell_with_name p.names) (own_of p team))
 unfolding search_from own_of
 named_is p table name team view =
     ap (λ (t : Cells). cell_named name (cells_of t team)) (sym view)
-    ∙ ap (λ (cells : List Cell). cell_named name cells) (map_at (λ (slots : List CellRecord). map (cell_in p.names) slots) p.teams.items team [])
-    ∙ position_from-zero (λ (c : Cell). bytes_eq c.name name) (map (cell_in p.names) (get_or p.teams.items team []))
+    ∙ ap (λ (cells : List Cell). cell_named name cells) (map_at (λ (slots : List CellRecord). map (cell_with_name p.names) slots) p.teams.items team [])
+    ∙ position_from-zero (λ (c : Cell). bytes_eq c.name name) (map (cell_with_name p.names) (get_or p.teams.items team []))
 
 label_of : (p : TableParts) (team k : ℕ) → slice_get (get_or (labels_in p.teams.items) team []) k ≡ slice_get (labels (own_of p team)) k
 unfolding own_of
@@ -66,8 +66,8 @@ many_are : (p : TableParts) (table : Cells) (team : ℕ) → table_of p ≡ tabl
 unfolding own_of
 many_are p table team view =
     ap (λ (t : Cells). length (cells_of t team)) (sym view)
-    ∙ ap (λ (cells : List Cell). length cells) (map_at (λ (slots : List CellRecord). map (cell_in p.names) slots) p.teams.items team [])
-    ∙ length-map (get_or p.teams.items team []) (cell_in p.names)
+    ∙ ap (λ (cells : List Cell). length cells) (map_at (λ (slots : List CellRecord). map (cell_with_name p.names) slots) p.teams.items team [])
+    ∙ length-map (get_or p.teams.items team []) (cell_with_name p.names)
 
 -- The ids that a table stores for a team are those of its cells.
 pub ids_are : (p : TableParts) (table : Cells) (team : ℕ) → AreIndexed p → table_of p ≡ table → get_or p.ids.items team [] ≡ ids_of team (cells_of table team)
@@ -101,7 +101,7 @@ refuted false fails = refl
 pub no_own : (p : TableParts) (table : Cells) (name : List ℕ) (team : ℕ) → AreIndexed p → table_of p ≡ table → position_of p.names name ≡ None
     → cell_named name (cells_of table team) ≡ None
 no_own p table name team indexed view absent =
-    let none : search_from name 0 (map (cell_in p.names) (own_of p team)) ≡ None =
+    let none : search_from name 0 (map (cell_with_name p.names) (own_of p team)) ≡ None =
     none_from p.names (own_of p team) name 0
     (λ k l there. refuted (bytes_eq (get_or p.names l []) name) (λ same. let b = bears p name team k l indexed there same in cc (b.position, absent))) in
     named_is p table name team view ∙ none
@@ -110,7 +110,7 @@ pub other_own : (p : TableParts) (table : Cells) (name : List ℕ) (team label :
     → position_of p.names name ≡ Some label → slice_get p.owners.items label ≡ Some id
     → (id.team ≡ team → ⊥) → cell_named name (cells_of table team) ≡ None
 other_own p table name team label id indexed view found owner other =
-    let none : search_from name 0 (map (cell_in p.names) (own_of p team)) ≡ None =
+    let none : search_from name 0 (map (cell_with_name p.names) (own_of p team)) ≡ None =
     none_from p.names (own_of p team) name 0 (λ k l there. refuted (bytes_eq (get_or p.names l []) name) (λ same.
     let b = bears p name team k l indexed there same in
     let at : l ≡ label = cc (b.position, found) in
@@ -124,9 +124,9 @@ pub found_own : (p : TableParts) (table : Cells) (name : List ℕ) (team label :
     → id.team ≡ team → cell_named name (cells_of table team) ≡ Some id.own
 found_own p table name team label id indexed view found owner own =
     let there : slice_get (labels (own_of p id.team)) id.own ≡ Some label = sym (label_of p id.team id.own) ∙ (indexed.index.owned id label).0 owner in
-    let at : get_or p.names label [] ≡ name = get_or_from_slice_get p.names label name [] (stands_there p.names name label found) in
+    let at : get_or p.names label [] ≡ name = get_or_from_slice_get p.names label name [] (is_found_there p.names name label found) in
     let test : bytes_eq (get_or p.names label []) name ≡ true = rw at ((bytes_eq-Decides name name).1 refl) in
-    let first : search_from name 0 (map (cell_in p.names) (own_of p id.team)) ≡ Some id.own =
+    let first : search_from name 0 (map (cell_with_name p.names) (own_of p id.team)) ≡ Some id.own =
     first_from p.names (own_of p id.team) name label id.own 0 test there (λ k l below before. refuted (bytes_eq (get_or p.names l []) name) (λ same.
     let b = bears p name id.team k l indexed before same in
     let at : l ≡ label = cc (b.position, found) in

@@ -8,15 +8,15 @@ use Rattle.lf_cells.specs.declared.records.CellRecord.{CellRecord}
 use Rattle.lf_cells.specs.declared.table_parts.TableParts.{TableParts}
 use Rattle.lf_cells.specs.declared.cell.CellPlacement.{CellPlacement}
 use Rattle.lf_cells.specs.Cells.{Cells, cell_at, component_at, placement_of, working_at, committed_at, cells_of}
-use Rattle.lf_cells.specs.Slots.{cell_in, labels, labels_in, record_at, label_at, AreIndexed, table_of}
+use Rattle.lf_cells.specs.Records.{cell_with_name, labels, labels_in, record_at, label_at, AreIndexed, table_of}
 use Rattle.lf_cells.proofs.Lists.{map_at}
 
 -- The cell with an id is that of its record.
-pub cell_is : (p : TableParts) (table : Cells) (id : CellId) → table_of p ≡ table → cell_at table id ≡ option_map (cell_in p.names) (record_at p.teams.items id)
+pub cell_is : (p : TableParts) (table : Cells) (id : CellId) → table_of p ≡ table → cell_at table id ≡ option_map (cell_with_name p.names) (record_at p.teams.items id)
 cell_is p table id view =
     ap (λ (t : Cells). cell_at t id) (sym view)
-    ∙ ap (λ (cells : List Cell). slice_get cells id.own) (map_at (λ (slots : List CellRecord). map (cell_in p.names) slots) p.teams.items id.team [])
-    ∙ slice_get-map (cell_in p.names) (get_or p.teams.items id.team []) id.own
+    ∙ ap (λ (cells : List Cell). slice_get cells id.own) (map_at (λ (slots : List CellRecord). map (cell_with_name p.names) slots) p.teams.items id.team [])
+    ∙ slice_get-map (cell_with_name p.names) (get_or p.teams.items id.team []) id.own
 
 pub component_is : (p : TableParts) (table : Cells) (id : CellId) → table_of p ≡ table
     → component_at table id ≡ option_map (λ s. s.component) (record_at p.teams.items id)
@@ -44,17 +44,17 @@ name_there p id s indexed there =
 pub working_is : (p : TableParts) (table : Cells) (id : CellId) (s : Option CellRecord) → table_of p ≡ table → s ≡ record_at p.teams.items id
     → working_at (cells_of table id.team) id.own ≡ option_and_then (λ (x : CellRecord). x.working) s
 working_is p table id s view is =
-    ap (λ (c : Option Cell). option_and_then (λ (x : Cell). x.working) c) (cell_is p table id view ∙ ap (option_map (cell_in p.names)) (sym is)) ∙ by s where
-      by : (o : Option CellRecord) → option_and_then (λ (x : Cell). x.working) (option_map (cell_in p.names) o) ≡ option_and_then (λ (x : CellRecord). x.working) o
+    ap (λ (c : Option Cell). option_and_then (λ (x : Cell). x.working) c) (cell_is p table id view ∙ ap (option_map (cell_with_name p.names)) (sym is)) ∙ by s where
+      by : (o : Option CellRecord) → option_and_then (λ (x : Cell). x.working) (option_map (cell_with_name p.names) o) ≡ option_and_then (λ (x : CellRecord). x.working) o
       by None = refl
       by (Some x) = refl
 
 pub committed_is : (p : TableParts) (table : Cells) (id : CellId) (s : Option CellRecord) → table_of p ≡ table → s ≡ record_at p.teams.items id
     → committed_at (cells_of table id.team) id.own ≡ option_and_then (λ (x : CellRecord). x.committed) s
 committed_is p table id s view is =
-    ap (λ (c : Option Cell). option_and_then (λ (x : Cell). x.committed) c) (cell_is p table id view ∙ ap (option_map (cell_in p.names)) (sym is))
+    ap (λ (c : Option Cell). option_and_then (λ (x : Cell). x.committed) c) (cell_is p table id view ∙ ap (option_map (cell_with_name p.names)) (sym is))
     ∙ by s where
-      by : (o : Option CellRecord) → option_and_then (λ (x : Cell). x.committed) (option_map (cell_in p.names) o) ≡ option_and_then (λ (x : CellRecord). x.committed) o
+      by : (o : Option CellRecord) → option_and_then (λ (x : Cell). x.committed) (option_map (cell_with_name p.names) o) ≡ option_and_then (λ (x : CellRecord). x.committed) o
       by None = refl
       by (Some x) = refl
 
@@ -64,7 +64,7 @@ slot_standing s = record { mac = s.mac; working = s.working }
 pub standing_is : (p : TableParts) (table : Cells) (id : CellId) (s : Option CellRecord) → table_of p ≡ table → s ≡ record_at p.teams.items id
     → option_map placement_of (slice_get (cells_of table id.team) id.own) ≡ option_map slot_standing s
 standing_is p table id s view is =
-    ap (λ (c : Option Cell). option_map placement_of c) (cell_is p table id view ∙ ap (option_map (cell_in p.names)) (sym is)) ∙ by s where
-      by : (o : Option CellRecord) → option_map placement_of (option_map (cell_in p.names) o) ≡ option_map slot_standing o
+    ap (λ (c : Option Cell). option_map placement_of c) (cell_is p table id view ∙ ap (option_map (cell_with_name p.names)) (sym is)) ∙ by s where
+      by : (o : Option CellRecord) → option_map placement_of (option_map (cell_with_name p.names) o) ≡ option_map slot_standing o
       by None = refl
       by (Some x) = refl

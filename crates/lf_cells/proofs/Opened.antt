@@ -5,22 +5,22 @@ use Rattle.std.specs.Prelude.{All, AllPairs}
 use Rattle.std.specs.List.{range_with_len}
 use Rattle.std.proofs.lemmas.List.{same_lists, length-map}
 use Rattle.std.proofs.lemmas.List.FromFn.{length-range_with_len, get_or-map-range_with_len}
-use Rattle.lf_floorplan.specs.declared.loaded.Cell.{Cell as LoadedCell}
+use Rattle.lf_floorplan.specs.declared.loaded.LoadedCell.{LoadedCell}
 use Rattle.lf_floorplan.specs.declared.cells.UnnamedCell.{UnnamedCell}
 use Rattle.lf_floorplan.specs.Design.{CellsNamed, ComponentsRise}
 use Rattle.lf_floorplan.specs.LoadedCells.{with_name, with_names}
 use Rattle.lf_cells.specs.declared.cell.Cell.{Cell}
 use Rattle.lf_cells.specs.declared.records.CellRecord.{CellRecord}
 use Rattle.lf_cells.specs.declared.table_parts.TableParts.{TableParts}
-use Rattle.lf_cells.specs.Openings.{initial_cell, own_cells, own_components}
-use Rattle.lf_cells.specs.Slots.{initial_record, cell_in, cells_in, components_in, own_records, AreIndexed, AreAdded}
+use Rattle.lf_cells.specs.Initial.{initial_cell, own_cells, own_components}
+use Rattle.lf_cells.specs.Records.{initial_record, cell_with_name, cells_in, components_in, own_records, AreIndexed, AreAdded}
 use Rattle.lf_cells.proofs.Lists.{map_within}
 use Rattle.lf_floorplan.proofs.NamedCells.{many_seen}
 use Rattle.lf_cells.proofs.Owners.{owners_rise}
 
 seen_own : (number n : ℕ) (all names : List (List ℕ)) (cells : List UnnamedCell) → length names ≡ length cells
     → ((k : ℕ) → k < length names → get_or all (n + k) [] ≡ get_or names k [])
-    → map (cell_in all) (own_records number n cells) ≡ own_cells number (with_names names cells)
+    → map (cell_with_name all) (own_records number n cells) ≡ own_cells number (with_names names cells)
 seen_own number n all [] [] same at = refl
 seen_own number n all [] (c ∷ cs) same at = absurd (omega (arith, same))
 seen_own number n all (name ∷ names) [] same at = refl
@@ -29,17 +29,17 @@ seen_own number n all (name ∷ names) (c ∷ cs) same at =
     let shift : n + 1 + k ≡ n + suc k = omega arith in
     rw shift (at (suc k) (omega (arith, within)))))
   where
-    first : cell_in all (initial_record n c) ≡ initial_cell (with_name name c)
+    first : cell_with_name all (initial_record n c) ≡ initial_cell (with_name name c)
     first =
         let is : get_or all n [] ≡ name = ap (λ (k : ℕ). get_or all k []) (sym (add-zero n)) ∙ at 0 (omega arith) in
         rw is refl
 
-    go : (b : Bool) → map (cell_in all) (own_records number (n + 1) cs) ≡ own_cells number (with_names names cs)
-        → map (cell_in all) (cond b (initial_record n c ∷ own_records number (n + 1) cs) (own_records number (n + 1) cs))
+    go : (b : Bool) → map (cell_with_name all) (own_records number (n + 1) cs) ≡ own_cells number (with_names names cs)
+        → map (cell_with_name all) (cond b (initial_record n c ∷ own_records number (n + 1) cs) (own_records number (n + 1) cs))
         ≡ map initial_cell
         (cond b (with_name name c ∷ filter (λ (x : LoadedCell). eqb x.team number) (with_names names cs))
         (filter (λ (x : LoadedCell). eqb x.team number) (with_names names cs)))
-    go true e = ap (λ (x : Cell). x ∷ map (cell_in all) (own_records number (n + 1) cs)) first ∙ ap (λ (r : List Cell). initial_cell (with_name name c) ∷ r) e
+    go true e = ap (λ (x : Cell). x ∷ map (cell_with_name all) (own_records number (n + 1) cs)) first ∙ ap (λ (r : List Cell). initial_cell (with_name name c) ∷ r) e
     go false e = e
 
 seen_components : (number n : ℕ) (names : List (List ℕ)) (cells : List UnnamedCell) → length names ≡ length cells
@@ -70,9 +70,9 @@ by_numbers {Y} f g teams count many each =
 pub opened_cells : (names : List (List ℕ)) (cells : List UnnamedCell) (count : ℕ) (p : TableParts) → length names ≡ length cells → AreAdded names cells count p
     → cells_in p.names p.teams.items ≡ map (λ number. own_cells number (with_names names cells)) (range_with_len 0 count)
 opened_cells names cells count p same taken =
-    by_numbers (λ (slots : List CellRecord). map (cell_in p.names) slots) (λ (number : ℕ). own_cells number (with_names names cells)) p.teams.items count
+    by_numbers (λ (slots : List CellRecord). map (cell_with_name p.names) slots) (λ (number : ℕ). own_cells number (with_names names cells)) p.teams.items count
     taken.count_is (λ number.
-    ap (λ (slots : List CellRecord). map (cell_in p.names) slots) (taken.each number)
+    ap (λ (slots : List CellRecord). map (cell_with_name p.names) slots) (taken.each number)
     ∙ seen_own number 0 p.names names cells same (λ k within. rw (zero-add k, taken.names_are) refl))
 
 pub opened_components : (names : List (List ℕ)) (cells : List UnnamedCell) (count : ℕ) (p : TableParts) → length names ≡ length cells → AreAdded names cells count p

@@ -9,8 +9,8 @@ use Rattle.lf_cells.specs.declared.cell.CellId.{CellId}
 use Rattle.lf_cells.specs.declared.records.CellRecord.{CellRecord}
 use Rattle.lf_cells.specs.declared.table_parts.TableParts.{TableParts}
 use Rattle.lf_cells.specs.Cells.{Cells, AreAllIds, cell_at, component_at}
-use Rattle.lf_cells.specs.Slots.{initial_record, own_records, cell_in, components_in, labels, labels_in, label_at, record_at, position_in}
-use Rattle.lf_cells.specs.Slots.{table_of, AreIndexed, AreAdded}
+use Rattle.lf_cells.specs.Records.{initial_record, own_records, cell_with_name, components_in, labels, labels_in, label_at, record_at, position_in}
+use Rattle.lf_cells.specs.Records.{table_of, AreIndexed, AreAdded}
 use Rattle.lf_cells.proofs.Lists.{map_at}
 use Rattle.lf_cells.proofs.Looks.{cell_is, component_is, owner_is}
 
@@ -123,8 +123,8 @@ module _ (p : TableParts) (table : Cells) (indexed : AreIndexed p) (view : table
   cells_owned : (id : CellId) → Contains p.owners.items id ↔ IsSome (cell_at table id)
   cells_owned id =
       let is = cell_is p table id view in (
-        λ own. let s = slotted id own in some_is (cell_at table id) (cell_in p.names s.0) (is ∙ ap (option_map (cell_in p.names)) s.1),
-        λ some. let s = one_is (cell_in p.names) (record_at p.teams.items id) (sym (ap is_some is) ∙ some) in owns id s.0 s.1,
+        λ own. let s = slotted id own in some_is (cell_at table id) (cell_with_name p.names s.0) (is ∙ ap (option_map (cell_with_name p.names)) s.1),
+        λ some. let s = one_is (cell_with_name p.names) (record_at p.teams.items id) (sym (ap is_some is) ∙ some) in owns id s.0 s.1,
       )
 
   entries_owned : (id : CellId) → Contains p.owners.items id ↔ IsSome (component_at table id)

@@ -30,13 +30,13 @@ abbrev pub component_at : Cells → CellId → Option ℕ
 component_at table id = slice_get (components_of table id.team) id.own
 
 -- The position of the entry of the cell with an id; 0 if there is no such cell.
-abbrev pub position_of : Cells → CellId → ℕ
-position_of table id = slice_index (components_of table id.team) id.own
+abbrev pub entry_position : Cells → CellId → ℕ
+entry_position table id = slice_index (components_of table id.team) id.own
 
 -- The ids of the cells of all teams, in loading order: the positions of their entries rise. They
 -- are exactly the ids that have a cell, and exactly those that have an entry.
 pub record AreAllIds (table : Cells) (ids : List CellId) : Type 0 where
-  pub rise : AllPairs (λ id later. position_of table id < position_of table later) ids
+  pub rise : AllPairs (λ id later. entry_position table id < entry_position table later) ids
   pub cells : (id : CellId) → Contains ids id ↔ IsSome (cell_at table id)
   pub entries : (id : CellId) → Contains ids id ↔ IsSome (component_at table id)
 

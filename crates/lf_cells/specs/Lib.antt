@@ -1,3 +1,3 @@
 pub mod Cells
-pub mod Openings
-pub mod Slots
+pub mod Initial
+pub mod Records

@@ -1,7 +1,7 @@
 //! The cells of one team, without their names.
 
 ghost use Rattle.std.specs.Prelude.{◌≡◌, ◌++◌, ◌∷◌, [], OnOk, length, map, slice_get};
-ghost use Rattle.lf_cells.specs.Slots.{initial_record, moved_records, committed_record};
+ghost use Rattle.lf_cells.specs.Records.{initial_record, moved_records, committed_record};
 
 use lf_floorplan::{PackedPlace, Place, UnnamedCell};
 use std::alloc::{AllocError, Global};

@@ -3,7 +3,7 @@
 ghost use Rattle.std.specs.Prelude.{◌≡◌, ◌+◌, ◌<◌, [], IfOk, IfSome, length, map, option_map, slice_get, slice_set};
 ghost use Rattle.lf_cells.specs.Cells.{AreAllIds, cells_of, cell_named, cell_at, component_at, id_in, ids_of};
 ghost use Rattle.lf_cells.specs.Cells.{placement_of, working_at, committed_at, moved, as_committed};
-ghost use Rattle.lf_cells.specs.Openings.{initial_cells, initial_components};
+ghost use Rattle.lf_cells.specs.Initial.{initial_cells, initial_components};
 
 use crate::cell::{CellFacts, CellId, CellPlacement};
 use crate::table_parts::{TableParts, commit_cells, move_cell};
@@ -33,7 +33,7 @@ impl Model for CellTable {
 
     ghost Value = { Cells };
 
-    ghost use Rattle.lf_cells.specs.Slots.{table_of, AreIndexed};
+    ghost use Rattle.lf_cells.specs.Records.{table_of, AreIndexed};
 
     ghost view = { λ t. table_of t.parts };
 

@@ -1,7 +1,7 @@
 //! The lists of a table, and how a loaded design fills them.
 
 ghost use Rattle.std.specs.Prelude.{◌≡◌, ◌≤◌, ◌<◌, ◌+◌, ◌++◌, ◌∷◌, [], All, OnOk, IfOk, length, map, replicate, slice_get, slice_index_or, slice_set};
-ghost use Rattle.lf_cells.specs.Slots.{moved_records, committed_record, record_at, AddsCell, AreAdded};
+ghost use Rattle.lf_cells.specs.Records.{moved_records, committed_record, record_at, AddsCell, AreAdded};
 ghost use Rattle.lf_cells.specs.Cells.{id_of};
 
 use crate::cell::CellId;

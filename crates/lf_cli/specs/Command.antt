@@ -22,13 +22,13 @@ use Rattle.lf_cli.specs.declared.subcommand.Subcommand.TheVariants.{Demo, Check,
 -- ---- the subcommands
 
 -- The word of a subcommand.
-abbrev pub word_of : Subcommand → Text
-word_of Demo = codes "demo"
-word_of Check = codes "check"
-word_of Describe = codes "describe"
-word_of Replay = codes "replay"
-word_of Serve = codes "serve"
-word_of Repair = codes "repair"
+abbrev pub subcommand_word : Subcommand → Text
+subcommand_word Demo = codes "demo"
+subcommand_word Check = codes "check"
+subcommand_word Describe = codes "describe"
+subcommand_word Replay = codes "replay"
+subcommand_word Serve = codes "serve"
+subcommand_word Repair = codes "repair"
 
 -- All subcommands, in the order in which they are listed.
 abbrev pub subcommands : List Subcommand
@@ -36,7 +36,7 @@ subcommands = Demo ∷ Check ∷ Describe ∷ Replay ∷ Serve ∷ Repair ∷ []
 
 -- The subcommand of this word.
 abbrev pub subcommand_named : Text → Option Subcommand
-subcommand_named word = option_and_then (slice_get subcommands) (position (λ chosen. bytes_eq (word_of chosen) word) subcommands)
+subcommand_named word = option_and_then (slice_get subcommands) (position (λ chosen. bytes_eq (subcommand_word chosen) word) subcommands)
 
 -- ---- declarations
 
@@ -82,26 +82,26 @@ slots_rule = number_rule (codes "sessions") 64
 
 -- The words that a subcommand takes.
 abbrev pub line_of : Subcommand → App
-line_of Demo = new_app (word_of Demo)
-line_of Check = design_line (word_of Check) (text_rule (codes "state") ∷ slots_rule ∷ [])
-line_of Describe = design_line (word_of Describe) (text_rule (codes "state") ∷ slots_rule ∷ [])
-line_of Replay = design_line (word_of Replay)
+line_of Demo = new_app (subcommand_word Demo)
+line_of Check = design_line (subcommand_word Check) (text_rule (codes "state") ∷ slots_rule ∷ [])
+line_of Describe = design_line (subcommand_word Describe) (text_rule (codes "state") ∷ slots_rule ∷ [])
+line_of Replay = design_line (subcommand_word Replay)
     (number_rule (codes "lines") 4294967295
     ∷ text_rule (codes "state") ∷ slots_rule ∷ text_rule (codes "save") ∷ text_rule (codes "export") ∷ [])
-line_of Serve = design_line (word_of Serve)
+line_of Serve = design_line (subcommand_word Serve)
     (needed (number_rule (codes "port") 65535) ∷ needed (number_rule (codes "connections") 1000000)
     ∷ text_rule (codes "state") ∷ slots_rule ∷ text_rule (codes "save") ∷ text_rule (codes "export") ∷ [])
-line_of Repair = design_line (word_of Repair)
+line_of Repair = design_line (subcommand_word Repair)
     (repeated_rule (codes "team") ∷ flag_rule (codes "keep") ∷ flag_rule (codes "all")
     ∷ text_rule (codes "export") ∷ text_rule (codes "lines") ∷ [])
 
 -- The program with one more subcommand.
-abbrev pub with_line : App → Subcommand → App
-with_line app chosen = with_subcommand app (line_of chosen).top
+abbrev pub with_subcommand_line : App → Subcommand → App
+with_subcommand_line app chosen = with_subcommand app (line_of chosen).top
 
 -- The program with its subcommands.
 abbrev pub command_line : App
-command_line = fold with_line (new_app (codes "lefence")) subcommands
+command_line = fold with_subcommand_line (new_app (codes "lefence")) subcommands
 
 -- ---- jobs
 
@@ -151,17 +151,17 @@ clash_of _ = None
 -- ---- numbers
 
 -- True if the text is a number: at least one digit, after an optional '+'. It may begin with zeros.
-abbrev pub is_number : Text → Bool
-is_number text = nat_lt 0 (length (without_leading_plus text)) && list_all (λ digit. nat_lt (digit_value digit) 10) (without_leading_plus text)
+abbrev pub is_number_text : Text → Bool
+is_number_text text = nat_lt 0 (length (without_leading_plus text)) && list_all (λ digit. nat_lt (digit_value digit) 10) (without_leading_plus text)
 
 -- The number that the digits of a text write.
-abbrev pub number_of : Text → ℕ
-number_of text = digits_value 10 (without_leading_plus text)
+abbrev pub decimal_number : Text → ℕ
+decimal_number text = digits_value 10 (without_leading_plus text)
 
 -- The number that the text writes, or `None` if it is out of this range.
 abbrev pub number_in : ℕ → ℕ → Text → Option ℕ
 number_in least most text =
-    if is_number text && (nat_le least (number_of text) && nat_le (number_of text) most) then Some (number_of text) else None
+    if is_number_text text && (nat_le least (decimal_number text) && nat_le (decimal_number text) most) then Some (decimal_number text) else None
 
 -- ---- what the parser finds of a subcommand's arguments
 
@@ -179,13 +179,13 @@ most_lines None = Some 1000000
 most_lines (Some text) = number_in 1 4294967295 text
 
 -- The number of session slots of each team: 8 by default.
-abbrev pub slots_asked : Option Text → Option ℕ
-slots_asked None = Some 8
-slots_asked (Some text) = number_in 1 64 text
+abbrev pub slots_requested : Option Text → Option ℕ
+slots_requested None = Some 8
+slots_requested (Some text) = number_in 1 64 text
 
 -- The number of session slots that the words request.
 abbrev pub slots_among : List Row → Option ℕ
-slots_among rows = slots_asked (first_of (codes "sessions") rows)
+slots_among rows = slots_requested (first_of (codes "sessions") rows)
 
 -- The port and the number of connections of a service. Both are required.
 abbrev pub service_of : List Row → Option (ℕ × ℕ)
@@ -239,9 +239,9 @@ job_by chosen rows = if is_demo chosen then Some demo else job_over chosen (firs
 
 -- The job that is requested if the parser finds this subcommand. If it finds no subcommand, the job
 -- is the demo.
-abbrev pub job_asked : Option (Text × List Row) → Option Job
-job_asked None = Some demo
-job_asked (Some (word, rows)) = option_and_then (λ chosen. job_by chosen rows) (subcommand_named word)
+abbrev pub job_requested : Option (Text × List Row) → Option Job
+job_requested None = Some demo
+job_requested (Some (word, rows)) = option_and_then (λ chosen. job_by chosen rows) (subcommand_named word)
 
 -- The job, or `None` if one of its options overwrites another of its files.
 abbrev pub unless_clash : Job → Option Job
@@ -249,7 +249,7 @@ unless_clash job = if is_some (clash_of job) then None else Some job
 
 -- The job if the parser finds this subcommand.
 abbrev pub job_found : Option (Text × List Row) → Option Job
-job_found found = option_and_then unless_clash (job_asked found)
+job_found found = option_and_then unless_clash (job_requested found)
 
 -- The job, if the parser finds no fault.
 abbrev pub unless_fault : Kinds → Option Job → Option Job

@@ -6,11 +6,11 @@ use Rattle.lf_cli.specs.declared.help.Help.TheVariants.{Program, Version, Of}
 
 -- The help that the words request. The program's name is followed by '--help' or '--version' alone,
 -- or by a subcommand and '--help'.
-abbrev pub help_asked : List (List ℕ) → Option Help
-help_asked (name ∷ word ∷ []) =
+abbrev pub help_requested : List (List ℕ) → Option Help
+help_requested (name ∷ word ∷ []) =
     if bytes_eq word (codes "--help") then Some Program
     else if bytes_eq word (codes "--version") then Some Version
     else None
-help_asked (name ∷ subcommand ∷ word ∷ []) =
+help_requested (name ∷ subcommand ∷ word ∷ []) =
     if bytes_eq word (codes "--help") then option_map (λ chosen. Of chosen) (subcommand_named subcommand) else None
-help_asked _ = None
+help_requested _ = None

@@ -7,7 +7,7 @@ ghost use Rattle.clap.specs.Simple.{subcommand_rows_of};
 ghost use Rattle.clap.specs.Walk.{all_of, first_of, rows_of};
 ghost use Rattle.lf_cli.specs.declared.subcommand.Subcommand.TheVariants.{Check, Describe, Repair, Replay, Serve};
 ghost use Rattle.lf_cli.specs.declared.parse.UsageFault.TheVariants.{Usage};
-ghost use Rattle.lf_cli.specs.Command.{as_job, clash_among, clash_of, is_among, is_demo, is_same, is_set, job_asked, job_by, job_found, job_of, job_on};
+ghost use Rattle.lf_cli.specs.Command.{as_job, clash_among, clash_of, is_among, is_demo, is_same, is_set, job_requested, job_by, job_found, job_of, job_on};
 ghost use Rattle.lf_cli.specs.Command.{legal_cells, most_lines, number_in, service_of, slots_among, unless_clash, values_of};
 
 use crate::session_slots::{MOST_SLOTS, Slots};
@@ -387,7 +387,7 @@ fn subcommand_found<'m, 'a>(matches: &'m ArgMatches<'a>) -> Option<(&'a str, &'m
 
 /// Makes the task from what `clap` found.
 fn task_from<'a>(alloc: Global, matches: &ArgMatches<'a>) -> Result<Option<Task<'a>>, AllocError>
-    ensures { IfOk result (λ task. option_map as_job task ≡ job_asked (subcommand_rows_of matches.now)) }
+    ensures { IfOk result (λ task. option_map as_job task ≡ job_requested (subcommand_rows_of matches.now)) }
 {
     let Some((word, inner)) = subcommand_found(matches) else {
         return Ok(Some(Task::Demo));

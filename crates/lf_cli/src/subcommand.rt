@@ -5,7 +5,7 @@ ghost use Rattle.clap.specs.Simple.{app_of, with_rule};
 ghost use Rattle.clap.specs.Walk.{rule_of};
 ghost use Rattle.clap.specs.declared.builder.command.Command.TheViews.{out-Command};
 ghost use Rattle.lf_cli.specs.declared.subcommand.Subcommand.TheVariants.{Repair, Replay, Serve};
-ghost use Rattle.lf_cli.specs.Command.{command_line, def_rule, design_line, flag_rule, lef_rule, line_of, needed, number_rule, repeated_rule, slots_rule, subcommand_named, text_rule, with_line, word_of};
+ghost use Rattle.lf_cli.specs.Command.{command_line, def_rule, design_line, flag_rule, lef_rule, line_of, needed, number_rule, repeated_rule, slots_rule, subcommand_named, text_rule, with_subcommand_line, subcommand_word};
 
 use crate::session_slots::MOST_SLOTS;
 use clap::builder::ValueParser;
@@ -44,7 +44,7 @@ const SUBCOMMANDS: [Subcommand; 6] = [
 
 /// Returns the word of a subcommand.
 fn word_of(chosen: Subcommand) -> &'static str
-    ensures { result.now ≡ word_of chosen }
+    ensures { result.now ≡ subcommand_word chosen }
 {
     match chosen {
         Subcommand::Demo => "demo",
@@ -58,7 +58,7 @@ fn word_of(chosen: Subcommand) -> &'static str
 
 /// Returns the position of the subcommand of this word in the list.
 fn position_of(subcommands: &[Subcommand], word: &str) -> Option<usize>
-    ensures { result ≡ position (λ chosen. bytes_eq (word_of chosen) word.now) subcommands.now }
+    ensures { result ≡ position (λ chosen. bytes_eq (subcommand_word chosen) word.now) subcommands.now }
 {
     subcommands
         .iter()
@@ -240,7 +240,7 @@ fn with<'a>(
     command: Command<'a>,
     chosen: Subcommand,
 ) -> Result<Command<'a>, AllocError>
-    ensures { IfOk result (λ made. app_of made ≡ with_line (app_of command.entry) chosen) }
+    ensures { IfOk result (λ made. app_of made ≡ with_subcommand_line (app_of command.entry) chosen) }
 {
     command.subcommand(line_of(alloc, chosen)?)
 }

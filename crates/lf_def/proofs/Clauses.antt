@@ -10,7 +10,7 @@ use Rattle.lf_units.specs.declared.geometry.Point.{Point}
 use Rattle.lf_orient.specs.declared.Orient.{Orient}
 use Rattle.lf_lex.specs.declared.fault.ReadFault.{ReadFault}
 use Rattle.lf_lex.specs.Tokens.{Lexed, Lexeme, with_token, with_tokens}
-use Rattle.lf_lex.specs.Reading.{◌>>=◌, ReadValue, Turn, taken, turn, token, first_of, behind, is, name, keyword, statements, block}
+use Rattle.lf_lex.specs.Reading.{◌>>=◌, ReadValue, Turn, taken, turn, token, first_token, lexed_after, is, name, keyword, statements, block}
 use Rattle.lf_lex.proofs.Runs.{left, ok_is, with_both}
 use Rattle.lf_def.specs.declared.section.Due.{Due}
 use Rattle.lf_def.specs.declared.section.Due.TheVariants.{Item, Keyword, Rest, Separator}
@@ -21,7 +21,7 @@ use Rattle.lf_def.specs.declared.components.PlacementClause.{PlacementClause}
 use Rattle.lf_def.specs.declared.components.PlacementKind.{PlacementKind}
 use Rattle.lf_def.specs.declared.components.PlacementKind.TheVariants.{Fixed, Cover, Placed}
 use Rattle.lf_def.specs.Coordinates.{dbu_of, dbu, point_rest, orient_of}
-use Rattle.lf_def.specs.Components.{located_rest, placed, unplaced, is_placement_word, placement, only_placement, clause, up_to_stop, unplaced_point}
+use Rattle.lf_def.specs.Components.{located_rest, placed_clause, unplaced_clause, is_placement_word, placement, only_placement, clause, up_to_stop, unplaced_point}
 use Rattle.lf_def.specs.Components.{component_part, component_from, component_token, no_component, component}
 use Rattle.lf_def.specs.Laws.{IsPlace, LastEnds, ClauseAmong, HasClause, ComponentsHaveClauses}
 use Rattle.lf_def.proofs.Kept.{name_local}
@@ -35,10 +35,10 @@ pub bind_ok : {A B : Type 0} (o : Result A ReadFault) (k : A → Result B ReadFa
 bind_ok (Ok x) k y e = (x, refl, e)
 bind_ok (Err q) k y e = absurd cc
 
-first_ok : {B : Type 0} (ts : List Lexeme) (l : Lexed) (k : ReadValue Lexeme → Result B ReadFault) (y : B) → l ≡ behind ts l → (first_of ts l >>= k) ≡ Ok y
+first_ok : {B : Type 0} (ts : List Lexeme) (l : Lexed) (k : ReadValue Lexeme → Result B ReadFault) (y : B) → l ≡ lexed_after ts l → (first_token ts l >>= k) ≡ Ok y
     → (t : Lexeme) × (n : Lexed) × (l ≡ with_token t n) × (k (left t n) ≡ Ok y)
 first_ok [] l k y w e = absurd cc
-first_ok (t ∷ ts) l k y w e = (t, behind ts l, w, e)
+first_ok (t ∷ ts) l k y w e = (t, lexed_after ts l, w, e)
 
 pub token_ok : {B : Type 0} (l : Lexed) (k : ReadValue Lexeme → Result B ReadFault) (y : B) → (token l >>= k) ≡ Ok y
     → (t : Lexeme) × (n : Lexed) × (l ≡ with_token t n) × (k (left t n) ≡ Ok y)
@@ -122,9 +122,9 @@ pub record MoreRun (plus : ℕ) (t : Lexeme) (l m : Lexed) (p : PlacementClause)
   pub start : p.start ≡ plus
   pub stop : LastEnds p.stop t more
 
-placed_ok : (kind : PlacementKind) (plus : ℕ) (t : Lexeme) (l m : Lexed) (p : PlacementClause) → (is (codes "UNPLACED") t ≡ true → ⊥) → placed kind plus l ≡ taken p m
+placed_ok : (kind : PlacementKind) (plus : ℕ) (t : Lexeme) (l m : Lexed) (p : PlacementClause) → (is (codes "UNPLACED") t ≡ true → ⊥) → placed_clause kind plus l ≡ taken p m
     → MoreRun plus t l m p
-unfolding placed
+unfolding placed_clause
 placed_ok kind plus t l m p u e =
     let a = bind_ok (keyword (codes "(") l) _ _ e in
     let a1 = keyword_ok (codes "(") l a.0.rest a.0.value a.1 in
@@ -141,9 +141,9 @@ placed_ok kind plus t l m p u e =
     }
 
 unplaced_ok : (plus : ℕ) (t : Lexeme) (l m : Lexed) (p : PlacementClause) → is (codes "UNPLACED") t ≡ true
-    → ◌≡◌ {A = Result (ReadValue PlacementClause) ReadFault} (taken (unplaced plus t) l) (taken p m) → MoreRun plus t l m p
+    → ◌≡◌ {A = Result (ReadValue PlacementClause) ReadFault} (taken (unplaced_clause plus t) l) (taken p m) → MoreRun plus t l m p
 unplaced_ok plus t l m p u e =
-    let d = ok_is (unplaced plus t) l p m e in
+    let d = ok_is (unplaced_clause plus t) l p m e in
     record {
       more = [];
       whole = d.1;
@@ -163,7 +163,7 @@ not_two v w t other h k = let e : bytes_eq v w ≡ true = rw (text_is v t h) at 
 
 kind_ok : (a b c d : Bool) (plus : ℕ) (t : Lexeme) (l m : Lexed) (p : PlacementClause) → is (codes "FIXED") t ≡ a → is (codes "COVER") t ≡ b
     → is (codes "PLACED") t ≡ c → is (codes "UNPLACED") t ≡ d → (a || b || c || d) ≡ true
-    → cond a (placed Fixed plus l) (cond b (placed Cover plus l) (cond c (placed Placed plus l) (taken (unplaced plus t) l))) ≡ taken p m → MoreRun plus t l m p
+    → cond a (placed_clause Fixed plus l) (cond b (placed_clause Cover plus l) (cond c (placed_clause Placed plus l) (taken (unplaced_clause plus t) l))) ≡ taken p m → MoreRun plus t l m p
 kind_ok true b c d plus t l m p x y z u w e = placed_ok Fixed plus t l m p (not_two (codes "FIXED") (codes "UNPLACED") t refl x) e
 kind_ok false true c d plus t l m p x y z u w e = placed_ok Cover plus t l m p (not_two (codes "COVER") (codes "UNPLACED") t refl y) e
 kind_ok false false true d plus t l m p x y z u w e = placed_ok Placed plus t l m p (not_two (codes "PLACED") (codes "UNPLACED") t refl z) e
@@ -512,9 +512,9 @@ same_clause tokens p q h x = rw h at x
 nothing_known : Known [] no_component
 nothing_known = record { clause = tt; plus = λ h. absurd (item_not_keyword h); bare = λ h x. absurd (item_not_separator h) }
 
-pub components_stand : ComponentsHaveClauses
+pub components_have_clauses : ComponentsHaveClauses
 unfolding component
-components_stand l m c e =
+components_have_clauses l m c e =
     let a = bind_ok (name l) _ _ e in
     let a1 = name_local l a.0.rest a.0.value a.1 in
     let b = bind_ok (name a.0.rest) _ _ a.2 in

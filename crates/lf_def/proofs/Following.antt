@@ -17,7 +17,7 @@ use Rattle.lf_lex.proofs.Runs.{Follows, Goes, same, turn_bare, bind, choose, giv
 use Rattle.lf_lex.proofs.Following.{text_alike, is_alike, keyword_follows, word_follows, name_follows, end_name_follows, to_semicolon_follows, number_again}
 use Rattle.lf_def.specs.declared.section.Due.{Due}
 use Rattle.lf_def.specs.declared.section.Due.TheVariants.{Item, Keyword, Rest, Separator}
-use Rattle.lf_def.specs.declared.rows.Row.{Row}
+use Rattle.lf_def.specs.declared.rows.RowStatement.{RowStatement}
 use Rattle.lf_def.specs.declared.rows.Sites.{Sites}
 use Rattle.lf_def.specs.declared.regions.Region.{Region}
 use Rattle.lf_def.specs.declared.regions.RegionKind.{RegionKind}
@@ -28,8 +28,8 @@ use Rattle.lf_def.specs.declared.groups.GroupParts.{GroupParts}
 use Rattle.lf_def.specs.declared.blockages.Blockage.{Blockage}
 use Rattle.lf_def.specs.declared.blockages.BlockageParts.{BlockageParts}
 use Rattle.lf_def.specs.declared.header.HeaderParts.{HeaderParts}
-use Rattle.lf_def.specs.Coordinates.{dbu_of, dbu, up_to, count, point_rest, point, rect_between, rect_rest, rect, orient_of}
-use Rattle.lf_def.specs.Entries.{entry_or_end, section, name_of}
+use Rattle.lf_def.specs.Coordinates.{dbu_of, dbu, number_up_to, count, point_rest, def_point, rect_between, rect_rest, def_rectangle, orient_of}
+use Rattle.lf_def.specs.Entries.{entry_or_end, section, name_token}
 use Rattle.lf_def.specs.Header.{version, quoted, design, units, header_statement}
 use Rattle.lf_def.specs.Rows.{row_end, step, sites, one_site, sites_from, row}
 use Rattle.lf_def.specs.Regions as regions
@@ -51,7 +51,7 @@ tested_again : (test : Bool) (n line line' v : ℕ) → ◌≡◌ {A = Result �
 tested_again true n line line' v e = e
 tested_again false n line line' v e = absurd cc
 
-up_to_again : (most : ℕ) (x : ℤ) (line line' v : ℕ) → up_to most x line ≡ Ok v → up_to most x line' ≡ Ok v
+up_to_again : (most : ℕ) (x : ℤ) (line line' v : ℕ) → number_up_to most x line ≡ Ok v → number_up_to most x line' ≡ Ok v
 up_to_again most (pos n) line line' v e = tested_again (nat_le 1 n && nat_le n most) n line line' v e
 up_to_again most (negsuc n) line line' v e = absurd cc
 
@@ -59,7 +59,7 @@ pub count_follows : (most : ℕ) → Follows same (count most) (count most)
 unfolding count
 count_follows most =
     bind plain same token token _ _ token_follows (λ t t' e. given same (dbu_of t) (dbu_of t') _ _ (dbu_again t t' e) (λ x.
-    given same (up_to most x t.line) (up_to most x t'.line) _ _ (up_to_again most x t.line t'.line) (λ n. pure same n n refl)))
+    given same (number_up_to most x t.line) (number_up_to most x t'.line) _ _ (up_to_again most x t.line t'.line) (λ n. pure same n n refl)))
 
 abbrev pub point_at : ℤ → ℤ → Point
 point_at x y = record { x = x; y = y }
@@ -71,8 +71,8 @@ point_rest_follows =
     (λ y y' ey. bind same same (keyword (codes ")")) (keyword (codes ")")) _ _ (keyword_follows (codes ")")) (λ s s' es.
     pure same (point_at x y) (point_at x' y') (same_point (point_at x' y') (point_at x y) ex ey))))
 
-pub point_follows : Follows same point point
-unfolding point
+pub point_follows : Follows same def_point def_point
+unfolding def_point
 point_follows = bind same same (keyword (codes "(")) (keyword (codes "(")) _ _ (keyword_follows (codes "(")) (λ s s' es. point_rest_follows)
 
 rect_alike : (p p' q q' : Point) → p' ≡ p → q' ≡ q → rect_between p' q' ≡ rect_between p q
@@ -82,10 +82,10 @@ pub rect_rest_follows : Follows same rect_rest rect_rest
 unfolding rect_rest
 rect_rest_follows =
     bind same same point_rest point_rest _ _ point_rest_follows
-    (λ p p' ep. bind same same point point _ _ point_follows (λ q q' eq. pure same (rect_between p q) (rect_between p' q') (rect_alike p p' q q' ep eq)))
+    (λ p p' ep. bind same same def_point def_point _ _ point_follows (λ q q' eq. pure same (rect_between p q) (rect_between p' q') (rect_alike p p' q q' ep eq)))
 
-pub rect_follows : Follows same rect rect
-unfolding rect
+pub rect_follows : Follows same def_rectangle def_rectangle
+unfolding def_rectangle
 rect_follows = bind same same (keyword (codes "(")) (keyword (codes "(")) _ _ (keyword_follows (codes "(")) (λ s s' es. rect_rest_follows)
 
 orient_tested : (a b c d e f g h : Bool) (line line' : ℕ) (v : Orient)
@@ -195,7 +195,7 @@ sites_from_follows t t' e =
     choose same (is (codes "DO") t) (is (codes "DO") t') _ _ _ _ (is_alike (codes "DO") t t' e) sites_follows
     (bind same same (row_end t) (row_end t') _ _ (row_end_follows t t' e) (λ s s' es. pure same one_site one_site refl))
 
-abbrev row_at : List ℕ → List ℕ → ℤ → ℤ → Orient → Sites → Row
+abbrev row_at : List ℕ → List ℕ → ℤ → ℤ → Orient → Sites → RowStatement
 row_at n site x y o s = record { name = n; site = site; x = x; y = y; orient = o; sites_x = s.x; sites_y = s.y; step = s.step }
 
 row_alike : (n n' site site' : List ℕ) (x x' y y' : ℤ) (o : Orient) (s s' : Sites) → n' ≡ n → site' ≡ site → x' ≡ x → y' ≡ y → s' ≡ s
@@ -282,8 +282,8 @@ kind_tested true b line line' v x = x
 kind_tested false true line line' v x = x
 kind_tested false false line line' v x = absurd cc
 
-kind_again : (t t' : Lexeme) → plain t' ≡ plain t → (v : RegionKind) → regions.kind_of t ≡ Ok v → regions.kind_of t' ≡ Ok v
-kind_again t t' e v x = ap (λ (z : List ℕ). regions.kind_of (record t' { text = z })) (text_alike t t' e)
+kind_again : (t t' : Lexeme) → plain t' ≡ plain t → (v : RegionKind) → regions.kind_named t ≡ Ok v → regions.kind_named t' ≡ Ok v
+kind_again t t' e v x = ap (λ (z : List ℕ). regions.kind_named (record t' { text = z })) (text_alike t t' e)
     ∙ kind_tested (is (codes "FENCE") t) (is (codes "GUIDE") t) t.line t'.line v x
 
 region_rect_follows : (s : RegionParts) → Follows same (regions.with_rect s) (regions.with_rect s)
@@ -295,7 +295,7 @@ region_rect_follows s = bind same same rect_rest rect_rest _ _ rect_rest_follows
 region_kind_follows : (s : RegionParts) → Follows same (regions.with_kind s) (regions.with_kind s)
 unfolding regions.with_kind
 region_kind_follows s = bind plain same token token _ _ token_follows
-    (λ t t' e. given same (regions.kind_of t) (regions.kind_of t') _ _ (kind_again t t' e)
+    (λ t t' e. given same (regions.kind_named t) (regions.kind_named t') _ _ (kind_again t t' e)
     (λ k. pure same (turn (record s { kind = first_counts s.kind k; due = Separator }) true) _ refl))
 
 region_part_follows : (due : Due) (s : RegionParts) (t t' : Lexeme) → plain t' ≡ plain t
@@ -333,7 +333,7 @@ region_alike n n' p p' e f = rw (e, f) refl
 pub region_follows : Follows same regions.region regions.region
 unfolding regions.region
 region_follows =
-    bind plain same name name _ _ name_follows (λ n n' en. bind same same rect rect _ _ rect_follows (λ r r' er.
+    bind plain same name name _ _ name_follows (λ n n' en. bind same same def_rectangle def_rectangle _ _ rect_follows (λ r r' er.
     bind same same (block regions.region_token (regions.first_rect r)) (block regions.region_token (regions.first_rect r')) _ _
     (region_tokens_follow (regions.first_rect r) (regions.first_rect r') (ap regions.first_rect er)) (λ p p' ep.
     pure same (record { name = n.text; kind = p.kind; rects = p.rects }) (record { name = n'.text; kind = p'.kind; rects = p'.rects })
@@ -348,13 +348,13 @@ name_tested true b text line line' v x = absurd cc
 name_tested false true text line line' v x = absurd cc
 name_tested false false text line line' v x = x
 
-name_again : (t t' : Lexeme) → plain t' ≡ plain t → (v : List ℕ) → name_of t ≡ Ok v → name_of t' ≡ Ok v
-name_again t t' e v x = ap (λ (z : PlainToken). name_of (record t' { text = z.text; kind = z.kind })) e
+name_again : (t t' : Lexeme) → plain t' ≡ plain t → (v : List ℕ) → name_token t ≡ Ok v → name_token t' ≡ Ok v
+name_again t t' e v x = ap (λ (z : PlainToken). name_token (record t' { text = z.text; kind = z.kind })) e
     ∙ name_tested (not (is_word t)) (nat_lt 1024 (length t.text)) t.text t.line t'.line v x
 
 pattern_follows : (s : GroupParts) (t t' : Lexeme) → plain t' ≡ plain t → Follows same (groups.with_pattern s t) (groups.with_pattern s t')
 unfolding groups.with_pattern
-pattern_follows s t t' e = given same (name_of t) (name_of t') _ _ (name_again t t' e)
+pattern_follows s t t' e = given same (name_token t) (name_token t') _ _ (name_again t t' e)
     (λ p. pure same (turn (record s { patterns = s.patterns ++ p ∷ [] }) true) _ refl)
 
 group_region_follows : (s : GroupParts) → Follows same (groups.with_region s) (groups.with_region s)
@@ -410,7 +410,7 @@ group_follows =
 blockage_rect_follows : (s : BlockageParts) → Follows same (blockages.with_rect s) (blockages.with_rect s)
 unfolding blockages.with_rect
 blockage_rect_follows s =
-    bind same same rect rect _ _ rect_follows (λ r r' e. pure same (turn (record s { rects = s.rects ++ r ∷ []; due = Item }) true)
+    bind same same def_rectangle def_rectangle _ _ rect_follows (λ r r' e. pure same (turn (record s { rects = s.rects ++ r ∷ []; due = Item }) true)
     (turn (record s { rects = s.rects ++ r' ∷ []; due = Item }) true) (ap (λ (z : Rect). turn (record s { rects = s.rects ++ z ∷ []; due = Item }) true) e))
 
 noted_alike : (s : BlockageParts) (t t' : Lexeme) → plain t' ≡ plain t → blockages.noted s t' ≡ blockages.noted s t

@@ -3,7 +3,7 @@ use Rattle.std.proofs.Common.{◌≡◌, ℕ, ◌&&◌, List, ◌∷◌, ◌++�
 use Rattle.std.specs.Prelude.{codes, nat_lt}
 use Rattle.lf_lex.specs.declared.fault.ReadFault.{ReadFault}
 use Rattle.lf_lex.specs.Tokens.{Lexed, Lexeme, with_tokens, tokens_of, tokens_from}
-use Rattle.lf_lex.specs.Reading.{Reader, ReadValue, token, behind, is, is_word, word, name, keyword, end_name, to_semicolon, block, value_of}
+use Rattle.lf_lex.specs.Reading.{Reader, ReadValue, token, lexed_after, is, is_word, word, name, keyword, end_name, to_semicolon, block, value_of}
 use Rattle.lf_lex.proofs.Runs.{same_run}
 use Rattle.lf_lex.proofs.Following.{keyword_follows, end_name_follows, to_semicolon_follows}
 use Rattle.lf_def.specs.declared.section.Due.{Due}
@@ -21,10 +21,10 @@ use Rattle.lf_def.specs.Rows.{with_row}
 use Rattle.lf_def.specs.Regions.{regions}
 use Rattle.lf_def.specs.Groups.{groups}
 use Rattle.lf_def.specs.Blockages.{blockages}
-use Rattle.lf_def.specs.Components.{located_rest, placed, unplaced, is_placement_word, placement, only_placement, clause, unplaced_point, component_part}
+use Rattle.lf_def.specs.Components.{located_rest, placed_clause, unplaced_clause, is_placement_word, placement, only_placement, clause, unplaced_point, component_part}
 use Rattle.lf_def.specs.Components.{component_from, component_token, no_component, component, components}
-use Rattle.lf_def.specs.Document.{passed_from, end_design, body_statement, statement_from, statement, no_parts, document_from}
-use Rattle.lf_def.specs.Laws.{EndsBefore}
+use Rattle.lf_def.specs.Document.{skip_from, end_design, body_statement, def_statement_from, def_statement, no_parts, document_from}
+use Rattle.lf_def.specs.Laws.{UnreadDefBytesDoNotMatter}
 use Rattle.lf_def.proofs.Following.{point_rest_follows, header_follows, entry_from, entry_or_end_goes}
 use Rattle.lf_def.proofs.Places.{with_row_follows, regions_alike, groups_alike, blockages_alike, passed_follows, end_design_follows, component_follows}
 use Rattle.lf_def.proofs.Places.{component_token_goes, statement_goes}
@@ -44,8 +44,8 @@ unfolding located_rest
 located_local = local_bind point_rest _ (local_of point_rest point_rest_follows)
     (λ p. local_bind token _ token_local (λ t. local_given (orient_of t) _ (λ o. local_pure _)))
 
-placed_local : (kind : PlacementKind) (plus : ℕ) → Local (placed kind plus)
-unfolding placed
+placed_local : (kind : PlacementKind) (plus : ℕ) → Local (placed_clause kind plus)
+unfolding placed_clause
 placed_local kind plus = local_bind (keyword (codes "(")) _ (local_of (keyword (codes "(")) (keyword_follows (codes "(")))
     (λ s. local_bind located_rest _ located_local (λ p. local_pure _))
 
@@ -54,7 +54,7 @@ unfolding placement
 placement_local plus t =
     local_choose (is (codes "FIXED") t) _ _ (placed_local Fixed plus)
     (local_choose (is (codes "COVER") t) _ _ (placed_local Cover plus)
-    (local_choose (is (codes "PLACED") t) _ _ (placed_local Placed plus) (local_pure (unplaced plus t))))
+    (local_choose (is (codes "PLACED") t) _ _ (placed_local Placed plus) (local_pure (unplaced_clause plus t))))
 
 only_local : (first : Option PlacementClause) (plus : ℕ) (t : Lexeme) → Local (only_placement first plus t)
 unfolding only_placement
@@ -120,28 +120,28 @@ body_local s t =
     (local_choose (is (codes "COMPONENTS") t) _ _ (local_bind (components s.components) _ (components_local s.components) (λ x. local_pure _))
     (local_choose (is (codes "BLOCKAGES") t) _ _ (local_bind (blockages s.blockages) _
     (local_of (blockages s.blockages) (blockages_alike s.blockages s.blockages refl)) (λ x. local_pure _))
-    (local_bind (passed_from t) _ (local_of (passed_from t) (passed_follows t t refl)) (λ x. local_pure _))))))
+    (local_bind (skip_from t) _ (local_of (skip_from t) (passed_follows t t refl)) (λ x. local_pure _))))))
 
-statement_from_local : (s : DocParts) (t : Lexeme) → Local (statement_from s t)
-unfolding statement_from
+statement_from_local : (s : DocParts) (t : Lexeme) → Local (def_statement_from s t)
+unfolding def_statement_from
 statement_from_local s t =
     local_choose (is (codes "END") t) _ _ (local_bind (end_design s) _ (local_of (end_design s) (end_design_follows s)) (λ x. local_pure _))
     (local_choose (is_header t) _ _ (local_bind (header_statement s.header t) _ (local_of (header_statement s.header t) (header_follows s.header t t refl))
     (λ x. local_pure _))
     (local_bind (body_statement s t) _ (body_local s t) (λ x. local_pure _)))
 
-pub statement_local : (s : DocParts) → Local (statement s)
-unfolding statement
+pub statement_local : (s : DocParts) → Local (def_statement s)
+unfolding def_statement
 statement_local s = local_bind token _ token_local (λ t. statement_from_local s t)
 
-pub statements_local : (s : DocParts) → Local (block statement s)
-statements_local s = local_block statement statement_local statement_goes s
+pub statements_local : (s : DocParts) → Local (block def_statement s)
+statements_local s = local_block def_statement statement_local statement_goes s
 
 -- The tokens after END DESIGN.
 
-pub ends_before : (text : List ℕ) → EndsBefore text
+pub ends_before : (text : List ℕ) → UnreadDefBytesDoNotMatter text
 ends_before text read t after parts e h bytes =
-    let rest = behind (t ∷ after) (tokens_of text) in
+    let rest = lexed_after (t ∷ after) (tokens_of text) in
     let r = statements_local no_parts (tokens_of text) rest parts h in
     let whole = split_tokens (tokens_of text) read (t ∷ after) e in
     let front : read ≡ r.run = same_run read r.run (tokens_of text) rest whole r.whole in
@@ -149,6 +149,6 @@ ends_before text read t after parts e h bytes =
     let cut = cut_tokens text bytes read t after e in
     let again = r.still new in
     let there : tokens_of (take t.start text ++ bytes) ≡ with_tokens r.run new = cut ∙ ap (λ (z : List Lexeme). with_tokens z new) front in
-    let one = ap (λ (z : Lexed). document_from (value_of (block statement no_parts z))) there
+    let one = ap (λ (z : Lexed). document_from (value_of (block def_statement no_parts z))) there
     ∙ ap (λ (z : Result (ReadValue DocParts) ReadFault). document_from (value_of z)) again in
     one ∙ sym (ap (λ (z : Result (ReadValue DocParts) ReadFault). document_from (value_of z)) h)

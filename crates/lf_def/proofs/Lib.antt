@@ -5,7 +5,7 @@ pub mod Kept
 pub mod Local
 pub mod NamePieces
 pub mod Places
-pub mod PrintedBehind
+pub mod PrintedAfter
 pub mod PrintedBlockages
 pub mod PrintedClauses
 pub mod PrintedEntries

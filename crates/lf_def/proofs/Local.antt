@@ -2,7 +2,7 @@
 use Rattle.std.proofs.Common.{◌≡◌, ℕ, zero, suc, ◌<◌, Bool, true, false, cond, List, [], ◌∷◌, ◌++◌, length, Result, Ok, Err, refl, sym, ap, ◌∙◌, arith}
 use Rattle.lf_lex.specs.declared.fault.ReadFault.{ReadFault}
 use Rattle.lf_lex.specs.Tokens.{Lexed, Lexeme, with_tokens}
-use Rattle.lf_lex.specs.Reading.{◌>>=◌, Reader, ReadValue, Turn, Statement, taken, turn, token, first_of, behind, statements, block}
+use Rattle.lf_lex.specs.Reading.{◌>>=◌, Reader, ReadValue, Turn, Statement, taken, turn, token, first_token, lexed_after, statements, block}
 use Rattle.lf_lex.proofs.Runs.{Follows, Goes, same, left, ok_is, with_both, length_both}
 
 -- The run that was taken, whatever follows.
@@ -52,10 +52,10 @@ bind_by r k f next l m y (Ok t) h e =
 pub local_bind : {A B : Type 0} (r : Reader A) (k : ReadValue A → Result (ReadValue B) ReadFault) → Local r → ((x : A) → Local (λ l. k (left x l))) → Local (λ l. r l >>= k)
 local_bind r k f next l m y e = bind_by r k f next l m y (r l) refl e
 
-first_local : (ts : List Lexeme) (l m : Lexed) (x : Lexeme) → l ≡ behind ts l → first_of ts l ≡ taken x m → Takes token l m x
+first_local : (ts : List Lexeme) (l m : Lexed) (x : Lexeme) → l ≡ lexed_after ts l → first_token ts l ≡ taken x m → Takes token l m x
 first_local [] l m x w e = absurd cc
 first_local (t ∷ ts) l m x w e =
-    let r = ok_is t (behind ts l) x m e in
+    let r = ok_is t (lexed_after ts l) x m e in
     record { run = t ∷ []; whole = w ∙ ap (λ (z : Lexed). with_tokens (t ∷ []) z) r.1; still = λ k. ap (λ (z : Lexeme). taken z k) r.0 }
 
 pub token_local : Local token

@@ -21,7 +21,7 @@ use Rattle.lf_def.specs.declared.components.PlacementClause.{PlacementClause}
 use Rattle.lf_def.specs.declared.components.PlacementKind.{PlacementKind}
 use Rattle.lf_def.specs.declared.components.PlacementKind.TheVariants.{Fixed, Cover, Placed}
 use Rattle.lf_def.specs.declared.header.HeaderParts.{HeaderParts}
-use Rattle.lf_def.specs.declared.rows.Row.{Row}
+use Rattle.lf_def.specs.declared.rows.RowStatement.{RowStatement}
 use Rattle.lf_def.specs.declared.regions.Region.{Region}
 use Rattle.lf_def.specs.declared.groups.Group.{Group}
 use Rattle.lf_def.specs.declared.blockages.Blockage.{Blockage}
@@ -32,9 +32,9 @@ use Rattle.lf_def.specs.Rows.{row, with_row}
 use Rattle.lf_def.specs.Regions.{region, regions}
 use Rattle.lf_def.specs.Groups.{group, groups}
 use Rattle.lf_def.specs.Blockages.{blockages}
-use Rattle.lf_def.specs.Components.{located_rest, placed, unplaced, is_placement_word, placement, only_placement, clause, up_to_stop, unplaced_point}
+use Rattle.lf_def.specs.Components.{located_rest, placed_clause, unplaced_clause, is_placement_word, placement, only_placement, clause, up_to_stop, unplaced_point}
 use Rattle.lf_def.specs.Components.{component_part, component_from, component_token, no_component, component, components}
-use Rattle.lf_def.specs.Document.{is_skipped_section, is_skipped_statement, passed_from, end_design, body_statement, statement_from, statement}
+use Rattle.lf_def.specs.Document.{is_skipped_section, is_skipped_statement, skip_from, end_design, body_statement, def_statement_from, def_statement}
 use Rattle.lf_def.specs.Laws.{placement_without_places, without_places}
 use Rattle.lf_def.proofs.Following.{Grows, same_grows, point_rest_follows, orient_again, row_follows, region_follows, group_follows, blockages_follow}
 use Rattle.lf_def.proofs.Following.{header_follows, section_follows}
@@ -58,8 +58,8 @@ located_follows =
 abbrev placed_at : PlacementKind → Location → PlacementClause
 placed_at kind p = record { kind = kind; place = Some p; start = 0; stop = 0 }
 
-pub placed_follows : (kind : PlacementKind) (plus plus' : ℕ) → Follows placement_without_places (placed kind plus) (placed kind plus')
-unfolding placed
+pub placed_follows : (kind : PlacementKind) (plus plus' : ℕ) → Follows placement_without_places (placed_clause kind plus) (placed_clause kind plus')
+unfolding placed_clause
 placed_follows kind plus plus' =
     bind same placement_without_places (keyword (codes "(")) (keyword (codes "(")) _ _ (keyword_follows (codes "("))
     (λ u u' eu. bind located_bare placement_without_places located_rest located_rest _ _ located_follows (λ p p' ep.
@@ -73,7 +73,7 @@ placement_follows plus plus' t t' e =
     (choose placement_without_places (is (codes "COVER") t) (is (codes "COVER") t') _ _ _ _ (is_alike (codes "COVER") t t' e) (placed_follows Cover plus plus')
     (choose placement_without_places (is (codes "PLACED") t) (is (codes "PLACED") t') _ _ _ _ (is_alike (codes "PLACED") t t' e)
     (placed_follows Placed plus plus')
-    (pure placement_without_places (unplaced plus t) (unplaced plus' t') refl)))
+    (pure placement_without_places (unplaced_clause plus t) (unplaced_clause plus' t') refl)))
 
 only_follows : (first first' : Option PlacementClause) (plus plus' : ℕ) (t t' : Lexeme)
     → option_map placement_without_places first' ≡ option_map placement_without_places first → plain t' ≡ plain t
@@ -223,8 +223,8 @@ abbrev header_text : List ℕ → Bool
 header_text x = bytes_eq x (codes "VERSION") || bytes_eq x (codes "DIVIDERCHAR") || bytes_eq x (codes "BUSBITCHARS") || bytes_eq x
     (codes "DESIGN") || bytes_eq x (codes "UNITS")
 
-pub passed_follows : (t t' : Lexeme) → plain t' ≡ plain t → Follows same (passed_from t) (passed_from t')
-unfolding passed_from
+pub passed_follows : (t t' : Lexeme) → plain t' ≡ plain t → Follows same (skip_from t) (skip_from t')
+unfolding skip_from
 passed_follows t t' e =
     choose same (is_skipped_section t) (is_skipped_section t') _ _ _ _ (ap (λ (x : List ℕ). passed_section_text x) (text_alike t t' e))
     (named_end t.text t'.text (text_alike t t' e))
@@ -261,11 +261,11 @@ ends_alike s s' e = ap-follows (λ l. end_design_of s s' l e) (end_design_follow
 headers_alike : (h h' : HeaderParts) (t t' : Lexeme) → h' ≡ h → plain t' ≡ plain t → Follows same (header_statement h t) (header_statement h' t')
 headers_alike h h' t t' e f = rw e (header_follows h t t' f)
 
-pub with_row_follows : (s : List Row) → Follows same (with_row s) (with_row s)
+pub with_row_follows : (s : List RowStatement) → Follows same (with_row s) (with_row s)
 unfolding with_row
-with_row_follows s = bind same same row row _ _ row_follows (λ r r' e. pure same (s ++ r ∷ []) (s ++ r' ∷ []) (ap (λ (z : Row). s ++ z ∷ []) e))
+with_row_follows s = bind same same row row _ _ row_follows (λ r r' e. pure same (s ++ r ∷ []) (s ++ r' ∷ []) (ap (λ (z : RowStatement). s ++ z ∷ []) e))
 
-rows_alike : (s s' : List Row) → s' ≡ s → Follows same (with_row s) (with_row s')
+rows_alike : (s s' : List RowStatement) → s' ≡ s → Follows same (with_row s) (with_row s')
 rows_alike s s' e = rw e (with_row_follows s)
 
 pub regions_alike : (s s' : List Region) → s' ≡ s → Follows same (regions s) (regions s')
@@ -286,7 +286,7 @@ body_follows s s' t t' a e =
     choose bare_doc (is (codes "ROW") t) (is (codes "ROW") t') _ _ _ _ (is_alike (codes "ROW") t t' e)
     (bind same bare_doc (with_row s.rows) (with_row s'.rows) _ _ (rows_alike s.rows s'.rows (ap (λ (z : DocParts). z.rows) a))
     (λ x x' ex. pure bare_doc (record s { rows = x }) (record s' { rows = x' })
-    (ap (λ (z : DocParts). record z { rows = x' }) a ∙ ap (λ (z : List Row). record (bare_doc s) { rows = z }) ex)))
+    (ap (λ (z : DocParts). record z { rows = x' }) a ∙ ap (λ (z : List RowStatement). record (bare_doc s) { rows = z }) ex)))
     (choose bare_doc (is (codes "REGIONS") t) (is (codes "REGIONS") t') _ _ _ _ (is_alike (codes "REGIONS") t t' e)
     (bind same bare_doc (regions s.regions) (regions s'.regions) _ _ (regions_alike s.regions s'.regions (ap (λ (z : DocParts). z.regions) a))
     (λ x x' ex. pure bare_doc (record s { regions = x }) (record s' { regions = x' })
@@ -304,11 +304,11 @@ body_follows s s' t t' a e =
     (bind same bare_doc (blockages s.blockages) (blockages s'.blockages) _ _ (blockages_alike s.blockages s'.blockages (ap (λ (z : DocParts). z.blockages) a))
     (λ x x' ex. pure bare_doc (record s { blockages = x }) (record s' { blockages = x' })
     (ap (λ (z : DocParts). record z { blockages = x' }) a ∙ ap (λ (z : List Blockage). record (bare_doc s) { blockages = z }) ex)))
-    (bind same bare_doc (passed_from t) (passed_from t') _ _ (passed_follows t t' e) (λ x x' ex. pure bare_doc s s' a))))))
+    (bind same bare_doc (skip_from t) (skip_from t') _ _ (passed_follows t t' e) (λ x x' ex. pure bare_doc s s' a))))))
 
 statement_from_follows : (s s' : DocParts) (t t' : Lexeme) → bare_doc s' ≡ bare_doc s → plain t' ≡ plain t
-    → Follows (turn_bare bare_doc) (statement_from s t) (statement_from s' t')
-unfolding statement_from
+    → Follows (turn_bare bare_doc) (def_statement_from s t) (def_statement_from s' t')
+unfolding def_statement_from
 statement_from_follows s s' t t' a e =
     choose (turn_bare bare_doc) (is (codes "END") t) (is (codes "END") t') _ _ _ _ (is_alike (codes "END") t t' e)
     (bind same (turn_bare bare_doc) (end_design s) (end_design s') _ _ (ends_alike s s' (header_of_same s s' a))
@@ -321,13 +321,13 @@ statement_from_follows s s' t t' a e =
     (bind bare_doc (turn_bare bare_doc) (body_statement s t) (body_statement s' t') _ _ (body_follows s s' t t' a e)
     (λ x x' ex. pure (turn_bare bare_doc) (turn x true) (turn x' true) (ap (λ (z : DocParts). turn z true) ex))))
 
-pub statement_follows : (s s' : DocParts) → bare_doc s' ≡ bare_doc s → Follows (turn_bare bare_doc) (statement s) (statement s')
-unfolding statement
+pub statement_follows : (s s' : DocParts) → bare_doc s' ≡ bare_doc s → Follows (turn_bare bare_doc) (def_statement s) (def_statement s')
+unfolding def_statement
 statement_follows s s' a = bind plain (turn_bare bare_doc) token token _ _ token_follows (λ t t' e. statement_from_follows s s' t t' a e)
 
-pub statement_goes : Goes statement
-unfolding statement
+pub statement_goes : Goes def_statement
+unfolding def_statement
 statement_goes s s1 l m h = takes_one (turn_bare bare_doc) _ _ l m (turn s1 true) (λ t. statement_from_follows s s t t refl refl) h
 
-pub statements_follow : (s s' : DocParts) → bare_doc s' ≡ bare_doc s → Follows bare_doc (block statement s) (block statement s')
-statements_follow s s' a = block_follows bare_doc statement statement_follows statement_goes s s' a
+pub statements_follow : (s s' : DocParts) → bare_doc s' ≡ bare_doc s → Follows bare_doc (block def_statement s) (block def_statement s')
+statements_follow s s' a = block_follows bare_doc def_statement statement_follows statement_goes s s' a

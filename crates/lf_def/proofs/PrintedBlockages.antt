@@ -6,7 +6,7 @@ use Rattle.std.proofs.lemmas.List.{append_assoc, append-nil}
 use Rattle.std.proofs.lemmas.List.Elements.{All-head, All-tail, All-cons, All-nil}
 use Rattle.lf_units.specs.declared.geometry.Rect.{Rect}
 use Rattle.lf_lex.specs.Tokens.{Lexeme, PlainToken, plain}
-use Rattle.lf_lex.specs.Splices.{word_of}
+use Rattle.lf_lex.specs.Splices.{plain_word}
 use Rattle.lf_lex.specs.Reading.{turn, is, end_name, to_semicolon, block}
 use Rattle.lf_lex.proofs.Runs.{same}
 use Rattle.lf_lex.proofs.BackWords.{end_back, is_at, no_more}
@@ -14,7 +14,7 @@ use Rattle.lf_def.specs.declared.section.Due.{Due}
 use Rattle.lf_def.specs.declared.section.Due.TheVariants.{Item, Keyword, Rest, Separator}
 use Rattle.lf_def.specs.declared.blockages.Blockage.{Blockage}
 use Rattle.lf_def.specs.declared.blockages.BlockageParts.{BlockageParts}
-use Rattle.lf_def.specs.Coordinates.{rect}
+use Rattle.lf_def.specs.Coordinates.{def_rectangle}
 use Rattle.lf_def.specs.Blockages.{with_rect, noted, blockage_part, blockage_from, blockage_token, no_blockage, blockage_of, blockage, with_blockage}
 use Rattle.lf_def.specs.Blockages.{blockage_or_end, blockages}
 use Rattle.lf_def.specs.Ranges.{IsRect}
@@ -41,7 +41,7 @@ plus_back s =
     (back_yes same (is (codes "+") t) _ _ [] (turn (record s { due = Keyword }) true) (is_at (codes "+") (codes "+") t e)
     (back_pure same (turn (record s { due = Keyword }) true) (turn (record s { due = Keyword }) true) refl)))
 
-noted_at : (soft partial : Bool) (rects : List Rect) (w : List ℕ) (t : Lexeme) → plain t ≡ word_of w
+noted_at : (soft partial : Bool) (rects : List Rect) (w : List ℕ) (t : Lexeme) → plain t ≡ plain_word w
     → noted (parts_at soft partial rects Keyword) t ≡ parts_at (soft || bytes_eq w (codes "SOFT")) (partial || bytes_eq w (codes "PARTIAL")) rects Rest
 noted_at soft partial rects w t e = ap (λ (p : PlainToken). noted (parts_at soft partial rects Keyword) (record t { text = p.text })) e
 
@@ -73,7 +73,7 @@ rect_more : (print : ℤ → List ℕ) → WritesNumbers print → (due : Due) (
     → Back same (with_rect (parts_at soft partial rects due)) (rect_words print r []) (turn (parts_at soft partial (rects ++ r ∷ []) Item) true)
 unfolding with_rect
 rect_more print writes due soft partial rects r h =
-    back_bind same same rect _ (rect_words print r []) [] r (turn (parts_at soft partial (rects ++ r ∷ []) Item) true) (rect_back print writes r h) (λ q eq.
+    back_bind same same def_rectangle _ (rect_words print r []) [] r (turn (parts_at soft partial (rects ++ r ∷ []) Item) true) (rect_back print writes r h) (λ q eq.
     back_pure same (turn (parts_at soft partial (rects ++ r ∷ []) Item) true) (turn (parts_at soft partial (rects ++ q ∷ []) Item) true)
     (ap (λ (z : Rect). turn (parts_at soft partial (rects ++ z ∷ []) Item) true) eq))
 
@@ -88,7 +88,7 @@ TakesRect Keyword = ⊥
 TakesRect _ = Unit {0}
 
 rect_part : (print : ℤ → List ℕ) → WritesNumbers print → (due : Due) → TakesRect due → (soft partial : Bool) (rects : List Rect) (r : Rect) → IsRect r
-    → (t : Lexeme) → plain t ≡ word_of (codes "RECT")
+    → (t : Lexeme) → plain t ≡ plain_word (codes "RECT")
     → Back same (blockage_part due (parts_at soft partial rects due) t) (rect_words print r []) (turn (parts_at soft partial (rects ++ r ∷ []) Item) true)
 unfolding blockage_part
 rect_part print writes Keyword ok soft partial rects r h t e = absurd ok
@@ -182,7 +182,7 @@ last_blockage s =
     back_first same _ (codes "END") (codes "BLOCKAGES" ∷ []) (turn s false)
     (λ t e. back_no same (is (codes "-") t) _ _ (codes "BLOCKAGES" ∷ []) (turn s false) (is_at (codes "-") (codes "END") t e)
     (back_yes same (is (codes "END") t) _ _ (codes "BLOCKAGES" ∷ []) (turn s false) (is_at (codes "END") (codes "END") t e)
-    (at_map same same (end_name (codes "BLOCKAGES")) (λ (u : Unit {0}). turn s false) (map word_of (codes "BLOCKAGES" ∷ [])) tt (turn s false)
+    (at_map same same (end_name (codes "BLOCKAGES")) (λ (u : Unit {0}). turn s false) (map plain_word (codes "BLOCKAGES" ∷ [])) tt (turn s false)
     (end_back (codes "BLOCKAGES") refl) (λ u eu. refl))))
 
 one_blockage : (print : ℤ → List ℕ) → WritesNumbers print → (s : List Blockage) (b : Blockage) → IsPrintedBlockage b
@@ -191,7 +191,7 @@ unfolding blockage_or_end
 one_blockage print writes s b h =
     back_first same _ (codes "-") (blockage_words print b) (turn (s ++ b ∷ []) true)
     (λ t e. back_yes same (is (codes "-") t) _ _ (blockage_words print b) (turn (s ++ b ∷ []) true) (is_at (codes "-") (codes "-") t e)
-    (at_map same same blockage (λ (o : Option Blockage). turn (with_blockage s o) true) (map word_of (blockage_words print b)) (Some b)
+    (at_map same same blockage (λ (o : Option Blockage). turn (with_blockage s o) true) (map plain_word (blockage_words print b)) (Some b)
     (turn (s ++ b ∷ []) true) (blockage_back print writes b h) (λ o eo. ap (λ (z : Option Blockage). turn (with_blockage s z) true) eo)))
 
 blockages_turns : (print : ℤ → List ℕ) → WritesNumbers print → (bs s : List Blockage) → All IsPrintedBlockage bs

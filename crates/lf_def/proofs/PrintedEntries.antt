@@ -12,15 +12,15 @@ use Rattle.lf_orient.specs.declared.Orient.{Orient}
 use Rattle.lf_orient.specs.declared.Orient.TheVariants.{N, W, S, E, FN, FW, FS, FE}
 use Rattle.lf_lex.specs.declared.fault.ReadFault.{ReadFault}
 use Rattle.lf_lex.specs.Tokens.{Lexeme, PlainToken, plain}
-use Rattle.lf_lex.specs.Splices.{word_of}
+use Rattle.lf_lex.specs.Splices.{plain_word}
 use Rattle.lf_lex.specs.Reading.{◌>>=◌, Reader, ReadValue, taken, token, is, keyword, name, or_bad_number}
 use Rattle.lf_lex.proofs.Runs.{same, left}
 use Rattle.lf_lex.proofs.BackWords.{short_name_back, is_at, keyword_back, no_more}
-use Rattle.lf_def.specs.declared.rows.Row.{Row}
+use Rattle.lf_def.specs.declared.rows.RowStatement.{RowStatement}
 use Rattle.lf_def.specs.declared.rows.Sites.{Sites}
-use Rattle.lf_def.specs.Coordinates.{dbu_of, dbu, up_to, count, point_rest, point, rect_between, rect_rest, rect, orient_of}
+use Rattle.lf_def.specs.Coordinates.{dbu_of, dbu, number_up_to, count, point_rest, def_point, rect_between, rect_rest, def_rectangle, orient_of}
 use Rattle.lf_def.specs.Rows.{row_end, step, sites, sites_from, row}
-use Rattle.lf_def.specs.Ranges.{IsCoordinate, HasCoordinates, IsCount, IsRow, IsRect}
+use Rattle.lf_def.specs.Ranges.{IsDefCoordinate, HasCoordinates, IsCount, IsRow, IsRect}
 use Rattle.lf_orient.specs.Words.{orient_word}
 use Rattle.lf_def.specs.Printed.{WritesNumbers, IsWord, ReadsBack, rect_words, step_words, row_words, IsPrintedRow}
 use Rattle.lf_lex.proofs.Back.{Back, back_pure, back_bind, back_first, back_yes, back_no, back_given, token_with}
@@ -33,10 +33,10 @@ name_back n h = short_name_back n h.other h.name.short
 pub reads_back : {A : Type 0} (reader : Reader A) (ws : List (List ℕ)) (x : A) → Back same reader ws x → ReadsBack reader ws x
 reads_back reader ws x f p e l = let a = f p e in a.takes l ∙ ap (λ (z : _). taken z l) a.alike
 
-pub dbu_at : (print : ℤ → List ℕ) → WritesNumbers print → (x : ℤ) → IsCoordinate x → (t : Lexeme) → plain t ≡ word_of (print x) → dbu_of t ≡ Ok x
+pub dbu_at : (print : ℤ → List ℕ) → WritesNumbers print → (x : ℤ) → IsDefCoordinate x → (t : Lexeme) → plain t ≡ plain_word (print x) → dbu_of t ≡ Ok x
 dbu_at print writes x h t e = ap (λ (p : PlainToken). or_bad_number (fixed_of p.text 0 2147483647) t.line) e ∙ rw (writes x h) refl
 
-pub dbu_back : (print : ℤ → List ℕ) → WritesNumbers print → (x : ℤ) → IsCoordinate x → Back same dbu (print x ∷ []) x
+pub dbu_back : (print : ℤ → List ℕ) → WritesNumbers print → (x : ℤ) → IsDefCoordinate x → Back same dbu (print x ∷ []) x
 unfolding dbu
 dbu_back print writes x h = back_first same _ (print x) [] x (λ t e. back_given same (dbu_of t) _ x [] x (dbu_at print writes x h t e)
     (back_pure same x x refl))
@@ -44,10 +44,10 @@ dbu_back print writes x h = back_first same _ (print x) [] x (λ t e. back_given
 count_test : (most n : ℕ) → 1 ≤ n → n ≤ most → (nat_le 1 n && nat_le n most) ≡ true
 count_test most n h k = grind (arith, nat_tests)
 
-up_to_is : (most n line : ℕ) → IsCount most n → up_to most (pos n) line ≡ Ok n
+up_to_is : (most n line : ℕ) → IsCount most n → number_up_to most (pos n) line ≡ Ok n
 up_to_is most n line h = rw (count_test most n h.some h.few) refl
 
-count_coordinate : (n : ℕ) → n ≤ 2147483647 → IsCoordinate (pos n)
+count_coordinate : (n : ℕ) → n ≤ 2147483647 → IsDefCoordinate (pos n)
 count_coordinate n h = record { low = omega (arith, ints); high = omega (arith, ints) }
 
 pub count_back : (print : ℤ → List ℕ) → WritesNumbers print → (most : ℕ) → most ≤ 2147483647 → (n : ℕ) → IsCount most n
@@ -56,9 +56,9 @@ unfolding count
 count_back print writes most within n h =
     back_first same _ (print (pos n)) [] n (λ t e. back_given same (dbu_of t) _ (pos n) [] n
     (dbu_at print writes (pos n) (count_coordinate n (omega (arith, h.few, within))) t e)
-    (back_given same (up_to most (pos n) t.line) _ n [] n (up_to_is most n t.line h) (back_pure same n n refl)))
+    (back_given same (number_up_to most (pos n) t.line) _ n [] n (up_to_is most n t.line h) (back_pure same n n refl)))
 
-pub point_rest_back : (print : ℤ → List ℕ) → WritesNumbers print → (x y : ℤ) → IsCoordinate x → IsCoordinate y
+pub point_rest_back : (print : ℤ → List ℕ) → WritesNumbers print → (x y : ℤ) → IsDefCoordinate x → IsDefCoordinate y
     → Back same point_rest (print x ∷ print y ∷ codes ")" ∷ []) (point_at x y)
 unfolding point_rest
 point_rest_back print writes x y hx hy =
@@ -67,9 +67,9 @@ point_rest_back print writes x y hx hy =
     back_bind same same (keyword (codes ")")) _ (codes ")" ∷ []) [] tt (point_at x y) (keyword_back (codes ")") refl)
     (λ s es. back_pure same (point_at x y) (point_at x' y') (rw (ex, ey) refl))))
 
-point_back : (print : ℤ → List ℕ) → WritesNumbers print → (x y : ℤ) → IsCoordinate x → IsCoordinate y
-    → Back same point (codes "(" ∷ print x ∷ print y ∷ codes ")" ∷ []) (point_at x y)
-unfolding point
+point_back : (print : ℤ → List ℕ) → WritesNumbers print → (x y : ℤ) → IsDefCoordinate x → IsDefCoordinate y
+    → Back same def_point (codes "(" ∷ print x ∷ print y ∷ codes ")" ∷ []) (point_at x y)
+unfolding def_point
 point_back print writes x y hx hy =
     back_bind same same (keyword (codes "(")) _ (codes "(" ∷ []) (print x ∷ print y ∷ codes ")" ∷ []) tt (point_at x y) (keyword_back (codes "(") refl)
     (λ s es. point_rest_back print writes x y hx hy)
@@ -89,17 +89,17 @@ unfolding rect_rest
 rect_rest_back print writes r h =
     back_bind same same point_rest _ (print r.x1 ∷ print r.y1 ∷ codes ")" ∷ []) (codes "(" ∷ print r.x2 ∷ print r.y2 ∷ codes ")" ∷ []) (point_at r.x1 r.y1) r
     (point_rest_back print writes r.x1 r.y1 h.x1 h.y1) (λ p ep.
-    back_bind same same point _ (codes "(" ∷ print r.x2 ∷ print r.y2 ∷ codes ")" ∷ []) [] (point_at r.x2 r.y2) r (point_back print writes r.x2 r.y2 h.x2 h.y2)
+    back_bind same same def_point _ (codes "(" ∷ print r.x2 ∷ print r.y2 ∷ codes ")" ∷ []) [] (point_at r.x2 r.y2) r (point_back print writes r.x2 r.y2 h.x2 h.y2)
     (λ q eq. back_pure same r (rect_between p q) (corners r p q h ep eq)))
 
-pub rect_back : (print : ℤ → List ℕ) → WritesNumbers print → (r : Rect) → IsRect r → Back same rect (rect_words print r []) r
-unfolding rect
+pub rect_back : (print : ℤ → List ℕ) → WritesNumbers print → (r : Rect) → IsRect r → Back same def_rectangle (rect_words print r []) r
+unfolding def_rectangle
 rect_back print writes r h =
     back_bind same same (keyword (codes "(")) _ (codes "(" ∷ [])
     (print r.x1 ∷ print r.y1 ∷ codes ")" ∷ codes "(" ∷ print r.x2 ∷ print r.y2 ∷ codes ")" ∷ []) tt r (keyword_back (codes "(") refl)
     (λ s es. rect_rest_back print writes r h)
 
-pub orient_at : (o : Orient) (t : Lexeme) → plain t ≡ word_of (orient_word o) → orient_of t ≡ Ok o
+pub orient_at : (o : Orient) (t : Lexeme) → plain t ≡ plain_word (orient_word o) → orient_of t ≡ Ok o
 orient_at N t e = ap (λ (p : PlainToken). orient_of (record t { text = p.text })) e
 orient_at W t e = ap (λ (p : PlainToken). orient_of (record t { text = p.text })) e
 orient_at S t e = ap (λ (p : PlainToken). orient_of (record t { text = p.text })) e
@@ -111,7 +111,7 @@ orient_at FE t e = ap (λ (p : PlainToken). orient_of (record t { text = p.text 
 
 -- Rows.
 
-end_back : (t : Lexeme) → plain t ≡ word_of (codes ";") → Back same (row_end t) [] tt
+end_back : (t : Lexeme) → plain t ≡ plain_word (codes ";") → Back same (row_end t) [] tt
 unfolding row_end
 end_back t e = back_yes same (is (codes ";") t) _ _ [] tt (is_at (codes ";") (codes ";") t e) (back_pure same tt tt refl)
 
@@ -132,10 +132,10 @@ step_back print writes (Some p) h k y next =
     back_first same _ (codes ";") [] (Some p) (λ u eu. back_bind same same (row_end u) _ [] [] tt (Some p) (end_back u eu)
     (λ s es. back_pure same (Some p) (Some (point_at x' y')) (rw (ex, ey) refl))))))))
 
-abbrev sites_of : Row → Sites
+abbrev sites_of : RowStatement → Sites
 sites_of r = record { x = r.sites_x; y = r.sites_y; step = r.step }
 
-sites_back : (print : ℤ → List ℕ) → WritesNumbers print → (r : Row) → IsRow r
+sites_back : (print : ℤ → List ℕ) → WritesNumbers print → (r : RowStatement) → IsRow r
     → Back same sites (print (pos r.sites_x) ∷ codes "BY" ∷ print (pos r.sites_y) ∷ step_words print r.step) (sites_of r)
 unfolding sites
 sites_back print writes r h =
@@ -156,17 +156,17 @@ sites_back print writes r h =
     append_nil_back : {A : Type 0} {q : Reader A} {y : A} (ws : List (List ℕ)) → Back same q (ws ++ []) y → Back same q ws y
     append_nil_back ws f = rw (append-nil ws) at f
 
-abbrev from_count : (ℤ → List ℕ) → Row → List (List ℕ)
+abbrev from_count : (ℤ → List ℕ) → RowStatement → List (List ℕ)
 from_count print r = print (pos r.sites_x) ∷ codes "BY" ∷ print (pos r.sites_y) ∷ step_words print r.step
 
-abbrev from_orient : (ℤ → List ℕ) → Row → List (List ℕ)
+abbrev from_orient : (ℤ → List ℕ) → RowStatement → List (List ℕ)
 from_orient print r = orient_word r.orient ∷ codes "DO" ∷ from_count print r
 
-row_alike : (r : Row) (n i : Lexeme) (x y : ℤ) (s : Sites) → plain n ≡ word_of r.name → plain i ≡ word_of r.site → x ≡ r.x → y ≡ r.y → s ≡ sites_of r
-    → ◌≡◌ {A = Row} (record { name = n.text; site = i.text; x = x; y = y; orient = r.orient; sites_x = s.x; sites_y = s.y; step = s.step }) r
+row_alike : (r : RowStatement) (n i : Lexeme) (x y : ℤ) (s : Sites) → plain n ≡ plain_word r.name → plain i ≡ plain_word r.site → x ≡ r.x → y ≡ r.y → s ≡ sites_of r
+    → ◌≡◌ {A = RowStatement} (record { name = n.text; site = i.text; x = x; y = y; orient = r.orient; sites_x = s.x; sites_y = s.y; step = s.step }) r
 row_alike r n i x y s a b c d e = rw (ap (λ (p : PlainToken). p.text) a, ap (λ (p : PlainToken). p.text) b, c, d, e) refl
 
-pub row_back : (print : ℤ → List ℕ) → WritesNumbers print → (r : Row) → IsPrintedRow r → Back same row (row_words print r) r
+pub row_back : (print : ℤ → List ℕ) → WritesNumbers print → (r : RowStatement) → IsPrintedRow r → Back same row (row_words print r) r
 unfolding row sites_from
 row_back print writes r h =
     back_bind plain same name _ (r.name ∷ []) (r.site ∷ print r.x ∷ print r.y ∷ from_orient print r) (token_with r.name) r (name_back r.name h.name) (λ n en.

@@ -8,7 +8,7 @@ use Rattle.std.proofs.lemmas.List.Elements.{All-head, All-tail}
 use Rattle.lf_units.specs.declared.geometry.Rect.{Rect}
 use Rattle.lf_lex.specs.declared.fault.ReadFault.{ReadFault}
 use Rattle.lf_lex.specs.Tokens.{Lexeme, PlainToken, plain}
-use Rattle.lf_lex.specs.Splices.{word_of}
+use Rattle.lf_lex.specs.Splices.{plain_word}
 use Rattle.lf_lex.specs.Reading.{Statement, turn, is, name, block}
 use Rattle.lf_lex.proofs.Runs.{same}
 use Rattle.lf_lex.proofs.BackWords.{is_at, no_more, not_eq, short_test, word_test}
@@ -20,12 +20,12 @@ use Rattle.lf_def.specs.declared.regions.RegionKind.TheVariants.{Fence, Guide}
 use Rattle.lf_def.specs.declared.regions.RegionParts.{RegionParts}
 use Rattle.lf_def.specs.declared.groups.Group.{Group}
 use Rattle.lf_def.specs.declared.groups.GroupParts.{GroupParts}
-use Rattle.lf_def.specs.Coordinates.{rect, rect_rest}
-use Rattle.lf_def.specs.Entries.{name_of}
+use Rattle.lf_def.specs.Coordinates.{def_rectangle, rect_rest}
+use Rattle.lf_def.specs.Entries.{name_token}
 use Rattle.lf_def.specs.Regions as regions
 use Rattle.lf_def.specs.Groups as groups
 use Rattle.lf_def.specs.Ranges.{IsRect}
-use Rattle.lf_def.specs.Printed.{WritesNumbers, IsWord, rect_words, rects_words, kind_words, region_words, IsPrintedRegion, group_region_words, group_words}
+use Rattle.lf_def.specs.Printed.{WritesNumbers, IsWord, rect_words, rects_words, region_kind_words, region_words, IsPrintedRegion, group_region_words, group_words}
 use Rattle.lf_def.specs.Printed.{IsPattern, IsRegionName, IsPrintedGroup}
 use Rattle.lf_lex.proofs.Back.{Back, TurnsBack, back_pure, back_bind, back_first, back_yes, back_no, back_given, token_with, turns_last, turns_more, block_back}
 use Rattle.lf_def.proofs.PrintedEntries.{name_back, rect_back, rect_rest_back}
@@ -74,9 +74,9 @@ abbrev kind_of_word : RegionKind → List ℕ
 kind_of_word Fence = codes "FENCE"
 kind_of_word Guide = codes "GUIDE"
 
-kind_at : (k : RegionKind) (t : Lexeme) → plain t ≡ word_of (kind_of_word k) → regions.kind_of t ≡ Ok k
-kind_at Fence t e = ap (λ (p : PlainToken). regions.kind_of (record t { text = p.text })) e
-kind_at Guide t e = ap (λ (p : PlainToken). regions.kind_of (record t { text = p.text })) e
+kind_at : (k : RegionKind) (t : Lexeme) → plain t ≡ plain_word (kind_of_word k) → regions.kind_named t ≡ Ok k
+kind_at Fence t e = ap (λ (p : PlainToken). regions.kind_named (record t { text = p.text })) e
+kind_at Guide t e = ap (λ (p : PlainToken). regions.kind_named (record t { text = p.text })) e
 
 region_type : (k : RegionKind) (rects : List Rect) → Back same (regions.region_token (region_at None rects Keyword)) (codes "TYPE" ∷ kind_of_word k ∷ [])
     (turn (region_at (Some k) rects Separator) true)
@@ -87,15 +87,15 @@ region_type k rects =
     (back_no same (is (codes "+") t) _ _ (kind_of_word k ∷ []) (turn (region_at (Some k) rects Separator) true) (is_at (codes "+") (codes "TYPE") t e)
     (back_yes same (is (codes "TYPE") t) _ _ (kind_of_word k ∷ []) (turn (region_at (Some k) rects Separator) true) (is_at (codes "TYPE") (codes "TYPE") t e)
     (back_first same _ (kind_of_word k) [] (turn (region_at (Some k) rects Separator) true)
-    (λ u eu. back_given same (regions.kind_of u) _ k [] (turn (region_at (Some k) rects Separator) true) (kind_at k u eu)
+    (λ u eu. back_given same (regions.kind_named u) _ k [] (turn (region_at (Some k) rects Separator) true) (kind_at k u eu)
     (back_pure same (turn (region_at (Some k) rects Separator) true) (turn (region_at (Some k) rects Separator) true) refl))))))
 
-abbrev due_behind : Option RegionKind → Due
-due_behind None = Item
-due_behind (Some k) = Separator
+abbrev due_after_it : Option RegionKind → Due
+due_after_it None = Item
+due_after_it (Some k) = Separator
 
-region_kind : (kind : Option RegionKind) (rects : List Rect) → TurnsBack same regions.region_token (region_at None rects Item) (kind_words kind)
-    (region_at kind rects (due_behind kind))
+region_kind : (kind : Option RegionKind) (rects : List Rect) → TurnsBack same regions.region_token (region_at None rects Item) (region_kind_words kind)
+    (region_at kind rects (due_after_it kind))
 region_kind None rects = turns_last same regions.region_token (region_at None rects Item) (region_at None rects Item) (codes ";" ∷ [])
     (region_stop (region_at None rects Item))
 region_kind (Some Fence) rects =
@@ -114,40 +114,40 @@ region_kind (Some Guide) rects =
     (region_stop (region_at (Some Guide) rects Separator))))
 
 region_rects : (print : ℤ → List ℕ) → WritesNumbers print → (kind : Option RegionKind) (before rs : List Rect) → All IsRect rs
-    → TurnsBack same regions.region_token (region_at None before Item) (rects_words print rs (kind_words kind))
-    (region_at kind (before ++ rs) (due_behind kind))
+    → TurnsBack same regions.region_token (region_at None before Item) (rects_words print rs (region_kind_words kind))
+    (region_at kind (before ++ rs) (due_after_it kind))
 region_rects print writes kind before [] h = rw (append-nil before) (region_kind kind before)
 region_rects print writes kind before (r ∷ rs) h =
     let later = region_rects print writes kind (before ++ r ∷ []) rs (All-tail IsRect r rs h) in
     let there : (before ++ r ∷ []) ++ rs ≡ before ++ r ∷ rs = append_assoc before (r ∷ []) rs in
-    then_turns regions.region_token (region_at None before Item) (region_at None (before ++ r ∷ []) Item) (region_at kind (before ++ r ∷ rs) (due_behind kind))
+    then_turns regions.region_token (region_at None before Item) (region_at None (before ++ r ∷ []) Item) (region_at kind (before ++ r ∷ rs) (due_after_it kind))
     (codes "(")
-    (print r.x1 ∷ print r.y1 ∷ codes ")" ∷ codes "(" ∷ print r.x2 ∷ print r.y2 ∷ codes ")" ∷ []) (rects_words print rs (kind_words kind))
+    (print r.x1 ∷ print r.y1 ∷ codes ")" ∷ codes "(" ∷ print r.x2 ∷ print r.y2 ∷ codes ")" ∷ []) (rects_words print rs (region_kind_words kind))
     (region_rect print writes r (All-head IsRect r rs h) before) (rw there at later)
 
-region_is : (r : Region) (rects : List Rect) (n : Lexeme) (q : Rect) (p : RegionParts) (due : Due) → r.rects ≡ rects → plain n ≡ word_of r.name
+region_is : (r : Region) (rects : List Rect) (n : Lexeme) (q : Rect) (p : RegionParts) (due : Due) → r.rects ≡ rects → plain n ≡ plain_word r.name
     → p ≡ region_at r.kind rects due → ◌≡◌ {A = Region} (record { name = n.text; kind = p.kind; rects = p.rects }) r
 region_is r rects n q p due e f g = rw (ap (λ (z : PlainToken). z.text) f, g, sym e) refl
 
 region_some : (print : ℤ → List ℕ) → WritesNumbers print → (r : Region) → IsWord r.name → (first : Rect) (rs : List Rect) → All IsRect (first ∷ rs)
     → r.rects ≡ first ∷ rs
-    → Back same regions.region (r.name ∷ rects_words print (first ∷ rs) (kind_words r.kind)) r
+    → Back same regions.region (r.name ∷ rects_words print (first ∷ rs) (region_kind_words r.kind)) r
 unfolding regions.region
 region_some print writes r name_is first rs h e =
-    back_bind plain same name _ (r.name ∷ []) (rects_words print (first ∷ rs) (kind_words r.kind)) (token_with r.name) r (name_back r.name name_is) (λ n en.
-    back_bind same same rect _ (rect_words print first []) (rects_words print rs (kind_words r.kind)) first r
+    back_bind plain same name _ (r.name ∷ []) (rects_words print (first ∷ rs) (region_kind_words r.kind)) (token_with r.name) r (name_back r.name name_is) (λ n en.
+    back_bind same same def_rectangle _ (rect_words print first []) (rects_words print rs (region_kind_words r.kind)) first r
     (rect_back print writes first (All-head IsRect first rs h)) (λ q eq.
-    no_more same _ r (rects_words print rs (kind_words r.kind))
-    (back_bind same same (block regions.region_token (regions.first_rect q)) _ (rects_words print rs (kind_words r.kind)) []
-    (region_at r.kind (first ∷ rs) (due_behind r.kind)) r
-    (same_start q eq (block_back same regions.region_token (region_at None (first ∷ []) Item) (region_at r.kind (first ∷ rs) (due_behind r.kind))
-    (rects_words print rs (kind_words r.kind)) (region_rects print writes r.kind (first ∷ []) rs (All-tail IsRect first rs h)))) (λ p ep.
-    back_pure same r (record { name = n.text; kind = p.kind; rects = p.rects }) (region_is r (first ∷ rs) n q p (due_behind r.kind) e en ep)))))
+    no_more same _ r (rects_words print rs (region_kind_words r.kind))
+    (back_bind same same (block regions.region_token (regions.first_rect q)) _ (rects_words print rs (region_kind_words r.kind)) []
+    (region_at r.kind (first ∷ rs) (due_after_it r.kind)) r
+    (same_start q eq (block_back same regions.region_token (region_at None (first ∷ []) Item) (region_at r.kind (first ∷ rs) (due_after_it r.kind))
+    (rects_words print rs (region_kind_words r.kind)) (region_rects print writes r.kind (first ∷ []) rs (All-tail IsRect first rs h)))) (λ p ep.
+    back_pure same r (record { name = n.text; kind = p.kind; rects = p.rects }) (region_is r (first ∷ rs) n q p (due_after_it r.kind) e en ep)))))
   where
-    same_start : (q : Rect) → q ≡ first → Back same (block regions.region_token (regions.first_rect first)) (rects_words print rs (kind_words r.kind))
-        (region_at r.kind (first ∷ rs) (due_behind r.kind))
-        → Back same (block regions.region_token (regions.first_rect q)) (rects_words print rs (kind_words r.kind))
-        (region_at r.kind (first ∷ rs) (due_behind r.kind))
+    same_start : (q : Rect) → q ≡ first → Back same (block regions.region_token (regions.first_rect first)) (rects_words print rs (region_kind_words r.kind))
+        (region_at r.kind (first ∷ rs) (due_after_it r.kind))
+        → Back same (block regions.region_token (regions.first_rect q)) (rects_words print rs (region_kind_words r.kind))
+        (region_at r.kind (first ∷ rs) (due_after_it r.kind))
     same_start q eq f = rw eq f
 
 by_rects : (print : ℤ → List ℕ) → WritesNumbers print → (r : Region) → IsPrintedRegion r → (rects : List Rect) → r.rects ≡ rects
@@ -155,7 +155,7 @@ by_rects : (print : ℤ → List ℕ) → WritesNumbers print → (r : Region) �
 by_rects print writes r h [] e = absurd (h.some e)
 by_rects print writes r h (first ∷ rs) e =
     let rects : All IsRect (first ∷ rs) = subst (λ (z : List Rect). All IsRect z) e h.rects in
-    subst (λ (z : List Rect). Back same regions.region (r.name ∷ rects_words print z (kind_words r.kind)) r) (sym e)
+    subst (λ (z : List Rect). Back same regions.region (r.name ∷ rects_words print z (region_kind_words r.kind)) r) (sym e)
     (region_some print writes r h.name first rs rects e)
 
 pub region_back : (print : ℤ → List ℕ) → WritesNumbers print → (r : Region) → IsPrintedRegion r → Back same regions.region (region_words print r) r
@@ -183,9 +183,9 @@ tests_pass : (a b : Bool) (text : List ℕ) (q p : ReadFault) → a ≡ true →
     → ◌≡◌ {A = Result (List ℕ) ReadFault} (cond (not a) (Err q) (cond b (Err p) (Ok text))) (Ok text)
 tests_pass a b text q p e f = rw (e, f) refl
 
-name_at : (n : List ℕ) (t : Lexeme) → IsWord n → plain t ≡ word_of n → name_of t ≡ Ok n
+name_at : (n : List ℕ) (t : Lexeme) → IsWord n → plain t ≡ plain_word n → name_token t ≡ Ok n
 name_at n t h e =
-    ap (λ (p : PlainToken). name_of (record t { text = p.text; kind = p.kind })) e
+    ap (λ (p : PlainToken). name_token (record t { text = p.text; kind = p.kind })) e
     ∙ tests_pass (true && not (bytes_eq n (codes ";"))) (nat_lt 1024 (length n)) n _ _ (word_test (bytes_eq n (codes ";")) (not_eq n (codes ";") h.other))
     (short_test (length n) h.name.short)
 
@@ -196,7 +196,7 @@ group_pattern patterns p h =
     back_first same _ p [] (turn (group_at (patterns ++ p ∷ []) None Item) true) (λ t e.
     back_no same (is (codes ";") t) _ _ [] (turn (group_at (patterns ++ p ∷ []) None Item) true) (is_at (codes ";") p t e ∙ not_eq p (codes ";") h.word.other)
     (back_no same (is (codes "+") t) _ _ [] (turn (group_at (patterns ++ p ∷ []) None Item) true) (is_at (codes "+") p t e ∙ not_eq p (codes "+") h.other)
-    (back_given same (name_of t) _ p [] (turn (group_at (patterns ++ p ∷ []) None Item) true) (name_at p t h.word e)
+    (back_given same (name_token t) _ p [] (turn (group_at (patterns ++ p ∷ []) None Item) true) (name_at p t h.word e)
     (back_pure same (turn (group_at (patterns ++ p ∷ []) None Item) true) (turn (group_at (patterns ++ p ∷ []) None Item) true) refl))))
 
 group_name : (patterns : List (List ℕ)) (n : List ℕ) → IsRegionName n
@@ -238,7 +238,7 @@ group_patterns region before (p ∷ ps) h k =
     (group_at (before ++ p ∷ ps) region (due_after region)) p [] (ps ++ group_region_words region) (group_pattern before p (All-head IsPattern p ps k))
     (rw there at later)
 
-group_is : (g : Group) (n : Lexeme) (p : GroupParts) (due : Due) → plain n ≡ word_of g.name → p ≡ group_at g.patterns g.region due
+group_is : (g : Group) (n : Lexeme) (p : GroupParts) (due : Due) → plain n ≡ plain_word g.name → p ≡ group_at g.patterns g.region due
     → ◌≡◌ {A = Group} (record { name = n.text; patterns = p.patterns; region = p.region }) g
 group_is g n p due e f = rw (ap (λ (z : PlainToken). z.text) e, f) refl
 

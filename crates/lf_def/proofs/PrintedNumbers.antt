@@ -16,7 +16,7 @@ use Rattle.lf_units.specs.declared.number.NumberFault.TheVariants.{NotANumber}
 use Rattle.lf_units.specs.Number.{fixed_of, is_point, is_number, digits_fixed, magnitude_of, with_sign}
 use Rattle.lf_lex.specs.Tokens.{is_word_byte}
 use Rattle.lf_lex.specs.Splices.{is_word_text}
-use Rattle.lf_def.specs.Ranges.{IsCoordinate}
+use Rattle.lf_def.specs.Ranges.{IsDefCoordinate}
 use Rattle.lf_def.specs.Printed.{WritesNumbers}
 
 -- Digits.
@@ -31,9 +31,9 @@ digits_pass (c ∷ ds) d = rw (digit_passes c (digit_from_value c d.0)) (digits_
 no_point : (c : ℕ) → IsInRange 48 57 c → is_point c ≡ false
 no_point c h = grind (arith, nat_tests)
 
-point_behind : (ds : List ℕ) → AllDigits 10 ds → position_or_len is_point ds ≡ length ds
-point_behind [] d = refl
-point_behind (c ∷ ds) d = rw (no_point c (digit_from_value c d.0)) (omega (arith, point_behind ds d.1))
+point_after : (ds : List ℕ) → AllDigits 10 ds → position_or_len is_point ds ≡ length ds
+point_after [] d = refl
+point_after (c ∷ ds) d = rw (no_point c (digit_from_value c d.0)) (omega (arith, point_after ds d.1))
 
 no_minus : (c : ℕ) → IsInRange 48 57 c → (c == 45) ≡ false
 no_minus c h = grind (arith, nat_tests)
@@ -88,8 +88,8 @@ parts_are negative ds n d some e h = rw (digits_pass ds d, some_digits (length d
 
 rest_is : (negative : Bool) (ds : List ℕ) → AllDigits 10 ds → fixed_rest negative ds ≡ fixed_parts negative ds []
 rest_is negative ds d =
-    let all : before_first is_point ds ≡ ds = ap (λ (k : ℕ). take k ds) (point_behind ds d) ∙ take_all (length ds) ds (omega arith) in
-    let none : after_first is_point ds ≡ [] = ap (λ (k : ℕ). drop (k + 1) ds) (point_behind ds d) ∙ drop_all (length ds + 1) ds (omega arith) in
+    let all : before_first is_point ds ≡ ds = ap (λ (k : ℕ). take k ds) (point_after ds d) ∙ take_all (length ds) ds (omega arith) in
+    let none : after_first is_point ds ≡ [] = ap (λ (k : ℕ). drop (k + 1) ds) (point_after ds d) ∙ drop_all (length ds + 1) ds (omega arith) in
     ap (λ (z : List ℕ). fixed_parts negative z (after_first is_point ds)) all ∙ ap (λ (z : List ℕ). fixed_parts negative ds z) none
 
 reads : (text : List ℕ) (negative : Bool) (ds : List ℕ) (n : ℕ) → without_leading_sign text ≡ ds → starts_with_minus text ≡ negative → AllDigits 10 ds → 0 < length ds → digits_value 10 ds ≡ n → n ≤ 2147483647
@@ -110,7 +110,7 @@ decimals_are_read (negsuc n) h =
     reads (45 ∷ decimal (suc n)) true (decimal (suc n)) (suc n) refl refl k.0.1 k.0.0 k.1 small
 
 -- Each decimal number is a word.
-pub decimals_are_words : (x : ℤ) → IsCoordinate x → is_word_text (signed_decimal x) ≡ true
+pub decimals_are_words : (x : ℤ) → IsDefCoordinate x → is_word_text (signed_decimal x) ≡ true
 decimals_are_words (pos n) h =
     let small : n ≤ 2147483647 = omega (arith, ints, h.high) in
     let k = decimal_is_IsNumeral n (omega arith) in digits_are_word (decimal n) k.0.1 k.0.0

@@ -5,7 +5,7 @@ use Rattle.std.specs.Str.{bytes_eq}
 use Rattle.std.specs.Option.{option_map}
 use Rattle.lf_units.specs.declared.geometry.Point.{Point}
 use Rattle.lf_lex.specs.Tokens.{Lexeme, PlainToken, plain}
-use Rattle.lf_lex.specs.Splices.{word_of}
+use Rattle.lf_lex.specs.Splices.{plain_word}
 use Rattle.lf_lex.specs.Reading.{Turn, turn, is, keyword, name, block}
 use Rattle.lf_lex.proofs.Runs.{same, turn_bare}
 use Rattle.lf_lex.proofs.BackWords.{is_at, keyword_back, no_more}
@@ -19,7 +19,7 @@ use Rattle.lf_def.specs.declared.components.PlacementClause.{PlacementClause}
 use Rattle.lf_def.specs.declared.components.PlacementKind.{PlacementKind}
 use Rattle.lf_def.specs.declared.components.PlacementKind.TheVariants.{Fixed, Cover, Placed, Unplaced}
 use Rattle.lf_def.specs.Coordinates.{point_rest, orient_of}
-use Rattle.lf_def.specs.Components.{located_rest, placed, unplaced, is_placement_word, placement, only_placement, clause, component_part, component_from}
+use Rattle.lf_def.specs.Components.{located_rest, placed_clause, unplaced_clause, is_placement_word, placement, only_placement, clause, component_part, component_from}
 use Rattle.lf_def.specs.Components.{component_token, no_component, component}
 use Rattle.lf_def.specs.Laws.{placement_without_places, without_places}
 use Rattle.lf_def.specs.Ranges.{IsLocation}
@@ -51,8 +51,8 @@ abbrev pub placement_at : PlacementKind → Option Location → PlacementClause
 placement_at kind p = record { kind = kind; place = p; start = 0; stop = 0 }
 
 placed_back : (print : ℤ → List ℕ) → WritesNumbers print → (kind : PlacementKind) (plus : ℕ) (p : Location) → IsLocation p
-    → Back placement_without_places (placed kind plus) (codes "(" ∷ print p.x ∷ print p.y ∷ codes ")" ∷ orient_word p.orient ∷ []) (placement_at kind (Some p))
-unfolding placed
+    → Back placement_without_places (placed_clause kind plus) (codes "(" ∷ print p.x ∷ print p.y ∷ codes ")" ∷ orient_word p.orient ∷ []) (placement_at kind (Some p))
+unfolding placed_clause
 placed_back print writes kind plus p h =
     back_bind same placement_without_places (keyword (codes "(")) _ (codes "(" ∷ []) (print p.x ∷ print p.y ∷ codes ")" ∷ orient_word p.orient ∷ []) tt
     (placement_at kind (Some p)) (keyword_back (codes "(") refl) (λ s es.
@@ -62,7 +62,7 @@ placed_back print writes kind plus p h =
     (ap (λ (z : Location). placement_at kind (Some z)) eq)))
 
 placement_back : (print : ℤ → List ℕ) → WritesNumbers print → (kind : PlacementKind) (plus : ℕ) (p : Option Location) → HasPlace kind p → (t : Lexeme)
-    → plain t ≡ word_of (kind_word kind)
+    → plain t ≡ plain_word (kind_word kind)
     → Back placement_without_places (placement plus t) (place_words print p) (placement_at kind p)
 unfolding placement
 placement_back print writes Fixed plus None h t e = absurd h
@@ -88,9 +88,9 @@ placement_back print writes Unplaced plus None h t e =
     back_no placement_without_places (is (codes "FIXED") t) _ _ [] (placement_at Unplaced None) (is_at (codes "FIXED") (codes "UNPLACED") t e)
     (back_no placement_without_places (is (codes "COVER") t) _ _ [] (placement_at Unplaced None) (is_at (codes "COVER") (codes "UNPLACED") t e)
     (back_no placement_without_places (is (codes "PLACED") t) _ _ [] (placement_at Unplaced None) (is_at (codes "PLACED") (codes "UNPLACED") t e)
-    (back_pure placement_without_places (placement_at Unplaced None) (unplaced plus t) refl)))
+    (back_pure placement_without_places (placement_at Unplaced None) (unplaced_clause plus t) refl)))
 
-pub kind_is : (kind : PlacementKind) (t : Lexeme) → plain t ≡ word_of (kind_word kind) → is_placement_word t ≡ true
+pub kind_is : (kind : PlacementKind) (t : Lexeme) → plain t ≡ plain_word (kind_word kind) → is_placement_word t ≡ true
 kind_is Fixed t e = ap (λ (p : PlainToken). bytes_eq p.text (codes "FIXED") || bytes_eq p.text (codes "COVER") || bytes_eq p.text (codes "PLACED") || bytes_eq p.text
     (codes "UNPLACED")) e
 kind_is Cover t e = ap (λ (p : PlainToken). bytes_eq p.text (codes "FIXED") || bytes_eq p.text (codes "COVER") || bytes_eq p.text (codes "PLACED") || bytes_eq p.text
@@ -199,7 +199,7 @@ same_placement : (p : Option PlacementClause) → option_map placement_without_p
 same_placement None = refl
 same_placement (Some p) = refl
 
-component_is : (c : Component) (n k : Lexeme) (s : ComponentParts) → plain n ≡ word_of c.name → plain k ≡ word_of c.mac
+component_is : (c : Component) (n k : Lexeme) (s : ComponentParts) → plain n ≡ plain_word c.name → plain k ≡ plain_word c.mac
     → bare_parts s ≡ bare_parts (known_of c.placement)
     → component_at n.text k.text (option_map placement_without_places s.placement) ≡ component_at c.name c.mac (option_map placement_without_places c.placement)
 component_is c n k s e f g = rw (

@@ -5,7 +5,7 @@ use Rattle.std.specs.Str.{bytes_eq}
 use Rattle.std.proofs.lemmas.List.{append_assoc, append-nil, map-append}
 use Rattle.std.proofs.lemmas.List.Elements.{All-head, All-tail, All-cons, All-nil}
 use Rattle.lf_lex.specs.Tokens.{PlainToken}
-use Rattle.lf_lex.specs.Splices.{word_of}
+use Rattle.lf_lex.specs.Splices.{plain_word}
 use Rattle.lf_lex.specs.Reading.{Reader, turn, is, end_name, passed_token, to_semicolon}
 use Rattle.lf_lex.proofs.Runs.{same, turn_bare}
 use Rattle.lf_lex.proofs.BackWords.{end_back, is_at, not_eq}
@@ -46,11 +46,11 @@ last_entry bare bare_list due entry s y own e =
 one_entry : {A B C : Type 0} (bare : A → B) (bare_list : List A → C) → Grows bare bare_list
     → (due : List ℕ) (entry : Reader A) (tokens : List PlainToken) (x : A) (s s' : List A)
     → bare_list s' ≡ bare_list s → BackAt bare entry tokens x
-    → BackAt (turn_bare bare_list) (entry_or_end due entry s') (word_of (codes "-") ∷ tokens) (turn (s ++ x ∷ []) true)
+    → BackAt (turn_bare bare_list) (entry_or_end due entry s') (plain_word (codes "-") ∷ tokens) (turn (s ++ x ∷ []) true)
 unfolding entry_or_end
 one_entry bare bare_list grows due entry tokens x s s' e f =
     let y = turn (s ++ x ∷ []) true in
-    at_first (turn_bare bare_list) _ (word_of (codes "-")) tokens y
+    at_first (turn_bare bare_list) _ (plain_word (codes "-")) tokens y
     (λ t et. at_yes (turn_bare bare_list) (is (codes "-") t) _ _ tokens y (is_at (codes "-") (codes "-") t et)
     (at_map bare (turn_bare bare_list) entry (λ (z : _). turn (s' ++ z ∷ []) true) tokens x y f (λ x' ex. ap (λ (z : _). turn z true) (grows s s' x x' e ex))))
 
@@ -58,15 +58,15 @@ entries_turns : {A B C X : Type 0} (bare : A → B) (bare_list : List A → C) �
     → (entry : Reader A)
     (tokens : X → List PlainToken) (value : X → A) (P : X → Type 0) → ((x : X) → P x → BackAt bare entry (tokens x) (value x))
     → (xs : List X) (s s' : List A) → All P xs → bare_list s' ≡ bare_list s
-    → TurnsAt bare_list (entry_or_end due entry) s' (entries_tokens tokens xs (word_of (codes "END") ∷ word_of due ∷ [])) (s ++ map value xs)
+    → TurnsAt bare_list (entry_or_end due entry) s' (entries_tokens tokens xs (plain_word (codes "END") ∷ plain_word due ∷ [])) (s ++ map value xs)
 entries_turns bare bare_list grows due own entry tokens value P f [] s s' h e =
     rw (append-nil s) (turns_last bare_list (entry_or_end due entry) s' s (codes "END" ∷ due ∷ []) (last_entry bare bare_list due entry s' s own e))
 entries_turns bare bare_list grows due own entry tokens value P f (x ∷ xs) s s' h e =
-    let behind = entries_tokens tokens xs (word_of (codes "END") ∷ word_of due ∷ []) in
+    let after_it = entries_tokens tokens xs (plain_word (codes "END") ∷ plain_word due ∷ []) in
     let there : (s ++ value x ∷ []) ++ map value xs ≡ s ++ value x ∷ map value xs = append_assoc s (value x ∷ []) (map value xs) in
-    at_more bare_list (entry_or_end due entry) s' (s ++ value x ∷ []) (s ++ value x ∷ map value xs) (word_of (codes "-") ∷ tokens x) behind (omega arith)
+    at_more bare_list (entry_or_end due entry) s' (s ++ value x ∷ []) (s ++ value x ∷ map value xs) (plain_word (codes "-") ∷ tokens x) after_it (omega arith)
     (one_entry bare bare_list grows due entry (tokens x) (value x) s s' e (f x (All-head P x xs h))) (λ s1 e1.
-    subst (λ (z : List _). TurnsAt bare_list (entry_or_end due entry) s1 behind z) there
+    subst (λ (z : List _). TurnsAt bare_list (entry_or_end due entry) s1 after_it z) there
     (entries_turns bare bare_list grows due own entry tokens value P f xs (s ++ value x ∷ []) s1 (All-tail P x xs h) e1))
 
 -- A section after its keyword.
@@ -74,24 +74,24 @@ pub section_at : {A B C X : Type 0} (bare : A → B) (bare_list : List A → C) 
     → (entry : Reader A)
     (tokens : X → List PlainToken) (value : X → A) (P : X → Type 0) → ((x : X) → P x → BackAt bare entry (tokens x) (value x))
     → (count : List ℕ) → count ≢ codes ";" → (xs : List X) (s : List A) → All P xs
-    → BackAt bare_list (section due entry s) (word_of count ∷ word_of (codes ";") ∷ entries_tokens tokens xs (word_of (codes "END") ∷ word_of due ∷ []))
+    → BackAt bare_list (section due entry s) (plain_word count ∷ plain_word (codes ";") ∷ entries_tokens tokens xs (plain_word (codes "END") ∷ plain_word due ∷ []))
     (s ++ map value xs)
 unfolding section
 section_at bare bare_list grows due own entry tokens value P f count other xs s h =
-    let behind = entries_tokens tokens xs (word_of (codes "END") ∷ word_of due ∷ []) in
+    let after_it = entries_tokens tokens xs (plain_word (codes "END") ∷ plain_word due ∷ []) in
     let count_is = All-cons (λ w. w ≢ codes ";") count [] other (All-nil (λ w. w ≢ codes ";")) in
-    at_bind same bare_list to_semicolon _ (word_of count ∷ word_of (codes ";") ∷ []) behind tt (s ++ map value xs) (to_semicolon_back (count ∷ []) count_is)
+    at_bind same bare_list to_semicolon _ (plain_word count ∷ plain_word (codes ";") ∷ []) after_it tt (s ++ map value xs) (to_semicolon_back (count ∷ []) count_is)
     (λ u eu.
-    at_block bare_list (entry_or_end due entry) s (s ++ map value xs) behind (entries_turns bare bare_list grows due own entry tokens value P f xs s s h refl))
+    at_block bare_list (entry_or_end due entry) s (s ++ map value xs) after_it (entries_turns bare bare_list grows due own entry tokens value P f xs s s h refl))
 
 -- Words are tokens, and each entry is its own value.
 
 entries_of_words : {A : Type 0} (words : A → List (List ℕ)) (xs : List A) (rest : List (List ℕ))
-    → map word_of (entries_words words xs rest) ≡ entries_tokens (λ x. map word_of (words x)) xs (map word_of rest)
+    → map plain_word (entries_words words xs rest) ≡ entries_tokens (λ x. map plain_word (words x)) xs (map plain_word rest)
 entries_of_words words [] rest = refl
 entries_of_words words (x ∷ xs) rest =
-    ap (λ (z : List PlainToken). word_of (codes "-") ∷ z)
-    (map-append word_of (words x) (entries_words words xs rest) ∙ ap (λ (z : List PlainToken). map word_of (words x) ++ z) (entries_of_words words xs rest))
+    ap (λ (z : List PlainToken). plain_word (codes "-") ∷ z)
+    (map-append plain_word (words x) (entries_words words xs rest) ∙ ap (λ (z : List PlainToken). map plain_word (words x) ++ z) (entries_of_words words xs rest))
 
 each_itself : {A : Type 0} (xs : List A) → map (λ x. x) xs ≡ xs
 each_itself [] = refl
@@ -103,8 +103,8 @@ pub section_back : {A B C : Type 0} (bare : A → B) (bare_list : List A → C) 
     → (count : List ℕ) → count ≢ codes ";" → (xs s : List A) → All P xs
     → Back bare_list (section due entry s) (count ∷ codes ";" ∷ entries_words words xs (codes "END" ∷ due ∷ [])) (s ++ xs)
 section_back bare bare_list grows due own entry words P f count other xs s h =
-    let front = word_of count ∷ word_of (codes ";") ∷ [] in
+    let front = plain_word count ∷ plain_word (codes ";") ∷ [] in
     subst (λ (z : List PlainToken). BackAt bare_list (section due entry s) (front ++ z) (s ++ xs)) (sym (entries_of_words words xs (codes "END" ∷ due ∷ [])))
     (subst (λ (z : List _). BackAt bare_list (section due entry s)
-    (front ++ entries_tokens (λ x. map word_of (words x)) xs (word_of (codes "END") ∷ word_of due ∷ [])) (s ++ z)) (each_itself xs)
-    (section_at bare bare_list grows due own entry (λ x. map word_of (words x)) (λ x. x) P f count other xs s h))
+    (front ++ entries_tokens (λ x. map plain_word (words x)) xs (plain_word (codes "END") ∷ plain_word due ∷ [])) (s ++ z)) (each_itself xs)
+    (section_at bare bare_list grows due own entry (λ x. map plain_word (words x)) (λ x. x) P f count other xs s h))

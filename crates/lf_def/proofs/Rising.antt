@@ -19,51 +19,51 @@ use Rattle.lf_def.specs.Regions.{regions}
 use Rattle.lf_def.specs.Groups.{groups}
 use Rattle.lf_def.specs.Blockages.{blockages}
 use Rattle.lf_def.specs.Components.{component, components}
-use Rattle.lf_def.specs.Document.{Document, passed_from, end_design, body_statement, statement_from, statement, no_parts}
-use Rattle.lf_def.specs.Laws.{LastEnds, ClauseAmong, HasClause, IsComponentOf, ClauseWithin, Rising, ComponentsRise}
+use Rattle.lf_def.specs.Document.{Document, skip_from, end_design, body_statement, def_statement_from, def_statement, no_parts}
+use Rattle.lf_def.specs.Laws.{LastEnds, ClauseAmong, HasClause, IsComponentOf, ClauseWithin, AreInTextOrder, ComponentsAreInTextOrder}
 use Rattle.lf_def.proofs.Following.{header_follows}
 use Rattle.lf_def.proofs.Places.{with_row_follows, regions_alike, groups_alike, blockages_alike, passed_follows, end_design_follows}
 use Rattle.lf_def.proofs.Local.{Local, local_of}
-use Rattle.lf_def.proofs.Clauses.{bind_ok, token_ok, components_stand}
+use Rattle.lf_def.proofs.Clauses.{bind_ok, token_ok, components_have_clauses}
 use Rattle.lf_def.proofs.Same.{said}
 
 -- The place after a run of tokens.
-behind_run : ℕ → List Lexeme → ℕ
-behind_run at [] = at
-behind_run at (t ∷ ts) = behind_run t.stop ts
+after_run : ℕ → List Lexeme → ℕ
+after_run at [] = at
+after_run at (t ∷ ts) = after_run t.stop ts
 
-past : (text : List ℕ) (at : ℕ) (run ts : List Lexeme) → AreSlices text at (run ++ ts) → (at ≤ behind_run at run) × AreSlices text (behind_run at run) ts
-unfolding behind_run
+past : (text : List ℕ) (at : ℕ) (run ts : List Lexeme) → AreSlices text at (run ++ ts) → (at ≤ after_run at run) × AreSlices text (after_run at run) ts
+unfolding after_run
 past text at [] ts h = (omega arith, h)
 past text at (t ∷ run) ts h = let r = past text t.stop run ts h.3 in (omega (arith, h.0, h.1, r.0), r.1)
 
-last_behind : (stop : ℕ) (t : Lexeme) (ts : List Lexeme) → LastEnds stop t ts → behind_run t.stop ts ≡ stop
-unfolding behind_run
-last_behind stop t [] h = h
-last_behind stop t (u ∷ us) h = last_behind stop u us h
+last_after : (stop : ℕ) (t : Lexeme) (ts : List Lexeme) → LastEnds stop t ts → after_run t.stop ts ≡ stop
+unfolding after_run
+last_after stop t [] h = h
+last_after stop t (u ∷ us) h = last_after stop u us h
 
 -- A clause among the tokens lies between the offsets of these tokens.
-clause_stands : (text : List ℕ) (at : ℕ) (tokens ts : List Lexeme) (p : PlacementClause) → ClauseAmong tokens p → AreSlices text at (tokens ++ ts) → (at ≤ p.start) × (p.start < p.stop) × (p.stop ≤ behind_run at tokens)
-unfolding behind_run
-clause_stands text at tokens ts p c h =
+clause_is_kept : (text : List ℕ) (at : ℕ) (tokens ts : List Lexeme) (p : PlacementClause) → ClauseAmong tokens p → AreSlices text at (tokens ++ ts) → (at ≤ p.start) × (p.start < p.stop) × (p.stop ≤ after_run at tokens)
+unfolding after_run
+clause_is_kept text at tokens ts p c h =
     let there : tokens ++ ts ≡ c.before ++ ((c.is.plus ∷ c.is.word ∷ c.is.more) ++ (c.after ++ ts)) =
     ap (λ (z : List Lexeme). z ++ ts) c.whole ∙ append_assoc c.before (c.clause ++ c.after) ts ∙ ap (λ (z : List Lexeme). c.before ++ z) (append_assoc c.clause c.after ts) ∙ ap (λ (z : List Lexeme). c.before ++ (z ++ (c.after ++ ts))) c.is.tokens in
     let a = past text at c.before ((c.is.plus ∷ c.is.word ∷ c.is.more) ++ (c.after ++ ts)) (rw there at h) in
-    let b = past text (behind_run at c.before) (c.is.plus ∷ c.is.word ∷ c.is.more) (c.after ++ ts) a.1 in
-    let d = past text (behind_run (behind_run at c.before) (c.is.plus ∷ c.is.word ∷ c.is.more)) c.after ts b.1 in
-    let stop-is : behind_run (behind_run at c.before) (c.is.plus ∷ c.is.word ∷ c.is.more) ≡ p.stop = last_behind p.stop c.is.word c.is.more c.is.stop in
+    let b = past text (after_run at c.before) (c.is.plus ∷ c.is.word ∷ c.is.more) (c.after ++ ts) a.1 in
+    let d = past text (after_run (after_run at c.before) (c.is.plus ∷ c.is.word ∷ c.is.more)) c.after ts b.1 in
+    let stop-is : after_run (after_run at c.before) (c.is.plus ∷ c.is.word ∷ c.is.more) ≡ p.stop = last_after p.stop c.is.word c.is.more c.is.stop in
     let m = past text c.is.word.stop c.is.more (c.after ++ ts) a.1.3.3 in
-    let end-is : behind_run at tokens ≡ behind_run (behind_run (behind_run at c.before) (c.is.plus ∷ c.is.word ∷ c.is.more)) c.after =
-    ap (λ (z : List Lexeme). behind_run at z) (c.whole ∙ ap (λ (z : List Lexeme). c.before ++ (z ++ c.after)) c.is.tokens) ∙ both at c.before ((c.is.plus ∷ c.is.word ∷ c.is.more) ++ c.after) ∙ both (behind_run at c.before) (c.is.plus ∷ c.is.word ∷ c.is.more) c.after in
-    (omega (arith, a.0, a.1.0, c.is.start), omega (arith, c.is.start, a.1.1, a.1.3.0, a.1.3.1, m.0, last_behind p.stop c.is.word c.is.more c.is.stop), omega (arith, end-is, stop-is, d.0))
+    let end-is : after_run at tokens ≡ after_run (after_run (after_run at c.before) (c.is.plus ∷ c.is.word ∷ c.is.more)) c.after =
+    ap (λ (z : List Lexeme). after_run at z) (c.whole ∙ ap (λ (z : List Lexeme). c.before ++ (z ++ c.after)) c.is.tokens) ∙ both at c.before ((c.is.plus ∷ c.is.word ∷ c.is.more) ++ c.after) ∙ both (after_run at c.before) (c.is.plus ∷ c.is.word ∷ c.is.more) c.after in
+    (omega (arith, a.0, a.1.0, c.is.start), omega (arith, c.is.start, a.1.1, a.1.3.0, a.1.3.1, m.0, last_after p.stop c.is.word c.is.more c.is.stop), omega (arith, end-is, stop-is, d.0))
   where
-    both : (at : ℕ) (a b : List Lexeme) → behind_run at (a ++ b) ≡ behind_run (behind_run at a) b
+    both : (at : ℕ) (a b : List Lexeme) → after_run at (a ++ b) ≡ after_run (after_run at a) b
     both at [] b = refl
     both at (t ∷ a) b = both t.stop a b
 
-clause_within : (text : List ℕ) (at to : ℕ) (tokens ts : List Lexeme) (p : Option PlacementClause) → HasClause tokens p → AreSlices text at (tokens ++ ts) → behind_run at tokens ≤ to → ClauseWithin at to p
+clause_within : (text : List ℕ) (at to : ℕ) (tokens ts : List Lexeme) (p : Option PlacementClause) → HasClause tokens p → AreSlices text at (tokens ++ ts) → after_run at tokens ≤ to → ClauseWithin at to p
 clause_within text at to tokens ts None c h le = tt
-clause_within text at to tokens ts (Some p) c h le = let r = clause_stands text at tokens ts p c h in (r.0, r.1, omega (arith, r.2, le))
+clause_within text at to tokens ts (Some p) c h le = let r = clause_is_kept text at tokens ts p c h in (r.0, r.1, omega (arith, r.2, le))
 
 -- A semicolon lies within the text.
 semicolon_within : (text : List ℕ) (t : Lexeme) → is (codes ";") t ≡ true → t.text ≡ take (t.stop - t.start) (drop t.start text) → t.start < length text
@@ -72,7 +72,7 @@ semicolon_within text t e h =
     let len : length (codes ";") ≡ min (t.stop - t.start) (length (drop t.start text)) = ap (λ (z : List ℕ). length z) (sym one ∙ h) ∙ length-take (t.stop - t.start) (drop t.start text) in
     omega (arith, len, length-drop t.start text)
 
-record Stands (text : List ℕ) (at : ℕ) (m : Lexed) (c : Component) : Type 0 where
+record IsInPlace (text : List ℕ) (at : ℕ) (m : Lexed) (c : Component) : Type 0 where
   pub from : at ≤ c.semicolon
   pub clause : ClauseWithin at c.semicolon c.placement
   pub within : c.semicolon < length text
@@ -80,7 +80,7 @@ record Stands (text : List ℕ) (at : ℕ) (m : Lexed) (c : Component) : Type 0 
   pub past_it : c.semicolon < stop
   pub rest : AreSlices text stop m.tokens
 
-component_at : (text : List ℕ) (at : ℕ) (run : List Lexeme) (m : Lexed) (c : Component) → IsComponentOf run c → AreSlices text at (run ++ m.tokens) → Stands text at m c
+component_at : (text : List ℕ) (at : ℕ) (run : List Lexeme) (m : Lexed) (c : Component) → IsComponentOf run c → AreSlices text at (run ++ m.tokens) → IsInPlace text at m c
 component_at text at run m c k h =
     let there : run ++ m.tokens ≡ k.front ++ (k.last ∷ m.tokens) = ap (λ (z : List Lexeme). z ++ m.tokens) k.whole ∙ append_assoc k.front (k.last ∷ []) m.tokens in
     let slices = rw there at h in
@@ -94,15 +94,15 @@ component_at text at run m c k h =
       rest = a.1.3;
     }
 
-read_component_at : (text : List ℕ) (at : ℕ) (l m : Lexed) (c : Component) → component l ≡ taken c m → AreSlices text at l.tokens → Stands text at m c
+read_component_at : (text : List ℕ) (at : ℕ) (l m : Lexed) (c : Component) → component l ≡ taken c m → AreSlices text at l.tokens → IsInPlace text at m c
 read_component_at text at l m c e h =
-    let s = components_stand l m c e in
+    let s = components_have_clauses l m c e in
     let there = ap (λ (z : Lexed). z.tokens) s.1 in
     component_at text at s.0 m c s.2 (rw there at h)
 
 -- Lists of components.
 
-wider : (from mid to : ℕ) (cs : List Component) → Rising from mid cs → mid ≤ to → Rising from to cs
+wider : (from mid to : ℕ) (cs : List Component) → AreInTextOrder from mid cs → mid ≤ to → AreInTextOrder from to cs
 wider from mid to [] h le = omega (arith, h, le)
 wider from mid to (c ∷ cs) h le = (h.0, h.1, wider (c.semicolon + 1) mid to cs h.2 le)
 
@@ -110,7 +110,7 @@ later_clause : (from at to : ℕ) (p : Option PlacementClause) → from ≤ at �
 later_clause from at to None le h = tt
 later_clause from at to (Some p) le h = (omega (arith, le, h.0), h.1, h.2)
 
-one_more : (from high at to : ℕ) (cs : List Component) (c : Component) → Rising from high cs → high ≤ at → at ≤ c.semicolon → ClauseWithin at c.semicolon c.placement → c.semicolon + 1 ≤ to → Rising from to (cs ++ c ∷ [])
+one_more : (from high at to : ℕ) (cs : List Component) (c : Component) → AreInTextOrder from high cs → high ≤ at → at ≤ c.semicolon → ClauseWithin at c.semicolon c.placement → c.semicolon + 1 ≤ to → AreInTextOrder from to (cs ++ c ∷ [])
 one_more from high at to [] c h le s k e = (omega (arith, h, le, s), later_clause from at c.semicolon c.placement (omega (arith, h, le)) k, e)
 one_more from high at to (d ∷ cs) c h le s k e = (h.0, h.1, one_more (d.semicolon + 1) high at to cs c h.2 le s k e)
 
@@ -120,7 +120,7 @@ record Read (text : List ℕ) (m : Lexed) (cs : List Component) : Type 0 where
   pub at : ℕ
   pub before : high ≤ at
   pub within : high ≤ length text
-  pub rising : Rising 0 high cs
+  pub rising : AreInTextOrder 0 high cs
   pub rest : AreSlices text at m.tokens
 
 moved : {A : Type 0} (reader : Reader A) (text : List ℕ) (l m : Lexed) (x : A) (cs : List Component) → Local reader → reader l ≡ taken x m → Read text l cs → Read text m cs
@@ -128,7 +128,7 @@ moved reader text l m x cs local e k =
     let f = local l m x e in
     let there = ap (λ (z : Lexed). z.tokens) f.whole in
     let a = past text k.at f.run m.tokens (rw there at k.rest) in
-    record { high = k.high; at = behind_run k.at f.run; before = omega (arith, k.before, a.0); within = k.within; rising = k.rising; rest = a.1 }
+    record { high = k.high; at = after_run k.at f.run; before = omega (arith, k.before, a.0); within = k.within; rising = k.rising; rest = a.1 }
 
 with_component : (text : List ℕ) (l m : Lexed) (c : Component) (cs : List Component) → component l ≡ taken c m → Read text l cs → Read text m (cs ++ c ∷ [])
 with_component text l m c cs e k =
@@ -207,13 +207,13 @@ section_case text l m s s' r e =
 
 body_case : (a b c d e : Bool) (text : List ℕ) (l m : Lexed) (s s' : DocParts) (t : Lexeme) → Read text l s.components
     → cond {A = Result (ReadValue DocParts) ReadFault} a (with_row s.rows l >>= λ x. taken (record s { rows = x.value }) x.rest) (cond b (regions s.regions l >>= λ x. taken (record s { regions = x.value }) x.rest) (cond c (groups s.groups l >>= λ x. taken (record s { groups = x.value }) x.rest)
-    (cond d (components s.components l >>= λ x. taken (record s { components = x.value }) x.rest) (cond e (blockages s.blockages l >>= λ x. taken (record s { blockages = x.value }) x.rest) (passed_from t l >>= λ x. taken s x.rest))))) ≡ taken s' m → Read text m s'.components
+    (cond d (components s.components l >>= λ x. taken (record s { components = x.value }) x.rest) (cond e (blockages s.blockages l >>= λ x. taken (record s { blockages = x.value }) x.rest) (skip_from t l >>= λ x. taken s x.rest))))) ≡ taken s' m → Read text m s'.components
 body_case true b c d e text l m s s' t r h = other (with_row s.rows) text l m s s' (λ x. record s { rows = x }) (local_of (with_row s.rows) (with_row_follows s.rows)) (λ x. refl) r h
 body_case false true c d e text l m s s' t r h = other (regions s.regions) text l m s s' (λ x. record s { regions = x }) (local_of (regions s.regions) (regions_alike s.regions s.regions refl)) (λ x. refl) r h
 body_case false false true d e text l m s s' t r h = other (groups s.groups) text l m s s' (λ x. record s { groups = x }) (local_of (groups s.groups) (groups_alike s.groups s.groups refl)) (λ x. refl) r h
 body_case false false false true e text l m s s' t r h = section_case text l m s s' r h
 body_case false false false false true text l m s s' t r h = other (blockages s.blockages) text l m s s' (λ x. record s { blockages = x }) (local_of (blockages s.blockages) (blockages_alike s.blockages s.blockages refl)) (λ x. refl) r h
-body_case false false false false false text l m s s' t r h = other (passed_from t) text l m s s' (λ x. s) (local_of (passed_from t) (passed_follows t t refl)) (λ x. refl) r h
+body_case false false false false false text l m s s' t r h = other (skip_from t) text l m s s' (λ x. s) (local_of (skip_from t) (passed_follows t t refl)) (λ x. refl) r h
 
 body_read : (text : List ℕ) (l m : Lexed) (s s' : DocParts) (t : Lexeme) → Read text l s.components → body_statement s t l ≡ taken s' m → Read text m s'.components
 unfolding body_statement
@@ -235,28 +235,28 @@ from_case false false text l m s v t r h =
     let f = ok_is (turn a.0.value true) a.0.rest v m a.2 in
     same_components text m a.0.rest a.0.value.components v.state.components (ap (λ (z : Turn DocParts). z.state.components) f.0) f.1 (body_read text l a.0.rest s a.0.value t r a.1)
 
-statement_read : (text : List ℕ) (l m : Lexed) (s : DocParts) (v : Turn DocParts) → Read text l s.components → statement s l ≡ taken v m → Read text m v.state.components
-unfolding statement statement_from
+statement_read : (text : List ℕ) (l m : Lexed) (s : DocParts) (v : Turn DocParts) → Read text l s.components → def_statement s l ≡ taken v m → Read text m v.state.components
+unfolding def_statement def_statement_from
 statement_read text l m s v r e =
     let a = token_ok l _ _ e in
     from_case (is (codes "END") a.0) (is_header a.0) text a.1 m s v a.0 (token_moved text l a.1 a.0 s.components a.2 r) a.3
 
-statements_by : (n : ℕ) (text : List ℕ) (m : Lexed) (y : DocParts) (v : Turn DocParts) (rest : Lexed) → Read text rest v.state.components → (statements statement n v.state rest ≡ taken y m → Read text m y.components)
-    → (more : Bool) → cond more (statements statement n v.state rest) (taken v.state rest) ≡ taken y m → Read text m y.components
+statements_by : (n : ℕ) (text : List ℕ) (m : Lexed) (y : DocParts) (v : Turn DocParts) (rest : Lexed) → Read text rest v.state.components → (statements def_statement n v.state rest ≡ taken y m → Read text m y.components)
+    → (more : Bool) → cond more (statements def_statement n v.state rest) (taken v.state rest) ≡ taken y m → Read text m y.components
 statements_by n text m y v rest k next true e = next e
 statements_by n text m y v rest k next false e = let d = ok_is v.state rest y m e in same_components text m rest v.state.components y.components (ap (λ (z : DocParts). z.components) d.0) d.1 k
 
-all_statements : (n : ℕ) (text : List ℕ) (l m : Lexed) (s y : DocParts) → Read text l s.components → statements statement n s l ≡ taken y m → Read text m y.components
+all_statements : (n : ℕ) (text : List ℕ) (l m : Lexed) (s y : DocParts) → Read text l s.components → statements def_statement n s l ≡ taken y m → Read text m y.components
 unfolding statements
 all_statements zero text l m s y k e = absurd cc
 all_statements (suc n) text l m s y k e =
-    let a = bind_ok (statement s l) _ _ e in
+    let a = bind_ok (def_statement s l) _ _ e in
     let k' = statement_read text l a.0.rest s a.0.value k a.1 in
     statements_by n text m y a.0.value a.0.rest k' (λ f. all_statements n text a.0.rest m a.0.value.state y k' f) a.0.value.more a.2
 
-pub components_rise : (text : List ℕ) → ComponentsRise text
+pub components_rise : (text : List ℕ) → ComponentsAreInTextOrder text
 components_rise text d e =
-    let s = said (block statement no_parts (tokens_of text)) d e in
+    let s = said (block def_statement no_parts (tokens_of text)) d e in
     let start : Read text (tokens_of text) [] = record { high = 0; at = 0; before = omega arith; within = omega arith; rising = omega arith; rest = slices_from text 0 0 0 1 text refl (omega arith) } in
     let r = all_statements _ text (tokens_of text) s.rest no_parts s.parts start s.read in
     rw (ap (λ (z : Document). z.components) s.gives) at (wider 0 r.high (length text) s.parts.components r.rising r.within)

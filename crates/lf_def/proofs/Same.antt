@@ -2,11 +2,11 @@
 use Rattle.std.proofs.Common.{◌≡◌, ℕ, List, map, Result, Ok, Err, refl, sym, ap, ◌∙◌}
 use Rattle.lf_lex.specs.declared.fault.ReadFault.{ReadFault}
 use Rattle.lf_lex.specs.Tokens.{Lexed, Lexeme, plain, with_tokens, tokens_of}
-use Rattle.lf_lex.specs.Reading.{ReadValue, taken, behind, block, value_of}
+use Rattle.lf_lex.specs.Reading.{ReadValue, taken, lexed_after, block, value_of}
 use Rattle.lf_lex.proofs.Runs.{split_alike}
 use Rattle.lf_def.specs.declared.doc_parts.DocParts.{DocParts}
 use Rattle.lf_def.specs.Header.{header_of}
-use Rattle.lf_def.specs.Document.{Document, document_from, statement, no_parts}
+use Rattle.lf_def.specs.Document.{Document, document_from, def_statement, no_parts}
 use Rattle.lf_def.specs.Laws.{ReadsTheSame, document_without_places, ComponentReadsAlike}
 use Rattle.lf_def.proofs.Places.{bare_doc, statements_follow, component_follows}
 
@@ -40,14 +40,14 @@ bare_alike s s' e = ap (λ (z : DocParts). document_at z) e
 
 pub says_the_same : (a b : List ℕ) → ReadsTheSame a b
 says_the_same a b tokens d e =
-    let s = said (block statement no_parts (tokens_of a)) d e in
+    let s = said (block def_statement no_parts (tokens_of a)) d e in
     let r = statements_follow no_parts no_parts refl (tokens_of a) s.rest s.parts s.read in
     let whole = ap (λ (z : Lexed). map plain z.tokens) r.whole in
     let c = split_alike (tokens_of b).tokens r.run s.rest.tokens (sym tokens ∙ whole) in
     let again = r.again c.front c.front_alike in
-    let rest = behind c.back (tokens_of b) in
-    let there : tokens_of b ≡ with_tokens c.front rest = ap (λ (z : List Lexeme). behind z (tokens_of b)) c.whole in
-    let one = ap (λ (z : Lexed). document_from (value_of (block statement no_parts z))) there
+    let rest = lexed_after c.back (tokens_of b) in
+    let there : tokens_of b ≡ with_tokens c.front rest = ap (λ (z : List Lexeme). lexed_after z (tokens_of b)) c.whole in
+    let one = ap (λ (z : Lexed). document_from (value_of (block def_statement no_parts z))) there
     ∙ ap (λ (z : Result (ReadValue DocParts) ReadFault). document_from (value_of z)) (again.takes rest) in
     (document_at again.value, one, bare_alike s.parts again.value again.alike ∙ ap document_without_places s.gives)
 

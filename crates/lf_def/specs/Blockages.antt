@@ -7,12 +7,12 @@ use Rattle.lf_def.specs.declared.section.Due.{Due}
 use Rattle.lf_def.specs.declared.section.Due.TheVariants.{Item, Keyword, Rest}
 use Rattle.lf_def.specs.declared.blockages.Blockage.{Blockage}
 use Rattle.lf_def.specs.declared.blockages.BlockageParts.{BlockageParts}
-use Rattle.lf_def.specs.Coordinates.{rect}
+use Rattle.lf_def.specs.Coordinates.{def_rectangle}
 
 -- Adds a rectangle, after RECT.
 unfoldable pub with_rect : BlockageParts → Reader (Turn BlockageParts)
 with_rect parts l = do
-  r ← rect l
+  r ← def_rectangle l
   continues (record parts { rects = parts.rects ++ r.value ∷ []; due = Item }) r.rest
 
 -- Records the word of a clause, if it is SOFT or PARTIAL.

@@ -26,15 +26,15 @@ located_rest l = do
 
 -- ( x y ) orient after FIXED, COVER or PLACED. The clause extends from its plus to the end of the
 -- orientation.
-unfoldable pub placed : PlacementKind → ℕ → Reader PlacementClause
-placed kind plus l = do
+unfoldable pub placed_clause : PlacementKind → ℕ → Reader PlacementClause
+placed_clause kind plus l = do
   start ← keyword (codes "(") l
   p ← located_rest start.rest
   taken (record { kind = kind; place = Some p.value.location; start = plus; stop = p.value.stop }) p.rest
 
 -- UNPLACED. The clause extends from its plus to the end of this word.
-abbrev pub unplaced : ℕ → Lexeme → PlacementClause
-unplaced plus t = record { kind = Unplaced; place = None; start = plus; stop = t.stop }
+abbrev pub unplaced_clause : ℕ → Lexeme → PlacementClause
+unplaced_clause plus t = record { kind = Unplaced; place = None; start = plus; stop = t.stop }
 
 abbrev pub is_placement_word : Lexeme → Bool
 is_placement_word t = is (codes "FIXED") t || is (codes "COVER") t || is (codes "PLACED") t || is (codes "UNPLACED") t
@@ -42,10 +42,10 @@ is_placement_word t = is (codes "FIXED") t || is (codes "COVER") t || is (codes 
 -- A placement clause, after its plus and its word.
 unfoldable pub placement : ℕ → Lexeme → Reader PlacementClause
 placement plus t l =
-    if is (codes "FIXED") t then placed Fixed plus l
-    else if is (codes "COVER") t then placed Cover plus l
-    else if is (codes "PLACED") t then placed Placed plus l
-    else taken (unplaced plus t) l
+    if is (codes "FIXED") t then placed_clause Fixed plus l
+    else if is (codes "COVER") t then placed_clause Cover plus l
+    else if is (codes "PLACED") t then placed_clause Placed plus l
+    else taken (unplaced_clause plus t) l
 
 -- The only placement clause. A second one is a fault.
 unfoldable pub only_placement : Option PlacementClause → ℕ → Lexeme → Reader PlacementClause

@@ -23,16 +23,16 @@ dbu l = do
   x ← dbu_of t.value
   taken x t.rest
 
-abbrev pub up_to : ℕ → ℤ → ℕ → Result ℕ ReadFault
-up_to most (pos n) line = if nat_le 1 n && nat_le n most then Ok n else fault_at BadNumber line
-up_to most (negsuc n) line = fault_at BadNumber line
+abbrev pub number_up_to : ℕ → ℤ → ℕ → Result ℕ ReadFault
+number_up_to most (pos n) line = if nat_le 1 n && nat_le n most then Ok n else fault_at BadNumber line
+number_up_to most (negsuc n) line = fault_at BadNumber line
 
 -- A whole number from 1 to the largest one.
 unfoldable pub count : ℕ → Reader ℕ
 count most l = do
   t ← token l
   x ← dbu_of t.value
-  n ← up_to most x t.value.line
+  n ← number_up_to most x t.value.line
   taken n t.rest
 
 -- x y ) after the first parenthesis.
@@ -44,8 +44,8 @@ point_rest l = do
   taken (record { x = x.value; y = y.value }) stop.rest
 
 -- ( x y )
-unfoldable pub point : Reader Point
-point l = do
+unfoldable pub def_point : Reader Point
+def_point l = do
   start ← keyword (codes "(") l
   point_rest start.rest
 
@@ -57,12 +57,12 @@ rect_between p q = record { x1 = int_min p.x q.x; y1 = int_min p.y q.y; x2 = int
 unfoldable pub rect_rest : Reader Rect
 rect_rest l = do
   p ← point_rest l
-  q ← point p.rest
+  q ← def_point p.rest
   taken (rect_between p.value q.value) q.rest
 
 -- ( x y ) ( x y )
-unfoldable pub rect : Reader Rect
-rect l = do
+unfoldable pub def_rectangle : Reader Rect
+def_rectangle l = do
   start ← keyword (codes "(") l
   rect_rest start.rest
 

@@ -8,8 +8,8 @@ use Rattle.lf_lex.specs.Faults.{load_fault_of}
 use Rattle.lf_lex.specs.Tokens.{Lexeme, tokens_of}
 use Rattle.lf_lex.specs.Reading.{◌>>=◌, Reader, Statement, Turn, taken, continues, finishes, fault_at, token, is, kind_is_word, to_semicolon, to_end, to_word, block}
 use Rattle.lf_lex.specs.Reading.{value_of}
-use Rattle.lf_def.specs.declared.header.Header.{Header}
-use Rattle.lf_def.specs.declared.rows.Row.{Row}
+use Rattle.lf_def.specs.declared.header.DocumentHeader.{DocumentHeader}
+use Rattle.lf_def.specs.declared.rows.RowStatement.{RowStatement}
 use Rattle.lf_def.specs.declared.regions.Region.{Region}
 use Rattle.lf_def.specs.declared.groups.Group.{Group}
 use Rattle.lf_def.specs.declared.components.Component.{Component}
@@ -24,8 +24,8 @@ use Rattle.lf_def.specs.Blockages.{blockages}
 
 -- The contents of a text, each list in the order of the text.
 pub record Document : Type 0 where
-  pub header : Header
-  pub rows : List Row
+  pub header : DocumentHeader
+  pub rows : List RowStatement
   pub regions : List Region
   pub groups : List Group
   pub components : List Component
@@ -47,8 +47,8 @@ is_skipped_statement t =
     (codes "COMPONENTMASKSHIFT") t || is (codes "NAMESCASESENSITIVE") t
 
 -- Skips a statement, after its first token. Any other word begins no statement.
-unfoldable pub passed_from : Lexeme → Reader (Unit {0})
-passed_from t l =
+unfoldable pub skip_from : Lexeme → Reader (Unit {0})
+skip_from t l =
     if is_skipped_section t then to_end t.text l
     else if is (codes "BEGINEXT") t then to_word (codes "ENDEXT") l
     else if is_skipped_statement t then to_semicolon l
@@ -72,26 +72,26 @@ body_statement parts t l =
     else if is (codes "GROUPS") t then (groups parts.groups l >>= λ s. taken (record parts { groups = s.value }) s.rest)
     else if is (codes "COMPONENTS") t then (components parts.components l >>= λ s. taken (record parts { components = s.value }) s.rest)
     else if is (codes "BLOCKAGES") t then (blockages parts.blockages l >>= λ s. taken (record parts { blockages = s.value }) s.rest)
-    else (passed_from t l >>= λ stop. taken parts stop.rest)
+    else (skip_from t l >>= λ stop. taken parts stop.rest)
 
 -- A statement of the text, after its first token.
-unfoldable pub statement_from : DocParts → Lexeme → Reader (Turn DocParts)
-statement_from parts t l =
+unfoldable pub def_statement_from : DocParts → Lexeme → Reader (Turn DocParts)
+def_statement_from parts t l =
     if is (codes "END") t then (end_design parts l >>= λ stop. finishes parts stop.rest)
     else if is_header t then (header_statement parts.header t l >>= λ h. continues (record parts { header = h.value }) h.rest)
     else (body_statement parts t l >>= λ new. continues new.value new.rest)
 
-unfoldable pub statement : Statement DocParts
-statement parts l = do
+unfoldable pub def_statement : Statement DocParts
+def_statement parts l = do
   t ← token l
-  statement_from parts t.value t.rest
+  def_statement_from parts t.value t.rest
 
 abbrev pub no_parts : DocParts
 no_parts = record { header = no_header; rows = []; regions = []; groups = []; components = []; blockages = [] }
 
 -- The statements of a text up to END DESIGN, or the first fault.
-abbrev pub parts_of : List ℕ → Result DocParts ReadFault
-parts_of text = value_of (block statement no_parts (tokens_of text))
+abbrev pub doc_parts_of : List ℕ → Result DocParts ReadFault
+doc_parts_of text = value_of (block def_statement no_parts (tokens_of text))
 
 abbrev pub document_from : Result DocParts ReadFault → Result Document ReadFault
 document_from (Ok parts) =
@@ -108,13 +108,13 @@ document_from (Err e) = Err e
 
 -- The document of a text, or the text's first fault.
 abbrev pub document_of : List ℕ → Result Document ReadFault
-document_of text = document_from (parts_of text)
+document_of text = document_from (doc_parts_of text)
 
 -- Holds if the document is what its text says.
-abbrev pub IsReadFrom : List ℕ → Header → List Row → List Region → List Group → List Component → List Blockage → Type 0
+abbrev pub IsReadFrom : List ℕ → DocumentHeader → List RowStatement → List Region → List Group → List Component → List Blockage → Type 0
 IsReadFrom text header rows regions groups components blockages =
     document_of text ≡ Ok (record { header = header; rows = rows; regions = regions; groups = groups; components = components; blockages = blockages })
 
 -- Holds if the fault is that of the text, with its line, or a failed allocation.
-abbrev pub Refuses : LoadFault → Result Document ReadFault → Type 0
-Refuses fault reading = (fault ≡ load_fault_of Memory) ⊎ ((first : ReadFault) × (reading ≡ Err first) × (fault ≡ load_fault_of (Fault first)))
+abbrev pub RefusesDef : LoadFault → Result Document ReadFault → Type 0
+RefusesDef fault reading = (fault ≡ load_fault_of Memory) ⊎ ((first : ReadFault) × (reading ≡ Err first) × (fault ≡ load_fault_of (Fault first)))

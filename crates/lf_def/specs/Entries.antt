@@ -22,8 +22,8 @@ section keyword entry entries l = do
 
 -- The bytes of a name or a pattern, if the token is a word other than a semicolon, of at most 1,024
 -- bytes.
-abbrev pub name_of : Lexeme → Result (List ℕ) ReadFault
-name_of t =
+abbrev pub name_token : Lexeme → Result (List ℕ) ReadFault
+name_token t =
     if not (is_word t) then fault_at Unexpected t.line
     else if nat_lt 1024 (length t.text) then fault_at TooMany t.line
     else Ok t.text

@@ -7,12 +7,12 @@ use Rattle.lf_def.specs.declared.section.Due.{Due}
 use Rattle.lf_def.specs.declared.section.Due.TheVariants.{Item, Keyword, Rest, Separator}
 use Rattle.lf_def.specs.declared.groups.Group.{Group}
 use Rattle.lf_def.specs.declared.groups.GroupParts.{GroupParts}
-use Rattle.lf_def.specs.Entries.{section, name_of}
+use Rattle.lf_def.specs.Entries.{section, name_token}
 
 -- Adds a pattern.
 unfoldable pub with_pattern : GroupParts → Lexeme → Reader (Turn GroupParts)
 with_pattern parts t l = do
-  pattern ← name_of t
+  pattern ← name_token t
   continues (record parts { patterns = parts.patterns ++ pattern ∷ [] }) l
 
 -- REGION name after its word. The first one counts. A parenthesis is no name.

@@ -3,7 +3,7 @@ use Rattle.std.specs.Prelude.{ℕ, Bool, ◌||◌, List, [], None, codes, unwrap
 use Rattle.lf_lex.specs.declared.fault.FaultNumber.TheVariants.{Unexpected}
 use Rattle.lf_lex.specs.Tokens.{Lexeme}
 use Rattle.lf_lex.specs.Reading.{◌>>=◌, Reader, taken, fault_at, token, word, name, is, keyword, kind_is_word, first_counts}
-use Rattle.lf_def.specs.declared.header.Header.{Header}
+use Rattle.lf_def.specs.declared.header.DocumentHeader.{DocumentHeader}
 use Rattle.lf_def.specs.declared.header.HeaderParts.{HeaderParts}
 use Rattle.lf_def.specs.Coordinates.{count}
 
@@ -55,6 +55,6 @@ abbrev pub no_header : HeaderParts
 no_header = record { version = None; divider = None; brackets = None; design = None; units = None }
 
 -- The header that the statements describe. The defaults are 5.8, "/" and "[]".
-abbrev pub header_of : HeaderParts → Header
+abbrev pub header_of : HeaderParts → DocumentHeader
 header_of parts =
     record { version = unwrap_or parts.version (codes "5.8"); divider = unwrap_or parts.divider (codes "\"/\""); brackets = unwrap_or parts.brackets (codes "\"[]\""); design = unwrap_or parts.design []; units = parts.units }

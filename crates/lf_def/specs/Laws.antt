@@ -3,13 +3,13 @@ use Rattle.std.specs.Prelude.{◌≡◌, ◌⊎◌, codes, true, ℕ, ◌+◌, �
 use Rattle.std.specs.Option.{option_map}
 use Rattle.lf_lex.specs.Tokens.{Lexed, Lexeme, plain, tokens_of, with_tokens}
 use Rattle.lf_orient.specs.declared.Orient.{Orient}
-use Rattle.lf_lex.specs.Reading.{taken, behind, block, is}
+use Rattle.lf_lex.specs.Reading.{taken, lexed_after, block, is}
 use Rattle.lf_def.specs.declared.components.Component.{Component}
 use Rattle.lf_def.specs.declared.components.PlacementClause.{PlacementClause}
 use Rattle.lf_def.specs.declared.doc_parts.DocParts.{DocParts}
 use Rattle.lf_def.specs.Coordinates.{orient_of}
 use Rattle.lf_def.specs.Components.{component, is_placement_word}
-use Rattle.lf_def.specs.Document.{Document, document_of, statement, no_parts}
+use Rattle.lf_def.specs.Document.{Document, document_of, def_statement, no_parts}
 
 -- Values without their offsets.
 
@@ -27,7 +27,7 @@ document_without_places d = record d { components = map without_places d.compone
 abbrev pub ComponentReadsAlike : Type 0
 ComponentReadsAlike = (l m : Lexed) (c : Component) → component l ≡ taken c m
     → (run : List Lexeme) × (l ≡ with_tokens run m)
-    × ((same : List Lexeme) → map plain same ≡ map plain run → (behind : Lexed) → (again : Component) × (component (with_tokens same behind) ≡ taken again behind) × (without_places again ≡ without_places c))
+    × ((same : List Lexeme) → map plain same ≡ map plain run → (lexed_after : Lexed) → (again : Component) × (component (with_tokens same lexed_after) ≡ taken again lexed_after) × (without_places again ≡ without_places c))
 
 -- Holds if texts whose tokens have the same bytes give the same document, except for offsets.
 abbrev pub ReadsTheSame : List ℕ → List ℕ → Type 0
@@ -36,9 +36,9 @@ ReadsTheSame a b = map plain (tokens_of a).tokens ≡ map plain (tokens_of b).to
 
 -- Holds if any bytes may replace those from the first unread token on, when the statements of the
 -- text leave tokens unread.
-abbrev pub EndsBefore : List ℕ → Type 0
-EndsBefore text = (read : List Lexeme) (t : Lexeme) (unread : List Lexeme) (parts : DocParts) → (tokens_of text).tokens ≡ read ++ t ∷ unread
-    → block statement no_parts (tokens_of text) ≡ taken parts (behind (t ∷ unread) (tokens_of text)) → (bytes : List ℕ) → document_of (take t.start text ++ bytes) ≡ document_of text
+abbrev pub UnreadDefBytesDoNotMatter : List ℕ → Type 0
+UnreadDefBytesDoNotMatter text = (read : List Lexeme) (t : Lexeme) (unread : List Lexeme) (parts : DocParts) → (tokens_of text).tokens ≡ read ++ t ∷ unread
+    → block def_statement no_parts (tokens_of text) ≡ taken parts (lexed_after (t ∷ unread) (tokens_of text)) → (bytes : List ℕ) → document_of (take t.start text ++ bytes) ≡ document_of text
 
 -- The offsets of placement clauses.
 
@@ -98,10 +98,10 @@ ClauseWithin from to (Some p) = (from ≤ p.start) × (p.start < p.stop) × (p.s
 
 -- Holds if the components are in order within these offsets, without overlap, each with its clause
 -- in front of its semicolon.
-abbrev pub Rising : ℕ → ℕ → List Component → Type 0
-Rising from to [] = from ≤ to
-Rising from to (c ∷ cs) = (from ≤ c.semicolon) × ClauseWithin from c.semicolon c.placement × Rising (c.semicolon + 1) to cs
+abbrev pub AreInTextOrder : ℕ → ℕ → List Component → Type 0
+AreInTextOrder from to [] = from ≤ to
+AreInTextOrder from to (c ∷ cs) = (from ≤ c.semicolon) × ClauseWithin from c.semicolon c.placement × AreInTextOrder (c.semicolon + 1) to cs
 
 -- Holds if the components of the text's document are in the text in order.
-abbrev pub ComponentsRise : List ℕ → Type 0
-ComponentsRise text = (d : Document) → document_of text ≡ Ok d → Rising 0 (length text) d.components
+abbrev pub ComponentsAreInTextOrder : List ℕ → Type 0
+ComponentsAreInTextOrder text = (d : Document) → document_of text ≡ Ok d → AreInTextOrder 0 (length text) d.components

@@ -6,8 +6,8 @@ use Rattle.lf_units.specs.Number.{fixed_of}
 use Rattle.lf_orient.specs.Words.{orient_word}
 use Rattle.lf_lex.specs.Tokens.{Lexed, Lexeme, plain, with_tokens}
 use Rattle.lf_lex.specs.Reading.{Reader, taken, IsName}
-use Rattle.lf_lex.specs.Splices.{word_of}
-use Rattle.lf_def.specs.declared.rows.Row.{Row}
+use Rattle.lf_lex.specs.Splices.{plain_word}
+use Rattle.lf_def.specs.declared.rows.RowStatement.{RowStatement}
 use Rattle.lf_def.specs.declared.regions.Region.{Region}
 use Rattle.lf_def.specs.declared.regions.RegionKind.{RegionKind}
 use Rattle.lf_def.specs.declared.regions.RegionKind.TheVariants.{Fence, Guide}
@@ -18,13 +18,13 @@ use Rattle.lf_def.specs.declared.components.PlacementClause.{PlacementClause}
 use Rattle.lf_def.specs.declared.components.PlacementKind.{PlacementKind}
 use Rattle.lf_def.specs.declared.components.PlacementKind.TheVariants.{Fixed, Cover, Placed, Unplaced}
 use Rattle.lf_def.specs.declared.blockages.Blockage.{Blockage}
-use Rattle.lf_def.specs.Ranges.{IsCoordinate, IsRow, IsRect, IsLocation}
+use Rattle.lf_def.specs.Ranges.{IsDefCoordinate, IsRow, IsRect, IsLocation}
 use Rattle.lf_def.specs.Components.{component}
 use Rattle.lf_def.specs.Laws.{without_places}
 
 -- Holds if each coordinate that is printed like this reads back.
 abbrev pub WritesNumbers : (ℤ → List ℕ) → Type 0
-WritesNumbers print = (x : ℤ) → IsCoordinate x → fixed_of (print x) 0 2147483647 ≡ Ok x
+WritesNumbers print = (x : ℤ) → IsDefCoordinate x → fixed_of (print x) 0 2147483647 ≡ Ok x
 
 -- A name other than a semicolon.
 pub record IsWord (n : List ℕ) : Type 0 where
@@ -42,20 +42,20 @@ step_words print None = codes ";" ∷ []
 step_words print (Some p) = codes "STEP" ∷ print p.x ∷ print p.y ∷ codes ";" ∷ []
 
 -- name site x y orient DO numX BY numY [STEP sx sy] ;
-abbrev pub row_words : (ℤ → List ℕ) → Row → List (List ℕ)
+abbrev pub row_words : (ℤ → List ℕ) → RowStatement → List (List ℕ)
 row_words print r = r.name ∷ r.site ∷ print r.x ∷ print r.y ∷ orient_word r.orient ∷ codes "DO" ∷ print (pos r.sites_x) ∷ codes "BY" ∷ print (pos r.sites_y) ∷ step_words print r.step
 
-pub record IsPrintedRow (r : Row) : Type 0 where
+pub record IsPrintedRow (r : RowStatement) : Type 0 where
   pub row : IsRow r
   pub name : IsWord r.name
   pub site : IsWord r.site
 
 -- Regions (DEF REGIONS).
 
-abbrev pub kind_words : Option RegionKind → List (List ℕ)
-kind_words None = codes ";" ∷ []
-kind_words (Some Fence) = codes "+" ∷ codes "TYPE" ∷ codes "FENCE" ∷ codes ";" ∷ []
-kind_words (Some Guide) = codes "+" ∷ codes "TYPE" ∷ codes "GUIDE" ∷ codes ";" ∷ []
+abbrev pub region_kind_words : Option RegionKind → List (List ℕ)
+region_kind_words None = codes ";" ∷ []
+region_kind_words (Some Fence) = codes "+" ∷ codes "TYPE" ∷ codes "FENCE" ∷ codes ";" ∷ []
+region_kind_words (Some Guide) = codes "+" ∷ codes "TYPE" ∷ codes "GUIDE" ∷ codes ";" ∷ []
 
 abbrev pub rects_words : (ℤ → List ℕ) → List Rect → List (List ℕ) → List (List ℕ)
 rects_words print [] rest = rest
@@ -63,7 +63,7 @@ rects_words print (r ∷ rs) rest = rect_words print r (rects_words print rs res
 
 -- name pt pt {pt pt} [+ TYPE FENCE | + TYPE GUIDE] ;
 abbrev pub region_words : (ℤ → List ℕ) → Region → List (List ℕ)
-region_words print r = r.name ∷ rects_words print r.rects (kind_words r.kind)
+region_words print r = r.name ∷ rects_words print r.rects (region_kind_words r.kind)
 
 pub record IsPrintedRegion (r : Region) : Type 0 where
   pub name : IsWord r.name
@@ -150,17 +150,17 @@ IsPrintedBlockage b = All IsRect b.rects
 
 -- Holds if tokens with these bytes read as this value, whatever follows.
 abbrev pub ReadsBack : {A : Type 0} → Reader A → List (List ℕ) → A → Type 0
-ReadsBack reader words x = (tokens : List Lexeme) → map plain tokens ≡ map word_of words → (behind : Lexed) → reader (with_tokens tokens behind) ≡ taken x behind
+ReadsBack reader words x = (tokens : List Lexeme) → map plain tokens ≡ map plain_word words → (after_it : Lexed) → reader (with_tokens tokens after_it) ≡ taken x after_it
 
 -- The same for a component, except for its offsets.
 abbrev pub ComponentReadsBack : List (List ℕ) → Component → Type 0
-ComponentReadsBack words c = (tokens : List Lexeme) → map plain tokens ≡ map word_of words → (behind : Lexed)
-    → (read : Component) × (component (with_tokens tokens behind) ≡ taken read behind) × (without_places read ≡ without_places c)
+ComponentReadsBack words c = (tokens : List Lexeme) → map plain tokens ≡ map plain_word words → (after_it : Lexed)
+    → (read : Component) × (component (with_tokens tokens after_it) ≡ taken read after_it) × (without_places read ≡ without_places c)
 
 -- The same for a list of components.
 abbrev pub ComponentsReadBack : Reader (List Component) → List (List ℕ) → List Component → Type 0
-ComponentsReadBack reader words cs = (tokens : List Lexeme) → map plain tokens ≡ map word_of words → (behind : Lexed)
-    → (read : List Component) × (reader (with_tokens tokens behind) ≡ taken read behind) × (map without_places read ≡ map without_places cs)
+ComponentsReadBack reader words cs = (tokens : List Lexeme) → map plain tokens ≡ map plain_word words → (after_it : Lexed)
+    → (read : List Component) × (reader (with_tokens tokens after_it) ≡ taken read after_it) × (map without_places read ≡ map without_places cs)
 
 -- Each entry after its minus.
 abbrev pub entries_words : {A : Type 0} → (A → List (List ℕ)) → List A → List (List ℕ) → List (List ℕ)

@@ -3,7 +3,7 @@
 use Rattle.std.specs.Prelude.{◌≡◌, ◌≢◌, ℕ, List, [], ◌∷◌, ◌++◌, All, IfSome, map, ℤ, Option, Some, None, codes}
 use Rattle.lf_lex.specs.Tokens.{Lexed, Lexeme, PlainToken, plain, with_tokens}
 use Rattle.lf_lex.specs.Reading.{Reader, taken}
-use Rattle.lf_lex.specs.Splices.{word_of}
+use Rattle.lf_lex.specs.Splices.{plain_word}
 use Rattle.lf_def.specs.declared.components.Component.{Component}
 use Rattle.lf_def.specs.declared.components.Location.{Location}
 use Rattle.lf_def.specs.declared.components.PlacementClause.{PlacementClause}
@@ -52,7 +52,7 @@ pub record IsPrintedEntry (p : PrintedComponent) : Type 0 where
 -- + .., and then the rest.
 abbrev pub clauses_tokens : List (List PlainToken) → List PlainToken → List PlainToken
 clauses_tokens [] rest = rest
-clauses_tokens (c ∷ cs) rest = word_of (codes "+") ∷ (c ++ clauses_tokens cs rest)
+clauses_tokens (c ∷ cs) rest = plain_word (codes "+") ∷ (c ++ clauses_tokens cs rest)
 
 -- The place in a placement clause: that of the component, or the point after UNPLACED, which is
 -- ignored.
@@ -71,34 +71,34 @@ place_words print (Some p) = codes "(" ∷ print p.x ∷ print p.y ∷ codes ")"
 -- the rest.
 abbrev pub placement_tokens : (ℤ → List ℕ) → Option PlacementClause → Option Location → List PlainToken → List PlainToken
 placement_tokens print None point rest = rest
-placement_tokens print (Some p) point rest = word_of (codes "+") ∷ word_of
-    (kind_word p.kind) ∷ (map word_of (place_words print (printed_place p.kind p.place point)) ++ rest)
+placement_tokens print (Some p) point rest = plain_word (codes "+") ∷ plain_word
+    (kind_word p.kind) ∷ (map plain_word (place_words print (printed_place p.kind p.place point)) ++ rest)
 
 -- name macro .. {+ ..} placement {+ ..} ;
 abbrev pub entry_tokens : (ℤ → List ℕ) → PrintedComponent → List PlainToken
 entry_tokens print p =
-    word_of p.component.name ∷ word_of p.component.mac ∷ (p.items ++ clauses_tokens p.before
-    (placement_tokens print p.component.placement p.point (clauses_tokens p.after (word_of (codes ";") ∷ []))))
+    plain_word p.component.name ∷ plain_word p.component.mac ∷ (p.items ++ clauses_tokens p.before
+    (placement_tokens print p.component.placement p.point (clauses_tokens p.after (plain_word (codes ";") ∷ []))))
 
 -- Each entry after its minus, and then the rest.
 abbrev pub entries_tokens : {A : Type 0} → (A → List PlainToken) → List A → List PlainToken → List PlainToken
 entries_tokens tokens [] rest = rest
-entries_tokens tokens (x ∷ xs) rest = word_of (codes "-") ∷ (tokens x ++ entries_tokens tokens xs rest)
+entries_tokens tokens (x ∷ xs) rest = plain_word (codes "-") ∷ (tokens x ++ entries_tokens tokens xs rest)
 
 -- count ; entries END COMPONENTS
 abbrev pub components_tokens : (ℤ → List ℕ) → List ℕ → List PrintedComponent → List PlainToken
 components_tokens print count ps =
-    word_of count ∷ word_of (codes ";") ∷ entries_tokens (entry_tokens print) ps (word_of (codes "END") ∷ word_of (codes "COMPONENTS") ∷ [])
+    plain_word count ∷ plain_word (codes ";") ∷ entries_tokens (entry_tokens print) ps (plain_word (codes "END") ∷ plain_word (codes "COMPONENTS") ∷ [])
 
-abbrev pub component_of : PrintedComponent → Component
-component_of p = p.component
+abbrev pub printed_component : PrintedComponent → Component
+printed_component p = p.component
 
 -- Holds if these tokens read as the component, except for its offsets, whatever follows.
 abbrev pub EntryReadsBack : List PlainToken → Component → Type 0
-EntryReadsBack printed c = (tokens : List Lexeme) → map plain tokens ≡ printed → (behind : Lexed)
-    → (read : Component) × (component (with_tokens tokens behind) ≡ taken read behind) × (without_places read ≡ without_places c)
+EntryReadsBack printed c = (tokens : List Lexeme) → map plain tokens ≡ printed → (after_it : Lexed)
+    → (read : Component) × (component (with_tokens tokens after_it) ≡ taken read after_it) × (without_places read ≡ without_places c)
 
 -- The same for a list of components.
 abbrev pub EntriesReadBack : Reader (List Component) → List PlainToken → List Component → Type 0
-EntriesReadBack reader printed cs = (tokens : List Lexeme) → map plain tokens ≡ printed → (behind : Lexed)
-    → (read : List Component) × (reader (with_tokens tokens behind) ≡ taken read behind) × (map without_places read ≡ map without_places cs)
+EntriesReadBack reader printed cs = (tokens : List Lexeme) → map plain tokens ≡ printed → (after_it : Lexed)
+    → (read : List Component) × (reader (with_tokens tokens after_it) ≡ taken read after_it) × (map without_places read ≡ map without_places cs)

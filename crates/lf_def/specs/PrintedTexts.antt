@@ -4,8 +4,8 @@ use Rattle.lf_lex.specs.declared.tokens.TokenKind.TheVariants.{Quoted}
 use Rattle.lf_lex.specs.Tokens.{PlainToken, plain, tokens_of}
 use Rattle.lf_lex.specs.Passing.{OccurNowhere}
 use Rattle.lf_lex.specs.Reading.{first_counts}
-use Rattle.lf_lex.specs.Splices.{word_of}
-use Rattle.lf_def.specs.declared.rows.Row.{Row}
+use Rattle.lf_lex.specs.Splices.{plain_word}
+use Rattle.lf_def.specs.declared.rows.RowStatement.{RowStatement}
 use Rattle.lf_def.specs.declared.regions.Region.{Region}
 use Rattle.lf_def.specs.declared.groups.Group.{Group}
 use Rattle.lf_def.specs.declared.components.Component.{Component}
@@ -17,7 +17,7 @@ use Rattle.lf_def.specs.Laws.{without_places}
 use Rattle.lf_def.specs.Ranges.{IsCount}
 use Rattle.lf_def.specs.Printed.{IsWord, row_words, IsPrintedRow, region_words, IsPrintedRegion, group_words, IsPrintedGroup, component_words}
 use Rattle.lf_def.specs.Printed.{IsPrintedComponent, blockage_words, IsPrintedBlockage, section_words}
-use Rattle.lf_def.specs.PrintedComponents.{PrintedComponent, IsPrintedEntry, components_tokens, component_of}
+use Rattle.lf_def.specs.PrintedComponents.{PrintedComponent, IsPrintedEntry, components_tokens, printed_component}
 
 -- Skipped statements.
 
@@ -42,9 +42,9 @@ pub data Skipped : Type 0 where
   extension : List PlainToken → Skipped
 
 abbrev pub skipped_tokens : Skipped → List PlainToken
-skipped_tokens (to_its_semicolon keyword between) = word_of keyword ∷ (between ++ word_of (codes ";") ∷ [])
-skipped_tokens (to_its_end keyword between) = word_of keyword ∷ (between ++ word_of (codes "END") ∷ word_of keyword ∷ [])
-skipped_tokens (extension between) = word_of (codes "BEGINEXT") ∷ (between ++ word_of (codes "ENDEXT") ∷ [])
+skipped_tokens (to_its_semicolon keyword between) = plain_word keyword ∷ (between ++ plain_word (codes ";") ∷ [])
+skipped_tokens (to_its_end keyword between) = plain_word keyword ∷ (between ++ plain_word (codes "END") ∷ plain_word keyword ∷ [])
+skipped_tokens (extension between) = plain_word (codes "BEGINEXT") ∷ (between ++ plain_word (codes "ENDEXT") ∷ [])
 
 -- Holds if the keyword is that of a skipped statement, and the statement has no earlier end.
 abbrev pub IsSkipped : Skipped → Type 0
@@ -55,19 +55,19 @@ IsSkipped (extension between) = OccurNowhere (codes "ENDEXT" ∷ []) between
 -- Parts of a text.
 
 -- A statement or a section of a text. Each section has a count, which is ignored.
-pub data Part : Type 0 where
-  passed_over : Skipped → Part
-  version_is : List ℕ → Part
-  divider_is : List ℕ → Part
-  brackets_are : List ℕ → Part
-  design_is : List ℕ → Part
-  units_are : ℕ → Part
-  one_row : Row → Part
-  regions_section : List ℕ → List Region → Part
-  groups_section : List ℕ → List Group → Part
-  components_section : List ℕ → List Component → Part
-  components_with_others : List ℕ → List PrintedComponent → Part
-  blockages_section : List ℕ → List Blockage → Part
+pub data TextPart : Type 0 where
+  passed_over : Skipped → TextPart
+  version_is : List ℕ → TextPart
+  divider_is : List ℕ → TextPart
+  brackets_are : List ℕ → TextPart
+  design_is : List ℕ → TextPart
+  units_are : ℕ → TextPart
+  one_row : RowStatement → TextPart
+  regions_section : List ℕ → List Region → TextPart
+  groups_section : List ℕ → List Group → TextPart
+  components_section : List ℕ → List Component → TextPart
+  components_with_others : List ℕ → List PrintedComponent → TextPart
+  blockages_section : List ℕ → List Blockage → TextPart
 
 -- A quoted text, with its marks.
 abbrev pub quoted_of : List ℕ → PlainToken
@@ -75,29 +75,29 @@ quoted_of text = record { text = text; kind = Quoted }
 
 -- keyword "text" ;
 abbrev pub quoted_tokens : List ℕ → List ℕ → List PlainToken
-quoted_tokens keyword text = word_of keyword ∷ quoted_of text ∷ word_of (codes ";") ∷ []
+quoted_tokens keyword text = plain_word keyword ∷ quoted_of text ∷ plain_word (codes ";") ∷ []
 
-abbrev pub part_tokens : (ℤ → List ℕ) → Part → List PlainToken
+abbrev pub part_tokens : (ℤ → List ℕ) → TextPart → List PlainToken
 part_tokens print (passed_over p) = skipped_tokens p
-part_tokens print (version_is v) = map word_of (codes "VERSION" ∷ v ∷ codes ";" ∷ [])
+part_tokens print (version_is v) = map plain_word (codes "VERSION" ∷ v ∷ codes ";" ∷ [])
 part_tokens print (divider_is text) = quoted_tokens (codes "DIVIDERCHAR") text
 part_tokens print (brackets_are text) = quoted_tokens (codes "BUSBITCHARS") text
-part_tokens print (design_is n) = map word_of (codes "DESIGN" ∷ n ∷ codes ";" ∷ [])
-part_tokens print (units_are n) = map word_of (codes "UNITS" ∷ codes "DISTANCE" ∷ codes "MICRONS" ∷ print (pos n) ∷ codes ";" ∷ [])
-part_tokens print (one_row r) = map word_of (codes "ROW" ∷ row_words print r)
-part_tokens print (regions_section count rs) = map word_of (codes "REGIONS" ∷ section_words (codes "REGIONS") count (region_words print) rs)
-part_tokens print (groups_section count gs) = map word_of (codes "GROUPS" ∷ section_words (codes "GROUPS") count group_words gs)
-part_tokens print (components_section count cs) = map word_of (codes "COMPONENTS" ∷ section_words (codes "COMPONENTS") count (component_words print) cs)
-part_tokens print (components_with_others count ps) = word_of (codes "COMPONENTS") ∷ components_tokens print count ps
-part_tokens print (blockages_section count bs) = map word_of (codes "BLOCKAGES" ∷ section_words (codes "BLOCKAGES") count (blockage_words print) bs)
+part_tokens print (design_is n) = map plain_word (codes "DESIGN" ∷ n ∷ codes ";" ∷ [])
+part_tokens print (units_are n) = map plain_word (codes "UNITS" ∷ codes "DISTANCE" ∷ codes "MICRONS" ∷ print (pos n) ∷ codes ";" ∷ [])
+part_tokens print (one_row r) = map plain_word (codes "ROW" ∷ row_words print r)
+part_tokens print (regions_section count rs) = map plain_word (codes "REGIONS" ∷ section_words (codes "REGIONS") count (region_words print) rs)
+part_tokens print (groups_section count gs) = map plain_word (codes "GROUPS" ∷ section_words (codes "GROUPS") count group_words gs)
+part_tokens print (components_section count cs) = map plain_word (codes "COMPONENTS" ∷ section_words (codes "COMPONENTS") count (component_words print) cs)
+part_tokens print (components_with_others count ps) = plain_word (codes "COMPONENTS") ∷ components_tokens print count ps
+part_tokens print (blockages_section count bs) = map plain_word (codes "BLOCKAGES" ∷ section_words (codes "BLOCKAGES") count (blockage_words print) bs)
 
 -- The parts in order, and END DESIGN.
-abbrev pub text_tokens : (ℤ → List ℕ) → List Part → List PlainToken
-text_tokens print [] = map word_of (codes "END" ∷ codes "DESIGN" ∷ [])
+abbrev pub text_tokens : (ℤ → List ℕ) → List TextPart → List PlainToken
+text_tokens print [] = map plain_word (codes "END" ∷ codes "DESIGN" ∷ [])
 text_tokens print (p ∷ ps) = part_tokens print p ++ text_tokens print ps
 
 -- Holds if the part can be printed.
-abbrev pub IsPrintedPart : Part → Type 0
+abbrev pub IsPrintedPart : TextPart → Type 0
 IsPrintedPart (passed_over p) = IsSkipped p
 IsPrintedPart (version_is v) = v ≢ codes ";"
 IsPrintedPart (divider_is text) = Unit {0}
@@ -113,7 +113,7 @@ IsPrintedPart (blockages_section count bs) = (count ≢ codes ";") × All IsPrin
 
 -- Adds the contents of a part. The first of each statement of the header counts, and lists are
 -- appended.
-abbrev pub with_part : DocParts → Part → DocParts
+abbrev pub with_part : DocParts → TextPart → DocParts
 with_part d (passed_over p) = d
 with_part d (version_is v) = record d { header = record d.header { version = first_counts d.header.version v } }
 with_part d (divider_is text) = record d { header = record d.header { divider = first_counts d.header.divider text } }
@@ -124,10 +124,10 @@ with_part d (one_row r) = record d { rows = d.rows ++ r ∷ [] }
 with_part d (regions_section count rs) = record d { regions = d.regions ++ rs }
 with_part d (groups_section count gs) = record d { groups = d.groups ++ gs }
 with_part d (components_section count cs) = record d { components = d.components ++ cs }
-with_part d (components_with_others count ps) = record d { components = d.components ++ map component_of ps }
+with_part d (components_with_others count ps) = record d { components = d.components ++ map printed_component ps }
 with_part d (blockages_section count bs) = record d { blockages = d.blockages ++ bs }
 
-abbrev pub with_parts : DocParts → List Part → DocParts
+abbrev pub with_parts : DocParts → List TextPart → DocParts
 with_parts d [] = d
 with_parts d (p ∷ ps) = with_parts (with_part d p) ps
 
@@ -143,7 +143,7 @@ document_with d = record {
       d.blockages;
 }
 
-abbrev pub printed_document : List Part → Document
+abbrev pub printed_document : List TextPart → Document
 printed_document parts = document_with (with_parts no_parts parts)
 
 -- Reading printed texts back.
@@ -160,7 +160,7 @@ ReadsApartFromOffsets text d = (read : List Component) × (document_of text ≡ 
 
 -- Holds if any text that begins with these parts, DESIGN among them, and END DESIGN gives the
 -- document of these parts.
-abbrev pub PartsReadBack : (ℤ → List ℕ) → List Part → Type 0
+abbrev pub PartsReadBack : (ℤ → List ℕ) → List TextPart → Type 0
 PartsReadBack print parts = All IsPrintedPart parts → IsSome (with_parts no_parts parts).header.design → (text : List ℕ)
     → BeginsWith text (text_tokens print parts) → ReadsApartFromOffsets text (printed_document parts)
 
@@ -169,12 +169,12 @@ abbrev pub design_named : List ℕ → Document
 design_named n = record { header = header_of (record no_header { design = Some n }); rows = []; regions = []; groups = []; components = []; blockages = [] }
 
 -- DESIGN, with skipped statements in front of it and after it, and then these parts.
-abbrev pub after_skipped : List Skipped → List ℕ → List Skipped → List Part → List Part
+abbrev pub after_skipped : List Skipped → List ℕ → List Skipped → List TextPart → List TextPart
 after_skipped before n between parts = map passed_over before ++ design_is n ∷ (map passed_over between ++ parts)
 
 -- Holds if these parts give this document of the design, after any skipped statements and with
 -- anything after END DESIGN.
-abbrev pub ReadsBackInTexts : (ℤ → List ℕ) → List Part → (Document → Document) → Type 0
+abbrev pub ReadsBackInTexts : (ℤ → List ℕ) → List TextPart → (Document → Document) → Type 0
 ReadsBackInTexts print parts said = (before between : List Skipped) (n : List ℕ) → All IsSkipped before → All IsSkipped between → IsWord n
     → (text : List ℕ) → BeginsWith text (text_tokens print (after_skipped before n between parts)) → document_of text ≡ Ok (said (design_named n))
 

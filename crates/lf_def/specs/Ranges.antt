@@ -3,8 +3,8 @@ use Rattle.std.specs.Prelude.{ℕ, ◌≤◌, ◌<◌, length, All, IfSome, ℤ,
 use Rattle.lf_units.specs.declared.geometry.Point.{Point}
 use Rattle.lf_units.specs.declared.geometry.Rect.{Rect}
 use Rattle.lf_lex.specs.Reading.{IsName}
-use Rattle.lf_def.specs.declared.header.Header.{Header}
-use Rattle.lf_def.specs.declared.rows.Row.{Row}
+use Rattle.lf_def.specs.declared.header.DocumentHeader.{DocumentHeader}
+use Rattle.lf_def.specs.declared.rows.RowStatement.{RowStatement}
 use Rattle.lf_def.specs.declared.regions.Region.{Region}
 use Rattle.lf_def.specs.declared.groups.Group.{Group}
 use Rattle.lf_def.specs.declared.groups.GroupParts.{GroupParts}
@@ -15,20 +15,20 @@ use Rattle.lf_def.specs.declared.blockages.Blockage.{Blockage}
 use Rattle.lf_def.specs.declared.doc_parts.DocParts.{DocParts}
 
 -- Holds if the coordinate is from -2147483647 to 2147483647.
-pub record IsCoordinate (x : ℤ) : Type 0 where
+pub record IsDefCoordinate (x : ℤ) : Type 0 where
   pub low : negsuc 2147483646 ≤ℤ x
   pub high : x ≤ℤ pos 2147483647
 
 pub record HasCoordinates (p : Point) : Type 0 where
-  pub x : IsCoordinate p.x
-  pub y : IsCoordinate p.y
+  pub x : IsDefCoordinate p.x
+  pub y : IsDefCoordinate p.y
 
 -- A rectangle: its lower left corner comes first, then its upper right one.
 pub record IsRect (r : Rect) : Type 0 where
-  pub x1 : IsCoordinate r.x1
-  pub y1 : IsCoordinate r.y1
-  pub x2 : IsCoordinate r.x2
-  pub y2 : IsCoordinate r.y2
+  pub x1 : IsDefCoordinate r.x1
+  pub y1 : IsDefCoordinate r.y1
+  pub x2 : IsDefCoordinate r.x2
+  pub y2 : IsDefCoordinate r.y2
   pub across : r.x1 ≤ℤ r.x2
   pub up : r.y1 ≤ℤ r.y2
 
@@ -38,15 +38,15 @@ pub record IsCount (most n : ℕ) : Type 0 where
   pub few : n ≤ most
 
 -- A header: the design has a name, and UNITS, if given, is from 1 to 20000.
-pub record IsHeader (h : Header) : Type 0 where
+pub record IsHeader (h : DocumentHeader) : Type 0 where
   pub design : IsName h.design
   pub units : IfSome h.units (λ n. IsCount 20000 n)
 
-pub record IsRow (r : Row) : Type 0 where
+pub record IsRow (r : RowStatement) : Type 0 where
   pub name : IsName r.name
   pub site : IsName r.site
-  pub x : IsCoordinate r.x
-  pub y : IsCoordinate r.y
+  pub x : IsDefCoordinate r.x
+  pub y : IsDefCoordinate r.y
   pub sites_x : IsCount 2147483647 r.sites_x
   pub sites_y : IsCount 2147483647 r.sites_y
   pub step : IfSome r.step (λ p. HasCoordinates p)
@@ -63,7 +63,7 @@ pub record IsGroup (g : Group) : Type 0 where
   pub region : IfSome g.region (λ n. IsName n)
 
 abbrev pub IsLocation : Location → Type 0
-IsLocation p = IsCoordinate p.x × IsCoordinate p.y
+IsLocation p = IsDefCoordinate p.x × IsDefCoordinate p.y
 
 abbrev pub IsPlacement : PlacementClause → Type 0
 IsPlacement p = IfSome p.place (λ q. IsLocation q)

@@ -11,12 +11,12 @@ use Rattle.lf_def.specs.declared.regions.Region.{Region}
 use Rattle.lf_def.specs.declared.regions.RegionKind.{RegionKind}
 use Rattle.lf_def.specs.declared.regions.RegionKind.TheVariants.{Fence, Guide}
 use Rattle.lf_def.specs.declared.regions.RegionParts.{RegionParts}
-use Rattle.lf_def.specs.Coordinates.{rect, rect_rest}
+use Rattle.lf_def.specs.Coordinates.{def_rectangle, rect_rest}
 use Rattle.lf_def.specs.Entries.{section}
 
 -- The type that the token names.
-abbrev pub kind_of : Lexeme → Result RegionKind ReadFault
-kind_of t = if is (codes "FENCE") t then Ok Fence else if is (codes "GUIDE") t then Ok Guide else fault_at Unexpected t.line
+abbrev pub kind_named : Lexeme → Result RegionKind ReadFault
+kind_named t = if is (codes "FENCE") t then Ok Fence else if is (codes "GUIDE") t then Ok Guide else fault_at Unexpected t.line
 
 -- Adds a rectangle.
 unfoldable pub with_rect : RegionParts → Reader (Turn RegionParts)
@@ -28,7 +28,7 @@ with_rect parts l = do
 unfoldable pub with_kind : RegionParts → Reader (Turn RegionParts)
 with_kind parts l = do
   t ← token l
-  kind ← kind_of t.value
+  kind ← kind_named t.value
   continues (record parts { kind = first_counts parts.kind kind; due = Separator }) t.rest
 
 -- The part of a region that begins with a token, which is no separator. Rectangles come first, TYPE
@@ -59,7 +59,7 @@ first_rect r = record { kind = None; rects = r ∷ []; due = Item }
 unfoldable pub region : Reader Region
 region l = do
   n ← name l
-  r ← rect n.rest
+  r ← def_rectangle n.rest
   parts ← block region_token (first_rect r.value) r.rest
   taken (record { name = n.value.text; kind = parts.value.kind; rects = parts.value.rects }) parts.rest
 

@@ -4,7 +4,7 @@ use Rattle.lf_units.specs.declared.geometry.Point.{Point}
 use Rattle.lf_lex.specs.declared.fault.FaultNumber.TheVariants.{Unexpected}
 use Rattle.lf_lex.specs.Tokens.{Lexeme}
 use Rattle.lf_lex.specs.Reading.{◌>>=◌, Reader, taken, fault_at, token, name, is, keyword, to_semicolon}
-use Rattle.lf_def.specs.declared.rows.Row.{Row}
+use Rattle.lf_def.specs.declared.rows.RowStatement.{RowStatement}
 use Rattle.lf_def.specs.declared.rows.Sites.{Sites}
 use Rattle.lf_def.specs.Coordinates.{dbu, count, orient_of}
 
@@ -42,7 +42,7 @@ sites_from t l =
     else (row_end t l >>= λ stop. taken one_site stop.rest)
 
 -- A row after its keyword.
-unfoldable pub row : Reader Row
+unfoldable pub row : Reader RowStatement
 row l = do
   n ← name l
   site ← name n.rest
@@ -55,7 +55,7 @@ row l = do
   taken (record { name = n.value.text; site = site.value.text; x = x.value; y = y.value; orient = orient; sites_x = s.value.x; sites_y = s.value.y; step = s.value.step }) s.rest
 
 -- One more row, after its keyword.
-unfoldable pub with_row : List Row → Reader (List Row)
+unfoldable pub with_row : List RowStatement → Reader (List RowStatement)
 with_row rows l = do
   r ← row l
   taken (rows ++ r.value ∷ []) r.rest

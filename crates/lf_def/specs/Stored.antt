@@ -34,9 +34,9 @@ placement_from None place start stop = None
 placement_from (Some kind) place start stop = Some (record { kind = kind; place = place; start = start; stop = stop })
 
 -- The kind of a placement clause, if there is one.
-abbrev pub kind_of : Option PlacementClause → Option PlacementKind
-kind_of None = None
-kind_of (Some clause) = Some clause.kind
+abbrev pub kind_named : Option PlacementClause → Option PlacementKind
+kind_named None = None
+kind_named (Some clause) = Some clause.kind
 
 -- The offsets that are stored in this form.
 abbrev pub offsets_of : Kept → Offsets
@@ -44,11 +44,11 @@ offsets_of (Near start stop semicolon) = record { start = start; stop = stop; se
 offsets_of (Far offsets) = offsets.value
 
 -- Holds if the offset fits into 32 bits.
-abbrev pub IsNear : ℕ → Type 0
-IsNear offset = offset < 4294967296
+abbrev pub OffsetFits : ℕ → Type 0
+OffsetFits offset = offset < 4294967296
 
 -- Holds if each of the offsets fits into 32 bits.
-pub record AreNear (offsets : Offsets) : Type 0 where
-  pub start : IsNear offsets.start
-  pub stop : IsNear offsets.stop
-  pub semicolon : IsNear offsets.semicolon
+pub record OffsetsFit (offsets : Offsets) : Type 0 where
+  pub start : OffsetFits offsets.start
+  pub stop : OffsetFits offsets.stop
+  pub semicolon : OffsetFits offsets.semicolon

@@ -5,8 +5,8 @@ ghost use Rattle.lf_lex.specs.Tokens.{lexeme};
 ghost use Rattle.lf_lex.specs.Reading.{Reads, ReadsOn, block, turn};
 ghost use Rattle.lf_def.specs.Entries.{entry_or_end};
 ghost use Rattle.lf_def.specs.Components as grammar;
-ghost use Rattle.lf_def.specs.Ranges.{IsCoordinate, IsLocation, IsPlacement, IsComponent};
-ghost use Rattle.lf_def.specs.Stored.{kind_of, placement_from};
+ghost use Rattle.lf_def.specs.Ranges.{IsDefCoordinate, IsLocation, IsPlacement, IsComponent};
+ghost use Rattle.lf_def.specs.Stored.{kind_named, placement_from};
 
 use crate::component_words::ComponentNames;
 use crate::coordinates::{orient_of, point_rest};
@@ -150,7 +150,7 @@ impl<'a> Component<'a> {
 
     /// Returns the kind of its placement clause, or `None` without one.
     pub fn kind(&self) -> Option<PlacementKind>
-        ensures { result ≡ kind_of self.now.placement }
+        ensures { result ≡ kind_named self.now.placement }
     {
         self.words.kind()
     }
@@ -194,7 +194,7 @@ pub struct LocatedPlace {
 
 /// Returns a coordinate of a component in 32 bits.
 fn narrow(x: i64) -> i32
-    requires { IsCoordinate x }
+    requires { IsDefCoordinate x }
     ensures { result ≡ x }
 {
     x as i32
@@ -221,9 +221,9 @@ fn located_rest(lexer: &mut Lexer) -> Result<LocatedPlace, ReadError>
 }
 
 /// Reads `( x y ) orient`, after FIXED, COVER or PLACED.
-#[tactic(auto, unfolding(crate::specs::Components::placed))]
+#[tactic(auto, unfolding(crate::specs::Components::placed_clause))]
 fn placed(lexer: &mut Lexer, kind: PlacementKind, plus: usize) -> Result<PlacementClause, ReadError>
-    ensures read { Reads (λ p. p) result (grammar.placed kind plus) lexer.old lexer.new }
+    ensures read { Reads (λ p. p) result (grammar.placed_clause kind plus) lexer.old lexer.new }
     ensures range { IfOk result (λ p. IsPlacement p) }
 {
     keyword(lexer, b"(")?;

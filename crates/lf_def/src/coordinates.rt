@@ -5,7 +5,7 @@ ghost use Rattle.std.specs.Int.{int_min, int_max};
 ghost use Rattle.lf_lex.specs.Tokens.{lexeme};
 ghost use Rattle.lf_lex.specs.Reading.{Reads, Fails};
 ghost use Rattle.lf_def.specs.Coordinates as grammar;
-ghost use Rattle.lf_def.specs.Ranges.{IsCoordinate, HasCoordinates, IsCount, IsRect};
+ghost use Rattle.lf_def.specs.Ranges.{IsDefCoordinate, HasCoordinates, IsCount, IsRect};
 
 use lf_lex::{FaultNumber, Lexer, ReadError, Token, fault_at, is_token, keyword, token};
 use lf_orient::Orient;
@@ -15,7 +15,7 @@ use lf_units::{Point, Rect, Span, read_fixed};
 /// to 2147483647.
 fn dbu_of(token: &Token) -> Result<i64, ReadError>
     ensures read { MatchResult result (λ x. grammar.dbu_of (lexeme token.now) ≡ Ok x) (λ e. Fails e (grammar.dbu_of (lexeme token.now))) }
-    ensures range { IfOk result (λ x. IsCoordinate x) }
+    ensures range { IfOk result (λ x. IsDefCoordinate x) }
 {
     match read_fixed(token.text, 0, 2_147_483_647) {
         Ok(value) => Ok(value),
@@ -27,7 +27,7 @@ fn dbu_of(token: &Token) -> Result<i64, ReadError>
 #[tactic(auto, unfolding(crate::specs::Coordinates::dbu))]
 pub(crate) fn dbu(lexer: &mut Lexer) -> Result<i64, ReadError>
     ensures read { Reads (λ x. x) result grammar.dbu lexer.old lexer.new }
-    ensures range { IfOk result (λ x. IsCoordinate x) }
+    ensures range { IfOk result (λ x. IsDefCoordinate x) }
 {
     let token = token(lexer)?;
     dbu_of(&token)
@@ -35,7 +35,7 @@ pub(crate) fn dbu(lexer: &mut Lexer) -> Result<i64, ReadError>
 
 /// Returns the number. `Err(BadNumber)` if it is not from 1 to `most`.
 fn up_to(most: u32, value: i64, line: usize) -> Result<u32, ReadError>
-    ensures read { MatchResult result (λ n. grammar.up_to most value line ≡ Ok n) (λ e. Fails e (grammar.up_to most value line)) }
+    ensures read { MatchResult result (λ n. grammar.number_up_to most value line ≡ Ok n) (λ e. Fails e (grammar.number_up_to most value line)) }
     ensures range { IfOk result (λ n. IsCount most n) }
 {
     if value < 1 || value > most as i64 {
@@ -68,9 +68,9 @@ pub(crate) fn point_rest(lexer: &mut Lexer) -> Result<Point, ReadError>
 }
 
 /// Reads `( x y )`.
-#[tactic(auto, unfolding(crate::specs::Coordinates::point))]
+#[tactic(auto, unfolding(crate::specs::Coordinates::def_point))]
 fn point(lexer: &mut Lexer) -> Result<Point, ReadError>
-    ensures read { Reads (λ p. p) result grammar.point lexer.old lexer.new }
+    ensures read { Reads (λ p. p) result grammar.def_point lexer.old lexer.new }
     ensures range { IfOk result (λ p. HasCoordinates p) }
 {
     keyword(lexer, b"(")?;
@@ -79,11 +79,11 @@ fn point(lexer: &mut Lexer) -> Result<Point, ReadError>
 
 /// Returns the span from the lesser to the greater of two numbers.
 fn between(a: i64, b: i64) -> Span
-    requires a { IsCoordinate a }
-    requires b { IsCoordinate b }
+    requires a { IsDefCoordinate a }
+    requires b { IsDefCoordinate b }
     ensures span { result ≡ record { lo = int_min a b; hi = int_max a b } }
-    ensures lo { IsCoordinate result.lo }
-    ensures hi { IsCoordinate result.hi }
+    ensures lo { IsDefCoordinate result.lo }
+    ensures hi { IsDefCoordinate result.hi }
     ensures order { result.lo ≤ℤ result.hi }
 {
     Span {
@@ -121,9 +121,9 @@ pub(crate) fn rect_rest(lexer: &mut Lexer) -> Result<Rect, ReadError>
 }
 
 /// Reads `( x y ) ( x y )`.
-#[tactic(auto, unfolding(crate::specs::Coordinates::rect))]
+#[tactic(auto, unfolding(crate::specs::Coordinates::def_rectangle))]
 pub(crate) fn rect(lexer: &mut Lexer) -> Result<Rect, ReadError>
-    ensures read { Reads (λ r. r) result grammar.rect lexer.old lexer.new }
+    ensures read { Reads (λ r. r) result grammar.def_rectangle lexer.old lexer.new }
     ensures range { IfOk result (λ r. IsRect r) }
 {
     keyword(lexer, b"(")?;

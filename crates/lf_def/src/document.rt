@@ -8,9 +8,9 @@ ghost use Rattle.lf_def.specs.Ranges.{IsHeader, IsRow, IsRegion, IsGroup, IsComp
 use crate::blockages::Blockage;
 use crate::components::Component;
 use crate::groups::Group;
-use crate::header::Header;
+use crate::header::DocumentHeader;
 use crate::regions::Region;
-use crate::rows::Row;
+use crate::rows::RowStatement;
 use lf_units::Sequence;
 
 /// The contents of a DEF text that concern placement, each list in the order of the text, with the
@@ -22,8 +22,8 @@ use lf_units::Sequence;
 pub struct DefDoc<'a> {
     /// The whole text.
     pub text: &'a [u8],
-    pub header: Header,
-    pub rows: Sequence<Row>,
+    pub header: DocumentHeader,
+    pub rows: Sequence<RowStatement>,
     pub regions: Sequence<Region>,
     pub groups: Sequence<Group>,
     pub components: Sequence<Component<'a>>,

@@ -18,7 +18,7 @@ use std::alloc::{AllocError, Global};
 /// The statements of the header (LEF/DEF 5.8, DEF VERSION, DIVIDERCHAR, BUSBITCHARS, DESIGN and
 /// UNITS): the first of each, its token unchanged.
 #[derive(Drop)]
-pub struct Header {
+pub struct DocumentHeader {
     /// The version, or `5.8` without VERSION.
     pub version: Name,
     /// The divider with its quotation marks, or `"/"` without DIVIDERCHAR.
@@ -155,13 +155,13 @@ fn text_or(alloc: Global, text: Option<Name>, without: &[u8]) -> Result<Name, Al
 }
 
 /// Returns the header that the statements describe. `Err` if an allocation fails.
-pub(crate) fn header_of(alloc: Global, parts: HeaderParts) -> Result<Header, AllocError>
+pub(crate) fn header_of(alloc: Global, parts: HeaderParts) -> Result<DocumentHeader, AllocError>
     requires design { IfSome parts.design (λ n. IsName n) }
     requires units { IfSome parts.units (λ n. IsCount 20000 n) }
     ensures header { IfOk result (λ h. h ≡ grammar.header_of parts) }
     ensures range { IfOk result (λ h. IsHeader h) }
 {
-    Ok(Header {
+    Ok(DocumentHeader {
         version: text_or(alloc, parts.version, b"5.8")?,
         divider: text_or(alloc, parts.divider, b"\"/\"")?,
         brackets: text_or(alloc, parts.brackets, b"\"[]\"")?,

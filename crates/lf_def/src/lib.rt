@@ -63,14 +63,14 @@ pub use built_in::DEMO_DEF;
 pub use components::{Component, Location, PlacementClause, PlacementKind};
 pub use document::DefDoc;
 pub use groups::Group;
-pub use header::Header;
+pub use header::DocumentHeader;
 pub use kinds::{is_cover, is_fence, is_fixed, is_movable};
 pub use laws::{
-    clauses_stand_in_components, components_rise, decimal_numbers_are_read,
-    nothing_behind_end_design_counts, printed_entries_read_back, printed_lists_read_back_in_texts,
-    printed_sections_read_back, printed_texts_read_back, printed_words_are_read,
-    statements_read_alike, statements_take_tokens, the_same_tokens_say_the_same,
+    clauses_are_in_components, components_rise, decimal_numbers_are_read,
+    def_statements_read_alike, def_statements_take_tokens, nothing_after_end_design_counts,
+    printed_entries_read_back, printed_lists_read_back_in_texts, printed_sections_read_back,
+    printed_texts_read_back, printed_words_are_read, the_same_tokens_say_the_same,
 };
 pub use read::read_def;
 pub use regions::{Region, RegionKind};
-pub use rows::Row;
+pub use rows::RowStatement;

@@ -1,7 +1,7 @@
 //! The offsets of a component's placement clause and `;`, in few bytes.
 
 ghost use Rattle.std.specs.Prelude.{◌≡◌, IfOk, IfErr, IfSome, IfNone};
-ghost use Rattle.lf_def.specs.Stored.{AreNear, IsNear, offsets_of};
+ghost use Rattle.lf_def.specs.Stored.{OffsetsFit, OffsetFits, offsets_of};
 
 use std::alloc::{AllocError, Global};
 use std::marker::Model;
@@ -45,7 +45,7 @@ impl Model for PackedOffsets {
 /// Returns the offset in 32 bits, or `None` if it needs more.
 fn short(offset: usize) -> Option<u32>
     ensures some { IfSome result (λ short. short ≡ offset) }
-    ensures none { IfNone result (¬ IsNear offset) }
+    ensures none { IfNone result (¬ OffsetFits offset) }
 {
     u32::try_from(offset).ok()
 }
@@ -53,7 +53,7 @@ fn short(offset: usize) -> Option<u32>
 /// Returns the offsets in place, or `None` if one of them needs more than 32 bits.
 fn near(offsets: &Offsets) -> Option<Kept>
     ensures some { IfSome result (λ kept. offsets_of kept ≡ offsets.now) }
-    ensures none { IfNone result (¬ AreNear offsets.now) }
+    ensures none { IfNone result (¬ OffsetsFit offsets.now) }
 {
     Some(Kept::Near {
         start: short(offsets.start)?,
@@ -67,7 +67,7 @@ impl PackedOffsets {
     /// that allocation fails.
     pub(crate) fn new(alloc: Global, offsets: Offsets) -> Result<Self, AllocError>
         ensures ok { IfOk result (λ packed. packed ≡ offsets) }
-        ensures memory { IfErr result (λ _. ¬ AreNear offsets) }
+        ensures memory { IfErr result (λ _. ¬ OffsetsFit offsets) }
     {
         let kept = match near(&offsets) {
             Some(kept) => kept,

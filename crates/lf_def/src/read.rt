@@ -2,7 +2,7 @@
 
 ghost use Rattle.std.specs.Prelude.{◌≡◌, Ok, IfOk, IfErr};
 ghost use Rattle.lf_lex.specs.Reading.{Fails};
-ghost use Rattle.lf_def.specs.Document.{document_of, Refuses};
+ghost use Rattle.lf_def.specs.Document.{document_of, RefusesDef};
 ghost use Rattle.lf_def.specs.Contents.{contents};
 
 use crate::document::DefDoc;
@@ -43,7 +43,7 @@ fn document<'a>(alloc: Global, text: &'a [u8]) -> Result<DefDoc<'a>, ReadError>
 pub fn read_def<'a>(alloc: Global, text: &'a [u8]) -> Result<DefDoc<'a>, LoadFault<'a>>
     ensures text { IfOk result (λ doc. doc.text.now ≡ text.now) }
     ensures ok { IfOk result (λ doc. document_of text.now ≡ Ok (contents doc)) }
-    ensures fault { IfErr result (λ fault. Refuses fault (document_of text.now)) }
+    ensures fault { IfErr result (λ fault. RefusesDef fault (document_of text.now)) }
 {
     match document(alloc, text) {
         Ok(doc) => Ok(doc),

@@ -46,7 +46,7 @@ pub struct RegionParts {
 
 /// Returns the type that a token names. `Err(Unexpected)` if it names no type.
 fn kind_of(token: &Token) -> Result<RegionKind, ReadError>
-    ensures { MatchResult result (λ k. grammar.kind_of (lexeme token.now) ≡ Ok k) (λ e. Fails e (grammar.kind_of (lexeme token.now))) }
+    ensures { MatchResult result (λ k. grammar.kind_named (lexeme token.now) ≡ Ok k) (λ e. Fails e (grammar.kind_named (lexeme token.now))) }
 {
     if is_token(b"FENCE", token) {
         Ok(RegionKind::Fence)

@@ -17,7 +17,7 @@ use std::alloc::Global;
 
 /// A row of placement sites (LEF/DEF 5.8, DEF ROW), in database units.
 #[derive(Drop)]
-pub struct Row {
+pub struct RowStatement {
     pub name: Name,
     /// The name of its site.
     pub site: Name,
@@ -111,7 +111,7 @@ fn sites_from(lexer: &mut Lexer, token: &Token) -> Result<Sites, ReadError>
 
 /// Reads a row, after its keyword.
 #[tactic(auto, unfolding(crate::specs::Rows::row))]
-pub(crate) fn read_row(alloc: Global, lexer: &mut Lexer) -> Result<Row, ReadError>
+pub(crate) fn read_row(alloc: Global, lexer: &mut Lexer) -> Result<RowStatement, ReadError>
     ensures read { Reads (λ r. r) result grammar.row lexer.old lexer.new }
     ensures range { IfOk result (λ r. IsRow r) }
 {
@@ -123,7 +123,7 @@ pub(crate) fn read_row(alloc: Global, lexer: &mut Lexer) -> Result<Row, ReadErro
     let orient = orient_of(&word)?;
     let first = token(lexer)?;
     let sites = sites_from(lexer, &first)?;
-    Ok(Row {
+    Ok(RowStatement {
         name: Name::from_slice(alloc, row.text)?,
         site: Name::from_slice(alloc, site.text)?,
         x,

@@ -31,8 +31,8 @@ pub enum Due {
 /// it is longer than 1,024 bytes.
 pub(crate) fn check_name(token: &Token) -> Result<(), ReadError>
     requires spelled { IsSpelled (lexeme token.now) }
-    ensures read { MatchResult result (λ _. grammar.name_of (lexeme token.now) ≡ Ok (lexeme token.now).text)
-        (λ e. Fails e (grammar.name_of (lexeme token.now))) }
+    ensures read { MatchResult result (λ _. grammar.name_token (lexeme token.now) ≡ Ok (lexeme token.now).text)
+        (λ e. Fails e (grammar.name_token (lexeme token.now))) }
     ensures name { OnOk result (IsName (lexeme token.now).text) }
 {
     if !is_word(token) {

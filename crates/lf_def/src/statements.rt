@@ -13,7 +13,7 @@ use crate::doc_parts::DocParts;
 use crate::groups::groups;
 use crate::header::{header_statement, is_header, no_header};
 use crate::regions::regions;
-use crate::rows::{Row, read_row};
+use crate::rows::{RowStatement, read_row};
 use lf_lex::{
     FaultNumber, Lexer, ReadError, Token, fault_at, is_any_word, is_token, skip_to_end,
     skip_to_semicolon, skip_to_word, token,
@@ -53,9 +53,9 @@ fn is_skipped_statement(token: &Token) -> bool
 
 /// Skips a statement, after its first token. `Err(UnknownStatement)` if the token is a word that
 /// begins no statement, `Err(Unexpected)` if it is a quoted text.
-#[tactic(auto, unfolding(crate::specs::Document::passed_from))]
+#[tactic(auto, unfolding(crate::specs::Document::skip_from))]
 fn skip_from(lexer: &mut Lexer, token: &Token) -> Result<(), ReadError>
-    ensures { ReadsOn (λ x. x) result (grammar.passed_from (lexeme token.now)) lexer.old lexer.new }
+    ensures { ReadsOn (λ x. x) result (grammar.skip_from (lexeme token.now)) lexer.old lexer.new }
 {
     if is_skipped_section(token) {
         skip_to_end(lexer, token.text)
@@ -92,7 +92,11 @@ fn end_design(lexer: &mut Lexer, parts: &DocParts) -> Result<(), ReadError>
 
 /// Reads a row, after its keyword, and appends it.
 #[tactic(auto, unfolding(crate::specs::Rows::with_row))]
-fn add_row(alloc: Global, lexer: &mut Lexer, rows: &mut Sequence<Row>) -> Result<(), ReadError>
+fn add_row(
+    alloc: Global,
+    lexer: &mut Lexer,
+    rows: &mut Sequence<RowStatement>,
+) -> Result<(), ReadError>
     requires range { All IsRow rows.old }
     ensures read { Reads (λ _. rows.new) result (with_row rows.old) lexer.old lexer.new }
     ensures range { All IsRow rows.new }
@@ -130,7 +134,7 @@ fn body_statement<'a>(
 }
 
 /// Reads a statement of the text, after its first token. Returns whether more statements follow.
-#[tactic(auto, unfolding(crate::specs::Document::statement_from))]
+#[tactic(auto, unfolding(crate::specs::Document::def_statement_from))]
 fn statement_from<'a>(
     alloc: Global,
     lexer: &mut Lexer<'a>,
@@ -138,7 +142,7 @@ fn statement_from<'a>(
     token: &Token,
 ) -> Result<bool, ReadError>
     requires range { AreParts parts.old }
-    ensures read { ReadsOn (turn parts.new) result (grammar.statement_from parts.old (lexeme token.now)) lexer.old lexer.new }
+    ensures read { ReadsOn (turn parts.new) result (grammar.def_statement_from parts.old (lexeme token.now)) lexer.old lexer.new }
     ensures range { AreParts parts.new }
 {
     if is_token(b"END", token) {
@@ -153,14 +157,14 @@ fn statement_from<'a>(
     Ok(true)
 }
 
-#[tactic(auto, unfolding(crate::specs::Document::statement))]
+#[tactic(auto, unfolding(crate::specs::Document::def_statement))]
 fn statement<'a>(
     alloc: Global,
     lexer: &mut Lexer<'a>,
     parts: &mut DocParts<'a>,
 ) -> Result<bool, ReadError>
     requires range { AreParts parts.old }
-    ensures read { Reads (turn parts.new) result (grammar.statement parts.old) lexer.old lexer.new }
+    ensures read { Reads (turn parts.new) result (grammar.def_statement parts.old) lexer.old lexer.new }
     ensures range { AreParts parts.new }
 {
     let first = token(lexer)?;
@@ -184,8 +188,8 @@ fn no_parts<'a>(alloc: Global) -> DocParts<'a>
 
 /// Reads the statements of a text up to END DESIGN.
 pub(crate) fn read_statements<'a>(alloc: Global, text: &'a [u8]) -> Result<DocParts<'a>, ReadError>
-    ensures ok { IfOk result (λ parts. grammar.parts_of text.now ≡ Ok parts) }
-    ensures fault { IfErr result (λ e. Fails e (grammar.parts_of text.now)) }
+    ensures ok { IfOk result (λ parts. grammar.doc_parts_of text.now ≡ Ok parts) }
+    ensures fault { IfErr result (λ e. Fails e (grammar.doc_parts_of text.now)) }
     ensures range { IfOk result (λ parts. AreParts parts) }
 {
     let mut lexer = Lexer::new(text);

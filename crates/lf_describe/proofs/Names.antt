@@ -12,8 +12,8 @@ use Rattle.lf_orient.specs.Words.{orient_word}
 use Rattle.lf_describe.specs.Description.{text_data, orient_data}
 
 -- A name that is UTF-8 is written.
-pub told : (name : List ℕ) → IsUtf8 name → text_data name ≡ string name
-told name is = ap (λ (b : Bool). if b then string name else null) (is_utf8-from_IsUtf8 name is)
+pub reported : (name : List ℕ) → IsUtf8 name → text_data name ≡ string name
+reported name is = ap (λ (b : Bool). if b then string name else null) (is_utf8-from_IsUtf8 name is)
 
 -- Any other name is null.
 pub untold : (name : List ℕ) → (IsUtf8 name → ⊥) → text_data name ≡ null
@@ -49,5 +49,5 @@ word FS = two 70 83 (omega arith) (omega arith)
 word FE = two 70 69 (omega arith) (omega arith)
 
 -- The word of an orientation is written.
-pub told_word : (o : Orient) → text_data (orient_word o) ≡ orient_data o
-told_word o = told (orient_word o) (IsUtf8-from_ascii (orient_word o) (word o))
+pub reported_word : (o : Orient) → text_data (orient_word o) ≡ orient_data o
+reported_word o = reported (orient_word o) (IsUtf8-from_ascii (orient_word o) (word o))

@@ -19,8 +19,8 @@ use Rattle.lf_reports.specs.Reports.{verdict_at}
 use Rattle.lf_describe.specs.declared.described.DescribedDesign.{DescribedDesign}
 use Rattle.lf_describe.specs.declared.line_kinds.Part.{Part}
 use Rattle.lf_describe.specs.declared.line_kinds.Part.TheVariants.{Design, Rows, Fences, Obstacles, Soft, Cells, Total}
-use Rattle.lf_describe.specs.Description.{box_data, cell_data, design_data, orientation_data, fence_data, obstacle_data, other_of, rect_data, row_data, rule_data, soft_data, team_name, text_data, text_or_null, whole_data}
-use Rattle.lf_describe.specs.Parts.{cells_in, names_in, part_lines}
+use Rattle.lf_describe.specs.Description.{box_data, cell_data, design_data, orientation_data, fence_data, obstacle_data, other_of, rect_data, row_data, rule_data, soft_data, described_team_name, text_data, text_or_null, whole_data}
+use Rattle.lf_describe.specs.Parts.{described_cells, fixed_component_names, part_lines}
 
 pub neither : (a b : Bool) → a ≡ false → b ≡ false → (a || b) ≡ false
 neither a b p q = rw p q
@@ -86,7 +86,7 @@ cell f cells c broken =
     (neither _ _ (facing c.place)
     (neither _ _ (name_or_null (other_of cells broken))
     (neither _ _ (rule broken)
-    (neither _ _ (text (team_name f c.team))
+    (neither _ _ (text (described_team_name f c.team))
     (neither _ _ (whole (size_of f (macro_of f c.mac)).x) refl))))))))
 
 each : {X : Type 0} (h : X → Data) → ((x : X) → has_float (h x) ≡ false) → (xs : List X) (i : ℕ) (d : Data) → slice_get (map h xs) i ≡ Some d → has_float d ≡ false
@@ -99,11 +99,11 @@ only x none zero d at = let same : x ≡ d = cc in subst (λ (e : Data). has_flo
 only x none (suc i) d at = absurd cc
 
 -- No line of a part has a number with a fraction.
-pub no_float : (told : DescribedDesign) (part : Part) (i : ℕ) (d : Data) → slice_get (part_lines told part) i ≡ Some d → has_float d ≡ false
-no_float told Design i d at = only _ (design told.frame.now) i d at
-no_float told Rows i d at = each (row_data told.frame.now) (row told.frame.now) _ i d at
-no_float told Fences i d at = each fence_data fence _ i d at
-no_float told Obstacles i d at = each _ (λ e. obstacle (slice_get (names_in told) e.0) e.1) _ i d at
-no_float told Soft i d at = each soft_data soft _ i d at
-no_float told Cells i d at = each _ (λ e. cell told.frame.now (cells_in told) e.1 (verdict_at told.verdicts.now e.0)) _ i d at
-no_float told Total i d at = only _ refl i d at
+pub no_float : (reported : DescribedDesign) (part : Part) (i : ℕ) (d : Data) → slice_get (part_lines reported part) i ≡ Some d → has_float d ≡ false
+no_float reported Design i d at = only _ (design reported.frame.now) i d at
+no_float reported Rows i d at = each (row_data reported.frame.now) (row reported.frame.now) _ i d at
+no_float reported Fences i d at = each fence_data fence _ i d at
+no_float reported Obstacles i d at = each _ (λ e. obstacle (slice_get (fixed_component_names reported) e.0) e.1) _ i d at
+no_float reported Soft i d at = each soft_data soft _ i d at
+no_float reported Cells i d at = each _ (λ e. cell reported.frame.now (described_cells reported) e.1 (verdict_at reported.verdicts.now e.0)) _ i d at
+no_float reported Total i d at = only _ refl i d at

@@ -18,8 +18,8 @@ written a b text rest none (front, e, p) =
     subst (Appends a b) (sym (e ∙ ap (λ (r : List ℕ). front ++ r) none ∙ append-nil front)) p
 
 -- One more chunk after a text.
-pub behind : (a b c : Option (List ℕ)) (text v x u : List ℕ) → WritesFrontOf a b text v → WritesFrontOf b c (v ++ x) u → WritesFrontOf a c (text ++ x) u
-behind a b c text v x u (s, e, p) (t, f, q) = (s ++ t, same, Appends-trans a b c s t p q)
+pub after_it : (a b c : Option (List ℕ)) (text v x u : List ℕ) → WritesFrontOf a b text v → WritesFrontOf b c (v ++ x) u → WritesFrontOf a c (text ++ x) u
+after_it a b c text v x u (s, e, p) (t, f, q) = (s ++ t, same, Appends-trans a b c s t p q)
   where
     same : text ++ x ≡ (s ++ t) ++ u
     same = ap (λ (y : List ℕ). y ++ x) e ∙ append_assoc s v x ∙ ap (λ (y : List ℕ). s ++ y) f ∙ sym (append_assoc s t u)
@@ -30,8 +30,8 @@ goes_on a b text more (rest, (front, e, p)) =
     (rest ++ more, (front, ap (λ (y : List ℕ). y ++ more) e ∙ append_assoc front rest more, p))
 
 -- A chunk after a text was cut short.
-pub cut_behind : (a b c : Option (List ℕ)) (text v x : List ℕ) → WritesFrontOf a b text v → AppendsFront b c (v ++ x) → AppendsFront a c (text ++ x)
-cut_behind a b c text v x left (u, right) = (u, behind a b c text v x u left right)
+pub cut_after : (a b c : Option (List ℕ)) (text v x : List ℕ) → WritesFrontOf a b text v → AppendsFront b c (v ++ x) → AppendsFront a c (text ++ x)
+cut_after a b c text v x left (u, right) = (u, after_it a b c text v x u left right)
 
 -- Nothing more is written.
 pub kept : (a b c : Option (List ℕ)) (text v : List ℕ) → WritesFrontOf a b text v → Keeps b c → WritesFrontOf a c text v
@@ -99,13 +99,13 @@ pub before_first : {X : Type 0} (g : X → List ℕ) (xs : List X) (a : Option (
 before_first g xs a w = subst (λ (t : List ℕ). WritesFrontOf a a t w) (sym (append-nil w)) (nothing a w)
 
 -- After the chunk of this number.
-pub behind_piece : {X : Type 0} (g : X → List ℕ) (xs : List X) (i : ℕ) (x : X) (a b c : Option (List ℕ)) (w v u : List ℕ) → slice_get xs i ≡ Some x →
+pub after_piece : {X : Type 0} (g : X → List ℕ) (xs : List X) (i : ℕ) (x : X) (a b c : Option (List ℕ)) (w v u : List ℕ) → slice_get xs i ≡ Some x →
     WritesFrontOf a b (w ++ flat_map g (take i xs)) v → WritesFrontOf b c (v ++ g x) u → WritesFrontOf a c (w ++ flat_map g (take (i + 1) xs)) u
-behind_piece g xs i x a b c w v u at left right =
+after_piece g xs i x a b c w v u at left right =
     let next : suc i ≡ i + 1 = omega arith in
     let same : (w ++ flat_map g (take i xs)) ++ g x ≡ w ++ flat_map g (take (i + 1) xs) =
     append_assoc w (flat_map g (take i xs)) (g x) ∙ ap (λ (l : List ℕ). w ++ l) (sym (one_more g xs i x at)) ∙ ap (λ (n : ℕ). w ++ flat_map g (take n xs)) next in
-    subst (λ (t : List ℕ). WritesFrontOf a c t u) same (behind a b c (w ++ flat_map g (take i xs)) v (g x) u left right)
+    subst (λ (t : List ℕ). WritesFrontOf a c t u) same (after_it a b c (w ++ flat_map g (take i xs)) v (g x) u left right)
 
 -- The chunk of this number was cut short.
 pub cut_piece : {X : Type 0} (g : X → List ℕ) (xs : List X) (i : ℕ) (x : X) (a b c : Option (List ℕ)) (w v : List ℕ) → slice_get xs i ≡ Some x →
@@ -115,4 +115,4 @@ cut_piece g xs i x a b c w v at left right =
     ap (λ (l : List ℕ). l ++ flat_map g (drop (suc i) xs)) (append_assoc w (flat_map g (take i xs)) (g x) ∙ ap (λ (l : List ℕ). w ++ l) (sym (one_more g xs i x at)))
     ∙ append_assoc w (flat_map g (take (suc i) xs)) (flat_map g (drop (suc i) xs)) ∙ ap (λ (l : List ℕ). w ++ l) (sym (cut_at g xs (suc i))) in
     subst (AppendsFront a c) same
-    (goes_on a c ((w ++ flat_map g (take i xs)) ++ g x) (flat_map g (drop (suc i) xs)) (cut_behind a b c (w ++ flat_map g (take i xs)) v (g x) left right))
+    (goes_on a c ((w ++ flat_map g (take i xs)) ++ g x) (flat_map g (drop (suc i) xs)) (cut_after a b c (w ++ flat_map g (take i xs)) v (g x) left right))

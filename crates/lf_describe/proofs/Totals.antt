@@ -16,8 +16,8 @@ use Rattle.std.specs.Io.KnownBytes.{Appends}
 use Rattle.lf_describe.specs.Written.{AppendsFront}
 use Rattle.lf_describe.specs.declared.described.DescribedDesign.{DescribedDesign}
 use Rattle.lf_describe.specs.declared.line_kinds.TheConstants.{PARTS}
-use Rattle.lf_describe.specs.Description.{cell_data, cell_lines, design_data, fence_data, line_text, lines_of, lines_text, obstacle_lines, row_data, soft_data, total_data}
-use Rattle.lf_describe.specs.Parts.{Counts, cells_in, names_in, part_lines, part_text, parts_text}
+use Rattle.lf_describe.specs.Description.{cell_data, cell_lines, design_data, fence_data, line_text, described_lines, lines_text, obstacle_lines, row_data, soft_data, total_data}
+use Rattle.lf_describe.specs.Parts.{Counts, described_cells, fixed_component_names, part_lines, part_text, parts_text}
 
 -- ---- lines
 
@@ -39,49 +39,49 @@ fused : {X Y A : Type 0} (g : Y → List A) (h : X → List Y) (xs : List X) →
 fused g h [] = refl
 fused {A = A} g h (x ∷ xs) = ap (λ (l : List A). flat_map g (h x) ++ l) (fused g h xs) ∙ sym (flat_map-append g (h x) (flat_map h xs))
 
-pub text_of_parts : (told : DescribedDesign) → flat_map (part_text told) PARTS ≡ parts_text told
+pub text_of_parts : (reported : DescribedDesign) → flat_map (part_text reported) PARTS ≡ parts_text reported
 unfolding parts_text
-text_of_parts told = refl
+text_of_parts reported = refl
 
 -- The text of all parts is the text of all lines.
-pub parts_are : (l : Legalizer) (told : DescribedDesign) → AreVerdicts l told.frame.now 0 (cells_in told) told.verdicts.now →
-    parts_text told ≡ lines_text l told.frame.now (names_in told) (cells_in told)
+pub parts_are : (l : Legalizer) (reported : DescribedDesign) → AreVerdicts l reported.frame.now 0 (described_cells reported) reported.verdicts.now →
+    parts_text reported ≡ lines_text l reported.frame.now (fixed_component_names reported) (described_cells reported)
 unfolding parts_text lines_text
-parts_are l told are = fused line_text (part_lines told) PARTS ∙ ap (flat_map line_text) (lines (cells_are l f cells verdicts are) (illegal_are l f cells verdicts are))
+parts_are l reported are = fused line_text (part_lines reported) PARTS ∙ ap (flat_map line_text) (lines (cells_are l f cells verdicts are) (illegal_are l f cells verdicts are))
   where
     f : Frame
-    f = told.frame.now
+    f = reported.frame.now
 
     cells : List (Listed (List ℕ))
-    cells = cells_in told
+    cells = described_cells reported
 
     verdicts : List (Option Broken)
-    verdicts = told.verdicts.now
+    verdicts = reported.verdicts.now
 
     all : List Data → ℕ → List Data
-    all told_cells illegal =
-        design_data f ∷ (map (row_data f) f.rows ++ (map fence_data f.teams ++ (obstacle_lines (names_in told) f.obstacles ++ (map soft_data f.soft
-        ++ (told_cells ++ total_data f (length cells) illegal (count_by (λ c. is_none c.place) cells) ∷ [])))))
+    all reported_cells illegal =
+        design_data f ∷ (map (row_data f) f.rows ++ (map fence_data f.teams ++ (obstacle_lines (fixed_component_names reported) f.obstacles ++ (map soft_data f.soft
+        ++ (reported_cells ++ total_data f (length cells) illegal (count_by (λ c. is_none c.place) cells) ∷ [])))))
 
     lines : map (λ e. cell_data f cells e.1 (verdict_at verdicts e.0)) (enumerate_from 0 cells) ≡ cell_lines l f cells →
-        count_by is_some verdicts ≡ length (violations_in l f 0 cells) → flat_map (part_lines told) PARTS ≡ lines_of l f (names_in told) cells
+        count_by is_some verdicts ≡ length (violations_in l f 0 cells) → flat_map (part_lines reported) PARTS ≡ described_lines l f (fixed_component_names reported) cells
     lines same_cells same_count = ap (λ (cs : List Data). all cs (count_by is_some verdicts)) same_cells ∙ ap (all (cell_lines l f cells)) same_count
 
 -- The counts are those of the report.
-pub counts_are : (l : Legalizer) (told : DescribedDesign) → AreVerdicts l told.frame.now 0 (cells_in told) told.verdicts.now → Counts told (report_of l told.frame.now 0 (cells_in told))
-counts_are l told are = record { illegal = illegal_are l told.frame.now (cells_in told) told.verdicts.now are; unplaced = refl }
+pub counts_are : (l : Legalizer) (reported : DescribedDesign) → AreVerdicts l reported.frame.now 0 (described_cells reported) reported.verdicts.now → Counts reported (report_of l reported.frame.now 0 (described_cells reported))
+counts_are l reported are = record { illegal = illegal_are l reported.frame.now (described_cells reported) reported.verdicts.now are; unplaced = refl }
 
 -- ---- what was written
 
-pub text_is : {T E : Type 0} (told : DescribedDesign) (l : Legalizer) (r : Result T E) (a b : Option (List ℕ)) → OnOk r (Appends a b (parts_text told)) →
-    AreVerdicts l told.frame.now 0 (cells_in told) told.verdicts.now → OnOk r (Appends a b (lines_text l told.frame.now (names_in told) (cells_in told)))
-text_is told l r a b written are = subst (λ (t : List ℕ). OnOk r (Appends a b t)) (parts_are l told are) written
+pub text_is : {T E : Type 0} (reported : DescribedDesign) (l : Legalizer) (r : Result T E) (a b : Option (List ℕ)) → OnOk r (Appends a b (parts_text reported)) →
+    AreVerdicts l reported.frame.now 0 (described_cells reported) reported.verdicts.now → OnOk r (Appends a b (lines_text l reported.frame.now (fixed_component_names reported) (described_cells reported)))
+text_is reported l r a b written are = subst (λ (t : List ℕ). OnOk r (Appends a b t)) (parts_are l reported are) written
 
-pub cut_is : {T E : Type 0} (told : DescribedDesign) (l : Legalizer) (r : Result T E) (a b : Option (List ℕ)) → OnErr r (AppendsFront a b (parts_text told)) →
-    AreVerdicts l told.frame.now 0 (cells_in told) told.verdicts.now → OnErr r (AppendsFront a b (lines_text l told.frame.now (names_in told) (cells_in told)))
-cut_is told l r a b written are = subst (λ (t : List ℕ). OnErr r (AppendsFront a b t)) (parts_are l told are) written
+pub cut_is : {T E : Type 0} (reported : DescribedDesign) (l : Legalizer) (r : Result T E) (a b : Option (List ℕ)) → OnErr r (AppendsFront a b (parts_text reported)) →
+    AreVerdicts l reported.frame.now 0 (described_cells reported) reported.verdicts.now → OnErr r (AppendsFront a b (lines_text l reported.frame.now (fixed_component_names reported) (described_cells reported)))
+cut_is reported l r a b written are = subst (λ (t : List ℕ). OnErr r (AppendsFront a b t)) (parts_are l reported are) written
 
-pub clean_is : {E : Type 0} (told : DescribedDesign) (l : Legalizer) (r : Result Bool E) →
-    ((report : Report) → Counts told report → IfOk r (λ clean. IsTrue clean ↔ IsClean report)) →
-    AreVerdicts l told.frame.now 0 (cells_in told) told.verdicts.now → IfOk r (λ clean. IsTrue clean ↔ IsClean (report_of l told.frame.now 0 (cells_in told)))
-clean_is told l r said are = said (report_of l told.frame.now 0 (cells_in told)) (counts_are l told are)
+pub clean_is : {E : Type 0} (reported : DescribedDesign) (l : Legalizer) (r : Result Bool E) →
+    ((report : Report) → Counts reported report → IfOk r (λ clean. IsTrue clean ↔ IsClean report)) →
+    AreVerdicts l reported.frame.now 0 (described_cells reported) reported.verdicts.now → IfOk r (λ clean. IsTrue clean ↔ IsClean (report_of l reported.frame.now 0 (described_cells reported)))
+clean_is reported l r said are = said (report_of l reported.frame.now 0 (described_cells reported)) (counts_are l reported are)

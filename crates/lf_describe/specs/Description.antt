@@ -14,10 +14,10 @@ use Rattle.lf_orient.specs.Words.{orient_word}
 use Rattle.lf_floorplan.specs.declared.frame.Frame.{Frame}
 use Rattle.lf_floorplan.specs.declared.parts.Row.{Row}
 use Rattle.lf_floorplan.specs.declared.parts.Team.{Team}
-use Rattle.lf_floorplan.specs.declared.loaded.Cell.{Cell}
+use Rattle.lf_floorplan.specs.declared.loaded.LoadedCell.{LoadedCell}
 use Rattle.lf_floorplan.specs.declared.loaded.Loaded.{Loaded}
 use Rattle.lf_floorplan.specs.declared.place.Place.{Place}
-use Rattle.lf_floorplan.specs.Bounds.{IsName}
+use Rattle.lf_floorplan.specs.Bounds.{IsDesignName}
 use Rattle.lf_floorplan.specs.Boxes.{macro_of, size_of}
 use Rattle.lf_floorplan.specs.Fences.{ground_name}
 use Rattle.lf_floorplan.specs.Rows.{row_area}
@@ -40,7 +40,7 @@ text_data name = if is_utf8 name then string name else null
 
 -- A name of visible characters is written unchanged.
 abbrev pub NamesAreWritten : Type 0
-NamesAreWritten = (name : List ℕ) → IsName name → text_data name ≡ string name
+NamesAreWritten = (name : List ℕ) → IsDesignName name → text_data name ≡ string name
 
 -- A name, or null if there is no name.
 abbrev pub text_or_null : Option (List ℕ) → Data
@@ -101,8 +101,8 @@ abbrev pub soft_data : Rect → Data
 soft_data r = object (member (codes "box") (rect_data r) (member (codes "kind") (string (codes "soft")) no_members))
 
 -- The name of the team of this number: that of its fence, or of the ground team.
-abbrev pub team_name : Frame → ℕ → List ℕ
-team_name f team = option_map_or (λ t. t.name) (slice_get f.teams team) ground_name
+abbrev pub described_team_name : Frame → ℕ → List ℕ
+described_team_name f team = option_map_or (λ t. t.name) (slice_get f.teams team) ground_name
 
 -- The box of the cell at its place; null if it is unplaced.
 abbrev pub box_data : Frame → Listed (List ℕ) → Data
@@ -132,7 +132,7 @@ cell_data f cells c broken =
     (member (codes "orient") (orientation_data c.place)
     (member (codes "other") (text_or_null (other_of cells broken))
     (member (codes "rule") (rule_data broken)
-    (member (codes "team") (text_data (team_name f c.team))
+    (member (codes "team") (text_data (described_team_name f c.team))
     (member (codes "width") (whole_data (size_of f (macro_of f c.mac)).x) no_members))))))))))
 
 -- The counts of each kind, of cells that break a rule, and of unplaced cells.
@@ -154,12 +154,12 @@ report_total f report = total_data f report.cells (length report.violations) rep
 -- ---- the description
 
 -- The places of the DEF text, in loading order.
-abbrev pub places_of : List Cell → List (Option Place)
-places_of cells = map (λ c. c.place) cells
+abbrev pub places_in_text : List LoadedCell → List (Option Place)
+places_in_text cells = map (λ c. c.place) cells
 
 -- The movable cells, each at its place in the DEF text.
-abbrev pub cells_of : Loaded → List (Listed (List ℕ))
-cells_of loaded = listed_at loaded.cells (places_of loaded.cells)
+abbrev pub listed_movables : Loaded → List (Listed (List ℕ))
+listed_movables loaded = listed_at loaded.cells (places_in_text loaded.cells)
 
 -- The names of the FIXED components, in the order of the DEF text.
 abbrev pub fixed_names : List Component → List (List ℕ)
@@ -174,8 +174,8 @@ abbrev pub cell_lines : Legalizer → Frame → List (Listed (List ℕ)) → Lis
 cell_lines l f cells = map (λ e. cell_data f cells e.1 (broken_among l f 0 cells e.0 e.1)) (enumerate_from 0 cells)
 
 -- The design, its rows, fences, obstacles, soft blockages and movable cells, and the totals.
-abbrev pub lines_of : Legalizer → Frame → List (List ℕ) → List (Listed (List ℕ)) → List Data
-lines_of l f names cells =
+abbrev pub described_lines : Legalizer → Frame → List (List ℕ) → List (Listed (List ℕ)) → List Data
+described_lines l f names cells =
     design_data f ∷ (map (row_data f) f.rows ++ (map fence_data f.teams ++ (obstacle_lines names f.obstacles ++ (map soft_data f.soft
     ++ (cell_lines l f cells ++ report_total f (report_of l f 0 cells) ∷ [])))))
 
@@ -185,8 +185,8 @@ line_text d = compact_text d ++ 10 ∷ []
 
 -- The text of all lines.
 unfoldable pub lines_text : Legalizer → Frame → List (List ℕ) → List (Listed (List ℕ)) → List ℕ
-lines_text l f names cells = flat_map line_text (lines_of l f names cells)
+lines_text l f names cells = flat_map line_text (described_lines l f names cells)
 
 -- The description of a loaded design and the document from which it was loaded.
 abbrev pub description : Legalizer → Loaded → Document → List ℕ
-description l loaded document = lines_text l loaded.frame (fixed_names document.components) (cells_of loaded)
+description l loaded document = lines_text l loaded.frame (fixed_names document.components) (listed_movables loaded)

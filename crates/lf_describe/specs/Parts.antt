@@ -4,7 +4,7 @@ use Rattle.std.specs.List.{enumerate_from}
 use Rattle.serde_json.specs.Data.{Data}
 use Rattle.lf_rules.specs.declared.report_types.Listed.{Listed}
 use Rattle.lf_rules.specs.declared.report_types.Report.{Report}
-use Rattle.lf_reports.specs.Reports.{named, verdict_at}
+use Rattle.lf_reports.specs.Reports.{with_byte_name, verdict_at}
 use Rattle.lf_describe.specs.declared.described.DescribedDesign.{DescribedDesign}
 use Rattle.lf_describe.specs.declared.line_kinds.TheConstants.{PARTS}
 use Rattle.lf_describe.specs.declared.line_kinds.Part.{Part}
@@ -12,33 +12,33 @@ use Rattle.lf_describe.specs.declared.line_kinds.Part.TheVariants.{Design, Rows,
 use Rattle.lf_describe.specs.Description.{cell_data, design_data, fence_data, line_text, obstacle_lines, row_data, soft_data, total_data}
 
 -- The names of the FIXED components.
-abbrev pub names_in : DescribedDesign → List (List ℕ)
-names_in told = map (λ n. n.now) told.names.now
+abbrev pub fixed_component_names : DescribedDesign → List (List ℕ)
+fixed_component_names reported = map (λ n. n.now) reported.names.now
 
 -- The movable cells.
-abbrev pub cells_in : DescribedDesign → List (Listed (List ℕ))
-cells_in told = map named told.cells.now
+abbrev pub described_cells : DescribedDesign → List (Listed (List ℕ))
+described_cells reported = map with_byte_name reported.cells.now
 
 -- The lines of a part.
 abbrev pub part_lines : DescribedDesign → Part → List Data
-part_lines told Design = design_data told.frame.now ∷ []
-part_lines told Rows = map (row_data told.frame.now) told.frame.now.rows
-part_lines told Fences = map fence_data told.frame.now.teams
-part_lines told Obstacles = obstacle_lines (names_in told) told.frame.now.obstacles
-part_lines told Soft = map soft_data told.frame.now.soft
-part_lines told Cells = map (λ e. cell_data told.frame.now (cells_in told) e.1 (verdict_at told.verdicts.now e.0)) (enumerate_from 0 (cells_in told))
-part_lines told Total = total_data told.frame.now (length (cells_in told)) (count_by is_some told.verdicts.now) (count_by (λ c. is_none c.place) (cells_in told)) ∷ []
+part_lines reported Design = design_data reported.frame.now ∷ []
+part_lines reported Rows = map (row_data reported.frame.now) reported.frame.now.rows
+part_lines reported Fences = map fence_data reported.frame.now.teams
+part_lines reported Obstacles = obstacle_lines (fixed_component_names reported) reported.frame.now.obstacles
+part_lines reported Soft = map soft_data reported.frame.now.soft
+part_lines reported Cells = map (λ e. cell_data reported.frame.now (described_cells reported) e.1 (verdict_at reported.verdicts.now e.0)) (enumerate_from 0 (described_cells reported))
+part_lines reported Total = total_data reported.frame.now (length (described_cells reported)) (count_by is_some reported.verdicts.now) (count_by (λ c. is_none c.place) (described_cells reported)) ∷ []
 
 -- The text of a part.
 abbrev pub part_text : DescribedDesign → Part → List ℕ
-part_text told part = flat_map line_text (part_lines told part)
+part_text reported part = flat_map line_text (part_lines reported part)
 
 -- The text of all parts, in order.
 unfoldable pub parts_text : DescribedDesign → List ℕ
-parts_text told = flat_map (part_text told) PARTS
+parts_text reported = flat_map (part_text reported) PARTS
 
 -- The report has the same count of unplaced cells, and a violation for each verdict that names a
 -- broken rule.
-pub record Counts (told : DescribedDesign) (report : Report) : Type 0 where
-  pub illegal : count_by is_some told.verdicts.now ≡ length report.violations
-  pub unplaced : count_by (λ c. is_none c.place) (cells_in told) ≡ report.unplaced
+pub record Counts (reported : DescribedDesign) (report : Report) : Type 0 where
+  pub illegal : count_by is_some reported.verdicts.now ≡ length report.violations
+  pub unplaced : count_by (λ c. is_none c.place) (described_cells reported) ≡ report.unplaced

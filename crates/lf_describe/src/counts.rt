@@ -4,8 +4,8 @@ ghost use Rattle.std.specs.Prelude.{◌≡◌, ◌≤◌, ◌↔◌, All, IfOk, 
 ghost use Rattle.lf_rules.specs.declared.report_types.Report.{Report};
 ghost use Rattle.lf_rules.specs.Legalizer.{Legalizer};
 ghost use Rattle.lf_rules.specs.Reports.{IsClean};
-ghost use Rattle.lf_reports.specs.Reports.{AreVerdicts, IsListed, listed_at, named};
-ghost use Rattle.lf_describe.specs.Description.{places_of};
+ghost use Rattle.lf_reports.specs.Reports.{AreVerdicts, IsListed, listed_at, with_byte_name};
+ghost use Rattle.lf_describe.specs.Description.{places_in_text};
 
 use lf_floorplan::{Frame, LoadedCells};
 use lf_reports::verdicts_with_plan;
@@ -29,7 +29,7 @@ pub(crate) fn listed<'a>(
     alloc: Global,
     cells: &'a LoadedCells,
 ) -> Result<Vec<Listed<&'a [u8]>>, AllocError>
-    ensures { IfOk result (λ listed. map named listed.items ≡ listed_at cells.now (places_of cells.now)) }
+    ensures { IfOk result (λ listed. map with_byte_name listed.items ≡ listed_at cells.now (places_in_text cells.now)) }
 {
     let mut listed = Vec::with_capacity(alloc, cells.len())?;
     for at in 0..cells.len() {
@@ -51,10 +51,10 @@ pub(crate) fn verdicts_of(
     frame: &Frame,
     cells: &[Listed<&[u8]>],
 ) -> Result<Vec<Option<Broken>>, AllocError>
-    requires listed { All (λ c. IsListed frame.now (named c)) cells.now }
+    requires listed { All (λ c. IsListed frame.now (with_byte_name c)) cells.now }
     requires few { length cells.now ≤ 4000000 }
     ensures count { IfOk result (λ verdicts. length verdicts.items ≡ length cells.now) }
-    ensures each { (l : Legalizer) → IfOk result (λ verdicts. AreVerdicts l frame.now 0 (map named cells.now) verdicts.items) }
+    ensures each { (l : Legalizer) → IfOk result (λ verdicts. AreVerdicts l frame.now 0 (map with_byte_name cells.now) verdicts.items) }
 {
     let index = FrameIndex::build(alloc, frame)?;
     verdicts_with_plan(
@@ -74,16 +74,16 @@ fn illegal_in(verdicts: &[Option<Broken>]) -> usize
 
 /// Counts the unplaced cells.
 fn unplaced_in(cells: &[Listed<&[u8]>]) -> usize
-    ensures { result ≡ count_by (λ c. is_none c.place) (map named cells.now) }
+    ensures { result ≡ count_by (λ c. is_none c.place) (map with_byte_name cells.now) }
 {
     cells.iter().filter(|cell| cell.place.is_none()).count()
 }
 
 /// Counts the cells, those that break a rule by their verdicts, and the unplaced ones.
 pub(crate) fn counts_of(cells: &[Listed<&[u8]>], verdicts: &[Option<Broken>]) -> Counts
-    ensures cells { result.cells ≡ length (map named cells.now) }
+    ensures cells { result.cells ≡ length (map with_byte_name cells.now) }
     ensures illegal { result.illegal ≡ count_by is_some verdicts.now }
-    ensures unplaced { result.unplaced ≡ count_by (λ c. is_none c.place) (map named cells.now) }
+    ensures unplaced { result.unplaced ≡ count_by (λ c. is_none c.place) (map with_byte_name cells.now) }
 {
     Counts {
         cells: cells.len(),

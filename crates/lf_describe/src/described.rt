@@ -1,7 +1,7 @@
 //! What is described of a design.
 
 ghost use Rattle.std.specs.Prelude.{◌≡◌, All, length};
-ghost use Rattle.lf_reports.specs.Reports.{IsListed, named};
+ghost use Rattle.lf_reports.specs.Reports.{IsListed, with_byte_name};
 
 use lf_floorplan::Frame;
 use lf_rules::{Broken, Listed};
@@ -14,6 +14,6 @@ pub(crate) struct DescribedDesign<'a> {
     pub(crate) names: &'a [&'a [u8]],
     pub(crate) cells: &'a [Listed<&'a [u8]>],
     pub(crate) verdicts: &'a [Option<Broken>],
-    pub(crate) ghost listed: { All (λ c. IsListed frame.now (named c)) cells.now },
-    pub(crate) ghost judged: { length verdicts.now ≡ length cells.now },
+    pub(crate) ghost listed: { All (λ c. IsListed frame.now (with_byte_name c)) cells.now },
+    pub(crate) ghost committed_checked: { length verdicts.now ≡ length cells.now },
 }

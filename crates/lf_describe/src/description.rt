@@ -7,8 +7,8 @@ ghost use Rattle.lf_rules.specs.declared.report_types.Report.{Report};
 ghost use Rattle.lf_rules.specs.FullyLegal.{IsFullyLegal, design_cells_at};
 ghost use Rattle.lf_rules.specs.Legalizer.{Legalizer};
 ghost use Rattle.lf_rules.specs.Reports.{IsClean};
-ghost use Rattle.lf_reports.specs.Reports.{IsListed, named, report_of};
-ghost use Rattle.lf_describe.specs.Description.{description, fixed_names as names_of, lines_text, places_of};
+ghost use Rattle.lf_reports.specs.Reports.{IsListed, with_byte_name, report_of};
+ghost use Rattle.lf_describe.specs.Description.{description, fixed_names as names_of, lines_text, places_in_text};
 ghost use Rattle.lf_describe.specs.Parts.{Counts, parts_text};
 ghost use Rattle.lf_describe.specs.Written.{AppendsFront, is_line_writers, is_output, is_writers};
 
@@ -52,7 +52,7 @@ fn fixed_names<'a>(
 
 /// Converts a fault of the lines into the error of a description.
 fn line_failure(fault: LineFault) -> DescribeFailure
-    ensures late { result ≡ Undescribed.OutOfMemory → ⊥ }
+    ensures late { result ≡ DescribeFailure.OutOfMemory → ⊥ }
     ensures output { is_writers result ≡ is_line_writers fault }
 {
     match fault {
@@ -64,18 +64,18 @@ fn line_failure(fault: LineFault) -> DescribeFailure
 /// Writes the description. Returns whether no cell is unplaced and no cell breaks a rule.
 fn write_description<W: Sink>(
     alloc: Global,
-    told: &DescribedDesign<'_>,
+    reported: &DescribedDesign<'_>,
     writer: &mut W,
 ) -> Result<bool, DescribeFailure>
-    ensures text { OnOk result (Appends (W.contents writer.old) (W.contents writer.new) (parts_text told.now)) }
-    ensures clean { (report : Report) → Counts told.now report → IfOk result (λ clean. IsTrue clean ↔ IsClean report) }
-    ensures cut { OnErr result (AppendsFront (W.contents writer.old) (W.contents writer.new) (parts_text told.now)) }
-    ensures late { IfErr result (λ fault. fault ≡ Undescribed.OutOfMemory → ⊥) }
+    ensures text { OnOk result (Appends (W.contents writer.old) (W.contents writer.new) (parts_text reported.now)) }
+    ensures clean { (report : Report) → Counts reported.now report → IfOk result (λ clean. IsTrue clean ↔ IsClean report) }
+    ensures cut { OnErr result (AppendsFront (W.contents writer.old) (W.contents writer.new) (parts_text reported.now)) }
+    ensures late { IfErr result (λ fault. fault ≡ DescribeFailure.OutOfMemory → ⊥) }
     ensures failed { W.has_failed writer.new ≡ (is_output result || W.has_failed writer.old) }
     ensures held { W.holds writer.new ≡ W.holds writer.old }
 {
-    match put_parts(alloc, told, writer) {
-        Ok(()) => Ok(is_clean(&counts_in(told))),
+    match put_parts(alloc, reported, writer) {
+        Ok(()) => Ok(is_clean(&counts_in(reported))),
         Err(fault) => Err(line_failure(fault)),
     }
 }
@@ -89,27 +89,27 @@ fn describe_cells<W: Sink>(
     cells: &[Listed<&[u8]>],
     writer: &mut W,
 ) -> Result<bool, DescribeFailure>
-    requires listed { All (λ c. IsListed frame.now (named c)) cells.now }
+    requires listed { All (λ c. IsListed frame.now (with_byte_name c)) cells.now }
     requires few { length cells.now ≤ 4000000 }
     ensures text { (l : Legalizer) → OnOk result (Appends (W.contents writer.old) (W.contents writer.new)
-        (lines_text l frame.now (map (λ n. n.now) names.now) (map named cells.now))) }
-    ensures clean { (l : Legalizer) → IfOk result (λ clean. IsTrue clean ↔ IsClean (report_of l frame.now 0 (map named cells.now))) }
+        (lines_text l frame.now (map (λ n. n.now) names.now) (map with_byte_name cells.now))) }
+    ensures clean { (l : Legalizer) → IfOk result (λ clean. IsTrue clean ↔ IsClean (report_of l frame.now 0 (map with_byte_name cells.now))) }
     ensures cut { (l : Legalizer) → OnErr result (AppendsFront (W.contents writer.old) (W.contents writer.new)
-        (lines_text l frame.now (map (λ n. n.now) names.now) (map named cells.now))) }
-    ensures unwritten { IfErr result (λ fault. fault ≡ Undescribed.OutOfMemory → writer.new ≡ writer.old) }
+        (lines_text l frame.now (map (λ n. n.now) names.now) (map with_byte_name cells.now))) }
+    ensures unwritten { IfErr result (λ fault. fault ≡ DescribeFailure.OutOfMemory → writer.new ≡ writer.old) }
     ensures failed { W.has_failed writer.new ≡ (is_output result || W.has_failed writer.old) }
     ensures held { W.holds writer.new ≡ W.holds writer.old }
 {
     let Ok(verdicts) = verdicts_of(alloc, frame, cells) else {
         return Err(DescribeFailure::OutOfMemory);
     };
-    let told = DescribedDesign {
+    let reported = DescribedDesign {
         frame,
         names,
         cells,
         verdicts: verdicts.as_slice(),
     };
-    write_description(alloc, &told, writer)
+    write_description(alloc, &reported, writer)
 }
 
 /// Writes the description of a design as JSON Lines, one object on each line, with each cell at its
@@ -131,10 +131,10 @@ pub fn describe<W: Sink>(
     writer: &mut W,
 ) -> Result<bool, DescribeFailure>
     ensures text { (l : Legalizer) → OnOk result (Appends (W.contents writer.old) (W.contents writer.new) (description l loaded.now (contents document.now))) }
-    ensures legal { IfOk result (λ legal. IsTrue legal ↔ IsFullyLegal loaded.now.frame (design_cells_at loaded.now.cells (places_of loaded.now.cells))) }
+    ensures legal { IfOk result (λ legal. IsTrue legal ↔ IsFullyLegal loaded.now.frame (design_cells_at loaded.now.cells (places_in_text loaded.now.cells))) }
     ensures cut { (l : Legalizer) → OnErr result ((n : ℕ)
         × Appends (W.contents writer.old) (W.contents writer.new) (take n (description l loaded.now (contents document.now)))) }
-    ensures unwritten { IfErr result (λ fault. fault ≡ Undescribed.OutOfMemory → writer.new ≡ writer.old) }
+    ensures unwritten { IfErr result (λ fault. fault ≡ DescribeFailure.OutOfMemory → writer.new ≡ writer.old) }
     ensures failed { W.has_failed writer.new ≡ (is_output result || W.has_failed writer.old) }
     ensures held { W.holds writer.new ≡ W.holds writer.old }
 {

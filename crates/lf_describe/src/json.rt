@@ -5,10 +5,10 @@ ghost use Rattle.serde_json.specs.Data.{null, string};
 ghost use Rattle.serde_json.specs.View.{view};
 ghost use Rattle.lf_floorplan.specs.Boxes.{macro_of, size_of};
 ghost use Rattle.lf_floorplan.specs.Rows.{IsCoreRow};
-ghost use Rattle.lf_reports.specs.Reports.{IsListed, named};
+ghost use Rattle.lf_reports.specs.Reports.{IsListed, with_byte_name};
 ghost use Rattle.lf_describe.specs.Description.{box_data, cell_data, design_data, orientation_data, fence_data, obstacle_data};
 ghost use Rattle.lf_describe.specs.Description.{orient_data, other_of, rect_data, row_data, rule_data, soft_data};
-ghost use Rattle.lf_describe.specs.Description.{team_name as name_of_team, text_data, text_or_null as named_or_null, total_data};
+ghost use Rattle.lf_describe.specs.Description.{described_team_name as name_of_team, text_data, text_or_null as named_or_null, total_data};
 
 use crate::counts::Counts;
 use lf_floorplan::{Frame, Place, Row, Team, mac_at, size_in_units};
@@ -146,7 +146,7 @@ fn team_name(frame: &Frame, team: usize) -> &[u8]
 
 /// Returns the size of the cell's macro when it faces north.
 fn cell_size(frame: &Frame, cell: &Listed<&[u8]>) -> Point
-    requires { IsListed frame.now (named cell.now) }
+    requires { IsListed frame.now (with_byte_name cell.now) }
     ensures { result ≡ size_of frame.now (macro_of frame.now cell.now.mac) }
 {
     size_in_units(&mac_at(frame, cell.mac).size, frame.header.units)
@@ -154,8 +154,8 @@ fn cell_size(frame: &Frame, cell: &Listed<&[u8]>) -> Point
 
 /// Makes the value of the cell's box at its place, or null if it is unplaced.
 fn box_value(alloc: Global, frame: &Frame, cell: &Listed<&[u8]>) -> Result<Value, AllocError>
-    requires { IsListed frame.now (named cell.now) }
-    ensures { IfOk result (λ v. view v ≡ box_data frame.now (named cell.now)) }
+    requires { IsListed frame.now (with_byte_name cell.now) }
+    ensures { IfOk result (λ v. view v ≡ box_data frame.now (with_byte_name cell.now)) }
 {
     match &cell.place {
         Some(place) => rect_value(alloc, &box_of(frame, mac_at(frame, cell.mac), place)),
@@ -186,7 +186,7 @@ fn rule_value(broken: &Option<Broken>) -> Value
 /// Returns the name of the other cell that breaks the rule with this one, or `None` if there is no
 /// other cell.
 fn other_name<'a>(cells: &[Listed<&'a [u8]>], broken: &Option<Broken>) -> Option<&'a [u8]>
-    ensures { option_map (λ bytes. bytes.now) result ≡ other_of (map named cells.now) broken.now }
+    ensures { option_map (λ bytes. bytes.now) result ≡ other_of (map with_byte_name cells.now) broken.now }
 {
     let Some(broken) = broken else {
         return None;
@@ -208,8 +208,8 @@ pub(crate) fn cell_value(
     cell: &Listed<&[u8]>,
     broken: &Option<Broken>,
 ) -> Result<Value, AllocError>
-    requires { IsListed frame.now (named cell.now) }
-    ensures { IfOk result (λ v. view v ≡ cell_data frame.now (map named cells.now) (named cell.now) broken.now) }
+    requires { IsListed frame.now (with_byte_name cell.now) }
+    ensures { IfOk result (λ v. view v ≡ cell_data frame.now (map with_byte_name cells.now) (with_byte_name cell.now) broken.now) }
 {
     let size = cell_size(frame, cell);
     let rect = box_value(alloc, frame, cell)?;

@@ -4,9 +4,9 @@ ghost use Rattle.std.specs.Prelude.{◌≡◌, ◌<◌, ◌++◌, IfOk, OnErr, O
 ghost use Rattle.std.specs.Io.KnownBytes.{Appends};
 ghost use Rattle.serde_json.specs.Data.{Data};
 ghost use Rattle.serde_json.specs.View.{view};
-ghost use Rattle.lf_reports.specs.Reports.{IsListed, named, verdict_at};
+ghost use Rattle.lf_reports.specs.Reports.{IsListed, with_byte_name, verdict_at};
 ghost use Rattle.lf_describe.specs.Description.{fence_data, line_text, obstacle_lines, row_data, soft_data};
-ghost use Rattle.lf_describe.specs.Parts.{cells_in, part_lines, part_text, parts_text};
+ghost use Rattle.lf_describe.specs.Parts.{described_cells, part_lines, part_text, parts_text};
 ghost use Rattle.lf_describe.specs.Written.{AppendsFront, WritesFrontOf, is_line_output};
 
 use crate::counts::{Counts, counts_of};
@@ -46,12 +46,12 @@ const PARTS: [Part; 7] = [
 ];
 
 /// Counts the cells, those that break a rule, and the unplaced ones.
-pub(crate) fn counts_in(told: &DescribedDesign<'_>) -> Counts
-    ensures cells { result.cells ≡ length (cells_in told.now) }
-    ensures illegal { result.illegal ≡ count_by is_some told.now.verdicts.now }
-    ensures unplaced { result.unplaced ≡ count_by (λ c. is_none c.place) (cells_in told.now) }
+pub(crate) fn counts_in(reported: &DescribedDesign<'_>) -> Counts
+    ensures cells { result.cells ≡ length (described_cells reported.now) }
+    ensures illegal { result.illegal ≡ count_by is_some reported.now.verdicts.now }
+    ensures unplaced { result.unplaced ≡ count_by (λ c. is_none c.place) (described_cells reported.now) }
 {
-    counts_of(told.cells, told.verdicts)
+    counts_of(reported.cells, reported.verdicts)
 }
 
 /// Makes the line of the row of this number.
@@ -110,44 +110,48 @@ fn soft_line(alloc: Global, frame: &Frame, number: usize) -> Result<Value, Alloc
 }
 
 /// Returns the cell of this number.
-fn cell_at<'a>(told: &DescribedDesign<'a>, number: usize) -> &'a Listed<&'a [u8]>
-    requires { number < length (cells_in told.now) }
-    ensures there { slice_get (cells_in told.now) number ≡ Some (named result.now) }
-    ensures listed { IsListed told.now.frame.now (named result.now) }
+fn cell_at<'a>(reported: &DescribedDesign<'a>, number: usize) -> &'a Listed<&'a [u8]>
+    requires { number < length (described_cells reported.now) }
+    ensures there { slice_get (described_cells reported.now) number ≡ Some (with_byte_name result.now) }
+    ensures listed { IsListed reported.now.frame.now (with_byte_name result.now) }
 {
-    &told.cells[number]
+    &reported.cells[number]
 }
 
 /// Returns the verdict of the cell of this number.
-fn verdict_of(told: &DescribedDesign<'_>, number: usize) -> Option<Broken>
-    requires { number < length (cells_in told.now) }
-    ensures { result ≡ verdict_at told.now.verdicts.now number }
+fn verdict_of(reported: &DescribedDesign<'_>, number: usize) -> Option<Broken>
+    requires { number < length (described_cells reported.now) }
+    ensures { result ≡ verdict_at reported.now.verdicts.now number }
 {
-    told.verdicts[number]
+    reported.verdicts[number]
 }
 
 /// Makes the line of the cell of this number.
-fn cell_line(alloc: Global, told: &DescribedDesign<'_>, number: usize) -> Result<Value, AllocError>
-    requires { number < length (cells_in told.now) }
-    ensures { IfOk result (λ v. Some (view v) ≡ slice_get (part_lines told.now Part.Cells) number) }
+fn cell_line(
+    alloc: Global,
+    reported: &DescribedDesign<'_>,
+    number: usize,
+) -> Result<Value, AllocError>
+    requires { number < length (described_cells reported.now) }
+    ensures { IfOk result (λ v. Some (view v) ≡ slice_get (part_lines reported.now Part.Cells) number) }
 {
-    let cell = cell_at(told, number);
-    let verdict = verdict_of(told, number);
-    cell_value(alloc, told.frame, told.cells, cell, &verdict)
+    let cell = cell_at(reported, number);
+    let verdict = verdict_of(reported, number);
+    cell_value(alloc, reported.frame, reported.cells, cell, &verdict)
 }
 
 /// Returns the number of lines of a part.
 #[tactic(auto, using(crate::proofs::Numbered::count))]
-fn count_in(told: &DescribedDesign<'_>, part: Part) -> usize
-    ensures { result ≡ length (part_lines told.now part) }
+fn count_in(reported: &DescribedDesign<'_>, part: Part) -> usize
+    ensures { result ≡ length (part_lines reported.now part) }
 {
     match part {
         Part::Design => 1,
-        Part::Rows => told.frame.rows.len(),
-        Part::Fences => told.frame.teams.len(),
-        Part::Obstacles => told.frame.obstacles.len(),
-        Part::Soft => told.frame.soft.len(),
-        Part::Cells => told.cells.len(),
+        Part::Rows => reported.frame.rows.len(),
+        Part::Fences => reported.frame.teams.len(),
+        Part::Obstacles => reported.frame.obstacles.len(),
+        Part::Soft => reported.frame.soft.len(),
+        Part::Cells => reported.cells.len(),
         Part::Total => 1,
     }
 }
@@ -155,21 +159,21 @@ fn count_in(told: &DescribedDesign<'_>, part: Part) -> usize
 /// Makes the line of this number of a part.
 fn line_in(
     alloc: Global,
-    told: &DescribedDesign<'_>,
+    reported: &DescribedDesign<'_>,
     part: Part,
     number: usize,
 ) -> Result<Value, AllocError>
-    requires { number < length (part_lines told.now part) }
-    ensures { IfOk result (λ v. Some (view v) ≡ slice_get (part_lines told.now part) number) }
+    requires { number < length (part_lines reported.now part) }
+    ensures { IfOk result (λ v. Some (view v) ≡ slice_get (part_lines reported.now part) number) }
 {
     match part {
-        Part::Design => design_value(alloc, told.frame),
-        Part::Rows => row_line(alloc, told.frame, number),
-        Part::Fences => fence_line(alloc, told.frame, number),
-        Part::Obstacles => obstacle_line(alloc, told.frame, told.names, number),
-        Part::Soft => soft_line(alloc, told.frame, number),
-        Part::Cells => cell_line(alloc, told, number),
-        Part::Total => total_value(alloc, told.frame, &counts_in(told)),
+        Part::Design => design_value(alloc, reported.frame),
+        Part::Rows => row_line(alloc, reported.frame, number),
+        Part::Fences => fence_line(alloc, reported.frame, number),
+        Part::Obstacles => obstacle_line(alloc, reported.frame, reported.names, number),
+        Part::Soft => soft_line(alloc, reported.frame, number),
+        Part::Cells => cell_line(alloc, reported, number),
+        Part::Total => total_value(alloc, reported.frame, &counts_in(reported)),
     }
 }
 
@@ -177,22 +181,22 @@ fn line_in(
 /// buffer.
 fn put_number<W: Sink>(
     alloc: Global,
-    told: &DescribedDesign<'_>,
+    reported: &DescribedDesign<'_>,
     part: Part,
     number: usize,
     writer: &mut W,
     waiting: &mut Vec<u8>,
 ) -> Result<(), LineFault>
-    requires { number < length (part_lines told.now part) }
-    ensures ok { (d : Data) → slice_get (part_lines told.now part) number ≡ Some d
+    requires { number < length (part_lines reported.now part) }
+    ensures ok { (d : Data) → slice_get (part_lines reported.now part) number ≡ Some d
         → OnOk result (WritesFrontOf (W.contents writer.old) (W.contents writer.new)
         (waiting.old.items ++ line_text d) waiting.new.items) }
-    ensures err { (d : Data) → slice_get (part_lines told.now part) number ≡ Some d
+    ensures err { (d : Data) → slice_get (part_lines reported.now part) number ≡ Some d
         → OnErr result (AppendsFront (W.contents writer.old) (W.contents writer.new) (waiting.old.items ++ line_text d)) }
     ensures failed { W.has_failed writer.new ≡ (is_line_output result || W.has_failed writer.old) }
     ensures held { W.holds writer.new ≡ W.holds writer.old }
 {
-    let Ok(value) = line_in(alloc, told, part, number) else {
+    let Ok(value) = line_in(alloc, reported, part, number) else {
         return Err(LineFault::OutOfMemory);
     };
     put_line(alloc, writer, waiting, &value)
@@ -201,18 +205,18 @@ fn put_number<W: Sink>(
 /// Writes the lines of a part, after the buffered bytes. Bytes may remain in the buffer.
 fn put_part<W: Sink>(
     alloc: Global,
-    told: &DescribedDesign<'_>,
+    reported: &DescribedDesign<'_>,
     part: Part,
     writer: &mut W,
     waiting: &mut Vec<u8>,
 ) -> Result<(), LineFault>
-    ensures ok { OnOk result (WritesFrontOf (W.contents writer.old) (W.contents writer.new) (waiting.old.items ++ part_text told.now part) waiting.new.items) }
-    ensures err { OnErr result (AppendsFront (W.contents writer.old) (W.contents writer.new) (waiting.old.items ++ part_text told.now part)) }
+    ensures ok { OnOk result (WritesFrontOf (W.contents writer.old) (W.contents writer.new) (waiting.old.items ++ part_text reported.now part) waiting.new.items) }
+    ensures err { OnErr result (AppendsFront (W.contents writer.old) (W.contents writer.new) (waiting.old.items ++ part_text reported.now part)) }
     ensures failed { W.has_failed writer.new ≡ (is_line_output result || W.has_failed writer.old) }
     ensures held { W.holds writer.new ≡ W.holds writer.old }
 {
-    for number in 0..count_in(told, part) {
-        put_number(alloc, told, part, number, writer, waiting)?;
+    for number in 0..count_in(reported, part) {
+        put_number(alloc, reported, part, number, writer, waiting)?;
     }
     Ok(())
 }
@@ -220,18 +224,18 @@ fn put_part<W: Sink>(
 /// Writes the lines of these parts, after the buffered bytes. Bytes may remain in the buffer.
 fn write_kinds<W: Sink>(
     alloc: Global,
-    told: &DescribedDesign<'_>,
+    reported: &DescribedDesign<'_>,
     parts: &[Part],
     writer: &mut W,
     waiting: &mut Vec<u8>,
 ) -> Result<(), LineFault>
-    ensures ok { OnOk result (WritesFrontOf (W.contents writer.old) (W.contents writer.new) (waiting.old.items ++ flat_map (part_text told.now) parts.now) waiting.new.items) }
-    ensures err { OnErr result (AppendsFront (W.contents writer.old) (W.contents writer.new) (waiting.old.items ++ flat_map (part_text told.now) parts.now)) }
+    ensures ok { OnOk result (WritesFrontOf (W.contents writer.old) (W.contents writer.new) (waiting.old.items ++ flat_map (part_text reported.now) parts.now) waiting.new.items) }
+    ensures err { OnErr result (AppendsFront (W.contents writer.old) (W.contents writer.new) (waiting.old.items ++ flat_map (part_text reported.now) parts.now)) }
     ensures failed { W.has_failed writer.new ≡ (is_line_output result || W.has_failed writer.old) }
     ensures held { W.holds writer.new ≡ W.holds writer.old }
 {
     for part in parts {
-        put_part(alloc, told, *part, writer, waiting)?;
+        put_part(alloc, reported, *part, writer, waiting)?;
     }
     Ok(())
 }
@@ -239,31 +243,31 @@ fn write_kinds<W: Sink>(
 /// Writes the buffered bytes and the lines of these parts, and flushes.
 fn write_all_kinds<W: Sink>(
     alloc: Global,
-    told: &DescribedDesign<'_>,
+    reported: &DescribedDesign<'_>,
     parts: &[Part],
     writer: &mut W,
     waiting: &mut Vec<u8>,
 ) -> Result<(), LineFault>
-    ensures ok { OnOk result (Appends (W.contents writer.old) (W.contents writer.new) (waiting.old.items ++ flat_map (part_text told.now) parts.now)) }
-    ensures err { OnErr result (AppendsFront (W.contents writer.old) (W.contents writer.new) (waiting.old.items ++ flat_map (part_text told.now) parts.now)) }
+    ensures ok { OnOk result (Appends (W.contents writer.old) (W.contents writer.new) (waiting.old.items ++ flat_map (part_text reported.now) parts.now)) }
+    ensures err { OnErr result (AppendsFront (W.contents writer.old) (W.contents writer.new) (waiting.old.items ++ flat_map (part_text reported.now) parts.now)) }
     ensures failed { W.has_failed writer.new ≡ (is_line_output result || W.has_failed writer.old) }
     ensures held { W.holds writer.new ≡ W.holds writer.old }
 {
-    write_kinds(alloc, told, parts, writer, waiting)?;
+    write_kinds(alloc, reported, parts, writer, waiting)?;
     put_last(writer, waiting)
 }
 
 /// Writes all parts in order, and flushes.
 pub(crate) fn put_parts<W: Sink>(
     alloc: Global,
-    told: &DescribedDesign<'_>,
+    reported: &DescribedDesign<'_>,
     writer: &mut W,
 ) -> Result<(), LineFault>
-    ensures ok { OnOk result (Appends (W.contents writer.old) (W.contents writer.new) (parts_text told.now)) }
-    ensures err { OnErr result (AppendsFront (W.contents writer.old) (W.contents writer.new) (parts_text told.now)) }
+    ensures ok { OnOk result (Appends (W.contents writer.old) (W.contents writer.new) (parts_text reported.now)) }
+    ensures err { OnErr result (AppendsFront (W.contents writer.old) (W.contents writer.new) (parts_text reported.now)) }
     ensures failed { W.has_failed writer.new ≡ (is_line_output result || W.has_failed writer.old) }
     ensures held { W.holds writer.new ≡ W.holds writer.old }
 {
     let mut waiting = Vec::new(alloc);
-    write_all_kinds(alloc, told, &PARTS, writer, &mut waiting)
+    write_all_kinds(alloc, reported, &PARTS, writer, &mut waiting)
 }

@@ -11,7 +11,7 @@ use Rattle.lf_floor_model.specs.Teams.{team_names}
 use Rattle.lf_state_text.specs.declared.saved_rows.SavedCell.{SavedCell}
 use Rattle.lf_state_text.specs.Designs.{NamedTeam}
 use Rattle.lf_state_text.specs.Saved.{SavedTeam}
-use Rattle.lf_state_restore.specs.Saved.{ShareDesign, fixed_cells, fixed_of, map_two, named, named_team, restored, restored_cell, restored_team}
+use Rattle.lf_state_restore.specs.Saved.{ShareDesign, fixed_cells, fixed_part, map_two, design_names, named_team, restored_floor, restored_cell, restored_team}
 
 -- ---- equal lists
 
@@ -23,7 +23,7 @@ same_tail {X} is = ap (λ (l : List X). drop 1 l) is
 
 -- ---- names
 
-pub names_alike : (cells others : List Cell) → map fixed_of cells ≡ map fixed_of others → map (λ c. c.name) cells ≡ map (λ c. c.name) others
+pub names_alike : (cells others : List Cell) → map fixed_part cells ≡ map fixed_part others → map (λ c. c.name) cells ≡ map (λ c. c.name) others
 names_alike [] [] is = refl
 names_alike [] (d ∷ ds) is = absurd cc
 names_alike (c ∷ cs) [] is = absurd cc
@@ -43,17 +43,17 @@ named_each (n ∷ ns) (t ∷ ts) (s ∷ ss) is =
     ∙ ap (λ (ms : List NamedTeam). named_team n s ∷ ms) (named_each ns ts ss (same_tail is))
 
 -- floors of one design have the same names
-pub named_alike : (a b : FloorState) → ShareDesign a b → named b ≡ named a
+pub named_alike : (a b : FloorState) → ShareDesign a b → design_names b ≡ design_names a
 named_alike a b one =
     ap (λ (f : Frame). record { teams = map_two named_team (team_names f) b.teams; limits = f.limits }) one.frame
     ∙ ap (λ (ts : List NamedTeam). record { teams = ts; limits = a.frame.limits }) (named_each (team_names a.frame) b.teams a.teams one.cells)
 
 -- ---- restored floors
 
-one_cell : (c d : Cell) (s : SavedCell) → fixed_of c ≡ fixed_of d → restored_cell c s ≡ restored_cell d s
+one_cell : (c d : Cell) (s : SavedCell) → fixed_part c ≡ fixed_part d → restored_cell c s ≡ restored_cell d s
 one_cell c d s is = ap (λ (f : List ℕ × ℕ). record { name = f.0; mac = f.1; working = s.working; committed = s.committed }) is
 
-cells_alike : (cells others : List Cell) (saved : List SavedCell) → map fixed_of cells ≡ map fixed_of others
+cells_alike : (cells others : List Cell) (saved : List SavedCell) → map fixed_part cells ≡ map fixed_part others
     → map_two restored_cell cells saved ≡ map_two restored_cell others saved
 cells_alike [] [] saved is = refl
 cells_alike [] (d ∷ ds) saved is = absurd cc
@@ -79,7 +79,7 @@ teams_alike (s ∷ ss) (u ∷ us) (t ∷ saved) is =
     ∙ ap (λ (xs : List TeamState). restored_team u t ∷ xs) (teams_alike ss us saved (same_tail is))
 
 -- floors of one design are restored to the same floor
-pub restored_alike : (a b : FloorState) (saved : List SavedTeam) → ShareDesign a b → restored b saved ≡ restored a saved
+pub restored_alike : (a b : FloorState) (saved : List SavedTeam) → ShareDesign a b → restored_floor b saved ≡ restored_floor a saved
 restored_alike a b saved one =
     ap (λ (f : Frame). floor_of f b.components (map_two restored_team b.teams saved)) one.frame
     ∙ ap (λ (cs : List (List ℕ)). floor_of a.frame cs (map_two restored_team b.teams saved)) one.components

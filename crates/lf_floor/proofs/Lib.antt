@@ -1,7 +1,7 @@
 pub mod Rows
 pub mod Places
 pub mod Alike
-pub mod Asked
+pub mod Requested
 pub mod Unplacing
 pub mod Saving
 pub mod Numbered

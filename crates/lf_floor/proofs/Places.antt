@@ -10,7 +10,7 @@ use Rattle.lf_cells.specs.declared.cell.CellId.{CellId}
 use Rattle.lf_cells.specs.Cells.{AreAllIds, cell_at, cells_of, committed_at, component_at, components_of, id_of}
 use Rattle.lf_cells.proofs.Owners.{one_some, some_is}
 use Rattle.lf_floor_model.specs.States.{TeamState}
-use Rattle.lf_floor_model.specs.Places.{AreCommittedPlaces, IsCommittedAt, cell_in, entry_in}
+use Rattle.lf_floor_model.specs.Places.{AreCommittedPlaces, IsCommittedAt, cell_in, component_entry}
 use Rattle.lf_floor_model.proofs.Openings.{map_at, pairs_map}
 use Rattle.lf_floor_verbs.specs.declared.tables.Tables.{Tables}
 use Rattle.lf_floor.specs.Entries.{committed_entry}
@@ -47,7 +47,7 @@ module _ (tables : Tables) (are : AreTables tables) where
       let found = some_team own c (slice_get (teams_in tables) number) there in
       rw (← count_teams tables) (slice_get_within (teams_in tables) number found.0 found.1)
 
-  entry_within : (number own position : ℕ) → entry_in (floor_in tables) number own ≡ Some position → number < length tables.revisions.items
+  entry_within : (number own position : ℕ) → component_entry (floor_in tables) number own ≡ Some position → number < length tables.revisions.items
   entry_within number own position there =
       omega (arith, row_within tables.placement.cells.components number own position there, are.components, are.revisions)
 

@@ -10,20 +10,20 @@ use Rattle.lf_sessions.specs.Slots.{slots_of}
 use Rattle.lf_undo.specs.declared.moves.Move.{Move}
 use Rattle.lf_undo.specs.Entries.{Places, entries_of}
 use Rattle.lf_undo.specs.Stacks.{Stacks, stack_of}
-use Rattle.lf_placement.specs.Placings.{BoundsAt, Fits, Placing, places_of}
+use Rattle.lf_placement.specs.Placements.{BoundsAt, Fits, Placing, working_places_of}
 use Rattle.lf_floor_model.specs.States.{FloorState, TeamState}
 use Rattle.lf_floor_model.specs.Steps.{floor_of}
 use Rattle.lf_floor_model.specs.Teams.{IsTeamOf}
 use Rattle.lf_state_text.specs.declared.saved_rows.SavedCell.{SavedCell}
 use Rattle.lf_state_text.specs.declared.saved_rows.TeamRow.{TeamRow}
 use Rattle.lf_state_text.specs.Designs.{NamedTeam}
-use Rattle.lf_state_text.specs.Saved.{SavedTeam, saved_at, team_view, team_views, IsTeamOf as IsSavedTeamOf}
-use Rattle.lf_state_restore.specs.Saved.{MatchDesign, map_two, named_team, restored, restored_cell, restored_team, saved_cell}
-use Rattle.lf_state_restore.specs.Stands.{AreAsMany, without_cells}
+use Rattle.lf_state_text.specs.Saved.{SavedTeam, saved_at, team_view, team_views, IsSavedTeamOf}
+use Rattle.lf_state_restore.specs.Saved.{MatchDesign, map_two, named_team, restored_floor, restored_cell, restored_team, saved_cell}
+use Rattle.lf_state_restore.specs.Placed.{AreAsMany, without_cells}
 use Rattle.lf_state_restore.proofs.Framing.{cells_names, due_at, due_each, due_many, restored_each, restored_twice, saved_restored, team_placed}
 use Rattle.lf_floor_verbs.specs.declared.tables.Tables.{Tables}
-use Rattle.lf_floor.specs.Saving.{HasNoEntriesYet, FirstHaveNoEntriesYet, PlacesTeams, saved_teams_at, saved_team_at}
-use Rattle.lf_floor_verbs.specs.Tables.{AreTables, EntriesFit, cells_in, floor_in, frame_of, own_team, padding_of, revision_of, team_with, teams_in}
+use Rattle.lf_floor.specs.SavedStates.{HasNoEntriesYet, FirstHaveNoEntriesYet, PlacesTeams, saved_teams_at, saved_team_at}
+use Rattle.lf_floor_verbs.specs.Tables.{AreTables, EntriesFit, table_cells, floor_in, frame_of, own_team, padding_of, revision_of, team_with, teams_in}
 use Rattle.lf_floor.proofs.Rows.{count_teams, each_team, replicate_each, team_at}
 
 -- ---- rows that were borrowed for a change, in their list again
@@ -36,15 +36,15 @@ in_place many rows left is same =
 
 -- ---- saved teams whose cells are placed
 
-each_told : (teams : List TeamState) (saved : List SavedTeam) (d : TeamState) → length teams ≡ length saved
+each_reported : (teams : List TeamState) (saved : List SavedTeam) (d : TeamState) → length teams ≡ length saved
     → ((k : ℕ) → k < length saved → map saved_cell (get_or teams k d).cells ≡ (saved_at saved k).cells)
     → map_two saved_team_at teams (map without_cells saved) ≡ saved
-each_told [] [] d many each = refl
-each_told [] (t ∷ saved) d many each = absurd (omega (arith, many))
-each_told (s ∷ teams) [] d many each = absurd (omega (arith, many))
-each_told (s ∷ teams) (t ∷ saved) d many each =
+each_reported [] [] d many each = refl
+each_reported [] (t ∷ saved) d many each = absurd (omega (arith, many))
+each_reported (s ∷ teams) [] d many each = absurd (omega (arith, many))
+each_reported (s ∷ teams) (t ∷ saved) d many each =
     ap (λ (cs : List SavedCell). record t { cells = cs } ∷ map_two saved_team_at teams (map without_cells saved)) (each zero (omega arith))
-    ∙ ap (λ (l : List SavedTeam). t ∷ l) (each_told teams saved d (omega (arith, many)) (λ k less. each (suc k) (omega (arith, less))))
+    ∙ ap (λ (l : List SavedTeam). t ∷ l) (each_reported teams saved d (omega (arith, many)) (λ k less. each (suc k) (omega (arith, less))))
 
 -- ---- all teams' cells are placed
 
@@ -59,33 +59,33 @@ module _ (saved : List SavedTeam) (old : Tables) (are : AreTables old) (due : Ma
       (due_at (frame_of old).limits (teams_in old) saved k (own_team k old) due less)
 
   pub as_many : AreAsMany saved old.placement.cells
-  as_many = λ k less. (due_here k less).cells ∙ length-map (cells_in k old) (λ (c : Cell). c.name)
+  as_many = λ k less. (due_here k less).cells ∙ length-map (table_cells k old) (λ (c : Cell). c.name)
 
   module _ (new : Tables) (placed : PlacesTeams saved old new) where
     none_there : (k : ℕ) → stack_of new.undo k ≡ []
     none_there k = ap (λ (xs : List (List (List Move))). slice_index_or xs k []) placed.undo ∙ replicate_each (length (frame_of old).teams + 1) k
 
-    own_cells : (k : ℕ) → k < length saved → cells_in k new ≡ map_two restored_cell (cells_in k old) (saved_at saved k).cells
+    own_cells : (k : ℕ) → k < length saved → table_cells k new ≡ map_two restored_cell (table_cells k old) (saved_at saved k).cells
     own_cells k less = placed.cells.cells k less
 
-    pub each_awaits : (count : ℕ) (tally : List ℕ) → ((k : ℕ) → BoundsAt new.placement k (places_of (cells_in k new)) tally) → FirstHaveNoEntriesYet count tally new
+    pub each_awaits : (count : ℕ) (tally : List ℕ) → ((k : ℕ) → BoundsAt new.placement k (working_places_of (table_cells k new)) tally) → FirstHaveNoEntriesYet count tally new
     each_awaits count tally bounds = λ k less. record { none = none_there k; bounds = bounds k }
 
     placed_team : (k : ℕ) → k < length saved → own_team k new
         ≡ record {
-          cells = map_two restored_cell (cells_in k old) (saved_at saved k).cells;
+          cells = map_two restored_cell (table_cells k old) (saved_at saved k).cells;
           revision = revision_of old k;
           entries = [];
           slots = slots_of old.sessions k;
           padding = padding_of old k;
         }
     placed_team k less =
-        let now : List Cell = map_two restored_cell (cells_in k old) (saved_at saved k).cells in
+        let now : List Cell = map_two restored_cell (table_cells k old) (saved_at saved k).cells in
         let revision_is : revision_of new k ≡ revision_of old k = ap (λ rs. slice_index_or rs.items k 0) placed.revisions in
         let padding_is : padding_of new k ≡ padding_of old k = ap (λ ps. slice_index_or (map (λ p. p.sites) ps.items) k 0) placed.paddings in
         let slots_are : slots_of new.sessions k ≡ slots_of old.sessions k = ap (λ (ss : List (List (Option ℕ))). slice_index_or ss k []) placed.sessions in
         ap (λ (cs : List Cell). team_with k cs new) (own_cells k less)
-        ∙ ap (λ (st : List (List Move)). record { cells = now; revision = revision_of new k; entries = entries_of (places_of now) st; slots = slots_of new.sessions k; padding = padding_of new k }) (none_there k)
+        ∙ ap (λ (st : List (List Move)). record { cells = now; revision = revision_of new k; entries = entries_of (working_places_of now) st; slots = slots_of new.sessions k; padding = padding_of new k }) (none_there k)
         ∙ ap (λ (n : ℕ). record { cells = now; revision = n; entries = []; slots = slots_of new.sessions k; padding = padding_of new k }) revision_is
         ∙ ap (λ (ss : List (Option ℕ)). record { cells = now; revision = revision_of old k; entries = []; slots = ss; padding = padding_of new k }) slots_are
         ∙ ap (λ (n : ℕ). record { cells = now; revision = revision_of old k; entries = []; slots = slots_of old.sessions k; padding = n }) padding_is
@@ -117,7 +117,7 @@ module _ (saved : List SavedTeam) (old : Tables) (are : AreTables old) (due : Ma
 
     no_entries : (k : ℕ) → EntriesFit k new
     no_entries k =
-        subst (λ (stack : List (List Move)). All (λ (places : Places). Fits new.placement k places) (entries_of (places_of (cells_in k new)) stack))
+        subst (λ (stack : List (List Move)). All (λ (places : Places). Fits new.placement k places) (entries_of (working_places_of (table_cells k new)) stack))
         (sym (none_there k)) (All-nil (λ (places : Places). Fits new.placement k places))
 
     pub tables_placed : AreTables new
@@ -135,7 +135,7 @@ module _ (saved : List SavedTeam) (old : Tables) (are : AreTables old) (due : Ma
     same_named : (k : ℕ) → k < length saved → named_team [] (own_team k new) ≡ named_team [] (own_team k old)
     same_named k less =
         ap (λ (cs : List Cell). record { name = []; cells = map (λ c. c.name) cs }) (own_cells k less)
-        ∙ ap (λ (ns : List (List ℕ)). record { name = []; cells = ns }) (cells_names (cells_in k old) (saved_at saved k).cells (as_many k less))
+        ∙ ap (λ (ns : List (List ℕ)). record { name = []; cells = ns }) (cells_names (table_cells k old) (saved_at saved k).cells (as_many k less))
 
     pub due_placed : MatchDesign (frame_of new).limits (teams_in new) saved
     due_placed =
@@ -150,7 +150,7 @@ module _ (saved : List SavedTeam) (old : Tables) (are : AreTables old) (due : Ma
         let t = saved_at saved k in
         ap (λ (cs : List Cell). restored_team (team_with k cs new) t) (own_cells k less)
         ∙ ap (λ (cs : List Cell). record { cells = cs; revision = t.revision; entries = entries_of (map (λ c. c.working) t.cells) t.entries; slots = t.slots; padding = t.padding })
-        (restored_twice (cells_in k old) t.cells)
+        (restored_twice (table_cells k old) t.cells)
 
     same_teams : map_two restored_team (teams_in new) saved ≡ map_two restored_team (teams_in old) saved
     same_teams =
@@ -161,7 +161,7 @@ module _ (saved : List SavedTeam) (old : Tables) (are : AreTables old) (due : Ma
         ∙ sym (ap (λ (s : TeamState). restored_team s (saved_at saved k)) (team_at old k d (subst (λ (n : ℕ). k < n) long less))))
 
     -- restoring the teams with placed cells gives the same floor as restoring the old ones
-    pub floor_placed : (floor : FloorState) → floor ≡ restored (floor_in new) saved → floor ≡ restored (floor_in old) saved
+    pub floor_placed : (floor : FloorState) → floor ≡ restored_floor (floor_in new) saved → floor ≡ restored_floor (floor_in old) saved
     floor_placed floor is =
         is
         ∙ ap (λ (f : Frame). floor_of f new.placement.cells.components (map_two restored_team (teams_in new) saved)) placed.frame
@@ -169,18 +169,18 @@ module _ (saved : List SavedTeam) (old : Tables) (are : AreTables old) (due : Ma
         ∙ ap (floor_of (frame_of old) old.placement.cells.components) same_teams
 
     -- the saved teams without cells, with the cells of the tables, are the saved teams
-    pub still_told : saved_teams_at new (map without_cells saved) ≡ saved
-    still_told =
+    pub still_reported : saved_teams_at new (map without_cells saved) ≡ saved
+    still_reported =
         let d = own_team 0 old in
-        each_told (teams_in new) saved d new_many
+        each_reported (teams_in new) saved d new_many
         (λ k less. ap (λ (s : TeamState). map saved_cell s.cells) (team_at new k d (within k less))
         ∙ ap (λ (cs : List Cell). map saved_cell cs) (own_cells k less)
-        ∙ saved_restored (cells_in k old) (saved_at saved k).cells (as_many k less))
+        ∙ saved_restored (table_cells k old) (saved_at saved k).cells (as_many k less))
 
     module _ (rows left : List TeamRow) (same : rows ≡ left) (emptied : team_views left ≡ map without_cells saved) where
       -- the same for the remaining rows
-      pub rows_told : saved_teams_at new (team_views rows) ≡ saved
-      rows_told = ap (λ (l : List TeamRow). saved_teams_at new (team_views l)) same ∙ ap (saved_teams_at new) emptied ∙ still_told
+      pub rows_reported : saved_teams_at new (team_views rows) ≡ saved
+      rows_reported = ap (λ (l : List TeamRow). saved_teams_at new (team_views l)) same ∙ ap (saved_teams_at new) emptied ∙ still_reported
 
       -- one row for each team
       pub rows_many : length rows ≡ length (teams_in new)
@@ -197,9 +197,9 @@ pub still_awaits : (other : ℕ) (before after : List ℕ) (old mid new : Tables
 still_awaits other before after old mid new cells stack placement undo bounds awaits = record {
   none = ap (λ (u : Stacks (List Move)). stack_of u other) undo ∙ stack ∙ awaits.none;
   bounds =
-      subst (λ (p : Placing). BoundsAt p other (places_of (cells_of p.cells other)) after) (sym placement)
-      (subst (λ (cs : Cells). BoundsAt mid.placement other (places_of (cells_of cs other)) after) (sym cells)
-      (bounds (places_of (cells_in other old)) awaits.bounds));
+      subst (λ (p : Placing). BoundsAt p other (working_places_of (cells_of p.cells other)) after) (sym placement)
+      (subst (λ (cs : Cells). BoundsAt mid.placement other (working_places_of (cells_of cs other)) after) (sym cells)
+      (bounds (working_places_of (table_cells other old)) awaits.bounds));
 }
 
 -- the teams up to the last one have no entries yet

@@ -9,9 +9,9 @@ use Rattle.std.proofs.lemmas.Bool.{cases_eq}
 use Rattle.std.proofs.lemmas.Option.{slice_get_read}
 use Rattle.lf_floorplan.specs.declared.frame.Frame.{Frame}
 use Rattle.lf_floorplan.specs.declared.loaded.Loaded.{Loaded}
-use Rattle.lf_placement.specs.Placings.{Fits}
+use Rattle.lf_placement.specs.Placements.{Fits}
 use Rattle.lf_cells.specs.declared.cell.Cell.{Cell}
-use Rattle.lf_cells.specs.Openings.{own_cells, own_components}
+use Rattle.lf_cells.specs.Initial.{own_cells, own_components}
 use Rattle.lf_undo.specs.Stacks.{stack_of}
 use Rattle.lf_undo.specs.Entries.{Places, entries_of}
 use Rattle.lf_undo.specs.declared.moves.Move.{Move}
@@ -26,7 +26,7 @@ use Rattle.lf_floor_model.specs.Designs.{initial_floor, initial_team, initial_te
 use Rattle.lf_floor_model.proofs.Loading.{loaded_committed, loaded_places}
 use Rattle.lf_floor_model.proofs.Openings.{opened_at, opening_whole}
 use Rattle.lf_floor_verbs.specs.declared.tables.Tables.{Tables}
-use Rattle.lf_floor_verbs.specs.Tables.{AreInitial, AreTables, EntriesFit, IsServed, KeepsOtherTeams, cells_in, floor_in, frame_of, own_team, padding_of, revision_of, sites_in, team_with, teams_in}
+use Rattle.lf_floor_verbs.specs.Tables.{AreInitial, AreTables, EntriesFit, HasTeamRow, KeepsOtherTeams, table_cells, floor_in, frame_of, own_team, padding_of, revision_of, sites_in, team_with, teams_in}
 use Rattle.lf_floor_verbs.proofs.Fitting.{entries_stay}
 
 -- ---- one team among all
@@ -70,7 +70,7 @@ one_changed old new k others =
 -- a view of the cells of the team of that number is a view of its cells in the tables
 pub cells_seen : {Y : Type 0} (F : List Cell → Option Y) (tables : Tables) (view : FloorState) (team : List ℕ) (number : ℕ)
     → floor_in tables ≡ view → Some number ≡ team_number (frame_of tables) team → number < length tables.revisions.items
-    → option_and_then (λ (s : TeamState). F s.cells) (state_of view team) ≡ F (cells_in number tables)
+    → option_and_then (λ (s : TeamState). F s.cells) (state_of view team) ≡ F (table_cells number tables)
 cells_seen {Y} F tables view team number is named within =
     ap (λ (v : FloorState). seen v) (sym is)
     ∙ ap (λ (o : Option ℕ). option_and_then (λ (s : TeamState). F s.cells) (state_at (teams_in tables) o)) (sym named)
@@ -80,7 +80,7 @@ cells_seen {Y} F tables view team number is named within =
     seen v = option_and_then (λ (s : TeamState). F s.cells) (state_of v team)
 
 -- the team of that number is served
-pub served : (tables : Tables) (number : ℕ) → AreTables tables → number < length (frame_of tables).teams + 1 → IsServed number tables
+pub served : (tables : Tables) (number : ℕ) → AreTables tables → number < length (frame_of tables).teams + 1 → HasTeamRow number tables
 served tables number are within = record {
   rows = record { undo = rw are.undo within; sessions = rw are.sessions within; revisions = rw are.revisions within; paddings = rw are.paddings within };
   limit = are.limit;
@@ -141,7 +141,7 @@ module _ (design : Loaded) (tables : Tables) (opens : AreInitial design tables) 
 
   opened_team : (k : ℕ) → k < count → own_team k tables ≡ initial_team design k
   opened_team k within =
-      let cells : cells_in k tables ≡ own_cells k design.cells =
+      let cells : table_cells k tables ≡ own_cells k design.cells =
       ap (λ (cs : List (List Cell)). slice_index_or cs k []) opens.cells
       ∙ get_or-map-range_with_len (λ (number : ℕ). own_cells number design.cells) 0 count k k [] within (zero-add k) in
       let revision : revision_of tables k ≡ 0 = ap (λ (xs : List ℕ). slice_index_or xs k 0) opens.revisions ∙ get_or-replicate count k 0 0 within in
@@ -167,7 +167,7 @@ module _ (design : Loaded) (tables : Tables) (opens : AreInitial design tables) 
   -- there is no entry yet
   no_entries : (k : ℕ) → EntriesFit k tables
   no_entries k =
-      subst (λ (stack : List (List Move)). All (λ (places : Places). Fits tables.placement k places) (entries_of (places_of (cells_in k tables)) stack))
+      subst (λ (stack : List (List Move)). All (λ (places : Places). Fits tables.placement k places) (entries_of (places_of (table_cells k tables)) stack))
       (sym (ap (λ (xs : List (List (List Move))). slice_index_or xs k []) opens.undo ∙ replicate_each count k)) (All-nil (λ (places : Places). Fits tables.placement k places))
 
   teams_are : count ≡ length (frame_of tables).teams + 1

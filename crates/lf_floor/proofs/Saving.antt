@@ -14,26 +14,26 @@ use Rattle.lf_sessions.specs.Slots.{slots_of}
 use Rattle.lf_undo.specs.declared.moves.Move.{Move}
 use Rattle.lf_undo.specs.Entries.{Places, entries_of}
 use Rattle.lf_undo.specs.Stacks.{Stacks, stack_of}
-use Rattle.lf_placement.specs.Placings.{Fits, Placing}
+use Rattle.lf_placement.specs.Placements.{Fits, Placing}
 use Rattle.lf_rules.specs.FullyLegal.{IsFullyLegal}
 use Rattle.lf_floor_model.specs.Committed.{IsCommittedLegal}
 use Rattle.lf_floor_model.specs.Outcomes.{places_of}
 use Rattle.lf_floor_model.specs.States.{FloorState, TeamState}
 use Rattle.lf_floor_model.specs.Steps.{floor_of}
 use Rattle.lf_floor_model.specs.Teams.{IsTeamOf, team_names}
-use Rattle.lf_state_text.specs.Designs.{NamedTeam, team_of}
+use Rattle.lf_state_text.specs.Designs.{NamedTeam, named_team_of}
 use Rattle.lf_state_text.specs.declared.saved_rows.TeamRow.{TeamRow}
 use Rattle.lf_state_text.specs.declared.fault.StateError.{StateError}
 use Rattle.lf_state_text.specs.declared.fault.StateError.TheVariants.{Memory, Fault}
-use Rattle.lf_state_text.specs.Reading.{FailsAt, state_of}
-use Rattle.lf_state_text.specs.Saved.{AreOf, IsInRange, SavedTeam, saved_at, team_view, team_views, IsTeamOf as IsSavedTeamOf}
-use Rattle.lf_state_restore.specs.Saved.{MatchDesign, ShareDesign, IsRestoredFrom, IsStateText, RestoredIsCommitted, SavedRestores, AreSavedTeams, map_two, named, named_team, restored, restored_team, saved_design}
-use Rattle.lf_state_restore.specs.Stands.{entries_in, EntriesFit as StackFits, OthersStay as CellsStay}
-use Rattle.lf_state_restore.proofs.Telling.{floor_told}
+use Rattle.lf_state_text.specs.Reading.{FailsAt, saved_state_of}
+use Rattle.lf_state_text.specs.Saved.{AreOf, IsSavedInRange, SavedTeam, saved_at, team_view, team_views, IsSavedTeamOf}
+use Rattle.lf_state_restore.specs.Saved.{MatchDesign, ShareDesign, IsRestoredFrom, IsStateText, RestoredIsCommitted, SavedRestores, AreSavedTeams, map_two, design_names, named_team, restored_floor, restored_team, saved_design}
+use Rattle.lf_state_restore.specs.Placed.{saved_entries, SavedEntriesFit as StackFits, OthersStay as CellsStay}
+use Rattle.lf_state_restore.proofs.Telling.{floor_reported}
 use Rattle.lf_state_restore.proofs.Framing.{all_due, last_due, last_restored, still_of_design, team_restored}
 use Rattle.lf_floor_verbs.specs.declared.tables.Tables.{Tables}
-use Rattle.lf_floor.specs.Saving.{HasNumbers, saved_teams_of, saved_team_of}
-use Rattle.lf_floor_verbs.specs.Tables.{AreTables, EntriesFit, HasRows, IsServed, KeepsRooms, KeepsOtherTeams, cells_in, floor_in, frame_of, own_team, padding_of, revision_of, sites_in, teams_in}
+use Rattle.lf_floor.specs.SavedStates.{HasNumbers, saved_teams_of, saved_team_of}
+use Rattle.lf_floor_verbs.specs.Tables.{AreTables, EntriesFit, HasRows, HasTeamRow, KeepsRooms, KeepsOtherTeams, table_cells, floor_in, frame_of, own_team, padding_of, revision_of, sites_in, teams_in}
 use Rattle.lf_floor.proofs.Rows.{count_teams, one_changed, served, tables_still, team_at}
 
 -- ---- the design
@@ -73,38 +73,38 @@ module _ (tables : Tables) (are : AreTables tables) where
   as_many : length (team_names (frame_of tables)) ≡ length (teams_in tables)
   as_many = names_many (frame_of tables) ∙ sym are.revisions ∙ sym (count_teams tables)
 
-  pub named_many : length (named (floor_in tables)).teams ≡ length tables.revisions.items
+  pub named_many : length (design_names (floor_in tables)).teams ≡ length tables.revisions.items
   named_many = two_many (team_names (frame_of tables)) (teams_in tables) as_many ∙ count_teams tables
 
-  pub named_at : (k : ℕ) → option_map (λ t. t.name) (slice_get (named (floor_in tables)).teams k) ≡ slice_get (team_names (frame_of tables)) k
+  pub named_at : (k : ℕ) → option_map (λ t. t.name) (slice_get (design_names (floor_in tables)).teams k) ≡ slice_get (team_names (frame_of tables)) k
   named_at k = two_names (team_names (frame_of tables)) (teams_in tables) k as_many
 
-  pub cells_named : (k : ℕ) → k < length tables.revisions.items → (team_of (named (floor_in tables)) k).cells ≡ map (λ c. c.name) (cells_in k tables)
+  pub cells_named : (k : ℕ) → k < length tables.revisions.items → (named_team_of (design_names (floor_in tables)) k).cells ≡ map (λ c. c.name) (table_cells k tables)
   cells_named k less =
       let t = own_team k tables in
       two_cells (team_names (frame_of tables)) (teams_in tables) k record { name = []; cells = [] } t as_many (subst (λ (n : ℕ). k < n) (sym (count_teams tables)) less)
       ∙ ap (λ (s : TeamState). map (λ c. c.name) s.cells) (team_at tables k t less)
 
-  pub none_named : (k : ℕ) → length tables.revisions.items ≤ k → (team_of (named (floor_in tables)) k).cells ≡ []
+  pub none_named : (k : ℕ) → length tables.revisions.items ≤ k → (named_team_of (design_names (floor_in tables)) k).cells ≡ []
   none_named k past =
-      ap (λ (t : NamedTeam). t.cells) (past_end (named (floor_in tables)).teams k record { name = []; cells = [] } (subst (λ (n : ℕ). n ≤ k) (sym named_many) past))
+      ap (λ (t : NamedTeam). t.cells) (past_end (design_names (floor_in tables)).teams k record { name = []; cells = [] } (subst (λ (n : ℕ). n ≤ k) (sym named_many) past))
 
 -- ---- saved teams
 
-pub told_many : (tables : Tables) → length (saved_teams_of tables) ≡ length tables.revisions.items
-told_many tables = length-map-range_with_len (λ (number : ℕ). saved_team_of number tables) 0 (length tables.revisions.items)
+pub reported_many : (tables : Tables) → length (saved_teams_of tables) ≡ length tables.revisions.items
+reported_many tables = length-map-range_with_len (λ (number : ℕ). saved_team_of number tables) 0 (length tables.revisions.items)
 
-pub told_at : (tables : Tables) (k : ℕ) → k < length tables.revisions.items → saved_at (saved_teams_of tables) k ≡ saved_team_of k tables
-told_at tables k less =
+pub reported_at : (tables : Tables) (k : ℕ) → k < length tables.revisions.items → saved_at (saved_teams_of tables) k ≡ saved_team_of k tables
+reported_at tables k less =
     get_or-map-range_with_len (λ (number : ℕ). saved_team_of number tables) 0 (length tables.revisions.items) k k
     record { revision = 0; padding = 0; slots = []; cells = []; entries = [] } less (zero-add k)
 
-pub one_told : (tables : Tables) (k : ℕ) → k < length (saved_teams_of tables) → saved_at (saved_teams_of tables) k ≡ saved_team_of k tables
-one_told tables k less = told_at tables k (subst (λ (n : ℕ). k < n) (told_many tables) less)
+pub one_reported : (tables : Tables) (k : ℕ) → k < length (saved_teams_of tables) → saved_at (saved_teams_of tables) k ≡ saved_team_of k tables
+one_reported tables k less = reported_at tables k (subst (λ (n : ℕ). k < n) (reported_many tables) less)
 
 -- a saved team has an undo stack
-pub there_told : (tables : Tables) → AreTables tables → (k : ℕ) → k < length (saved_teams_of tables) → k < length tables.undo.lists
-there_told tables are k less = subst (λ (n : ℕ). k < n) (told_many tables ∙ are.revisions ∙ sym are.undo) less
+pub there_reported : (tables : Tables) → AreTables tables → (k : ℕ) → k < length (saved_teams_of tables) → k < length tables.undo.lists
+there_reported tables are k less = subst (λ (n : ℕ). k < n) (reported_many tables ∙ are.revisions ∙ sym are.undo) less
 
 pub option_twice : {X Y Z : Type 0} (g : X → Y) (f : Y → Z) (o : Option X) → option_map (λ x. f (g x)) o ≡ option_map f (option_map g o)
 option_twice g f None = refl
@@ -118,13 +118,13 @@ get_mapped f (x ∷ xs) (suc k) = get_mapped f xs k
 range_many : (from n : ℕ) → length (range_with_len from n) ≡ n
 range_many from n = sym (length-map (range_with_len from n) (λ (k : ℕ). k)) ∙ length-map-range_with_len (λ (k : ℕ). k) from n
 
-pub tables_told : (tables : Tables) → AreTables tables → length (frame_of tables).teams ≤ 1024 → All IsInRange (saved_teams_of tables) → AreSavedTeams (floor_in tables) (saved_teams_of tables)
-tables_told tables are few range =
+pub tables_reported : (tables : Tables) → AreTables tables → length (frame_of tables).teams ≤ 1024 → All IsSavedInRange (saved_teams_of tables) → AreSavedTeams (floor_in tables) (saved_teams_of tables)
+tables_reported tables are few range =
     let n = length tables.revisions.items in
     let ks = range_with_len 0 n in
     let many : length ks ≡ n = range_many 0 n in
     let rows = are.revisions in
-    floor_told (frame_of tables) (λ k. stack_of tables.undo k) (λ k. own_team k tables) (λ k. refl) (floor_in tables) ks refl refl
+    floor_reported (frame_of tables) (λ k. stack_of tables.undo k) (λ k. own_team k tables) (λ k. refl) (floor_in tables) ks refl refl
     (names_many (frame_of tables) ∙ sym are.revisions ∙ sym many) (omega (arith, few, rows, many)) are.teams range
 
 -- ---- a team is restored
@@ -159,15 +159,15 @@ module _ (k : ℕ) (old new : Tables) (mid : Tables) (revision padding : ℕ) (s
       ap (λ (xs : List (List (Option ℕ))). slice_index_or xs k []) numbers.sessions
       ∙ get_or-set_same mid.sessions k slots [] (subst (λ (ss : List (List (Option ℕ))). k < length ss) (sym sessions) rows.sessions)
 
-  pub team_is : (cells : List Cell) (entries : List Places) → cells_of mid.placement.cells k ≡ cells → entries_in mid.placement mid.undo k ≡ entries
+  pub team_is : (cells : List Cell) (entries : List Places) → cells_of mid.placement.cells k ≡ cells → saved_entries mid.placement mid.undo k ≡ entries
       → own_team k new ≡ record { cells = cells; revision = revision; entries = entries; slots = slots; padding = padding }
   team_is cells entries cells_are entries_are =
-      let own : cells_in k new ≡ cells = ap (λ (p : Placing). cells_of p.cells k) numbers.placement ∙ cells_are in
-      let stack : entries_of (places_of (cells_in k new)) (stack_of new.undo k) ≡ entries =
+      let own : table_cells k new ≡ cells = ap (λ (p : Placing). cells_of p.cells k) numbers.placement ∙ cells_are in
+      let stack : entries_of (places_of (table_cells k new)) (stack_of new.undo k) ≡ entries =
       ap (λ (p : Placing). entries_of (places_of (cells_of p.cells k)) (stack_of new.undo k)) numbers.placement
       ∙ ap (λ (u : Stacks (List Move)). entries_of (places_of (cells_of mid.placement.cells k)) (stack_of u k)) numbers.undo
       ∙ entries_are in
-      ap (λ (es : List Places). record { cells = cells_in k new; revision = revision_of new k; entries = es; slots = slots_of new.sessions k; padding = padding_of new k }) stack
+      ap (λ (es : List Places). record { cells = table_cells k new; revision = revision_of new k; entries = es; slots = slots_of new.sessions k; padding = padding_of new k }) stack
       ∙ ap (λ (cs : List Cell). record { cells = cs; revision = revision_of new k; entries = entries; slots = slots_of new.sessions k; padding = padding_of new k }) own
       ∙ ap (λ (n : ℕ). record { cells = cells; revision = n; entries = entries; slots = slots_of new.sessions k; padding = padding_of new k }) own_revision
       ∙ ap (λ (ss : List (Option ℕ)). record { cells = cells; revision = revision; entries = entries; slots = ss; padding = padding_of new k }) own_slots
@@ -180,7 +180,7 @@ module _ (k : ℕ) (old new : Tables) (mid : Tables) (revision padding : ℕ) (s
 
   other_team : (other : ℕ) → other ≢ k → own_team other new ≡ own_team other old
   other_team other apart =
-      let cells : cells_in other new ≡ cells_in other old = ap (λ (p : Placing). cells_of p.cells other) numbers.placement ∙ stay.cells other apart in
+      let cells : table_cells other new ≡ table_cells other old = ap (λ (p : Placing). cells_of p.cells other) numbers.placement ∙ stay.cells other apart in
       let stack : stack_of new.undo other ≡ stack_of old.undo other = ap (λ (u : Stacks (List Move)). stack_of u other) numbers.undo ∙ stay.stacks other apart in
       let revision_is : revision_of new other ≡ revision_of old other =
       ap (λ (xs : List ℕ). slice_index_or xs other 0) numbers.revisions ∙ get_or-set_other mid.revisions.items k other revision 0 apart
@@ -191,12 +191,12 @@ module _ (k : ℕ) (old new : Tables) (mid : Tables) (revision padding : ℕ) (s
       let slots_are : slots_of new.sessions other ≡ slots_of old.sessions other =
       ap (λ (xs : List (List (Option ℕ))). slice_index_or xs other []) numbers.sessions ∙ get_or-set_other mid.sessions k other slots [] apart
       ∙ ap (λ (ss : List (List (Option ℕ))). slice_index_or ss other []) sessions in
-      let es = entries_of (places_of (cells_in other old)) (stack_of old.undo other) in
+      let es = entries_of (places_of (table_cells other old)) (stack_of old.undo other) in
       ap (λ (cs : List Cell). record { cells = cs; revision = revision_of new other; entries = entries_of (places_of cs) (stack_of new.undo other); slots = slots_of new.sessions other; padding = padding_of new other }) cells
-      ∙ ap (λ (st : List (List Move)). record { cells = cells_in other old; revision = revision_of new other; entries = entries_of (places_of (cells_in other old)) st; slots = slots_of new.sessions other; padding = padding_of new other }) stack
-      ∙ ap (λ (n : ℕ). record { cells = cells_in other old; revision = n; entries = es; slots = slots_of new.sessions other; padding = padding_of new other }) revision_is
-      ∙ ap (λ (ss : List (Option ℕ)). record { cells = cells_in other old; revision = revision_of old other; entries = es; slots = ss; padding = padding_of new other }) slots_are
-      ∙ ap (λ (n : ℕ). record { cells = cells_in other old; revision = revision_of old other; entries = es; slots = slots_of old.sessions other; padding = n }) padding_is
+      ∙ ap (λ (st : List (List Move)). record { cells = table_cells other old; revision = revision_of new other; entries = entries_of (places_of (table_cells other old)) st; slots = slots_of new.sessions other; padding = padding_of new other }) stack
+      ∙ ap (λ (n : ℕ). record { cells = table_cells other old; revision = n; entries = es; slots = slots_of new.sessions other; padding = padding_of new other }) revision_is
+      ∙ ap (λ (ss : List (Option ℕ)). record { cells = table_cells other old; revision = revision_of old other; entries = es; slots = ss; padding = padding_of new other }) slots_are
+      ∙ ap (λ (n : ℕ). record { cells = table_cells other old; revision = revision_of old other; entries = es; slots = slots_of old.sessions other; padding = n }) padding_is
 
   pub others_are : KeepsOtherTeams k old new
   others_are = record {
@@ -253,7 +253,7 @@ module _ (start now : Tables) (all rest left : List SavedTeam) (t : SavedTeam) (
   pub last_there : length rest < length now.revisions.items
   last_there = let few = so_far.few in omega (arith, few, long, count_teams now)
 
-  pub last_served : IsServed (length rest) now
+  pub last_served : HasTeamRow (length rest) now
   last_served = served now (length rest) so_far.tables (subst (λ (n : ℕ). length rest < n) so_far.tables.revisions last_there)
 
   less : length rest < length (teams_in now)
@@ -300,8 +300,8 @@ module _ (start now : Tables) (all rest left : List SavedTeam) (t : SavedTeam) (
       }
 
   -- the team of that number is served
-  pub number_served : (k : ℕ) → k ≡ length rest → IsServed k now
-  number_served k at = subst (λ (n : ℕ). IsServed n now) (sym at) last_served
+  pub number_served : (k : ℕ) → k ≡ length rest → HasTeamRow k now
+  number_served k at = subst (λ (n : ℕ). HasTeamRow n now) (sym at) last_served
 
   pub number_due : (k : ℕ) → k ≡ length rest → IsSavedTeamOf (frame_of now).limits (named_team [] (own_team k now)) t
   number_due k at = subst (λ (n : ℕ). IsSavedTeamOf (frame_of now).limits (named_team [] (own_team n now)) t) (sym at) last_is_due
@@ -316,7 +316,7 @@ two_none : (teams : List TeamState) → map_two restored_team teams [] ≡ []
 two_none [] = refl
 two_none (s ∷ teams) = refl
 
-pub all_left : (start now : Tables) (all left : List SavedTeam) → AreLeft start now all left → left ≡ [] → floor_in now ≡ restored (floor_in start) all
+pub all_left : (start now : Tables) (all left : List SavedTeam) → AreLeft start now all left → left ≡ [] → floor_in now ≡ restored_floor (floor_in start) all
 all_left start now all left so_far none =
     let whole : teams_in now ≡ map_two restored_team (teams_in start) all =
     ap (λ (ts : List TeamState). ts ++ teams_in now) (sym (two_none (teams_in now)))
@@ -329,11 +329,11 @@ all_left start now all left so_far none =
 -- ---- saved teams that were read
 
 -- each team that was read is a team of the floor
-due_of : (tables : Tables) → AreTables tables → (saved : List SavedTeam) → AreOf (named (floor_in tables)) saved → MatchDesign (frame_of tables).limits (teams_in tables) saved
+due_of : (tables : Tables) → AreTables tables → (saved : List SavedTeam) → AreOf (design_names (floor_in tables)) saved → MatchDesign (frame_of tables).limits (teams_in tables) saved
 due_of tables are saved of = all_due (frame_of tables).limits (team_names (frame_of tables)) (teams_in tables) saved (as_many tables are) of
 
 pub rows_due : {X E : Type 0} (view : X → List SavedTeam) (tables : Tables) → AreTables tables → (result : Result X E)
-    → IfOk result (λ rows. AreOf (named (floor_in tables)) (view rows)) → IfOk result (λ rows. MatchDesign (frame_of tables).limits (teams_in tables) (view rows))
+    → IfOk result (λ rows. AreOf (design_names (floor_in tables)) (view rows)) → IfOk result (λ rows. MatchDesign (frame_of tables).limits (teams_in tables) (view rows))
 rows_due view tables are (Ok rows) of = due_of tables are (view rows) of
 rows_due view tables are (Err e) of = tt
 
@@ -351,7 +351,7 @@ no_views [] few = refl
 no_views (r ∷ rows) few = absurd (omega (arith, few))
 
 -- the restored floor has the same design
-pub of_design : (start now : Tables) (saved : List SavedTeam) → MatchDesign (frame_of start).limits (teams_in start) saved → floor_in now ≡ restored (floor_in start) saved
+pub of_design : (start now : Tables) (saved : List SavedTeam) → MatchDesign (frame_of start).limits (teams_in start) saved → floor_in now ≡ restored_floor (floor_in start) saved
     → ShareDesign (floor_in start) (floor_in now)
 of_design start now saved due is =
     subst (λ (f : FloorState). ShareDesign (floor_in start) f) (sym is) (still_of_design (floor_in start) saved due)
@@ -366,18 +366,18 @@ pub back_again : SavedRestores → (begin floor now : FloorState) (text : List �
 back_again law begin floor now text from one is =
     let saved_teams_of = law begin floor text one is in
     let same : from.0 ≡ saved_teams_of.0 = same_ok (sym from.1 ∙ saved_teams_of.1) in
-    from.2 ∙ ap (λ (saved : List SavedTeam). restored begin saved) same ∙ saved_teams_of.2
+    from.2 ∙ ap (λ (saved : List SavedTeam). restored_floor begin saved) same ∙ saved_teams_of.2
 
-pub only_memory : SavedRestores → (begin floor : FloorState) (text : List ℕ) (error : StateError) → FailsAt error (state_of (named begin) text) → ShareDesign begin floor
+pub only_memory : SavedRestores → (begin floor : FloorState) (text : List ℕ) (error : StateError) → FailsAt error (saved_state_of (design_names begin) text) → ShareDesign begin floor
     → IsStateText floor text → error ≡ Memory
 only_memory law begin floor text Memory fails one is = refl
 only_memory law begin floor text (Fault f) fails one is = absurd (differ (sym (law begin floor text one is).1 ∙ fails)) where
   differ : {X E : Type 0} {x : X} {e : E} → ◌≡◌ {A = Result X E} (Ok x) (Err e) → ⊥
   differ e = cc
 
-pub legal_told : RestoredIsCommitted → (begin now : FloorState) (text : List ℕ) (saved : List SavedTeam) → IsRestoredFrom begin text now
-    → state_of (named begin) text ≡ Ok saved → IsCommittedLegal now ↔ IsFullyLegal begin.frame (saved_design begin saved)
-legal_told law begin now text saved from read =
+pub legal_reported : RestoredIsCommitted → (begin now : FloorState) (text : List ℕ) (saved : List SavedTeam) → IsRestoredFrom begin text now
+    → saved_state_of (design_names begin) text ≡ Ok saved → IsCommittedLegal now ↔ IsFullyLegal begin.frame (saved_design begin saved)
+legal_reported law begin now text saved from read =
     let same : from.0 ≡ saved = same_ok (sym from.1 ∙ read) in
-    let is : now ≡ restored begin saved = from.2 ∙ ap (λ (saved : List SavedTeam). restored begin saved) same in
+    let is : now ≡ restored_floor begin saved = from.2 ∙ ap (λ (saved : List SavedTeam). restored_floor begin saved) same in
     subst (λ (f : FloorState). IsCommittedLegal f ↔ IsFullyLegal begin.frame (saved_design begin saved)) (sym is) (law begin saved)

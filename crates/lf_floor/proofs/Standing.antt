@@ -3,11 +3,11 @@ use Rattle.std.proofs.Common.{◌≡◌, ◌<◌, ◌≤◌, ℕ, suc, ◌+◌, 
 use Rattle.std.proofs.lemmas.List.{length-append}
 use Rattle.lf_cells.specs.Cells.{Cells, cells_of}
 use Rattle.lf_floor_model.specs.States.{TeamState}
-use Rattle.lf_state_text.specs.Saved.{SavedTeam, IsTeamOf as IsSavedTeamOf}
-use Rattle.lf_state_restore.specs.Saved.{map_two, named_team, restored, restored_team, saved_cell}
+use Rattle.lf_state_text.specs.Saved.{SavedTeam, IsSavedTeamOf}
+use Rattle.lf_state_restore.specs.Saved.{map_two, named_team, restored_floor, restored_team, saved_cell}
 use Rattle.lf_floor_verbs.specs.declared.tables.Tables.{Tables}
-use Rattle.lf_floor_verbs.specs.Tables.{EntriesFit, IsServed, KeepsOtherTeams, floor_in, frame_of, own_team, teams_in}
-use Rattle.lf_floor.specs.Saving.{saved_teams_at, saved_team_at}
+use Rattle.lf_floor_verbs.specs.Tables.{EntriesFit, HasTeamRow, KeepsOtherTeams, floor_in, frame_of, own_team, teams_in}
+use Rattle.lf_floor.specs.SavedStates.{saved_teams_at, saved_team_at}
 use Rattle.lf_floor.proofs.Rows.{count_teams, team_at}
 use Rattle.lf_floor.proofs.Saving.{AreLeft, all_left, number_due, number_less, number_served}
 
@@ -36,10 +36,10 @@ module _ (start now : Tables) (all left rest : List SavedTeam) (t : SavedTeam) (
   long = ap (λ (l : List SavedTeam). length l) is ∙ length-append rest (t ∷ [])
 
   -- the saved team with the cells of the start
-  abbrev stood : SavedTeam
-  stood = saved_team_at (own_team k start) t
+  abbrev original_place : SavedTeam
+  original_place = saved_team_at (own_team k start) t
 
-  last_is : saved_teams_at start left ≡ saved_teams_at start rest ++ stood ∷ []
+  last_is : saved_teams_at start left ≡ saved_teams_at start rest ++ original_place ∷ []
   last_is =
       let d = own_team k start in
       ap (saved_teams_at start) is
@@ -51,23 +51,23 @@ module _ (start now : Tables) (all left rest : List SavedTeam) (t : SavedTeam) (
   number_is = at ∙ sym (standing_many (teams_in start) rest (omega (arith, few, long)))
 
   -- its cells are unchanged
-  same : saved_team_at (own_team k now) t ≡ stood
+  same : saved_team_at (own_team k now) t ≡ original_place
   same = ap (λ (cs : Cells). record t { cells = map saved_cell (cells_of cs k) }) cells
 
-  pub standing_served : IsServed k now
-  standing_served = number_served start now all (saved_teams_at start rest) (saved_teams_at start left) stood so_far last_is k number_is
+  pub standing_served : HasTeamRow k now
+  standing_served = number_served start now all (saved_teams_at start rest) (saved_teams_at start left) original_place so_far last_is k number_is
 
   pub standing_due : IsSavedTeamOf (frame_of now).limits (named_team [] (own_team k now)) (saved_team_at (own_team k now) t)
   standing_due =
       subst (λ (u : SavedTeam). IsSavedTeamOf (frame_of now).limits (named_team [] (own_team k now)) u) (sym same)
-      (number_due start now all (saved_teams_at start rest) (saved_teams_at start left) stood so_far last_is k number_is)
+      (number_due start now all (saved_teams_at start rest) (saved_teams_at start left) original_place so_far last_is k number_is)
 
   pub standing_less : (after : Tables) → own_team k after ≡ restored_team (own_team k now) (saved_team_at (own_team k now) t) → KeepsOtherTeams k now after
       → EntriesFit k after → AreLeft start after all (saved_teams_at start rest)
   standing_less after team others fit =
-      number_less start now all (saved_teams_at start rest) (saved_teams_at start left) stood so_far last_is k number_is after
+      number_less start now all (saved_teams_at start rest) (saved_teams_at start left) original_place so_far last_is k number_is after
       (team ∙ ap (λ (u : SavedTeam). restored_team (own_team k now) u) same) others fit
 
-pub all_stood : (start now : Tables) (all left : List SavedTeam) → AreLeft start now all (saved_teams_at start left) → left ≡ [] → floor_in now ≡ restored (floor_in start) all
-all_stood start now all left so_far none =
+pub all_were_placed : (start now : Tables) (all left : List SavedTeam) → AreLeft start now all (saved_teams_at start left) → left ≡ [] → floor_in now ≡ restored_floor (floor_in start) all
+all_were_placed start now all left so_far none =
     all_left start now all (saved_teams_at start left) so_far (ap (saved_teams_at start) none ∙ standing_none (teams_in start))

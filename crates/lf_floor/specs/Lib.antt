@@ -1,4 +1,4 @@
-pub mod Bare
+pub mod StartUnplaced
 pub mod Entries
 pub mod Responses
-pub mod Saving
+pub mod SavedStates

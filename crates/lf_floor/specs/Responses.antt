@@ -9,7 +9,7 @@ use Rattle.lf_proto.specs.declared.request.Command.{Command}
 use Rattle.lf_proto.specs.declared.request.Command.TheVariants.{Bye, To}
 use Rattle.lf_proto.specs.declared.request.TeamCommand.{TeamCommand}
 use Rattle.lf_proto.specs.declared.request.TeamCommand.TheVariants.{Within}
-use Rattle.lf_proto.specs.declared.verb.Action.TheVariants.{Def as AskDef}
+use Rattle.lf_proto.specs.declared.verb.Action.TheVariants.{Def as RequestDef}
 use Rattle.lf_team_def.specs.TeamText.{team_text}
 use Rattle.lf_floor_model.specs.States.{FloorState, TeamState}
 use Rattle.lf_floor_model.specs.Steps.{IsAnswerOf}
@@ -18,9 +18,9 @@ use Rattle.lf_floor.specs.declared.response.Response.{Response}
 use Rattle.lf_floor.specs.declared.response.Response.TheVariants.{Whole, Def as Apart}
 
 -- the team of a command; bye has no team
-abbrev pub team_of : Command (List ℕ) Place → List ℕ
-team_of Bye = []
-team_of (To team order) = team
+abbrev pub team_addressed : Command (List ℕ) Place → List ℕ
+team_addressed Bye = []
+team_addressed (To team order) = team
 
 -- the DEF text of a team in that state, with its cells at their working places; empty if there is
 -- no such team
@@ -43,18 +43,18 @@ reply_in floor team (Whole reply) = reply
 reply_in floor team (Apart length) = Def (def_text floor team)
 
 -- the team's command requests its DEF text
-abbrev pub AsksForTeamText : TeamCommand (List ℕ) Place → Type 0
-AsksForTeamText (Within session AskDef) = Unit {0}
-AsksForTeamText _ = ⊥
+abbrev pub WantsTeamText : TeamCommand (List ℕ) Place → Type 0
+WantsTeamText (Within session RequestDef) = Unit {0}
+WantsTeamText _ = ⊥
 
 -- the command requests a DEF text
-abbrev pub AsksForText : Command (List ℕ) Place → Type 0
-AsksForText Bye = ⊥
-AsksForText (To team order) = AsksForTeamText order
+abbrev pub WantsText : Command (List ℕ) Place → Type 0
+WantsText Bye = ⊥
+WantsText (To team order) = WantsTeamText order
 
 -- if the reply by the rules is a DEF text, the response is that text; a text of 2^64 bytes or more,
 -- which cannot be counted, may be refused
 abbrev pub RespondsWithText : FloorState → Command (List ℕ) Place → Response → Type 0
 RespondsWithText floor command response =
-    (l : Legalizer) (text : List ℕ) → AsksForText command → IsAnswerOf l floor command (Def text) floor
+    (l : Legalizer) (text : List ℕ) → WantsText command → IsAnswerOf l floor command (Def text) floor
     → (response ≡ Apart (length text)) ⊎ (2 ^ 64 ≤ length text)

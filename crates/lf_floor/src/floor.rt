@@ -2,11 +2,11 @@
 
 ghost use Rattle.std.specs.Prelude.{◌≡◌, ◌↔◌, ◌<◌, ◌≤◌, ◌+◌, ◌++◌, ◌∷◌, [], bytes_eq, position, ℕ, List, All};
 ghost use Rattle.std.specs.Prelude.{IfOk, IfSome, OnOk, OnErr, Some, false, option_and_then, option_map, replicate, true, length, vec_len, vec_capacity};
-ghost use Rattle.lf_floorplan.specs.Bounds.{IsName};
+ghost use Rattle.lf_floorplan.specs.Bounds.{IsDesignName};
 ghost use Rattle.lf_floorplan.specs.Fences.{ground_name};
 ghost use Rattle.lf_rules.specs.Legalizer.{Legalizer};
 ghost use Rattle.lf_rules.specs.FullyLegal.{IsFullyLegal};
-ghost use Rattle.lf_proto.specs.Commands.{command_of, order_of};
+ghost use Rattle.lf_proto.specs.Commands.{command_with_names, order_of};
 ghost use Rattle.lf_floor_model.specs.States.{TeamState};
 ghost use Rattle.lf_floor_model.specs.Places.{AreCommittedPlaces};
 ghost use Rattle.lf_floor_verbs.specs.Tables.{AreTables, floor_in, frame_of};
@@ -178,7 +178,7 @@ impl<S: Seeker + Drop> Floor<S> {
     /// `None` if the team has no such cell, or there is no such team.
     pub fn name_of(&self, team: &[u8], own: usize) -> Option<&[u8]>
         ensures name { option_map (λ name. name.now) result ≡ option_and_then (λ s. name_at s.cells own) (state_of self.now team.now) }
-        ensures printed { IfSome result (λ name. IsName name.now) }
+        ensures printed { IfSome result (λ name. IsDesignName name.now) }
     {
         let number = team_with_name(self.tables.placement.frame(), team)?;
         let id = self.tables.cell_at(number, own)?;
@@ -221,8 +221,8 @@ impl<S: Seeker + Drop> Floor<S> {
     ///
     /// `Err` if an allocation fails; then the floor is unchanged.
     fn try_step(&mut self, request: &Request) -> Result<Reply, AllocError>
-        ensures ok { (l : Legalizer) → IfOk result (λ reply. IsAnswerOf l self.old (command_of request.now) reply self.new) }
-        ensures err { (l : Legalizer) → OnErr result (MayRunOutOfMemory l self.old (command_of request.now) self.new) }
+        ensures ok { (l : Legalizer) → IfOk result (λ reply. IsAnswerOf l self.old (command_with_names request.now) reply self.new) }
+        ensures err { (l : Legalizer) → OnErr result (MayRunOutOfMemory l self.old (command_with_names request.now) self.new) }
     {
         match request {
             Command::Bye => Ok(Reply::Done),
@@ -248,15 +248,15 @@ impl<S: Seeker + Drop> Floor<S> {
     /// after a tidy or a commit every cell of the team is. A fully legal committed design stays so
     /// after any command.
     pub fn step(&mut self, request: &Request) -> Reply
-        ensures step { (l : Legalizer) → Step l self.old (command_of request.now) result self.new }
-        ensures others { (team : List ℕ) → ¬ IsTo team (command_of request.now) → state_of self.new team ≡ state_of self.old team }
+        ensures step { (l : Legalizer) → Step l self.old (command_with_names request.now) result self.new }
+        ensures others { (team : List ℕ) → ¬ IsTo team (command_with_names request.now) → state_of self.new team ≡ state_of self.old team }
         ensures frame { self.new.frame ≡ self.old.frame }
         ensures components { self.new.components ≡ self.old.components }
-        ensures placed { (l : Legalizer) → PlacesLegally l (command_of request.now) result self.new }
-        ensures legalized { (l : Legalizer) → LegalizesLegally l (command_of request.now) result self.new }
-        ensures tidied { (l : Legalizer) → TidiesLegally l (command_of request.now) result self.new }
-        ensures swapped { (l : Legalizer) → SwapsLegally l (command_of request.now) result self.new }
-        ensures committed { (l : Legalizer) → CommitsLegally l (command_of request.now) result self.new }
+        ensures placed { (l : Legalizer) → PlacesLegally l (command_with_names request.now) result self.new }
+        ensures legalized { (l : Legalizer) → LegalizesLegally l (command_with_names request.now) result self.new }
+        ensures tidied { (l : Legalizer) → TidiesLegally l (command_with_names request.now) result self.new }
+        ensures swapped { (l : Legalizer) → SwapsLegally l (command_with_names request.now) result self.new }
+        ensures committed { (l : Legalizer) → CommitsLegally l (command_with_names request.now) result self.new }
         ensures legal { IsCommittedLegal self.old → IsCommittedLegal self.new }
         ensures refused { KeepsIfRefused result self.old self.new }
     {

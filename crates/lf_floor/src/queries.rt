@@ -43,7 +43,7 @@ impl<S: Seeker + Drop> Floor<S> {
     pub fn is_cell_legal(&self, number: usize, own: usize) -> bool
         ensures legal { (s : TeamState) → slice_get self.now.teams number ≡ Some s
             → IsTrue result → IsLegalCell self.now.frame number s.padding (map member_of s.cells) own }
-        ensures told { (s : TeamState) → slice_get self.now.teams number ≡ Some s → own < length s.cells
+        ensures reported { (s : TeamState) → slice_get self.now.teams number ≡ Some s → own < length s.cells
             → IsLegalCell self.now.frame number s.padding (map member_of s.cells) own → IsTrue result }
     {
         let Some(id) = self.tables.cell_at(number, own) else {

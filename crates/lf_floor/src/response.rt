@@ -2,16 +2,16 @@
 
 ghost use Rattle.std.specs.Prelude.{◌≡◌, IfNone, IfSome, List, ℕ, length};
 ghost use Rattle.lf_rules.specs.Legalizer.{Legalizer};
-ghost use Rattle.lf_proto.specs.Commands.{command_of, order_of};
+ghost use Rattle.lf_proto.specs.Commands.{command_with_names, order_of};
 ghost use Rattle.lf_proto.specs.declared.reply.Reply.{Reply};
 ghost use Rattle.lf_proto.specs.declared.reply.Reply.TheVariants.{Def};
 ghost use Rattle.lf_proto.specs.declared.request.TeamCommand.TheVariants.{Within};
-ghost use Rattle.lf_proto.specs.declared.verb.Action.TheVariants.{Def as AskDef};
+ghost use Rattle.lf_proto.specs.declared.verb.Action.TheVariants.{Def as RequestDef};
 ghost use Rattle.lf_floor_model.specs.Committed.{IsCommittedLegal};
 ghost use Rattle.lf_floor_model.specs.Steps.{IsAnswerOf, IsTested, IsTo, Step, AllocatesNothing};
 ghost use Rattle.lf_floor_model.specs.Teams.{state_of};
 ghost use Rattle.lf_team_def.specs.Output.{IsLengthOf, PutsText};
-ghost use Rattle.lf_floor.specs.Responses.{AsksForText, AsksForTeamText, RespondsWithText, def_text, reply_in, team_of};
+ghost use Rattle.lf_floor.specs.Responses.{WantsText, WantsTeamText, RespondsWithText, def_text, reply_in, team_addressed};
 ghost use Rattle.lf_floor.specs.declared.response.Response.TheVariants.{Def as Apart};
 
 use crate::floor::{Floor, team_with_name};
@@ -31,8 +31,8 @@ pub enum Response {
 /// Returns the session that requests the team's DEF text by this command. `None` if the command
 /// does not request it.
 fn def_session(order: &TeamCommand<&[u8]>) -> Option<u32>
-    ensures is { IfSome result (λ session. order_of order.now ≡ Within session AskDef) }
-    ensures none { IfNone result (AsksForTeamText (order_of order.now) → ⊥) }
+    ensures is { IfSome result (λ session. order_of order.now ≡ Within session RequestDef) }
+    ensures none { IfNone result (WantsTeamText (order_of order.now) → ⊥) }
 {
     match order {
         TeamCommand::Within {
@@ -76,13 +76,13 @@ impl<S: Seeker + Drop> Floor<S> {
 
     /// Returns the team whose DEF text is the reply to the request. `None` if the reply is not a
     /// DEF text.
-    fn def_asked<'a>(&self, request: &Request<'a>) -> Option<&'a [u8]>
-        ensures asked { (l : Legalizer) → IfSome result (λ team. IsAnswerOf l self.now (command_of request.now) (Def (def_text self.now team.now)) self.now) }
-        ensures team { IfSome result (λ team. team.now ≡ team_of (command_of request.now)) }
-        ensures takes { IfSome result (λ team. AllocatesNothing (command_of request.now) → ⊥) }
-        ensures untested { (reply : Reply) → IfSome result (λ team. IsTested (command_of request.now) reply → ⊥) }
+    fn def_requested<'a>(&self, request: &Request<'a>) -> Option<&'a [u8]>
+        ensures requested { (l : Legalizer) → IfSome result (λ team. IsAnswerOf l self.now (command_with_names request.now) (Def (def_text self.now team.now)) self.now) }
+        ensures team { IfSome result (λ team. team.now ≡ team_addressed (command_with_names request.now)) }
+        ensures takes { IfSome result (λ team. AllocatesNothing (command_with_names request.now) → ⊥) }
+        ensures untested { (reply : Reply) → IfSome result (λ team. IsTested (command_with_names request.now) reply → ⊥) }
         ensures none { (l : Legalizer) (text : List ℕ)
-            → IfNone result (AsksForText (command_of request.now) → IsAnswerOf l self.now (command_of request.now) (Def text) self.now → ⊥) }
+            → IfNone result (WantsText (command_with_names request.now) → IsAnswerOf l self.now (command_with_names request.now) (Def text) self.now → ⊥) }
     {
         let Command::To { team, order } = request else {
             return None;
@@ -97,15 +97,15 @@ impl<S: Seeker + Drop> Floor<S> {
     /// change the floor: its text can be written until the next command runs. The reply to it is
     /// never `OutOfMemory`, unless the text has 2^64 bytes or more.
     pub fn respond(&mut self, request: &Request) -> Response
-        ensures step { (l : Legalizer) → Step l self.old (command_of request.now) (reply_in self.new (team_of (command_of request.now)) result) self.new }
-        ensures length { (count : ℕ) → result ≡ Apart count → count ≡ length (def_text self.new (team_of (command_of request.now))) }
-        ensures text { RespondsWithText self.old (command_of request.now) result }
-        ensures others { (team : List ℕ) → ¬ IsTo team (command_of request.now) → state_of self.new team ≡ state_of self.old team }
+        ensures step { (l : Legalizer) → Step l self.old (command_with_names request.now) (reply_in self.new (team_addressed (command_with_names request.now)) result) self.new }
+        ensures length { (count : ℕ) → result ≡ Apart count → count ≡ length (def_text self.new (team_addressed (command_with_names request.now))) }
+        ensures text { RespondsWithText self.old (command_with_names request.now) result }
+        ensures others { (team : List ℕ) → ¬ IsTo team (command_with_names request.now) → state_of self.new team ≡ state_of self.old team }
         ensures frame { self.new.frame ≡ self.old.frame }
         ensures components { self.new.components ≡ self.old.components }
         ensures legal { IsCommittedLegal self.old → IsCommittedLegal self.new }
     {
-        match self.def_asked(request) {
+        match self.def_requested(request) {
             None => Response::Whole(self.step(request)),
             Some(team) => match self.def_length(team) {
                 Some(count) => Response::Def(count),

@@ -1,19 +1,19 @@
 //! Floors restored from state texts.
 
 ghost use Rattle.std.specs.Prelude.{◌≡◌, ◌≢◌, ◌↔◌, ◌≤◌, ℕ, [], List, IfErr, IfOk, OnOk, Ok, length, map};
-ghost use Rattle.lf_occupancy.specs.Occupied.{KeepsCapacities};
+ghost use Rattle.lf_occupancy.specs.Views.{KeepsCapacities};
 ghost use Rattle.lf_rules.specs.FullyLegal.{IsFullyLegal};
 ghost use Rattle.lf_floor_model.specs.Committed.{IsCommittedLegal};
 ghost use Rattle.lf_floor_model.specs.States.{FloorState};
 ghost use Rattle.lf_state_text.specs.declared.fault.StateError.TheVariants.{Memory};
-ghost use Rattle.lf_state_text.specs.Pieces.{joined};
+ghost use Rattle.lf_state_text.specs.Pieces.{text_of_chunks};
 ghost use Rattle.lf_state_text.specs.Refused.{ReturnsIn, HoldsEnd};
-ghost use Rattle.lf_state_text.specs.Reading.{FailsAt, ReturnsAt, state_of};
-ghost use Rattle.lf_state_text.specs.Saved.{SavedTeam, team_view, team_views, IsTeamOf as IsSavedTeamOf};
-ghost use Rattle.lf_state_restore.specs.Saved.{MatchDesign, ShareDesign, IsRestoredFrom, IsStateText, named, named_team, restored, restored_team, saved_design};
-ghost use Rattle.lf_state_restore.specs.Stands.{without_cells};
-ghost use Rattle.lf_floor.specs.Saving.{HasNoEntriesYet, FirstHaveNoEntriesYet, HasNumbers, PlacesTeams, saved_teams_at, saved_team_at};
-ghost use Rattle.lf_floor_verbs.specs.Tables.{AreTables, EntriesFit, HasRows, IsServed, KeepsOtherTeams, floor_in, frame_of, own_team, teams_in};
+ghost use Rattle.lf_state_text.specs.Reading.{FailsAt, ReturnsAt, saved_state_of};
+ghost use Rattle.lf_state_text.specs.Saved.{SavedTeam, team_view, team_views, IsSavedTeamOf};
+ghost use Rattle.lf_state_restore.specs.Saved.{MatchDesign, ShareDesign, IsRestoredFrom, IsStateText, design_names, named_team, restored_floor, restored_team, saved_design};
+ghost use Rattle.lf_state_restore.specs.Placed.{without_cells};
+ghost use Rattle.lf_floor.specs.SavedStates.{HasNoEntriesYet, FirstHaveNoEntriesYet, HasNumbers, PlacesTeams, saved_teams_at, saved_team_at};
+ghost use Rattle.lf_floor_verbs.specs.Tables.{AreTables, EntriesFit, HasRows, HasTeamRow, KeepsOtherTeams, floor_in, frame_of, own_team, teams_in};
 
 use crate::floor::Floor;
 use crate::state_view::StateView;
@@ -63,7 +63,7 @@ fn restore_team(
     number: usize,
     row: TeamRow,
 ) -> Result<(), AllocError>
-    requires served { IsServed number tables.old }
+    requires served { HasTeamRow number tables.old }
     requires due { IsSavedTeamOf (frame_of tables.old).limits (named_team [] (own_team number tables.old)) (saved_team_at (own_team number tables.old) (team_view row)) }
     requires room { KeepsCapacities tally.old tables.old.placement.held.rooms }
     requires awaits { HasNoEntriesYet number tally.old tables.old }
@@ -110,7 +110,7 @@ fn restore_teams(
     requires room { KeepsCapacities tally.old tables.old.placement.held.rooms }
     requires each { FirstHaveNoEntriesYet (length rows.items) tally.old tables.old }
     ensures tables { OnOk result (AreTables tables.new) }
-    ensures floor { OnOk result (floor_in tables.new ≡ restored (floor_in tables.old) (saved_teams_at tables.old (team_views rows.items))) }
+    ensures floor { OnOk result (floor_in tables.new ≡ restored_floor (floor_in tables.old) (saved_teams_at tables.old (team_views rows.items))) }
 {
     let mut left = rows;
     while !left.is_empty() {
@@ -161,7 +161,7 @@ fn restored_by(alloc: Global, tables: Tables, rows: Vec<TeamRow>) -> Result<Tabl
     requires tables { AreTables tables }
     requires due { MatchDesign (frame_of tables).limits (teams_in tables) (team_views rows.items) }
     ensures tables { IfOk result AreTables }
-    ensures floor { IfOk result (λ now. floor_in now ≡ restored (floor_in tables) (team_views rows.items)) }
+    ensures floor { IfOk result (λ now. floor_in now ≡ restored_floor (floor_in tables) (team_views rows.items)) }
 {
     let mut left = rows;
     let mut placed = place_cells(alloc, tables, &mut left)?;
@@ -175,11 +175,11 @@ fn restored_by(alloc: Global, tables: Tables, rows: Vec<TeamRow>) -> Result<Tabl
 /// `Err` with the first fault of the text and its line, or if an allocation fails.
 fn read_rows(alloc: Global, tables: &Tables, text: &[u8]) -> Result<Vec<TeamRow>, StateError>
     requires { AreTables tables.now }
-    ensures exact { ReturnsAt (λ rows. team_views rows.items) result (state_of (named (floor_in tables.now)) text.now) }
+    ensures exact { ReturnsAt (λ rows. team_views rows.items) result (saved_state_of (design_names (floor_in tables.now)) text.now) }
     ensures due { IfOk result (λ rows. MatchDesign (frame_of tables.now).limits (teams_in tables.now) (team_views rows.items)) }
 {
-    let told = StateView { tables };
-    read_state(alloc, &told, text)
+    let reported = StateView { tables };
+    read_state(alloc, &reported, text)
 }
 
 /// Reads a state text of the teams given in chunks.
@@ -192,12 +192,12 @@ fn read_pieces_of(
     pieces: VecDeque<Vec<u8>>,
 ) -> Result<Vec<TeamRow>, ChunkError>
     requires { AreTables tables.now }
-    ensures exact { ReturnsIn (λ rows. team_views rows.items) result (state_of (named (floor_in tables.now)) (joined pieces.items)) }
+    ensures exact { ReturnsIn (λ rows. team_views rows.items) result (saved_state_of (design_names (floor_in tables.now)) (text_of_chunks pieces.items)) }
     ensures due { IfOk result (λ rows. MatchDesign (frame_of tables.now).limits (teams_in tables.now) (team_views rows.items)) }
-    ensures end { IfErr result (λ error. HoldsEnd (joined pieces.items) error) }
+    ensures end { IfErr result (λ error. HoldsEnd (text_of_chunks pieces.items) error) }
 {
-    let told = StateView { tables };
-    read_chunks(alloc, &told, pieces)
+    let reported = StateView { tables };
+    read_chunks(alloc, &reported, pieces)
 }
 
 /// Returns the tables in the state of the text.
@@ -208,7 +208,7 @@ fn restore_tables(alloc: Global, tables: Tables, text: &[u8]) -> Result<Tables, 
     ensures tables { IfOk result AreTables }
     ensures restored { IfOk result (λ now. IsRestoredFrom (floor_in tables) text.now (floor_in now)) }
     ensures design { IfOk result (λ now. ShareDesign (floor_in tables) (floor_in now)) }
-    ensures fault { IfErr result (λ error. FailsAt error (state_of (named (floor_in tables)) text.now)) }
+    ensures fault { IfErr result (λ error. FailsAt error (saved_state_of (design_names (floor_in tables)) text.now)) }
 {
     let rows = read_rows(alloc, &tables, text)?;
     match restored_by(alloc, tables, rows) {
@@ -227,11 +227,11 @@ impl<S: Seeker + Drop> Floor<S> {
     /// an allocation fails. The floor is then dropped.
     pub fn restore(self, text: &[u8]) -> Result<Floor<S>, StateError>
         ensures restored { IfOk result (λ floor. IsRestoredFrom self text.now floor) }
-        ensures fault { IfErr result (λ error. FailsAt error (state_of (named self) text.now)) }
+        ensures fault { IfErr result (λ error. FailsAt error (saved_state_of (design_names self) text.now)) }
         ensures again { (saved : FloorState) → ShareDesign self saved → IsStateText saved text.now → IfOk result (λ floor. floor ≡ saved) }
         ensures again_fails { (saved : FloorState) → ShareDesign self saved → IsStateText saved text.now → IfErr result (λ error. error ≡ Memory) }
         ensures design { IfOk result (λ floor. ShareDesign self floor) }
-        ensures legal { (saved : List SavedTeam) → state_of (named self) text.now ≡ Ok saved
+        ensures legal { (saved : List SavedTeam) → saved_state_of (design_names self) text.now ≡ Ok saved
             → IfOk result (λ floor. IsCommittedLegal floor ↔ IsFullyLegal self.frame (saved_design self saved)) }
     {
         saved_restores();
@@ -258,9 +258,9 @@ impl<S: Seeker + Drop> Floor<S> {
     /// `Err` with the first fault of a text that is not a state of the design, its line, and the
     /// end of the text; or if an allocation fails.
     pub fn read_state_chunks(&self, pieces: VecDeque<Vec<u8>>) -> Result<Vec<TeamRow>, ChunkError>
-        ensures exact { ReturnsIn (λ rows. team_views rows.items) result (state_of (named self.now) (joined pieces.items)) }
+        ensures exact { ReturnsIn (λ rows. team_views rows.items) result (saved_state_of (design_names self.now) (text_of_chunks pieces.items)) }
         ensures due { IfOk result (λ rows. MatchDesign self.now.frame.limits self.now.teams (team_views rows.items)) }
-        ensures end { IfErr result (λ error. HoldsEnd (joined pieces.items) error) }
+        ensures end { IfErr result (λ error. HoldsEnd (text_of_chunks pieces.items) error) }
     {
         read_pieces_of(self.alloc, &self.tables, pieces)
     }
@@ -272,7 +272,7 @@ impl<S: Seeker + Drop> Floor<S> {
     /// `Err` if an allocation fails; the floor is then dropped.
     pub fn restore_saved(self, rows: Vec<TeamRow>) -> Result<Floor<S>, AllocError>
         requires due { MatchDesign self.frame.limits self.teams (team_views rows.items) }
-        ensures restored { IfOk result (λ floor. floor ≡ restored self (team_views rows.items)) }
+        ensures restored { IfOk result (λ floor. floor ≡ restored_floor self (team_views rows.items)) }
         ensures design { IfOk result (λ floor. ShareDesign self floor) }
     {
         let floor = self;

@@ -2,9 +2,9 @@
 
 ghost use Rattle.std.specs.Prelude.{All, ⊤};
 ghost use Rattle.lf_team_def.specs.Output.{PutsText};
-ghost use Rattle.lf_state_text.specs.Saved.{IsInRange, state_text};
-ghost use Rattle.lf_state_restore.specs.Saved.{IsStateText, named};
-ghost use Rattle.lf_floor.specs.Saving.{state_text_of, saved_teams_of};
+ghost use Rattle.lf_state_text.specs.Saved.{IsSavedInRange, state_text};
+ghost use Rattle.lf_state_restore.specs.Saved.{IsStateText, design_names};
+ghost use Rattle.lf_floor.specs.SavedStates.{state_text_of, saved_teams_of};
 ghost use Rattle.lf_floor_verbs.specs.Tables.{AreTables, floor_in};
 
 use crate::floor::Floor;
@@ -37,13 +37,13 @@ impl<'a> Model for StateSnapshot<'a> {
     ghost use Rattle.std.specs.Prelude.{List};
     ghost use Rattle.lf_state_text.specs.Designs.{NamedDesign};
     ghost use Rattle.lf_state_text.specs.Saved.{SavedTeam};
-    ghost use Rattle.lf_state_restore.specs.Saved.{named};
-    ghost use Rattle.lf_floor.specs.Saving.{saved_teams_of};
+    ghost use Rattle.lf_state_restore.specs.Saved.{design_names};
+    ghost use Rattle.lf_floor.specs.SavedStates.{saved_teams_of};
     ghost use Rattle.lf_floor_verbs.specs.Tables.{AreTables, floor_in};
 
     ghost Value = { NamedDesign × List SavedTeam };
 
-    ghost view = { λ s. (named (floor_in s.tables.now), saved_teams_of s.tables.now) };
+    ghost view = { λ s. (design_names (floor_in s.tables.now), saved_teams_of s.tables.now) };
 
     ghost invariant = { λ s. AreTables s.tables.now };
 }
@@ -51,11 +51,11 @@ impl<'a> Model for StateSnapshot<'a> {
 /// Writes the state text of the tables.
 fn write_tables<O: Output>(out: &mut O, tables: &Tables)
     requires { AreTables tables.now }
-    ensures text { PutsText O.took out.old out.new (state_text (named (floor_in tables.now)) (saved_teams_of tables.now)) }
-    ensures in_range { All IsInRange (saved_teams_of tables.now) }
+    ensures text { PutsText O.took out.old out.new (state_text (design_names (floor_in tables.now)) (saved_teams_of tables.now)) }
+    ensures in_range { All IsSavedInRange (saved_teams_of tables.now) }
 {
-    let told = StateView { tables };
-    write_state(out, &told, &told);
+    let reported = StateView { tables };
+    write_state(out, &reported, &reported);
 }
 
 impl<'a> StateSnapshot<'a> {

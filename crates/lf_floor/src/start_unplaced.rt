@@ -3,7 +3,7 @@
 ghost use Rattle.std.specs.Prelude.{◌≡◌, IfOk, map, replicate};
 ghost use Rattle.lf_floor_model.specs.Designs.{initial_floor};
 ghost use Rattle.lf_state_restore.specs.Saved.{ShareDesign};
-ghost use Rattle.lf_floor.specs.Bare.{AreOfDesign, AreSameCells, loaded_cells};
+ghost use Rattle.lf_floor.specs.StartUnplaced.{AreOfDesign, HaveSameCells, loaded_cells};
 
 use crate::floor::Floor;
 use lf_cells::{CellId, CellTable};
@@ -18,21 +18,21 @@ use std::alloc::{AllocError, Global};
 
 /// Unplaces a cell.
 fn unplace(cells: &mut CellTable, id: CellId)
-    ensures { AreSameCells cells.old cells.new }
+    ensures { HaveSameCells cells.old cells.new }
 {
     cells.set_working(id, None);
 }
 
 /// Commits the working places of the team's cells.
 fn commit(cells: &mut CellTable, team: usize)
-    ensures { AreSameCells cells.old cells.new }
+    ensures { HaveSameCells cells.old cells.new }
 {
     cells.commit_team(team);
 }
 
 /// Unplaces the cell and the cells with lower positions in its team.
 fn unplace_up_to(cells: &mut CellTable, last: CellId)
-    ensures { AreSameCells cells.old cells.new }
+    ensures { HaveSameCells cells.old cells.new }
 {
     for own in 0..last.own {
         let id = CellId {
@@ -46,7 +46,7 @@ fn unplace_up_to(cells: &mut CellTable, last: CellId)
 
 /// Removes the working and committed places of the team's cells.
 fn unplace_team(cells: &mut CellTable, team: usize)
-    ensures { AreSameCells cells.old cells.new }
+    ensures { HaveSameCells cells.old cells.new }
 {
     let Some(&last) = cells.cells_of(team).last() else {
         return;
@@ -57,7 +57,7 @@ fn unplace_team(cells: &mut CellTable, team: usize)
 
 /// Removes the working and committed places of the cells of the first `teams` teams.
 fn without_places(cells: CellTable, teams: usize) -> CellTable
-    ensures { AreSameCells cells result }
+    ensures { HaveSameCells cells result }
 {
     let mut bare = cells;
     for team in 0..teams {
@@ -71,7 +71,7 @@ fn without_places(cells: CellTable, teams: usize) -> CellTable
 /// `Err` if an allocation fails; the design is then dropped.
 fn bare_placement(alloc: Global, loaded: Loaded) -> Result<Placement, AllocError>
     ensures frame { IfOk result (λ placement. placement.frame ≡ loaded.frame) }
-    ensures cells { IfOk result (λ placement. AreSameCells (loaded_cells loaded) placement.cells) }
+    ensures cells { IfOk result (λ placement. HaveSameCells (loaded_cells loaded) placement.cells) }
 {
     let teams = loaded.frame.teams.len() + 1;
     let (frame, cells) = CellTable::build(alloc, loaded)?;

@@ -4,10 +4,10 @@ ghost use Rattle.std.specs.Prelude.{◌≡◌, ◌<◌, ◌≤◌, List, ℕ, le
 ghost use Rattle.lf_cells.specs.Cells.{cells_of};
 ghost use Rattle.lf_team_def.specs.Output.{PutsText};
 ghost use Rattle.lf_floor_model.specs.Teams.{team_names};
-ghost use Rattle.lf_state_restore.specs.Saved.{IsStateText, named, saved_cell};
-ghost use Rattle.lf_state_text.specs.Designs.{team_of};
+ghost use Rattle.lf_state_restore.specs.Saved.{IsStateText, design_names, saved_cell};
+ghost use Rattle.lf_state_text.specs.Designs.{named_team_of};
 ghost use Rattle.lf_state_text.specs.Saved.{moves_within, saved_at};
-ghost use Rattle.lf_floor.specs.Saving.{saved_teams_of};
+ghost use Rattle.lf_floor.specs.SavedStates.{saved_teams_of};
 ghost use Rattle.lf_floor_verbs.specs.Tables.{AreTables, floor_in};
 
 use crate::floor::Floor;
@@ -69,7 +69,7 @@ pub(crate) fn fences_are_few(frame: &Frame)
 /// Returns the number of teams.
 fn count_teams(tables: &Tables) -> usize
     requires { AreTables tables.now }
-    ensures { result ≡ length (named (floor_in tables.now)).teams }
+    ensures { result ≡ length (design_names (floor_in tables.now)).teams }
 {
     tables.placement.frame().teams.len() + 1
 }
@@ -77,7 +77,7 @@ fn count_teams(tables: &Tables) -> usize
 /// Returns the name of the team of that number. `None` if and only if there is no such team.
 fn name_of_team(tables: &Tables, team: usize) -> Option<&[u8]>
     requires { AreTables tables.now }
-    ensures { option_map (λ name. name.now) result ≡ option_map (λ t. t.name) (slice_get (named (floor_in tables.now)).teams team) }
+    ensures { option_map (λ name. name.now) result ≡ option_map (λ t. t.name) (slice_get (design_names (floor_in tables.now)).teams team) }
 {
     team_name(tables.placement.frame(), team)
 }
@@ -85,7 +85,7 @@ fn name_of_team(tables: &Tables, team: usize) -> Option<&[u8]>
 /// Returns the number of the team's cells; 0 if there is no such team.
 fn count_cells(tables: &Tables, team: usize) -> usize
     requires { AreTables tables.now }
-    ensures { result ≡ length (team_of (named (floor_in tables.now)) team).cells }
+    ensures { result ≡ length (named_team_of (design_names (floor_in tables.now)) team).cells }
 {
     if team > tables.placement.frame().teams.len() {
         return 0;
@@ -97,7 +97,7 @@ fn count_cells(tables: &Tables, team: usize) -> usize
 /// cell.
 fn name_of_cell(tables: &Tables, team: usize, own: usize) -> Option<&[u8]>
     requires { AreTables tables.now }
-    ensures { option_map (λ name. name.now) result ≡ slice_get (team_of (named (floor_in tables.now)) team).cells own }
+    ensures { option_map (λ name. name.now) result ≡ slice_get (named_team_of (design_names (floor_in tables.now)) team).cells own }
 {
     if team > tables.placement.frame().teams.len() {
         return None;
@@ -114,7 +114,7 @@ fn saved_revision(tables: &Tables, team: usize) -> u32
 }
 
 /// Returns the saved padding of the team.
-fn told_padding(tables: &Tables, team: usize) -> Padding
+fn reported_padding(tables: &Tables, team: usize) -> Padding
     requires { team < length (saved_teams_of tables.now) }
     ensures { result.sites ≡ (saved_at (saved_teams_of tables.now) team).padding }
 {
@@ -122,7 +122,7 @@ fn told_padding(tables: &Tables, team: usize) -> Padding
 }
 
 /// Returns the saved session slots of the team.
-fn told_slots(tables: &Tables, team: usize) -> &[Option<u32>]
+fn reported_slots(tables: &Tables, team: usize) -> &[Option<u32>]
     requires { team < length (saved_teams_of tables.now) }
     ensures { result.now ≡ (saved_at (saved_teams_of tables.now) team).slots }
 {
@@ -130,7 +130,7 @@ fn told_slots(tables: &Tables, team: usize) -> &[Option<u32>]
 }
 
 /// Returns the number of the team's saved cells.
-fn told_cells(tables: &Tables, team: usize) -> usize
+fn reported_cells(tables: &Tables, team: usize) -> usize
     requires { team < length (saved_teams_of tables.now) }
     ensures { result ≡ length (saved_at (saved_teams_of tables.now) team).cells }
 {
@@ -139,7 +139,7 @@ fn told_cells(tables: &Tables, team: usize) -> usize
 
 /// Returns the saved places of the team's cell at that position. `None` if and only if there is no
 /// such cell.
-fn told_cell(tables: &Tables, team: usize, own: usize) -> Option<SavedCell>
+fn reported_cell(tables: &Tables, team: usize, own: usize) -> Option<SavedCell>
     requires { team < length (saved_teams_of tables.now) }
     ensures { result ≡ slice_get (saved_at (saved_teams_of tables.now) team).cells own }
 {
@@ -147,7 +147,7 @@ fn told_cell(tables: &Tables, team: usize, own: usize) -> Option<SavedCell>
 }
 
 /// Returns the number of the team's saved undo entries.
-fn told_entries(tables: &Tables, team: usize) -> usize
+fn reported_entries(tables: &Tables, team: usize) -> usize
     requires tables { AreTables tables.now }
     requires team { team < length (saved_teams_of tables.now) }
     ensures { result ≡ length (saved_at (saved_teams_of tables.now) team).entries }
@@ -157,7 +157,7 @@ fn told_entries(tables: &Tables, team: usize) -> usize
 
 /// Returns the moves of the team's undo entry that has `newer` newer ones. `None` if and only if
 /// there is no such entry.
-fn told_entry(tables: &Tables, team: usize, newer: usize) -> Option<&Moves>
+fn reported_entry(tables: &Tables, team: usize, newer: usize) -> Option<&Moves>
     requires tables { AreTables tables.now }
     requires team { team < length (saved_teams_of tables.now) }
     ensures { option_map (λ moves. moves_within (length (saved_at (saved_teams_of tables.now) team).cells) moves.now) result
@@ -185,9 +185,9 @@ impl<'a> Model for StateView<'a> {
 
 impl<'a> DesignSchema for StateView<'a> {
     ghost use Rattle.lf_floor_verbs.specs.Tables.{floor_in};
-    ghost use Rattle.lf_state_restore.specs.Saved.{named};
+    ghost use Rattle.lf_state_restore.specs.Saved.{design_names};
 
-    ghost named = { λ t. named (floor_in t) };
+    ghost named = { λ t. design_names (floor_in t) };
 
     fn limits(&self) -> Limits {
         self.tables.placement.frame().limits
@@ -211,7 +211,7 @@ impl<'a> DesignSchema for StateView<'a> {
 }
 
 impl<'a> TeamViews for StateView<'a> {
-    ghost use Rattle.lf_floor.specs.Saving.{saved_teams_of};
+    ghost use Rattle.lf_floor.specs.SavedStates.{saved_teams_of};
 
     ghost saved = { λ t. saved_teams_of t };
 
@@ -220,27 +220,27 @@ impl<'a> TeamViews for StateView<'a> {
     }
 
     fn padding(&self, team: usize) -> Padding {
-        told_padding(self.tables, team)
+        reported_padding(self.tables, team)
     }
 
     fn slots(&self, team: usize) -> &[Option<u32>] {
-        told_slots(self.tables, team)
+        reported_slots(self.tables, team)
     }
 
     fn cell_count(&self, team: usize) -> usize {
-        told_cells(self.tables, team)
+        reported_cells(self.tables, team)
     }
 
     fn cell(&self, team: usize, own: usize) -> Option<SavedCell> {
-        told_cell(self.tables, team, own)
+        reported_cell(self.tables, team, own)
     }
 
     fn entry_count(&self, team: usize) -> usize {
-        told_entries(self.tables, team)
+        reported_entries(self.tables, team)
     }
 
     fn entry(&self, team: usize, newer: usize) -> Option<&Moves> {
-        told_entry(self.tables, team, newer)
+        reported_entry(self.tables, team, newer)
     }
 }
 
@@ -250,8 +250,8 @@ fn put_tables<O: Output>(out: &mut O, tables: &Tables)
     ensures { (text : List ℕ) × IsStateText (floor_in tables.now) text × PutsText O.took out.old out.new text }
 {
     fences_are_few(tables.placement.frame());
-    let told = StateView { tables };
-    write_state(out, &told, &told);
+    let reported = StateView { tables };
+    write_state(out, &reported, &reported);
 }
 
 impl<S: Seeker + Drop> Floor<S> {

@@ -24,8 +24,8 @@ use Rattle.lf_proto.specs.declared.verb.Action.TheVariants.{Close, Sync, Check, 
 use Rattle.lf_proto.specs.declared.verb.Change.{Change}
 use Rattle.lf_proto.specs.declared.verb.Change.TheVariants.{Place as PlaceAt, Legalize, Tidy, Unplace, Swap, Undo, Commit, Revert, Pad}
 use Rattle.lf_floor_model.specs.Outcomes.{Outcome, is_short, refused, changed, with_entry}
-use Rattle.lf_floor_model.specs.Sessions.{with_slot, seen_at, opened, opened_at, closed, synced}
-use Rattle.lf_floor_model.specs.Looks.{checked, written, located, located_own, located_at, best_at, found, found_own, found_at}
+use Rattle.lf_floor_model.specs.Sessions.{with_session_slot, seen_at, opened, opened_at, closed, synced}
+use Rattle.lf_floor_model.specs.Queries.{checked, written, located, located_own, located_at, best_at, found, found_own, found_at}
 use Rattle.lf_reports.specs.declared.broken_cell.BrokenCell.{BrokenCell}
 use Rattle.lf_floor_model.specs.Changes.{placed, placed_own, placed_unless, unplaced, unplaced_own, unplaced_from, legalized, legalized_own, legalized_at, restored, places_in, tidied_by, tidied_team, broken_where, exchanged, swapped_unless, swapped_from, swapped_own, swapped, back_to_committed, reverted, undone_by, undone, padded, first_unplaced, broken_cells, committed_unless, committed, outcome_of_change}
 use Rattle.lf_floor_model.specs.Verbs.{is_recorded, unless_spent, unless_stale, outcome_within, outcome_by_slot, outcome_of, takes_memory}
@@ -73,8 +73,8 @@ pub record AreSwapped (t : TeamRules) (s : TeamState) (name other : List ℕ) (c
   pub place' : Place
   pub named : cell_named name s.cells ≡ Some first
   pub named' : cell_named other s.cells ≡ Some second
-  pub stands : working_at s.cells first ≡ Some place
-  pub stands' : working_at s.cells second ≡ Some place'
+  pub is_in_place : working_at s.cells first ≡ Some place
+  pub is_in_place' : working_at s.cells second ≡ Some place'
   pub unbroken : broken_where t (exchanged s.cells first second) first ≡ None
   pub unbroken' : broken_where t (exchanged s.cells first second) second ≡ None
   pub are : cells ≡ exchanged s.cells first second
@@ -193,7 +193,7 @@ with_padding padding s = record s { padding = padding }
 -- the session has seen it; cells, undo entries and padding are those after this change
 pub record IsChangeOf (t : TeamRules) (session : ℕ) (change : Change (List ℕ) Place) (s : TeamState) (o : Outcome) : Type 0 where
   pub allowed : MayChange t session s
-  pub told : replied_revision o.reply ≡ Some (s.revision + 1)
+  pub reported : replied_revision o.reply ≡ Some (s.revision + 1)
   pub team : o.team ≡ (changed session o.team.cells o.team.entries (with_padding o.team.padding s)).team
   pub cells : CellsAfter t s change o.team.cells
   pub entries : EntriesAfter t s change o.team.entries
@@ -210,7 +210,7 @@ pub record HasSlot (s new : TeamState) : Type 0 where
   pub session : ℕ
   pub seen : Option ℕ
   pub past : IfSome seen (λ n. n ≤ s.revision)
-  pub is : new ≡ with_slot session seen s
+  pub is : new ≡ with_session_slot session seen s
 
 -- the reply contains a report or a DEF text
 abbrev pub has_text : Reply → Bool
@@ -251,8 +251,8 @@ module _ (t : TeamRules) (s : TeamState) (session : ℕ) where
     done : (change : Change (List ℕ) Place) (reply : Reply) (cells : List Cell) (entries : List (List (Option Place)))
         → replied_revision reply ≡ Some (s.revision + 1) → PaddingAfter change s s.padding → CellsAfter t s change cells → EntriesAfter t s change entries
         → Ends t s session change (record { reply = reply; team = (changed session cells entries s).team })
-    done change reply cells entries told same after left =
-        inr (record { allowed = may; told = told; team = refl; cells = after; entries = left; padding = same })
+    done change reply cells entries reported same after left =
+        inr (record { allowed = may; reported = reported; team = refl; cells = after; entries = left; padding = same })
 
     placed_by : (name : List ℕ) (place : Place) → Ends t s session (PlaceAt name place) (placed t session name place s)
     unfolding placed
@@ -310,8 +310,8 @@ module _ (t : TeamRules) (s : TeamState) (session : ℕ) where
         place' = q;
         named = first;
         named' = second;
-        stands = at_n;
-        stands' = at_m;
+        is_in_place = at_n;
+        is_in_place' = at_m;
         unbroken = e_b;
         unbroken' = e_c;
         are = refl;
@@ -355,7 +355,7 @@ module _ (t : TeamRules) (s : TeamState) (session : ℕ) where
 
     padded_by : (padding : Padding) → Ends t s session (Pad padding) (padded padding session s)
     unfolding padded
-    padded_by padding = inr (record { allowed = may; told = refl; team = refl; cells = refl; entries = inl refl; padding = refl })
+    padded_by padding = inr (record { allowed = may; reported = refl; team = refl; cells = refl; entries = inl refl; padding = refl })
 
     change_by : (change : Change (List ℕ) Place) → Ends t s session change (outcome_of_change t session change s)
     change_by (PlaceAt name place) = placed_by name place
@@ -386,13 +386,13 @@ module _ (t : TeamRules) (s : TeamState) (session : ℕ) where
   slot_by change (Some n) seen = stale_by change n seen
 
 -- a change is refused or done
-asked_by : (t : TeamRules) (session : ℕ) (change : Change (List ℕ) Place) (s : TeamState) → Ends t s session change (outcome_of_asking t session change s)
-asked_by t session change s = slot_by t s session change (seen_at s.slots session) refl
+requested_by : (t : TeamRules) (session : ℕ) (change : Change (List ℕ) Place) (s : TeamState) → Ends t s session change (outcome_of_asking t session change s)
+requested_by t session change s = slot_by t s session change (seen_at s.slots session) refl
 
 -- an accepted change is done
 pub accepted_is : (t : TeamRules) (session : ℕ) (change : Change (List ℕ) Place) (s : TeamState) → is_accepted (outcome_of_asking t session change s) ≡ true
     → IsChangeOf t session change s (outcome_of_asking t session change s)
-accepted_is t session change s accepted = by (asked_by t session change s) where
+accepted_is t session change s accepted = by (requested_by t session change s) where
   by : Ends t s session change (outcome_of_asking t session change s) → IsChangeOf t session change s (outcome_of_asking t session change s)
   by (inl r) = absurd (false≢true (sym (ap is_accepted r.is) ∙ accepted))
   by (inr is) = is
@@ -404,9 +404,9 @@ module _ (t : TeamRules) (s : TeamState) where
   refuse order r plain = inl (record { refusal = r; plain = plain; is = refl })
 
   -- the reply contains no text, and the team is unchanged
-  tells : (order : TeamCommand (List ℕ) Place) (reply : Reply) → is_change order ≡ false → is_accepted (record { reply = reply; team = s }) ≡ true → has_text reply ≡ false
+  decides : (order : TeamCommand (List ℕ) Place) (reply : Reply) → is_change order ≡ false → is_accepted (record { reply = reply; team = s }) ≡ true → has_text reply ≡ false
       → Facts t s order (record { reply = reply; team = s })
-  tells order reply look accepted short =
+  decides order reply look accepted short =
       inr (inl (record { look = look; accepted = accepted; team = inl refl; text = λ long. absurd (false≢true (sym short ∙ long)) }))
 
   -- the reply contains a text
@@ -416,8 +416,8 @@ module _ (t : TeamRules) (s : TeamState) where
 
   -- the session's slot is replaced
   slots : (order : TeamCommand (List ℕ) Place) (reply : Reply) (session : ℕ) (seen : Option ℕ) → is_change order ≡ false
-      → is_accepted (record { reply = reply; team = with_slot session seen s }) ≡ true → has_text reply ≡ false → IfSome seen (λ n. n ≤ s.revision)
-      → Facts t s order (record { reply = reply; team = with_slot session seen s })
+      → is_accepted (record { reply = reply; team = with_session_slot session seen s }) ≡ true → has_text reply ≡ false → IfSome seen (λ n. n ≤ s.revision)
+      → Facts t s order (record { reply = reply; team = with_session_slot session seen s })
   slots order reply session seen look accepted short past = inr (inl (record {
     look = look;
     accepted = accepted;
@@ -437,7 +437,7 @@ module _ (t : TeamRules) (s : TeamState) where
   located_by session name = own (cell_named name s.cells) where
     at : (o : Option Place) (n : ℕ) → Facts t s (Within session (Where name)) (located_at o n s)
     at None n = refuse _ (Unplaced n) refl
-    at (Some place) n = tells _ (At place) refl refl refl
+    at (Some place) n = decides _ (At place) refl refl refl
 
     own : (o : Option ℕ) → Facts t s (Within session (Where name)) (located_own o s)
     own None = refuse _ NoCell refl
@@ -448,7 +448,7 @@ module _ (t : TeamRules) (s : TeamState) where
   found_by session name target = own (cell_named name s.cells) where
     at : (o : Option Place) (n : ℕ) → Facts t s (Within session (Find name target)) (found_at o n s)
     at None n = refuse _ (NoPlace n) refl
-    at (Some place) n = tells _ (At place) refl refl refl
+    at (Some place) n = decides _ (At place) refl refl refl
 
     own : (o : Option ℕ) → Facts t s (Within session (Find name target)) (found_own o t target s)
     own None = refuse _ NoCell refl

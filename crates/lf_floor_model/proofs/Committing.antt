@@ -16,8 +16,8 @@ use Rattle.lf_floor_model.specs.Verbs.{outcome_of}
 use Rattle.lf_floor_model.specs.VerbLaws.{AreLegal, is_accepted, committed_places}
 use Rattle.lf_floor_model.specs.Committed.{committed_member, AreCommittedLegal}
 use Rattle.lf_floor_model.proofs.Cases.{AreCommitted, Facts, accepted_is, order_facts, part_stays}
-use Rattle.lf_rules.proofs.TidyLemmas.{less_stands}
-use Rattle.lf_floor_model.proofs.Tidying.{committed_stand}
+use Rattle.lf_rules.proofs.TidyLemmas.{less_is_placed}
+use Rattle.lf_floor_model.proofs.Tidying.{committed_are_placed}
 
 -- after a commit the committed places are the working places
 committed_as : (cells : List Cell) → map committed_member (map as_committed cells) ≡ map member_of (map as_committed cells)
@@ -42,13 +42,13 @@ alike t s cells same before own = subst (λ (ms : List Member). IsLegalCell t.fr
 module _ (t : TeamRules) (s : TeamState) (known : IsTeamOf t.frame s) where
   commit_ends : (team : TeamState) → AreCommitted t s team.cells → Commits t team
   commit_ends team after =
-      let legal = committed_stand t s.cells known.sized after.placed after.unbroken in
+      let legal = committed_are_placed t s.cells known.sized after.placed after.unbroken in
       record {
         same = subst (λ (cs : List Cell). map (λ (c : Cell). c.committed) cs ≡ map (λ (c : Cell). c.working) cs) (sym after.are) (places_as s.cells);
         legal = λ own. subst (λ (cs : List Cell). IsLegalCell t.frame t.number t.padding (map member_of cs) own) (sym after.are) (legal own);
         committed = λ own. subst (λ (cs : List Cell). IsLegalCell t.frame t.number 0 (map committed_member cs) own) (sym after.are)
             (subst (λ (ms : List Member). IsLegalCell t.frame t.number 0 ms own) (sym (committed_as s.cells))
-            (less_stands t.frame t.number 0 t.padding (map member_of (map as_committed s.cells)) own (omega arith) (legal own)));
+            (less_is_placed t.frame t.number 0 t.padding (map member_of (map as_committed s.cells)) own (omega arith) (legal own)));
       }
 
   -- legal committed places stay legal after any command

@@ -61,11 +61,11 @@ module _ (l : Legalizer) (frame : Frame) (team : List ℕ) (number : ℕ) (named
   skip : (c : Command (List ℕ) Place) (r : Reply) → own_reply_before team c r (own_replies_in team cs rs) ≡ own_replies_in team cs rs
       → own_command_before team c r (own_commands team cs rs) ≡ own_commands team cs rs → state_of mid team ≡ state_of old team → (s : TeamState) → state_of old team ≡ Some s
       → IsOwnRun l frame number team s (c ∷ cs) (r ∷ rs) new
-  skip c r told_same asked_same same s there =
+  skip c r reported_same requested_same same s there =
       let rest = later s (same ∙ there) in
       record {
-        replies_are = told_same ∙ rest.replies_are ∙ ap (λ (os : List (TeamCommand (List ℕ) Place)). own_replies l frame number os s) (sym asked_same);
-        state_is = rest.state_is ∙ ap (λ (os : List (TeamCommand (List ℕ) Place)). Some (own_state l frame number os s)) (sym asked_same);
+        replies_are = reported_same ∙ rest.replies_are ∙ ap (λ (os : List (TeamCommand (List ℕ) Place)). own_replies l frame number os s) (sym requested_same);
+        state_is = rest.state_is ∙ ap (λ (os : List (TeamCommand (List ℕ) Place)). Some (own_state l frame number os s)) (sym requested_same);
       }
 
   -- a command of this team
@@ -73,15 +73,15 @@ module _ (l : Legalizer) (frame : Frame) (team : List ℕ) (number : ℕ) (named
       → state_of mid team ≡ Some (outcome_by_rules l frame number order s).team → (own_reply_before team (To name order) r (own_replies_in team cs rs) ≡ r ∷ own_replies_in team cs rs)
       → (own_command_before team (To name order) r (own_commands team cs rs) ≡ order ∷ own_commands team cs rs)
       → IsOwnRun l frame number team s (To name order ∷ cs) (r ∷ rs) new
-  turn name order r s reply_is there told_is asked_is =
+  turn name order r s reply_is there reported_is requested_is =
       let next = (outcome_by_rules l frame number order s).team in
       let rest = later next there in
       record {
         replies_are =
-            told_is ∙ ap (λ (x : Reply). x ∷ own_replies_in team cs rs) reply_is
+            reported_is ∙ ap (λ (x : Reply). x ∷ own_replies_in team cs rs) reply_is
             ∙ ap (λ (xs : List Reply). (outcome_by_rules l frame number order s).reply ∷ xs) rest.replies_are
-            ∙ ap (λ (os : List (TeamCommand (List ℕ) Place)). own_replies l frame number os s) (sym asked_is);
-        state_is = rest.state_is ∙ ap (λ (os : List (TeamCommand (List ℕ) Place)). Some (own_state l frame number os s)) (sym asked_is);
+            ∙ ap (λ (os : List (TeamCommand (List ℕ) Place)). own_replies l frame number os s) (sym requested_is);
+        state_is = rest.state_is ∙ ap (λ (os : List (TeamCommand (List ℕ) Place)). Some (own_state l frame number os s)) (sym requested_is);
       }
 
   counted : (name : List ℕ) (order : TeamCommand (List ℕ) Place) (r : Reply) (b : Bool) → (bytes_eq name team && not (is_short r)) ≡ b

@@ -19,7 +19,7 @@ use Rattle.lf_floor_model.specs.States.{TeamState, FloorState}
 use Rattle.lf_floor_model.specs.Teams.{TeamRules, team_rules, team_number}
 use Rattle.lf_floor_model.specs.Outcomes.{is_short}
 use Rattle.lf_floor_model.specs.Sessions.{seen_at}
-use Rattle.lf_floor_model.specs.Looks.{best_at, checked, found, found_at, found_own, located, located_at, located_own, written}
+use Rattle.lf_floor_model.specs.Queries.{best_at, checked, found, found_at, found_own, located, located_at, located_own, written}
 use Rattle.lf_floor_model.specs.Verbs.{outcome_of, outcome_by_slot, outcome_within}
 use Rattle.lf_floor_model.specs.VerbLaws.{is_ok}
 use Rattle.lf_floor_model.specs.Steps.{outcome_by_rules, answer_by, answer_at, answer_of, IsAnswerOf, MayRunOutOfMemory}

@@ -18,7 +18,7 @@ use Rattle.lf_proto.specs.declared.verb.Action.TheVariants.{Change as Changing}
 use Rattle.lf_proto.specs.declared.verb.Change.{Change}
 use Rattle.lf_proto.specs.declared.verb.Change.TheVariants.{Pad}
 use Rattle.lf_floor_model.specs.Outcomes.{Outcome, is_short, places_of, changed, with_entry}
-use Rattle.lf_floor_model.specs.Sessions.{with_slot, seen_at}
+use Rattle.lf_floor_model.specs.Sessions.{with_session_slot, seen_at}
 use Rattle.lf_floor_model.specs.Verbs.{is_recorded, outcome_of}
 use Rattle.lf_floor_model.specs.VerbLaws.{CountsOne, KeepsCells, is_accepted, is_ok, is_change, is_commit, is_pad, committed_places, replied_revision, outcome_of_asking}
 use Rattle.lf_floor_model.proofs.Cases.{with_padding, PaddingAfter, AreLeft, EntriesAfter, Facts, IsChangeOf, accepted_is, macs_stay, names_stay, order_facts, part_stays}
@@ -33,9 +33,9 @@ granted_plain (Refused refusal) granted = absurd (false_true granted)
 granted_plain _ granted = refl
 
 -- a reply that contains a revision is not a refusal
-told_granted : (reply : Reply) (revision : ℕ) → replied_revision reply ≡ Some revision → is_ok reply ≡ true
-told_granted (Refused refusal) revision told = absurd cc
-told_granted _ revision told = refl
+reported_granted : (reply : Reply) (revision : ℕ) → replied_revision reply ≡ Some revision → is_ok reply ≡ true
+reported_granted (Refused refusal) revision reported = absurd cc
+reported_granted _ revision reported = refl
 
 -- the rules never have the outcome OutOfMemory
 pub never_short : (t : TeamRules) (verb : TeamCommand (List ℕ) Place) (s : TeamState) → is_short (outcome_of t verb s).reply ≡ false
@@ -43,7 +43,7 @@ never_short t verb s = by (outcome_of t verb s) (order_facts t verb s) where
   by : (o : Outcome) → Facts t s verb o → is_short o.reply ≡ false
   by o (inl r) = ap (λ (o : Outcome). is_short o.reply) r.is ∙ r.plain
   by o (inr (inl look)) = granted_plain o.reply look.accepted
-  by o (inr (inr done)) = granted_plain o.reply (told_granted o.reply (s.revision + 1) done.is.told)
+  by o (inr (inr done)) = granted_plain o.reply (reported_granted o.reply (s.revision + 1) done.is.reported)
 
 -- if the outcome is a refusal, the team is unchanged
 abbrev pub LeavesIfRefused : TeamState → Outcome → Type 0
@@ -59,7 +59,7 @@ refusal_leaves t verb s = by (outcome_of t verb s) (order_facts t verb s) where
   by : (o : Outcome) → Facts t s verb o → LeavesIfRefused s o
   by o (inl r) = λ refusal is. ap (λ (o : Outcome). o.team) r.is
   by o (inr (inl look)) = granted s o look.accepted
-  by o (inr (inr done)) = granted s o (told_granted o.reply (s.revision + 1) done.is.told)
+  by o (inr (inr done)) = granted s o (reported_granted o.reply (s.revision + 1) done.is.reported)
 
 -- ---- revisions
 
@@ -85,7 +85,7 @@ change_counted t session change s accepted =
       allowed = c.allowed;
       counts = record {
         counted = ap (λ (n : TeamState). n.revision) c.team;
-        told = c.told;
+        reported = c.reported;
         seen = ap (λ (n : TeamState). seen_at n.slots session) c.team ∙ seen_set s.slots session s.revision (s.revision + 1) c.allowed.seen;
         others = λ other differ. ap (λ (n : TeamState). seen_at n.slots other) c.team ∙ seen_other s.slots session other (Some (s.revision + 1)) differ;
       };
@@ -185,7 +185,7 @@ padded_team t s padding h = record {
 
 -- one slot is written, with a revision not above the present one
 with_slot_team : (t : TeamRules) (s : TeamState) (session : ℕ) (seen : Option ℕ) → IfSome seen (λ n. n ≤ s.revision) → IsTeamOf t.frame s
-    → IsTeamOf t.frame (with_slot session seen s)
+    → IsTeamOf t.frame (with_session_slot session seen s)
 with_slot_team t s session seen past h = record {
   sized = h.sized;
   printed = h.printed;

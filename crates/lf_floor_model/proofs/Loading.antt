@@ -4,13 +4,13 @@ use Rattle.std.specs.Prelude.{All, slice_get, unwrap_or, option_map}
 use Rattle.std.proofs.lemmas.Bool.{eqb-true}
 use Rattle.std.proofs.lemmas.List.Elements.{All-head, All-tail}
 use Rattle.std.proofs.lemmas.Option.{slice_get-map, slice_get_within}
-use Rattle.lf_floorplan.specs.declared.loaded.Cell.{Cell as LoadedCell}
+use Rattle.lf_floorplan.specs.declared.loaded.LoadedCell.{LoadedCell}
 use Rattle.lf_floorplan.specs.declared.loaded.Loaded.{Loaded}
 use Rattle.lf_floorplan.specs.declared.place.Place.{Place}
 use Rattle.lf_rules.specs.Choice.{spot_of}
 use Rattle.lf_rules.specs.FullyLegal.{DesignCell, design_cells_at, with_team}
 use Rattle.lf_rules.specs.Team.{Member}
-use Rattle.lf_cells.specs.Openings.{initial_cell, own_cells}
+use Rattle.lf_cells.specs.Initial.{initial_cell, own_cells}
 use Rattle.lf_floor_model.specs.States.{TeamState}
 use Rattle.lf_floor_model.specs.Teams.{team_number, state_of}
 use Rattle.lf_floor_model.specs.Designs.{initial_team, initial_floor}

@@ -6,20 +6,20 @@ use Rattle.std.proofs.lemmas.List.Elements.{All-cons, All-filter, All-map}
 use Rattle.std.proofs.lemmas.List.Kept.{AllPairs-filter}
 use Rattle.std.proofs.lemmas.List.Quantifiers.{position-Some}
 use Rattle.lf_floorplan.specs.declared.frame.Frame.{Frame}
-use Rattle.lf_floorplan.specs.declared.loaded.Cell.{Cell as LoadedCell}
+use Rattle.lf_floorplan.specs.declared.loaded.LoadedCell.{LoadedCell}
 use Rattle.lf_floorplan.specs.declared.loaded.Loaded.{Loaded}
 use Rattle.lf_floorplan.specs.declared.macros.Macro.{Macro}
 use Rattle.lf_floorplan.specs.declared.parts.Team.{Team}
 use Rattle.lf_floorplan.specs.Boxes.{macro_of, no_macro}
 use Rattle.lf_floorplan.specs.Design.{IsCell}
 use Rattle.lf_floorplan.specs.Fences.{ground_name}
-use Rattle.lf_floorplan.specs.Bounds.{IsName}
+use Rattle.lf_floorplan.specs.Bounds.{IsDesignName}
 use Rattle.lf_cells.specs.declared.cell.Cell.{Cell}
 use Rattle.lf_floor_model.specs.States.{TeamState}
 use Rattle.lf_floor_model.specs.Teams.{team_names, team_number, state_at, state_of, IsTeamOf}
 use Rattle.lf_legalize.specs.Members.{IsSizedCell}
 use Rattle.lf_floor_model.specs.Designs.{initial_team, initial_teams, initial_floor, AgreeFor}
-use Rattle.lf_cells.specs.Openings.{initial_cell, own_cells}
+use Rattle.lf_cells.specs.Initial.{initial_cell, own_cells}
 
 slice_get_some : {X : Type 0} (xs : List X) (i : ℕ) → i < length xs → (x : X) × (slice_get xs i ≡ Some x)
 slice_get_some [] i within = absurd (omega arith)
@@ -103,7 +103,7 @@ opened_team design number =
       sized =
           All-map (λ (c : Cell). IsSizedCell design.frame c) initial_cell own (All-filter (λ (c : LoadedCell). eqb c.team number) (λ (c : LoadedCell). IsSizedCell design.frame (initial_cell c)) design.cells known);
       printed =
-          All-map (λ (c : Cell). IsName c.name) initial_cell own (All-filter (λ (c : LoadedCell). eqb c.team number) (λ (c : LoadedCell). IsName c.name) design.cells (λ i d within. (design.cells_known i d within).name_printed));
+          All-map (λ (c : Cell). IsDesignName c.name) initial_cell own (All-filter (λ (c : LoadedCell). eqb c.team number) (λ (c : LoadedCell). IsDesignName c.name) design.cells (λ i d within. (design.cells_known i d within).name_printed));
       names_differ =
           pairs_map (λ (c : Cell). c.name) (λ a b. a ≢ b) (map initial_cell own)
           (pairs_map initial_cell (λ (a : Cell) (b : Cell). a.name ≢ b.name) own

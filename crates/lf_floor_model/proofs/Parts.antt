@@ -109,13 +109,13 @@ part_legal f cells team legal = record {
   apart = AllPairs-filter (λ a b. DoNotOverlap f a b) (λ c. eqb c.team team) cells legal.apart;
 }
 
-stands_in : (team : ℕ) (cells : List Member) (own : ℕ) (m : Member) → slice_get cells own ≡ Some m
+is_placed_in : (team : ℕ) (cells : List Member) (own : ℕ) (m : Member) → slice_get cells own ≡ Some m
     → slice_get (with_team team cells []) own ≡ Some (design_cell team m)
-stands_in team [] own m there = absurd cc
-stands_in team (x ∷ xs) zero m there =
+is_placed_in team [] own m there = absurd cc
+is_placed_in team (x ∷ xs) zero m there =
     let same : x ≡ m = cc in
     ap (λ (y : Member). Some (design_cell team y)) same
-stands_in team (x ∷ xs) (suc own) m there = stands_in team xs own m there
+is_placed_in team (x ∷ xs) (suc own) m there = is_placed_in team xs own m there
 
 before_or_after : (k own : ℕ) → k ≢ own → (own < k) ⊎ (k < own)
 before_or_after k own differ = grind (arith, differ)
@@ -130,35 +130,35 @@ module _ (f : Frame) (team : ℕ) (cells : List Member) (legal : IsFullyLegal f 
       → SharesPoint (box_in f a.mac p) (box_in f b.mac q) → ⊥
   two_apart i j a b p q less here there is_p is_q =
       each_two (λ a b. DoNotOverlap f a b) (with_team team cells []) i j (design_cell team a) (design_cell team b) legal.apart less
-      (stands_in team cells i a here) (stands_in team cells j b there) p is_p q is_q
+      (is_placed_in team cells i a here) (is_placed_in team cells j b there) p is_p q is_q
 
   clear : (own : ℕ) (m : Member) (p : SpotPlace) → slice_get cells own ≡ Some m → m.place ≡ Some p → Clear f cells own (box_in f m.mac p)
-  clear own m p there is k n q differ here at meets = elim (before_or_after k own differ) [
-    | inl after ↦ two_apart own k m n p q after there here is at meets
-    | inr before ↦ two_apart k own n m q p before here there at is (turn (box_in f m.mac p) (box_in f n.mac q) meets)
+  clear own m p there is k n q differ here at does_overlap = elim (before_or_after k own differ) [
+    | inl after ↦ two_apart own k m n p q after there here is at does_overlap
+    | inr before ↦ two_apart k own n m q p before here there at is (turn (box_in f m.mac p) (box_in f n.mac q) does_overlap)
   ]
 
   legal_where : (own : ℕ) (m : Member) (p : SpotPlace) → KeepsRules f (design_cell team m) p → Clear f cells own (box_in f m.mac p)
       → IsLegalAt (query_from f team 0 cells own m.mac) p
   legal_where own m p keeps clear =
-      let lifted = query_from f team 0 cells own m.mac in
-      (legal_by_parts (candidate_at lifted p)).1 (
-        frame_beside (candidate_alone f (design_cell team m) p) lifted.others keeps,
-        subst (λ (box : Rect). All (λ other. SharesPoint box other.rect → ⊥) lifted.others) (sym (wider_none f (box_in f m.mac p)))
+      let query_unplaced = query_from f team 0 cells own m.mac in
+      (legal_by_parts (candidate_at query_unplaced p)).1 (
+        frame_beside (candidate_alone f (design_cell team m) p) query_unplaced.others keeps,
+        subst (λ (box : Rect). All (λ other. SharesPoint box other.rect → ⊥) query_unplaced.others) (sym (wider_none f (box_in f m.mac p)))
             (beside_hold (λ rect. SharesPoint (box_in f m.mac p) rect → ⊥) f cells own clear),
       )
 
-  stands_alone : (own : ℕ) → IsLegalCell f team 0 cells own
-  stands_alone own m there = by m.place refl where
+  is_placed_alone : (own : ℕ) → IsLegalCell f team 0 cells own
+  is_placed_alone own m there = by m.place refl where
     placed : IsSome m.place
-    placed = each (λ (c : DesignCell). IsSome c.place) (with_team team cells []) own (design_cell team m) legal.placed (stands_in team cells own m there)
+    placed = each (λ (c : DesignCell). IsSome c.place) (with_team team cells []) own (design_cell team m) legal.placed (is_placed_in team cells own m there)
 
     by : (place : Option SpotPlace) → m.place ≡ place → MatchOption place ⊥ (λ p. IsLegalAt (query_from f team 0 cells own m.mac) p)
     by None is = absurd (not_placed m.place is placed)
     by (Some p) is =
         let keeps : KeepsRules f (design_cell team m) p =
         each (λ (c : DesignCell). ForSome c.place (λ p. KeepsRules f c p)) (with_team team cells []) own (design_cell team m) legal.kept
-        (stands_in team cells own m there) p is in
+        (is_placed_in team cells own m there) p is in
         legal_where own m p keeps (clear own m p there is)
 
 -- in a fully legal design each team's cells are placed and team-legal
@@ -167,7 +167,7 @@ pub legal_teams : (f : Frame) (teams : List (List Member)) → IsFullyLegal f (d
 legal_teams f teams legal team cells there own =
     let is : part_of team (design_cells_from 0 teams) ≡ with_team team cells [] =
     part_is team teams ∙ ap (λ (o : Option (List Member)). with_team team (unwrap_or o []) []) there in
-    stands_alone f team cells (subst (λ (cs : List DesignCell). IsFullyLegal f cs) is (part_legal f (design_cells_from 0 teams) team legal)) own
+    is_placed_alone f team cells (subst (λ (cs : List DesignCell). IsFullyLegal f cs) is (part_legal f (design_cells_from 0 teams) team legal)) own
 
 -- ---- a design from its parts
 
@@ -221,10 +221,10 @@ pub same_parts : (f : Frame) (a b : List DesignCell) → ((team : ℕ) → part_
 same_parts f a b same legal = record {
   placed = all_by_parts (λ c. IsSome c.place) b (λ team. (own team).placed);
   kept = kept;
-  apart = pairs_by_parts (λ a b. DoNotOverlap f a b) b (λ team. (own team).apart) (λ i j d less within differ p is_p q is_q meets.
+  apart = pairs_by_parts (λ a b. DoNotOverlap f a b) b (λ team. (own team).apart) (λ i j d less within differ p is_p q is_q does_overlap.
       teams_apart f (get_or b i d).team (get_or b j d).team (box_in f (get_or b i d).mac p) (box_in f (get_or b j d).mac q) differ
       (frame_meant (candidate_alone f (get_or b i d) p) (kept i d (omega (arith, less, within)) p is_p)).ground
-      (frame_meant (candidate_alone f (get_or b j d) q) (kept j d within q is_q)).ground meets);
+      (frame_meant (candidate_alone f (get_or b j d) q) (kept j d within q is_q)).ground does_overlap);
 } where
   own : (team : ℕ) → IsFullyLegal f (part_of team b)
   own team = subst (λ (cs : List DesignCell). IsFullyLegal f cs) (same team) (part_legal f a team legal)

@@ -7,11 +7,11 @@ use Rattle.std.proofs.lemmas.List.{get_or_past, length-map}
 use Rattle.std.proofs.lemmas.List.Elements.{All-contains, All-contains_itself, All-filter, filter_passes}
 use Rattle.std.proofs.lemmas.List.FromFn.{length-map-range_with_len, get_or-map-range_with_len}
 use Rattle.std.proofs.lemmas.Option.{slice_get-map, slice_get_within, get_or_from_slice_get}
-use Rattle.lf_floorplan.specs.declared.loaded.Cell.{Cell as LoadedCell}
+use Rattle.lf_floorplan.specs.declared.loaded.LoadedCell.{LoadedCell}
 use Rattle.lf_floorplan.specs.declared.loaded.Loaded.{Loaded}
 use Rattle.lf_floorplan.specs.declared.place.Place.{Place}
 use Rattle.lf_cells.specs.declared.cell.Cell.{Cell}
-use Rattle.lf_cells.specs.Openings.{initial_cell, initial_components, own_cells, own_components}
+use Rattle.lf_cells.specs.Initial.{initial_cell, initial_components, own_cells, own_components}
 use Rattle.lf_floor_model.specs.States.{TeamState}
 use Rattle.lf_floor_model.specs.Designs.{initial_floor}
 use Rattle.lf_floor_model.specs.Places.{IsCommittedAt, PlacesBeginAsLoaded, PlacesFollowDesign, cell_in}
@@ -63,8 +63,8 @@ module _ {X : Type 0} (key : X → ℕ) where
     where
       first : (y ≡ x) ⊎ Contains ys x → (x ≡ y) ⊎ Contains xs y → x ≡ y
       first (inl is) found = sym is
-      first (inr behind) (inl is) = is
-      first (inr behind) (inr after) = absurd (omega (arith, head_below y ys rise' x behind, head_below x xs rise y after))
+      first (inr after_it) (inl is) = is
+      first (inr after_it) (inr after) = absurd (omega (arith, head_below y ys rise' x after_it, head_below x xs rise y after))
 
       same : x ≡ y
       same = first (in_tail y ys x (there x (at_head x xs))) (in_tail x xs y (back y (at_head y ys)))
@@ -221,9 +221,9 @@ places_begin design places are =
         let entry = entry_from design cell.0 cell.1 e.0 cell.2.position in
         let c = entry.0 in
         let within : cell.0 < length design.frame.teams + 1 = rw (← own_team_is design cell.0 cell.1 c entry.1) (team_within design c entry.1.held) in
-        let stands : Some c.place ≡ Some e.1 =
+        let is_in_place : Some c.place ≡ Some e.1 =
         ap (option_map (λ (d : Cell). d.committed)) (sym (opening_at design cell.0 cell.1 c within entry.1)) ∙ cell.2.place in
-        let is : loaded_entry c ≡ e = ap (λ (k : ℕ). (k, c.place)) entry.2 ∙ ap (λ (p : Option Place). (e.0, p)) (some_one stands) in
+        let is : loaded_entry c ≡ e = ap (λ (k : ℕ). (k, c.place)) entry.2 ∙ ap (λ (p : Option Place). (e.0, p)) (some_one is_in_place) in
         subst (λ (x : ℕ × Option Place). Contains (map loaded_entry design.cells) x) is (contains_mapped loaded_entry design.cells c entry.1.held)
 
     back : (e : ℕ × Option Place) → Contains (map loaded_entry design.cells) e → Contains places e

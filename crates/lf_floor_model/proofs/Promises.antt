@@ -114,8 +114,8 @@ pub ends_good : (l : Legalizer) (old new : FloorState) (command : Command (List 
     (Good : TeamRules → TeamState → Type 0) → All (λ s. IsTeamOf old.frame s) old.teams → IsAnswerOf l old command reply new → command ≡ To team order
     → is_ok reply ≡ true → is_pad order ≡ false → Makes order Good → Ends l new team Good
 ends_good l old new command reply team order Good known answers is granted plain makes =
-    let asked = subst (λ (c : Command (List ℕ) Place). IsAnswerOf l old c reply new) is answers in
-    by_number l old new known team order Good makes plain reply granted asked (team_number old.frame team) refl
+    let requested = subst (λ (c : Command (List ℕ) Place). IsAnswerOf l old c reply new) is answers in
+    by_number l old new known team order Good makes plain reply granted requested (team_number old.frame team) refl
 
 module _ (l : Legalizer) (in_range : LegalInRange) (old new : FloorState) (command : Command (List ℕ) Place) (reply : Reply) where
   module _ (known : All (λ s. IsTeamOf old.frame s) old.teams) (answers : IsAnswerOf l old command reply new) where

@@ -137,8 +137,8 @@ commit_lasts l old new commands replies known run team number s had named there 
     (ap (state_at new.teams) (sym named) ∙ there)
 
 -- a team with no cells has no committed place that breaks a rule
-none_stand : (l : Legalizer) (floor : FloorState) (k : ℕ) (s : TeamState) → slice_get floor.teams k ≡ Some s → s.cells ≡ [] → CommittedAt floor k
-none_stand l floor k s there none t here own m at =
+none_are_placed : (l : Legalizer) (floor : FloorState) (k : ℕ) (s : TeamState) → slice_get floor.teams k ≡ Some s → s.cells ≡ [] → CommittedAt floor k
+none_are_placed l floor k s there none t here own m at =
     let same : t ≡ s = some_one (sym here ∙ there) in
     let cells : committed_members t ≡ [] = ap committed_members same ∙ ap (λ (cs : List Cell). map committed_member cs) none in
     absurd (none_some (sym (ap (λ (ms : List Member). slice_get ms own) cells) ∙ at))
@@ -151,7 +151,7 @@ commits_legal l commands replies old new known run all =
   where
     by_cells : (k : ℕ) (s : TeamState) → slice_get old.teams k ≡ Some s → (cells : List Cell) → s.cells ≡ cells
         → CommittedAt old k ⊎ NumberHasCommitted old.frame k commands replies
-    by_cells k s there [] none = inl (none_stand l old k s there none)
+    by_cells k s there [] none = inl (none_are_placed l old k s there none)
     by_cells k s there (c ∷ cs) some = inr (all k s there (rw some (omega arith)))
 
     start : (k : ℕ) (o : Option TeamState) → slice_get old.teams k ≡ o → CommittedAt old k ⊎ NumberHasCommitted old.frame k commands replies

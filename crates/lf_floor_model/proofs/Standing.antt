@@ -19,7 +19,7 @@ use Rattle.lf_cells.specs.declared.cell.Cell.{Cell}
 use Rattle.lf_floor_model.specs.Teams.{TeamRules, candidate_of_cell, broken_at, broken_by}
 use Rattle.lf_legalize.specs.Members.{IsSizedCell, member_of}
 use Rattle.lf_cells.specs.Cells.{cell_named, moved, working_at}
-use Rattle.lf_floor_model.specs.Looks.{place_of_spot, query_of_cell}
+use Rattle.lf_floor_model.specs.Queries.{place_of_spot, query_of_cell}
 use Rattle.lf_floor_model.specs.Changes.{broken_where}
 
 -- ---- cells by their position
@@ -95,9 +95,9 @@ pub sized_at : (f : Frame) (cells : List Cell) (own : ℕ) (c : Cell) → All (�
 sized_at f cells own c all there =
     subst (λ (d : Cell). IsSized f (macro_of f d.mac)) (get_or_from_slice_get cells own c c there) (all own c (slice_get_within cells own c there)).sized
 
-pub stands : (t : TeamRules) (cells : List Cell) (own : ℕ) (c : Cell) (place : Place) → slice_get cells own ≡ Some c → c.working ≡ Some place
+pub is_in_place : (t : TeamRules) (cells : List Cell) (own : ℕ) (c : Cell) (place : Place) → slice_get cells own ≡ Some c → c.working ≡ Some place
     → IsLegalAt (query_of_cell t cells own c) (spot_of place) → IsLegalCell t.frame t.number t.padding (map member_of cells) own
-stands t cells own c place there placed legal m here =
+is_in_place t cells own c place there placed legal m here =
     let same : member_of c ≡ m = some_one (sym (member_is cells own c there) ∙ here) in
     let P : Option Place → Type 0 = λ o. MatchOption (option_map spot_of o) ⊥ (λ p. IsLegalAt (query_of_cell t cells own c) p) in
     subst (λ (x : Member). MatchOption x.place ⊥ (λ p. IsLegalAt (query_from t.frame t.number t.padding (map member_of cells) own x.mac) p)) same (subst P (sym placed) legal)
@@ -106,18 +106,18 @@ stands t cells own c place there placed legal m here =
 pub unbroken : (t : TeamRules) (cells : List Cell) (own : ℕ) (c : Cell) (place : Place) → slice_get cells own ≡ Some c → IsSized t.frame (macro_of t.frame c.mac)
     → broken_at t cells own place ≡ None → IsLegalAt (query_of_cell t cells own c) (spot_of place)
 unbroken t cells own c place there sized none =
-    let trial = candidate_of_cell t cells own c place in
-    let verdict : t.legalizer.first_broken trial ≡ None = sym (ap (λ (o : Option Cell). broken_by o t cells own place) there) ∙ none in
-    subst (λ (o : Option Broken). IsVerdict trial o) verdict (t.legalizer.finds_first_broken trial sized)
+    let candidate_cell = candidate_of_cell t cells own c place in
+    let verdict : t.legalizer.first_broken candidate_cell ≡ None = sym (ap (λ (o : Option Cell). broken_by o t cells own place) there) ∙ none in
+    subst (λ (o : Option Broken). IsVerdict candidate_cell o) verdict (t.legalizer.finds_first_broken candidate_cell sized)
 
 -- a placed cell that breaks no rule at its working place
-pub stands_where : (t : TeamRules) (cells : List Cell) (own : ℕ) (place : Place) → All (λ c. IsSizedCell t.frame c) cells → working_at cells own ≡ Some place
+pub is_placed_where : (t : TeamRules) (cells : List Cell) (own : ℕ) (place : Place) → All (λ c. IsSizedCell t.frame c) cells → working_at cells own ≡ Some place
     → broken_where t cells own ≡ None
     → IsLegalCell t.frame t.number t.padding (map member_of cells) own
-stands_where t cells own place sized placed none =
+is_placed_where t cells own place sized placed none =
     let found = working_is cells own place placed in
     let here : broken_at t cells own place ≡ None = sym (ap (λ (o : Option Place). option_and_then (λ (p : Place). broken_at t cells own p) o) placed) ∙ none in
-    stands t cells own found.0 place found.1 found.2 (unbroken t cells own found.0 place found.1 (sized_at t.frame cells own found.0 sized found.1) here)
+    is_in_place t cells own found.0 place found.1 found.2 (unbroken t cells own found.0 place found.1 (sized_at t.frame cells own found.0 sized found.1) here)
 
 -- ---- one cell that is moved
 
@@ -165,10 +165,10 @@ beside_moved f cells own place =
     rw at at (beside_from f cells 0 own place)
 
 -- a cell that is moved to a legal place is legal there
-pub stands_moved : (t : TeamRules) (cells : List Cell) (own : ℕ) (c : Cell) (place : Place) → slice_get cells own ≡ Some c
+pub is_placed_moved : (t : TeamRules) (cells : List Cell) (own : ℕ) (c : Cell) (place : Place) → slice_get cells own ≡ Some c
     → IsLegalAt (query_of_cell t cells own c) (spot_of place)
     → IsLegalCell t.frame t.number t.padding (map member_of (moved cells own (Some place))) own
-stands_moved t cells own c place there legal =
+is_placed_moved t cells own c place there legal =
     let P : List Placed → Type 0 = λ others. IsLegalAt (record { frame = t.frame; team = t.number; padding = t.padding; mac = macro_of t.frame c.mac; others = others }) (spot_of place) in
-    stands t (moved cells own (Some place)) own (record c { working = Some place }) place (moved_here cells own (Some place) c there) refl
+    is_in_place t (moved cells own (Some place)) own (record c { working = Some place }) place (moved_here cells own (Some place) c there) refl
     (subst P (sym (beside_moved t.frame cells own (Some place))) legal)

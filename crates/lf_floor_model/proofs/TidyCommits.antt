@@ -24,7 +24,7 @@ use Rattle.lf_floor_model.specs.States.{TeamState, FloorState}
 use Rattle.lf_floor_model.specs.Teams.{TeamRules, team_rules, IsTeamOf, candidate_of_cell, broken_at, broken_by, state_at, state_of, team_number}
 use Rattle.lf_floor_model.specs.Outcomes.{refused}
 use Rattle.lf_floor_model.specs.Sessions.{seen_at}
-use Rattle.lf_floor_model.specs.Looks.{query_of_cell}
+use Rattle.lf_floor_model.specs.Queries.{query_of_cell}
 use Rattle.lf_reports.specs.declared.broken_cell.BrokenCell.{BrokenCell}
 use Rattle.lf_floor_model.specs.Changes.{broken_where, first_unplaced, broken_cells, committed_unless, committed}
 use Rattle.lf_floor_model.specs.Verbs.{unless_spent, outcome_by_slot, outcome_of}
@@ -65,28 +65,28 @@ unbroken_is t (Some b) legal verdict = absurd (verdict.broken (legal b.rule))
 
 module _ (t : TeamRules) (s : TeamState) (known : IsTeamOf t.frame s) (legal : AreLegal t s) where
   -- the cell at a position is placed, and legal there
-  stands_at : (own : ℕ) (c : Cell) → slice_get s.cells own ≡ Some c
+  is_placed_at : (own : ℕ) (c : Cell) → slice_get s.cells own ≡ Some c
       → (place : Place) × (c.working ≡ Some place) × IsLegalAt (query_of_cell t s.cells own c) (spot_of place)
-  stands_at own c there = go c.working refl (legal own (member_of c) (member_is s.cells own c there)) where
+  is_placed_at own c there = go c.working refl (legal own (member_of c) (member_is s.cells own c there)) where
     go : (o : Option Place) → c.working ≡ o → MatchOption (option_map spot_of o) ⊥ (λ p. IsLegalAt (query_of_cell t s.cells own c) p)
         → (place : Place) × (c.working ≡ Some place) × IsLegalAt (query_of_cell t s.cells own c) (spot_of place)
-    go None is stands = absurd stands
-    go (Some place) is stands = (place, is, stands)
+    go None is is_in_place = absurd is_in_place
+    go (Some place) is is_in_place = (place, is, is_in_place)
 
   all_placed : first_unplaced s.cells ≡ None
   all_placed =
       position_from-zero (λ (c : Cell). is_none c.working) s.cells
-      ∙ none_first 0 s.cells (λ k c there. ap is_none (stands_at k c there).1)
+      ∙ none_first 0 s.cells (λ k c there. ap is_none (is_placed_at k c there).1)
 
   breaks_none : (own : ℕ) → own < length s.cells → broken_where t s.cells own ≡ None
   breaks_none own within =
       let found = there_within s.cells own within in
-      let at = stands_at own found.0 found.1 in
+      let at = is_placed_at own found.0 found.1 in
       let works : working_at s.cells own ≡ Some at.0 = ap (λ (o : Option Cell). option_and_then (λ (c : Cell). c.working) o) found.1 ∙ at.1 in
-      let trial = candidate_of_cell t s.cells own found.0 at.0 in
-      let none : t.legalizer.first_broken trial ≡ None =
-      unbroken_is trial (t.legalizer.first_broken trial) at.2
-      (t.legalizer.finds_first_broken trial (sized_at t.frame s.cells own found.0 known.sized found.1)) in
+      let candidate_cell = candidate_of_cell t s.cells own found.0 at.0 in
+      let none : t.legalizer.first_broken candidate_cell ≡ None =
+      unbroken_is candidate_cell (t.legalizer.first_broken candidate_cell) at.2
+      (t.legalizer.finds_first_broken candidate_cell (sized_at t.frame s.cells own found.0 known.sized found.1)) in
       ap (λ (o : Option Place). option_and_then (λ (p : Place). broken_at t s.cells own p) o) works
       ∙ ap (λ (o : Option Cell). broken_by o t s.cells own at.0) found.1
       ∙ none
@@ -160,9 +160,9 @@ module _ (l : Legalizer) (f : Frame) (number : ℕ) where
   -- a run that starts with a team whose cells are all legal
   after_legal : (orders : List (TeamCommand (List ℕ) Place)) (s : TeamState) → IsTeamOf f s → AreLegal (team_rules l f number s.padding) s → (j second : ℕ) (reply : Reply)
       → slice_get orders j ≡ Some (Within second (Changing Commit)) → slice_get (own_replies l f number orders s) j ≡ Some reply
-      → ((k : ℕ) (order : TeamCommand (List ℕ) Place) (told : Reply) → k < j → slice_get orders k ≡ Some order
-      → slice_get (own_replies l f number orders s) k ≡ Some told
-      → is_change order ≡ true → is_ok told ≡ false) → finds_no_fault reply ≡ true
+      → ((k : ℕ) (order : TeamCommand (List ℕ) Place) (reported : Reply) → k < j → slice_get orders k ≡ Some order
+      → slice_get (own_replies l f number orders s) k ≡ Some reported
+      → is_change order ≡ true → is_ok reported ≡ false) → finds_no_fault reply ≡ true
   after_legal [] s known legal j second reply commit answer quiet = absurd cc
   after_legal (o ∷ os) s known legal zero second reply commit answer quiet =
       ap finds_no_fault (sym (some_one answer))
@@ -171,7 +171,7 @@ module _ (l : Legalizer) (f : Frame) (number : ℕ) where
   after_legal (o ∷ os) s known legal (suc j) second reply commit answer quiet =
       after_legal os (outcome_by_rules l f number o s).team (verb_keeps (team_rules l f number s.padding) o s known)
       (still_there l f number s o legal (λ change. quiet 0 o (outcome_by_rules l f number o s).reply (omega arith) refl refl change))
-      j second reply commit answer (λ k order told less here there change. quiet (suc k) order told (omega (arith, less)) here there change)
+      j second reply commit answer (λ k order reported less here there change. quiet (suc k) order reported (omega (arith, less)) here there change)
 
   tidy_first : LegalInRange → (s : TeamState) → IsTeamOf f s → (o : TeamCommand (List ℕ) Place) (first : ℕ) (reply : Reply) → o ≡ Within first (Changing Tidy)
       → (outcome_by_rules l f number o s).reply ≡ reply → is_ok reply ≡ true → AreLegal (team_rules l f number (outcome_by_rules l f number o s).team.padding) (outcome_by_rules l f number o s).team
@@ -192,7 +192,7 @@ module _ (l : Legalizer) (f : Frame) (number : ℕ) where
       after_legal os (outcome_by_rules l f number o s).team (verb_keeps (team_rules l f number s.padding) o s known)
       (tidy_first in_range s known o h.first h.reply (some_one h.tidy) (some_one h.answer) h.accepted)
       j h.second reply h.commit answer
-      (λ k order told less here there change. h.between (suc k) order told (omega arith) (omega (arith, less)) here there change)
+      (λ k order reported less here there change. h.between (suc k) order reported (omega arith) (omega (arith, less)) here there change)
   own_tidied in_range (o ∷ os) s known (suc i) zero reply h answer = absurd (omega (arith, h.later))
   own_tidied in_range (o ∷ os) s known (suc i) (suc j) reply h answer =
       own_tidied in_range os (outcome_by_rules l f number o s).team (verb_keeps (team_rules l f number s.padding) o s known) i j reply (record {
@@ -204,7 +204,7 @@ module _ (l : Legalizer) (f : Frame) (number : ℕ) where
         answer = h.answer;
         accepted = h.accepted;
         commit = h.commit;
-        between = λ k order told more less here there change. h.between (suc k) order told (omega (arith, more)) (omega (arith, less)) here there change;
+        between = λ k order reported more less here there change. h.between (suc k) order reported (omega (arith, more)) (omega (arith, less)) here there change;
       }) answer
 
 -- ---- runs

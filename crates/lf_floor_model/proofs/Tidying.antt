@@ -19,10 +19,10 @@ use Rattle.lf_cells.specs.declared.cell.Cell.{Cell}
 use Rattle.lf_floor_model.specs.Teams.{TeamRules}
 use Rattle.lf_legalize.specs.Members.{IsSizedCell, member_of}
 use Rattle.lf_cells.specs.Cells.{working_at, as_committed}
-use Rattle.lf_floor_model.specs.Looks.{place_of_spot, query_of_cell, best_at}
+use Rattle.lf_floor_model.specs.Queries.{place_of_spot, query_of_cell, best_at}
 use Rattle.lf_reports.specs.declared.broken_cell.BrokenCell.{BrokenCell}
 use Rattle.lf_floor_model.specs.Changes.{restored, places_in, broken_where, first_unplaced, broken_cells}
-use Rattle.lf_floor_model.proofs.Standing.{some_one, none_some, member_there, place_is, sized_at, stands_where}
+use Rattle.lf_floor_model.proofs.Standing.{some_one, none_some, member_there, place_is, sized_at, is_placed_where}
 
 -- ---- the macros are unchanged
 
@@ -128,9 +128,9 @@ module _ (t : TeamRules) (cells : List Cell) (sized : All (λ c. IsSizedCell t.f
       (found.0, is ∙ ap (λ (s : SpotPlace). Some s) (sym found.2), ap (λ (s : SpotPlace). place_of_spot s) found.2 ∙ found.1)
 
   -- a tidied team's cells are at team-legal places
-  pub tidied_stand : (new : List Member) (moved : ℕ) → tidied t.legalizer t.frame t.number t.padding (map member_of cells) ≡ Going new moved
+  pub tidied_placed : (new : List Member) (moved : ℕ) → tidied t.legalizer t.frame t.number t.padding (map member_of cells) ≡ Going new moved
       → (own : ℕ) → IsLegalCell t.frame t.number t.padding (map member_of (restored (places_in new) cells)) own
-  tidied_stand new moved is own =
+  tidied_placed new moved is own =
       let legal = tidied_legal t.legalizer t.frame t.number t.padding (map member_of cells) new moved sized_members is in
       let same = tidied_macs t.legalizer t.frame t.number t.padding (map member_of cells) new moved is in
       let at : (k : ℕ) (m : Member) → slice_get new k ≡ Some m → IsPlacedAt m = λ k m there. placed_legal new k m (mac_there new k m same there) m.place refl (legal k m there) in
@@ -141,23 +141,23 @@ module _ (t : TeamRules) (cells : List Cell) (sized : All (λ c. IsSizedCell t.f
   pub best_choice : (own : ℕ) (c : Cell) (target : Point) → slice_get cells own ≡ Some c
       → IsChoice (query_of_cell t cells own c) target (option_map spot_of (best_at t cells own target))
   best_choice own c target there =
-      subst (λ (o : Option Place). IsChoice lifted target (option_map spot_of o)) (sym found) (by (t.legalizer.best_place lifted target) (t.legalizer.finds_best_place lifted target whole))
+      subst (λ (o : Option Place). IsChoice query_unplaced target (option_map spot_of o)) (sym found) (by (t.legalizer.best_place query_unplaced target) (t.legalizer.finds_best_place query_unplaced target whole))
     where
-      lifted : PlacementQuery
-      lifted = query_of_cell t cells own c
+      query_unplaced : PlacementQuery
+      query_unplaced = query_of_cell t cells own c
 
       whole : IsSized t.frame (macro_of t.frame c.mac)
       whole = sized_at t.frame cells own c sized there
 
-      found : best_at t cells own target ≡ option_and_then place_of_spot (t.legalizer.best_place lifted target)
+      found : best_at t cells own target ≡ option_and_then place_of_spot (t.legalizer.best_place query_unplaced target)
       found =
           ap (λ (o : Option Cell). option_and_then (λ (d : Cell). option_and_then place_of_spot (t.legalizer.best_place (query_of_cell t cells own d) target)) o) there
 
-      by : (o : Option SpotPlace) → IsChoice lifted target o → IsChoice lifted target (option_map spot_of (option_and_then place_of_spot o))
+      by : (o : Option SpotPlace) → IsChoice query_unplaced target o → IsChoice query_unplaced target (option_map spot_of (option_and_then place_of_spot o))
       by None choice = choice
       by (Some p) choice =
-          let place = place_is in_range lifted p whole choice.may_go.legal in
-          subst (λ (q : Option SpotPlace). IsChoice lifted target q) (sym (ap (λ (q : Option Place). option_map spot_of q) place.1 ∙ ap (λ (s : SpotPlace). Some s) place.2)) choice
+          let place = place_is in_range query_unplaced p whole choice.may_go.legal in
+          subst (λ (q : Option SpotPlace). IsChoice query_unplaced target q) (sym (ap (λ (q : Option Place). option_map spot_of q) place.1 ∙ ap (λ (s : SpotPlace). Some s) place.2)) choice
 
   -- the place found is team-legal
   pub best_legal : (own : ℕ) (c : Cell) (target : Point) (place : Place) → slice_get cells own ≡ Some c → best_at t cells own target ≡ Some place
@@ -219,9 +219,9 @@ committed_members [] = refl
 committed_members (c ∷ cs) = ap (λ (ms : List Member). member_of c ∷ ms) (committed_members cs)
 
 -- after a commit each cell is at a team-legal place
-pub committed_stand : (t : TeamRules) (cells : List Cell) → All (λ c. IsSizedCell t.frame c) cells → first_unplaced cells ≡ None → broken_cells t cells ≡ []
+pub committed_are_placed : (t : TeamRules) (cells : List Cell) → All (λ c. IsSizedCell t.frame c) cells → first_unplaced cells ≡ None → broken_cells t cells ≡ []
     → (own : ℕ) → IsLegalCell t.frame t.number t.padding (map member_of (map as_committed cells)) own
-committed_stand t cells sized placed unbroken own =
+committed_are_placed t cells sized placed unbroken own =
     subst (λ (ms : List Member). IsLegalCell t.frame t.number t.padding ms own) (sym (committed_members cells)) (λ m there. one m there (member_there cells own m there))
   where
     one : (m : Member) → slice_get (map member_of cells) own ≡ Some m → ((c : Cell) × (slice_get cells own ≡ Some c) × (member_of c ≡ m))
@@ -229,4 +229,4 @@ committed_stand t cells sized placed unbroken own =
     one m there found =
         let at = each_placed cells placed own found.0 found.1 in
         let works : working_at cells own ≡ Some at.0 = ap (λ (o : Option Cell). option_and_then (λ (c : Cell). c.working) o) found.1 ∙ at.1 in
-        stands_where t cells own at.0 sized works (each_unbroken t cells unbroken own (slice_get_within cells own found.0 found.1)) m there
+        is_placed_where t cells own at.0 sized works (each_unbroken t cells unbroken own (slice_get_within cells own found.0 found.1)) m there

@@ -82,7 +82,7 @@ undone_leads t other s new is =
     let first = take_first t.frame.limits.undo (places_of s.cells) s.entries t.frame.limits.allowed.undo_within.least in
     let entries : new.entries ≡ places_of s.cells ∷ first.0 = is.entries ∙ first.1 in
     let P : List (List (Option Place)) → Type 0 = λ e. LeadsToPlaces (undone_by e other new) (places_of s.cells) in
-    subst P (sym entries) record { told = refl; places_are = restored_places s.cells new.cells is.many }
+    subst P (sym entries) record { reported = refl; places_are = restored_places s.cells new.cells is.many }
 
 pub undo_leads : (t : TeamRules) (session other : ℕ) (change : Change (List ℕ) Place) (s : TeamState) → is_recorded change ≡ true
     → is_accepted (outcome_of_asking t session change s) ≡ true
@@ -102,7 +102,7 @@ back_committed (c ∷ cs) = ap (λ (places : List (Option Place)). c.working ∷
 reverted_leads : (t : TeamRules) (other : ℕ) (s new : TeamState) → new.cells ≡ map as_committed s.cells → LeadsToPlaces (reverted t other new) (places_of s.cells)
 unfolding reverted
 reverted_leads t other s new is = record {
-  told = refl;
+  reported = refl;
   places_are = ap (λ (cells : List Cell). places_of (map back_to_committed cells)) is ∙ back_committed s.cells;
 }
 

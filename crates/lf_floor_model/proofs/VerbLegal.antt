@@ -13,13 +13,13 @@ use Rattle.lf_legalize.specs.Members.{IsSizedCell, member_of}
 use Rattle.lf_cells.specs.Cells.{cell_named, moved, working_at}
 use Rattle.lf_proto.specs.declared.verb.Change.{Change}
 use Rattle.lf_proto.specs.declared.verb.Change.TheVariants.{Place as PlaceAt, Legalize, Tidy, Swap, Commit}
-use Rattle.lf_floor_model.specs.Looks.{best_at}
+use Rattle.lf_floor_model.specs.Queries.{best_at}
 use Rattle.lf_floor_model.specs.Changes.{broken_where, exchanged}
 use Rattle.lf_floor_model.specs.VerbLaws.{HasLegal, AreLegal, is_accepted, outcome_of_asking}
 use Rattle.lf_floor_model.proofs.Cases.{CellsAfter, accepted_is, exchanged_part, moved_part}
 use Rattle.lf_floor_model.proofs.Kept.{mac_at, same_length, sized_as}
-use Rattle.lf_floor_model.proofs.Standing.{named_there, named_alike, working_is, moved_here, moved_there, sized_at, unbroken, stands_moved, stands_where}
-use Rattle.lf_floor_model.proofs.Tidying.{tidied_stand, best_legal, committed_stand}
+use Rattle.lf_floor_model.proofs.Standing.{named_there, named_alike, working_is, moved_here, moved_there, sized_at, unbroken, is_placed_moved, is_placed_where}
+use Rattle.lf_floor_model.proofs.Tidying.{tidied_placed, best_legal, committed_are_placed}
 
 -- what is legal after an accepted change
 abbrev pub MakesLegal : TeamRules → Change (List ℕ) Place → TeamState → Type 0
@@ -53,12 +53,12 @@ module _ (cells : List Cell) (first second : ℕ) (p q : Place) (at_first : work
         (found.0, moved_there cells first second (working_at cells second) differ ∙ found.1)
   ]
 
-  pub second_stands : working_at (exchanged cells first second) second ≡ Some p
-  second_stands = working_moved (moved cells first (working_at cells second)) second (working_at cells first) half_there.0 half_there.1 ∙ at_first
+  pub second_is_placed : working_at (exchanged cells first second) second ≡ Some p
+  second_is_placed = working_moved (moved cells first (working_at cells second)) second (working_at cells first) half_there.0 half_there.1 ∙ at_first
 
-  pub first_stands : (place : Place) × (working_at (exchanged cells first second) first ≡ Some place)
-  first_stands = elim same_or_not [
-    | inl same ↦ (p, subst (λ (k : ℕ). working_at (exchanged cells first second) k ≡ Some p) (sym same) second_stands)
+  pub first_is_placed : (place : Place) × (working_at (exchanged cells first second) first ≡ Some place)
+  first_is_placed = elim same_or_not [
+    | inl same ↦ (p, subst (λ (k : ℕ). working_at (exchanged cells first second) k ≡ Some p) (sym same) second_is_placed)
     | inr differ ↦
         let found = working_is cells first p at_first in
         (q, working_other (moved cells first (working_at cells second)) second first (working_at cells first) (λ e. differ (sym e)) ∙ working_moved cells first (working_at cells second) found.0 found.1 ∙ at_second)
@@ -82,7 +82,7 @@ module _ (t : TeamRules) (s : TeamState) (known : IsTeamOf t.frame s) (in_range 
             ap (cell_named name) is
             ∙ named_alike name s.cells (moved s.cells own (Some place)) (moved_part (λ c. c.name) (λ c p. refl) s.cells own (Some place)) ∙ named;
         legal =
-            subst (λ (cs : List Cell). IsLegalCell t.frame t.number t.padding (map member_of cs) own) (sym is) (stands_moved t s.cells own found.0 place found.1 legal);
+            subst (λ (cs : List Cell). IsLegalCell t.frame t.number t.padding (map member_of cs) own) (sym is) (is_placed_moved t s.cells own found.0 place found.1 legal);
       }
 
   legalized_legal : (own : ℕ) (name : List ℕ) (target : Point) (place : Place) → cell_named name s.cells ≡ Some own → best_at t s.cells own target ≡ Some place
@@ -95,19 +95,19 @@ module _ (t : TeamRules) (s : TeamState) (known : IsTeamOf t.frame s) (in_range 
             ap (cell_named name) is
             ∙ named_alike name s.cells (moved s.cells own (Some place)) (moved_part (λ c. c.name) (λ c p. refl) s.cells own (Some place)) ∙ named;
         legal =
-            subst (λ (cs : List Cell). IsLegalCell t.frame t.number t.padding (map member_of cs) own) (sym is) (stands_moved t s.cells own found.0 place found.1 (best_legal t s.cells known.sized in_range own found.0 target place found.1 best));
+            subst (λ (cs : List Cell). IsLegalCell t.frame t.number t.padding (map member_of cs) own) (sym is) (is_placed_moved t s.cells own found.0 place found.1 (best_legal t s.cells known.sized in_range own found.0 target place found.1 best));
       }
 
   exchanged_legal : (first second own : ℕ) (name : List ℕ) (place : Place) → cell_named name s.cells ≡ Some own
       → working_at (exchanged s.cells first second) own ≡ Some place
       → broken_where t (exchanged s.cells first second) own ≡ None → (team : TeamState) → team.cells ≡ exchanged s.cells first second → HasLegal t name team
-  exchanged_legal first second own name place named stands none team is = record {
+  exchanged_legal first second own name place named is_in_place none team is = record {
     own = own;
     named =
         ap (cell_named name) is
         ∙ named_alike name s.cells (exchanged s.cells first second) (exchanged_part (λ c. c.name) (λ c p. refl) s.cells first second) ∙ named;
     legal = subst (λ (cs : List Cell). IsLegalCell t.frame t.number t.padding (map member_of cs) own) (sym is)
-        (stands_where t (exchanged s.cells first second) own place (sized_like (exchanged s.cells first second) (exchanged_part (λ c. c.mac) (λ c p. refl) s.cells first second)) stands none);
+        (is_placed_where t (exchanged s.cells first second) own place (sized_like (exchanged s.cells first second) (exchanged_part (λ c. c.mac) (λ c p. refl) s.cells first second)) is_in_place none);
   }
 
   -- what a change makes legal
@@ -115,15 +115,15 @@ module _ (t : TeamRules) (s : TeamState) (known : IsTeamOf t.frame s) (in_range 
   legal_after (PlaceAt name place) team after = placed_legal after.own name place after.named after.unbroken team after.are
   legal_after (Legalize name target) team after = legalized_legal after.own name target after.place after.named after.best team after.are
   legal_after Tidy team after = λ own. subst (λ (cs : List Cell). IsLegalCell t.frame t.number t.padding (map member_of cs) own) (sym after.are)
-      (tidied_stand t s.cells known.sized in_range after.members after.count after.tidies own)
+      (tidied_placed t s.cells known.sized in_range after.members after.count after.tidies own)
   legal_after (Swap name other) team after =
-      let here = first_stands s.cells after.first after.second after.place after.place' after.stands after.stands' in
-      let there = second_stands s.cells after.first after.second after.place after.place' after.stands after.stands' in (
+      let here = first_is_placed s.cells after.first after.second after.place after.place' after.is_in_place after.is_in_place' in
+      let there = second_is_placed s.cells after.first after.second after.place after.place' after.is_in_place after.is_in_place' in (
         exchanged_legal after.first after.second after.first name here.0 after.named here.1 after.unbroken team after.are,
         exchanged_legal after.first after.second after.second other after.place after.named' there after.unbroken' team after.are,
       )
   legal_after Commit team after = λ own. subst (λ (cs : List Cell). IsLegalCell t.frame t.number t.padding (map member_of cs) own) (sym after.are)
-      (committed_stand t s.cells known.sized after.placed after.unbroken own)
+      (committed_are_placed t s.cells known.sized after.placed after.unbroken own)
   legal_after _ team after = tt
 
   -- what an accepted change makes legal

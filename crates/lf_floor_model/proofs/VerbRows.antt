@@ -5,19 +5,19 @@ use Rattle.lf_floorplan.specs.declared.place.Place.{Place}
 use Rattle.lf_proto.proofs.Places.{place_at-some}
 use Rattle.lf_floor_model.specs.Teams.{TeamRules}
 use Rattle.lf_floor_model.specs.Sessions.{opened, closed, synced}
-use Rattle.lf_floor_model.specs.Looks.{located, found}
+use Rattle.lf_floor_model.specs.Queries.{located, found}
 use Rattle.lf_floor_model.specs.Changes.{placed, unplaced, legalized, tidied_team, swapped, reverted, undone, committed, padded}
-use Rattle.lf_floor_model.specs.VerbRows.{HasRoom, SessionRow, StaleRow, UndoRow, SpentRow, BestRow, NoPlaceRow, TidyRow, TidyCommitRow, CommitRow, RefusedRow, SwapRow, PadRow}
+use Rattle.lf_floor_model.specs.VerbRows.{HasRoomForRows, SessionRow, StaleRow, UndoRow, SpentRow, BestRow, NoPlaceRow, TidyRow, TidyCommitRow, CommitRow, RefusedRow, SwapRow, PadRow}
 
 -- each revision up to nine is below the limit
 more_left : (t : TeamRules) (n : ℕ) → 9 < t.frame.limits.revisions → n < 10 → ltb n t.frame.limits.revisions ≡ true
 more_left t n room small = lt-ltb n t.frame.limits.revisions (omega (arith, room, small))
 
-left : (t : TeamRules) (n : ℕ) → HasRoom t → n < 10 → ltb n t.frame.limits.revisions ≡ true
+left : (t : TeamRules) (n : ℕ) → HasRoomForRows t → n < 10 → ltb n t.frame.limits.revisions ≡ true
 left t n room = more_left t n room.revisions
 
 -- the newest entry is kept
-newest : (t : TeamRules) → HasRoom t → (x : List (Option Place)) (xs : List (List (Option Place))) → take t.frame.limits.undo (x ∷ xs) ≡ x ∷ take 63 xs
+newest : (t : TeamRules) → HasRoomForRows t → (x : List (Option Place)) (xs : List (List (Option Place))) → take t.frame.limits.undo (x ∷ xs) ≡ x ∷ take 63 xs
 newest t room x xs = ap (λ (n : ℕ). take n (x ∷ xs)) room.undo
 
 -- if two changes can be undone, the two newest entries are kept
@@ -87,8 +87,8 @@ refused_row t p q room =
 
 pub swap_row : SwapRow
 unfolding swapped located undone
-swap_row t p q r room first second apart meets =
-    rw (left t 3 room (omega arith), first, second, left t 4 room (omega arith), newest t room _ _, left t 5 room (omega arith), apart, meets) refl
+swap_row t p q r room first second apart does_overlap =
+    rw (left t 3 room (omega arith), first, second, left t 4 room (omega arith), newest t room _ _, left t 5 room (omega arith), apart, does_overlap) refl
 
 pub pad_row : PadRow
 unfolding placed padded located undone

@@ -20,7 +20,7 @@ use Rattle.lf_floor_model.specs.Teams.{TeamRules, broken_at}
 use Rattle.lf_cells.specs.Cells.{cell_named, moved, working_at, as_committed}
 use Rattle.lf_legalize.specs.Members.{member_of}
 use Rattle.lf_floor_model.specs.Outcomes.{Outcome, refused, changed, with_entry, recorded, with_reply}
-use Rattle.lf_floor_model.specs.Looks.{place_of_spot, best_at}
+use Rattle.lf_floor_model.specs.Queries.{place_of_spot, best_at}
 
 -- ---- changes that can be undone
 

@@ -1,7 +1,7 @@
 -- The floor of a loaded design when it begins.
 use Rattle.std.specs.Prelude.{◌≡◌, ℕ, zero, suc, ◌+◌, List, [], ◌∷◌, Some, None, length, replicate}
 use Rattle.lf_floorplan.specs.declared.loaded.Loaded.{Loaded}
-use Rattle.lf_cells.specs.Openings.{own_cells, initial_components}
+use Rattle.lf_cells.specs.Initial.{own_cells, initial_components}
 use Rattle.lf_floor_model.specs.States.{TeamState, FloorState}
 use Rattle.lf_floor_model.specs.Teams.{team_number}
 

@@ -2,7 +2,7 @@ pub mod States
 pub mod Teams
 pub mod Outcomes
 pub mod Sessions
-pub mod Looks
+pub mod Queries
 pub mod Changes
 pub mod Verbs
 pub mod VerbLaws

@@ -3,7 +3,7 @@ use Rattle.std.specs.Prelude.{◌≡◌, ℕ, ◌<◌, List, [], All, AllPairs, 
 use Rattle.lf_floorplan.specs.declared.loaded.Loaded.{Loaded}
 use Rattle.lf_floorplan.specs.declared.place.Place.{Place}
 use Rattle.lf_cells.specs.declared.cell.Cell.{Cell}
-use Rattle.lf_cells.specs.Openings.{initial_components}
+use Rattle.lf_cells.specs.Initial.{initial_components}
 use Rattle.lf_floor_model.specs.States.{FloorState}
 use Rattle.lf_floor_model.specs.Designs.{initial_floor}
 
@@ -12,13 +12,13 @@ abbrev pub cell_in : FloorState → ℕ → ℕ → Option Cell
 cell_in floor number own = option_and_then (λ s. slice_get s.cells own) (slice_get floor.teams number)
 
 -- the position of that cell's entry among all COMPONENTS
-abbrev pub entry_in : FloorState → ℕ → ℕ → Option ℕ
-entry_in floor number own = slice_get (slice_index_or floor.components number []) own
+abbrev pub component_entry : FloorState → ℕ → ℕ → Option ℕ
+component_entry floor number own = slice_get (slice_index_or floor.components number []) own
 
 -- the position of an entry and its place (None if it has no place) are those of the cell at that
 -- position in the team of that number
 pub record IsCommittedAt (floor : FloorState) (number own : ℕ) (entry : ℕ × Option Place) : Type 0 where
-  pub position : entry_in floor number own ≡ Some entry.0
+  pub position : component_entry floor number own ≡ Some entry.0
   pub place : option_map (λ c. c.committed) (cell_in floor number own) ≡ Some entry.1
 
 -- all movable components: the positions of their entries, ascending, each with the committed place
@@ -28,8 +28,8 @@ pub record AreCommittedPlaces (floor : FloorState) (places : List (ℕ × Option
   pub rise : AllPairs (λ entry later. entry.0 < later.0) places
   pub theirs : All (λ entry. (number : ℕ) × (own : ℕ) × IsCommittedAt floor number own entry) places
   pub cells : (number own : ℕ) (c : Cell) → cell_in floor number own ≡ Some c
-      → (position : ℕ) × (entry_in floor number own ≡ Some position) × Contains places (position, c.committed)
-  pub entries : (number own position : ℕ) → entry_in floor number own ≡ Some position
+      → (position : ℕ) × (component_entry floor number own ≡ Some position) × Contains places (position, c.committed)
+  pub entries : (number own position : ℕ) → component_entry floor number own ≡ Some position
       → (c : Cell) × (cell_in floor number own ≡ Some c) × Contains places (position, c.committed)
 
 -- ---- laws

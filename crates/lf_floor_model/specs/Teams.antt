@@ -4,7 +4,7 @@ use Rattle.std.specs.Prelude.{◌≡◌, ◌≢◌, ℕ, ◌≤◌, List, [], �
 use Rattle.lf_floorplan.specs.declared.frame.Frame.{Frame}
 use Rattle.lf_floorplan.specs.declared.place.Place.{Place}
 use Rattle.lf_rules.specs.declared.rule.Broken.{Broken}
-use Rattle.lf_floorplan.specs.Bounds.{IsName}
+use Rattle.lf_floorplan.specs.Bounds.{IsDesignName}
 use Rattle.lf_floorplan.specs.Boxes.{macro_of}
 use Rattle.lf_floorplan.specs.Fences.{ground_name}
 use Rattle.lf_rules.specs.Legality.{Candidate, candidate_of}
@@ -42,7 +42,7 @@ listed_of number c = record { name = c.name; team = number; mac = c.mac; place =
 -- session has seen a revision above the team's
 pub record IsTeamOf (f : Frame) (s : TeamState) : Type 0 where
   pub sized : All (λ c. IsSizedCell f c) s.cells
-  pub printed : All (λ c. IsName c.name) s.cells
+  pub printed : All (λ c. IsDesignName c.name) s.cells
   pub names_differ : AllPairs (λ a b. a ≢ b) (map (λ c. c.name) s.cells)
   pub few_cells : length s.cells ≤ 4000000
   pub all_slots : length s.slots ≡ f.limits.sessions

@@ -22,7 +22,7 @@ use Rattle.lf_cells.specs.Cells.{cell_named}
 use Rattle.lf_legalize.specs.Members.{member_of}
 use Rattle.lf_floor_model.specs.Outcomes.{Outcome, is_short, refused, places_of}
 use Rattle.lf_floor_model.specs.Sessions.{seen_at}
-use Rattle.lf_floor_model.specs.Looks.{query_of_cell, best_at}
+use Rattle.lf_floor_model.specs.Queries.{query_of_cell, best_at}
 use Rattle.lf_floor_model.specs.Verbs.{is_recorded, outcome_of}
 
 -- the outcome of a session's change
@@ -74,7 +74,7 @@ replied_revision _ = None
 -- the revision is one more, the reply contains it, and this session has seen it and no other
 pub record IsCounted (session : ℕ) (old : TeamState) (o : Outcome) : Type 0 where
   pub counted : o.team.revision ≡ old.revision + 1
-  pub told : replied_revision o.reply ≡ Some (old.revision + 1)
+  pub reported : replied_revision o.reply ≡ Some (old.revision + 1)
   pub seen : seen_at o.team.slots session ≡ Some (old.revision + 1)
   pub others : (other : ℕ) → other ≢ session → seen_at o.team.slots other ≡ seen_at old.slots other
 
@@ -110,7 +110,7 @@ QueryKeepsState = (t : TeamRules) (verb : TeamCommand (List ℕ) Place) (s : Tea
 
 -- an accepted change, after which the working places are these
 pub record LeadsToPlaces (o : Outcome) (places : List (Option Place)) : Type 0 where
-  pub told : o.reply ≡ Revision o.team.revision
+  pub reported : o.reply ≡ Revision o.team.revision
   pub places_are : places_of o.team.cells ≡ places
 
 -- undo after an accepted place, legalize, tidy, unplace, swap or revert restores the previous

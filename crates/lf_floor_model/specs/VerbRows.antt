@@ -17,7 +17,7 @@ use Rattle.lf_cells.specs.declared.cell.Cell.{Cell}
 use Rattle.lf_floor_model.specs.States.{TeamState}
 use Rattle.lf_floor_model.specs.Teams.{TeamRules, broken_at}
 use Rattle.lf_legalize.specs.Members.{member_of}
-use Rattle.lf_floor_model.specs.Looks.{best_at}
+use Rattle.lf_floor_model.specs.Queries.{best_at}
 use Rattle.lf_floor_model.specs.Changes.{broken_where, exchanged, broken_cells}
 use Rattle.lf_floor_model.specs.Verbs.{outcome_of}
 
@@ -27,12 +27,12 @@ replies_to t [] s = []
 replies_to t (verb ∷ verbs) s = (outcome_of t verb s).reply ∷ replies_to t verbs (outcome_of t verb s).team
 
 -- a cell with that name, macro and working place, and no committed place
-abbrev pub cell_at : List ℕ → ℕ → Option Place → Cell
-cell_at name mac place = record { name = name; mac = mac; working = place; committed = None }
+abbrev pub row_cell : List ℕ → ℕ → Option Place → Cell
+row_cell name mac place = record { name = name; mac = mac; working = place; committed = None }
 
 -- the cells a1 and a2 of one macro, and a3 of another, at these working places
 abbrev pub three : Option Place → Option Place → Option Place → List Cell
-three p q r = cell_at (codes "a1") 0 p ∷ cell_at (codes "a2") 0 q ∷ cell_at (codes "a3") 1 r ∷ []
+three p q r = row_cell (codes "a1") 0 p ∷ row_cell (codes "a2") 0 q ∷ row_cell (codes "a3") 1 r ∷ []
 
 -- a team that has made this many changes; its one session has seen the last of them
 abbrev pub team_after : ℕ → List (List (Option Place)) → List Cell → TeamState
@@ -47,7 +47,7 @@ abbrev pub change_to : Change (List ℕ) Place → TeamCommand (List ℕ) Place
 change_to change = Within 0 (Changing change)
 
 -- enough revisions and undo entries for each row
-pub record HasRoom (t : TeamRules) : Type 0 where
+pub record HasRoomForRows (t : TeamRules) : Type 0 where
   pub revisions : 9 < t.frame.limits.revisions
   pub undo : t.frame.limits.undo ≡ 64
 
@@ -64,7 +64,7 @@ SessionRow =
 -- a session that has not seen the last change is stale until it has synchronized
 abbrev pub StaleRow : Type 0
 StaleRow =
-    (t : TeamRules) (p q : Place) → HasRoom t → broken_at t (three (Some p) None None) 1 q ≡ None →
+    (t : TeamRules) (p q : Place) → HasRoomForRows t → broken_at t (three (Some p) None None) 1 q ≡ None →
     let place = Within 1 (Changing (PlaceAt (codes "a2") q)) in
     replies_to t (place ∷ Within 1 Sync ∷ place ∷ Within 1 (Where (codes "a2")) ∷ [])
     (record { cells = three (Some p) None None; revision = 1; entries = (None ∷ None ∷ None ∷ []) ∷ []; slots = Some 1 ∷ Some 0 ∷ []; padding = 0 })
@@ -90,7 +90,7 @@ SpentRow =
 -- find changes nothing, and legalize moves the cell to the place that find returns
 abbrev pub BestRow : Type 0
 BestRow =
-    (t : TeamRules) (target : Point) (best : Place) → HasRoom t → best_at t (three None None None) 0 target ≡ Some best →
+    (t : TeamRules) (target : Point) (best : Place) → HasRoomForRows t → best_at t (three None None None) 0 target ≡ Some best →
     replies_to t
     (Within 0 (Find (codes "a1") target) ∷ where_is (codes "a1") ∷ change_to (Legalize (codes "a1") target) ∷ where_is (codes "a1") ∷ [])
     (team_after 0 [] (three None None None))
@@ -100,7 +100,7 @@ BestRow =
 -- two earlier cells; nothing is changed
 abbrev pub NoPlaceRow : Type 0
 NoPlaceRow =
-    (t : TeamRules) (target : Point) → HasRoom t → best_at t (three None None None) 2 target ≡ None →
+    (t : TeamRules) (target : Point) → HasRoomForRows t → best_at t (three None None None) 2 target ≡ None →
     tidied t.legalizer t.frame t.number t.padding (map member_of (three None None None)) ≡ Stuck 2 →
     replies_to t
     (Within 0 (Find (codes "a3") target) ∷ change_to (Legalize (codes "a3") target) ∷ change_to Tidy ∷ where_is (codes "a1") ∷ change_to Undo ∷ [])
@@ -110,7 +110,7 @@ NoPlaceRow =
 -- the reply to a tidy counts the cells moved to their best place
 abbrev pub TidyRow : Type 0
 TidyRow =
-    (t : TeamRules) (p q r : Place) → HasRoom t →
+    (t : TeamRules) (p q r : Place) → HasRoomForRows t →
     tidied t.legalizer t.frame t.number t.padding (map member_of (three None None None)) ≡ Going (map member_of (three (Some p) (Some q) (Some r))) 3 →
     replies_to t (change_to Tidy ∷ where_is (codes "a1") ∷ where_is (codes "a2") ∷ where_is (codes "a3") ∷ [])
     (team_after 0 [] (three None None None))
@@ -119,7 +119,7 @@ TidyRow =
 -- after a tidy and a query the team can be committed
 abbrev pub TidyCommitRow : Type 0
 TidyCommitRow =
-    (t : TeamRules) (p q r : Place) → HasRoom t →
+    (t : TeamRules) (p q r : Place) → HasRoomForRows t →
     tidied t.legalizer t.frame t.number t.padding (map member_of (three None None None)) ≡ Going (map member_of (three (Some p) (Some q) (Some r))) 3 →
     broken_cells t (three (Some p) (Some q) (Some r)) ≡ [] →
     replies_to t (change_to Tidy ∷ where_is (codes "a3") ∷ change_to Commit ∷ []) (team_after 0 [] (three None None None))
@@ -128,7 +128,7 @@ TidyCommitRow =
 -- after a commit, revert restores the place of an unplaced cell
 abbrev pub CommitRow : Type 0
 CommitRow =
-    (t : TeamRules) (p q r : Place) → HasRoom t → broken_cells t (three (Some p) (Some q) (Some r)) ≡ [] →
+    (t : TeamRules) (p q r : Place) → HasRoomForRows t → broken_cells t (three (Some p) (Some q) (Some r)) ≡ [] →
     replies_to t
     (change_to Commit ∷ change_to (Unplace (codes "a1")) ∷ change_to (Unplace (codes "a1")) ∷ change_to Revert ∷ where_is (codes "a1") ∷ [])
     (team_after 1 [] (three (Some p) (Some q) (Some r)))
@@ -137,7 +137,7 @@ CommitRow =
 -- a commit with an unplaced cell is refused, and the reply for a cell of another team is NoCell
 abbrev pub RefusedRow : Type 0
 RefusedRow =
-    (t : TeamRules) (p q : Place) → HasRoom t →
+    (t : TeamRules) (p q : Place) → HasRoomForRows t →
     replies_to t (change_to Commit ∷ change_to (PlaceAt (codes "b1") q) ∷ change_to (Swap (codes "a2") (codes "b1")) ∷ change_to (Swap (codes "a2") (codes "a3")) ∷ [])
     (team_after 1 [] (three (Some p) None None))
     ≡ (Refused (Unplaced 1) ∷ Refused NoCell ∷ Refused NoCell ∷ Refused (Unplaced 1) ∷ [])
@@ -146,7 +146,7 @@ RefusedRow =
 -- because a3 would overlap a2
 abbrev pub SwapRow : Type 0
 SwapRow =
-    (t : TeamRules) (p q r : Place) → HasRoom t →
+    (t : TeamRules) (p q r : Place) → HasRoomForRows t →
     let cells = three (Some p) (Some q) (Some r) in
     broken_where t (exchanged cells 0 1) 0 ≡ None → broken_where t (exchanged cells 0 1) 1 ≡ None →
     broken_where t (exchanged cells 0 2) 0 ≡ None → broken_where t (exchanged cells 0 2) 2 ≡ Some (record { rule = Overlap; other = Some 1 }) →
@@ -158,7 +158,7 @@ SwapRow =
 -- pad moves no cell, and undo reverts the change before the pad and not the padding
 abbrev pub PadRow : Type 0
 PadRow =
-    (t : TeamRules) (padding : Padding) (p q : Place) → HasRoom t → broken_at t (three (Some p) None None) 1 q ≡ None →
+    (t : TeamRules) (padding : Padding) (p q : Place) → HasRoomForRows t → broken_at t (three (Some p) None None) 1 q ≡ None →
     replies_to t
     (change_to (PlaceAt (codes "a2") q) ∷ change_to (Pad padding) ∷ where_is (codes "a2") ∷ change_to Undo ∷ where_is (codes "a2") ∷ [])
     (team_after 0 [] (three (Some p) None None))

@@ -25,7 +25,7 @@ use Rattle.lf_floor_model.specs.States.{TeamState}
 use Rattle.lf_floor_model.specs.Teams.{TeamRules}
 use Rattle.lf_floor_model.specs.Outcomes.{Outcome, refused}
 use Rattle.lf_floor_model.specs.Sessions.{seen_at, opened, closed, synced}
-use Rattle.lf_floor_model.specs.Looks.{checked, written, located, found}
+use Rattle.lf_floor_model.specs.Queries.{checked, written, located, found}
 use Rattle.lf_floor_model.specs.Changes.{outcome_of_change}
 
 -- ---- the outcome of each verb

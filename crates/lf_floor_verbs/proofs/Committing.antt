@@ -15,9 +15,9 @@ use Rattle.lf_floor_model.specs.Teams.{TeamRules}
 use Rattle.lf_floor_model.specs.Outcomes.{Outcome, IsOutcome, IsOutOfMemory, changed, may_be_short, places_of, refused}
 use Rattle.lf_floor_model.specs.Changes.{broken_cells, committed, committed_unless, first_unplaced}
 use Rattle.lf_floor_verbs.specs.declared.tables.Tables.{Tables}
-use Rattle.lf_placement.specs.Placings.{KeepsRest, Placing}
+use Rattle.lf_placement.specs.Placements.{KeepsRest, Placing}
 use Rattle.lf_placement.proofs.Changing.{macs_committed}
-use Rattle.lf_floor_verbs.specs.Tables.{CountsChange, EntriesFit, HasRows, cells_in, own_team, padding_of, revision_of}
+use Rattle.lf_floor_verbs.specs.Tables.{CountsChange, EntriesFit, HasRows, table_cells, own_team, padding_of, revision_of}
 use Rattle.lf_floor_verbs.proofs.Fitting.{entries_as, same_rooms}
 use Rattle.lf_floor_verbs.proofs.Ends.{counted_own, team_of}
 
@@ -60,18 +60,18 @@ places_stay [] = refl
 places_stay (c ∷ cs) = ap (λ (r : List (Option Place)). c.working ∷ r) (places_stay cs)
 
 pub committed_reaches : (t : TeamRules) (k session revision : ℕ) (old new : Tables) (placing : Placing) → HasRows k old
-    → None ≡ first_unplaced (cells_in k old) → None ≡ slice_get (broken_cells t (cells_in k old)) 0
-    → cells_of placing.cells k ≡ map as_committed (cells_in k old) → CountsChange k session (record old { placement = placing }) new
+    → None ≡ first_unplaced (table_cells k old) → None ≡ slice_get (broken_cells t (table_cells k old)) 0
+    → cells_of placing.cells k ≡ map as_committed (table_cells k old) → CountsChange k session (record old { placement = placing }) new
     → revision ≡ revision_of old k + 1
     → IsOutcome (committed t session (own_team k old)) (Revision revision) (own_team k new)
-committed_reaches t k session revision old new placing rows none first are counts told =
+committed_reaches t k session revision old new placing rows none first are counts reported =
     let s = own_team k old in
     let mid : Tables = record old { placement = placing } in
     let now = map as_committed s.cells in
     let slots = slice_set (slots_of old.sessions k) session (Some (revision_of old k + 1)) in
     let outcome = none_broken t session s none first in
     record {
-      reply_is = ap Revision told ∙ ap (λ (o : Outcome). o.reply) (sym outcome);
+      reply_is = ap Revision reported ∙ ap (λ (o : Outcome). o.reply) (sym outcome);
       team_is =
           counted_own k session mid new (record { undo = rows.undo; sessions = rows.sessions; revisions = rows.revisions; paddings = rows.paddings }) counts
           ∙ ap (λ (cs : List Cell). team_of cs (revision_of old k + 1) (entries_of (places_of cs) (stack_of old.undo k)) slots (padding_of old k)) are
@@ -80,13 +80,13 @@ committed_reaches t k session revision old new placing rows none first are count
     }
 
 -- the entries are the same, and their places still fit
-pub committed_fit : (k session : ℕ) (old new : Tables) (placing : Placing) → HasRows k old → cells_of placing.cells k ≡ map as_committed (cells_in k old)
+pub committed_fit : (k session : ℕ) (old new : Tables) (placing : Placing) → HasRows k old → cells_of placing.cells k ≡ map as_committed (table_cells k old)
     → KeepsRest old.placement placing → CountsChange k session (record old { placement = placing }) new → EntriesFit k old → EntriesFit k new
 committed_fit k session old new placing rows are rest counts fit =
     let mid : Tables = record old { placement = placing } in
     let entries : (own_team k new).entries ≡ (own_team k old).entries =
     ap (λ (s : TeamState). s.entries) (counted_own k session mid new (record { undo = rows.undo; sessions = rows.sessions; revisions = rows.revisions; paddings = rows.paddings }) counts)
     ∙ ap (λ (cs : List Cell). entries_of (places_of cs) (stack_of old.undo k)) are
-    ∙ ap (λ (ps : List (Option Place)). entries_of ps (stack_of old.undo k)) (places_stay (cells_in k old)) in
+    ∙ ap (λ (ps : List (Option Place)). entries_of ps (stack_of old.undo k)) (places_stay (table_cells k old)) in
     entries_as k old new (rw counts.placement (same_rooms old.placement placing rest))
-    (rw (counts.placement, are) (macs_committed (cells_in k old))) entries fit
+    (rw (counts.placement, are) (macs_committed (table_cells k old))) entries fit

@@ -17,8 +17,8 @@ use Rattle.lf_floor_model.specs.Outcomes.{IsOutcome, IsOutOfMemory, changed, pla
 use Rattle.lf_floor_model.specs.Teams.{TeamRules}
 use Rattle.lf_floor_model.specs.States.{TeamState}
 use Rattle.lf_floor_verbs.specs.declared.tables.Tables.{Tables}
-use Rattle.lf_placement.specs.Placings.{HaveMoved, Placing, SameButPlaces}
-use Rattle.lf_floor_verbs.specs.Tables.{CountsChange, HasRows, cells_in, team_after_change, own_team, padding_of, revision_of, team_with}
+use Rattle.lf_placement.specs.Placements.{HaveMoved, Placing, SameButPlaces}
+use Rattle.lf_floor_verbs.specs.Tables.{CountsChange, HasRows, table_cells, team_after_change, own_team, padding_of, revision_of, team_with}
 use Rattle.lf_floor_verbs.specs.declared.tidy.Tidy.{Tidy}
 use Rattle.lf_floor_verbs.specs.declared.tidy.Tidy.TheVariants.{Done, Stopped}
 use Rattle.lf_floor_verbs.specs.Tidying.{TidiesCells}
@@ -60,10 +60,10 @@ counted_team k session cells old new rows counts =
 
 pub counted_own : (k session : ℕ) (old new : Tables) → HasRows k old → CountsChange k session old new
     → own_team k new
-    ≡ team_of (cells_in k old) (revision_of old k + 1) (entries_of (places_of (cells_in k old)) (stack_of old.undo k))
+    ≡ team_of (table_cells k old) (revision_of old k + 1) (entries_of (places_of (table_cells k old)) (stack_of old.undo k))
     (slice_set (slots_of old.sessions k) session (Some (revision_of old k + 1))) (padding_of old k)
 counted_own k session old new rows counts =
-    ap (λ (p : Placing). team_with k (cells_of p.cells k) new) counts.placement ∙ counted_team k session (cells_in k old) old new rows counts
+    ap (λ (p : Placing). team_with k (cells_of p.cells k) new) counts.placement ∙ counted_team k session (table_cells k old) old new rows counts
 
 -- ---- a stack changes
 
@@ -77,10 +77,10 @@ rows_by_undo k old undo same rows = record { undo = rw same rows.undo; sessions 
 -- the team whose moves are recorded
 pub kept_team : (k session : ℕ) (before : List Cell) (moves : List Move) (old : Tables) (undo : Stacks (List Move)) (new : Tables) → HasRows k old
     → undo.lists ≡ slice_set old.undo.lists k (take old.undo.limit (moves ∷ stack_of old.undo k)) → CountsChange k session (record old { undo = undo }) new
-    → HaveMoved before moves (cells_in k old) → own_team k new ≡ team_after_change k session before (cells_in k old) old
+    → HaveMoved before moves (table_cells k old) → own_team k new ≡ team_after_change k session before (table_cells k old) old
 kept_team k session before moves old undo new rows lists counts have =
     let mid : Tables = record old { undo = undo } in
-    let now = cells_in k old in
+    let now = table_cells k old in
     let stack = take old.undo.limit (moves ∷ stack_of old.undo k) in
     let same : length undo.lists ≡ length old.undo.lists = ap (λ (xs : List (List (List Move))). length xs) lists ∙ length-set old.undo.lists k stack in
     let slots = slice_set (slots_of old.sessions k) session (Some (revision_of old k + 1)) in
@@ -94,26 +94,26 @@ kept_team k session before moves old undo new rows lists counts have =
 
 -- the team with the recorded change is the one of the rules
 pub recorded_team : (t : TeamRules) (k session : ℕ) (old new : Tables) (now : List Cell) → old.undo.limit ≡ t.frame.limits.undo
-    → own_team k new ≡ team_after_change k session (cells_in k old) now old → own_team k new ≡ (recorded t session now (own_team k old)).team
+    → own_team k new ≡ team_after_change k session (table_cells k old) now old → own_team k new ≡ (recorded t session now (own_team k old)).team
 recorded_team t k session old new now limit is =
     let s = own_team k old in
     is ∙ ap (λ (n : ℕ). (changed session now (take n (places_of s.cells ∷ s.entries)) s).team) limit
 
 -- the team whose cells are moved back
-pub back_to : (k : ℕ) (old : Tables) (placing : Placing) → cells_of placing.cells k ≡ cells_in k old
+pub back_to : (k : ℕ) (old : Tables) (placing : Placing) → cells_of placing.cells k ≡ table_cells k old
     → own_team k (record old { placement = placing }) ≡ own_team k old
 back_to k old placing back = ap (λ (cs : List Cell). team_with k cs old) back
 
 -- ---- revert
 
 pub reverted_reaches : (t : TeamRules) (k session revision : ℕ) (old new : Tables) (now : List Cell) → old.undo.limit ≡ t.frame.limits.undo
-    → now ≡ map back_to_committed (cells_in k old) → own_team k new ≡ team_after_change k session (cells_in k old) now old → revision ≡ revision_of old k + 1
+    → now ≡ map back_to_committed (table_cells k old) → own_team k new ≡ team_after_change k session (table_cells k old) now old → revision ≡ revision_of old k + 1
     → IsOutcome (reverted t session (own_team k old)) (Revision revision) (own_team k new)
 unfolding reverted
-reverted_reaches t k session revision old new now limit back is told =
+reverted_reaches t k session revision old new now limit back is reported =
     let s = own_team k old in
     record {
-      reply_is = ap Revision told;
+      reply_is = ap Revision reported;
       team_is = recorded_team t k session old new now limit is ∙ ap (λ (cs : List Cell). (recorded t session cs s).team) back;
     }
 
@@ -124,14 +124,14 @@ reverted_short t session s new team_after_change = record { kept = team_after_ch
 -- ---- tidy
 
 pub tidied_reaches : (t : TeamRules) (k session revision count : ℕ) (old new : Tables) (now : List Cell) (tidy : Tidy)
-    → old.undo.limit ≡ t.frame.limits.undo → TidiesCells t (cells_in k old) now tidy → tidy ≡ Done count → SameButPlaces (cells_in k old) now
-    → own_team k new ≡ team_after_change k session (cells_in k old) now old → revision ≡ revision_of old k + 1
+    → old.undo.limit ≡ t.frame.limits.undo → TidiesCells t (table_cells k old) now tidy → tidy ≡ Done count → SameButPlaces (table_cells k old) now
+    → own_team k new ≡ team_after_change k session (table_cells k old) now old → revision ≡ revision_of old k + 1
     → IsOutcome (tidied_team t session (own_team k old)) (TidyDone revision count) (own_team k new)
-tidied_reaches t k session revision count old new now tidy limit tidies is same left told =
+tidied_reaches t k session revision count old new now tidy limit tidies is same left reported =
     let s = own_team k old in
     let outcome : tidied_team t session s ≡ with_reply (TidyDone (s.revision + 1) count) (recorded t session now s) =
-    tidied_done t session s now count (subst (λ (x : Tidy). TidiesCells t (cells_in k old) now x) is tidies) same in
-    rw outcome record { reply_is = ap (λ (n : ℕ). TidyDone n count) told; team_is = recorded_team t k session old new now limit left }
+    tidied_done t session s now count (subst (λ (x : Tidy). TidiesCells t (table_cells k old) now x) is tidies) same in
+    rw outcome record { reply_is = ap (λ (n : ℕ). TidyDone n count) reported; team_is = recorded_team t k session old new now limit left }
 
 pub stuck_reaches : (t : TeamRules) (session own : ℕ) (s new : TeamState) (mid : List Cell) (tidy : Tidy) → TidiesCells t s.cells mid tidy → tidy ≡ Stopped own
     → new ≡ s

@@ -4,18 +4,18 @@ use Rattle.std.specs.Prelude.{All, slice_set}
 use Rattle.std.proofs.lemmas.List.Elements.{All-cons, All-take}
 use Rattle.lf_cells.specs.declared.cell.Cell.{Cell}
 use Rattle.lf_cells.specs.Cells.{Cells, cells_of}
-use Rattle.lf_occupancy.specs.Occupied.{KeepsCapacities}
+use Rattle.lf_occupancy.specs.Views.{KeepsCapacities}
 use Rattle.lf_undo.specs.declared.moves.Move.{Move}
 use Rattle.lf_undo.specs.Stacks.{Stacks}
 use Rattle.lf_undo.specs.Entries.{Places, moves_taken_back}
 use Rattle.lf_placement.specs.Laws.{SameMacros}
-use Rattle.lf_placement.specs.Placings.{Fits, HaveMoved, KeepsRest, OtherCellsStay, Placing, SameButPlaces, SameButRooms, moves_applied, places_of, without_place}
+use Rattle.lf_placement.specs.Placements.{Fits, HaveMoved, KeepsRest, OtherCellsStay, Placing, SameButPlaces, SameButRooms, moves_applied, working_places_of, without_place}
 use Rattle.lf_placement.proofs.Changing.{macs_same}
 use Rattle.lf_placement.proofs.Keeping.{last}
 use Rattle.lf_placement.proofs.Moves.{cells_stay, cells_through, same_made}
 use Rattle.lf_floor_model.specs.States.{TeamState}
 use Rattle.lf_floor_verbs.specs.declared.tables.Tables.{Tables}
-use Rattle.lf_floor_verbs.specs.Tables.{EntriesFit, OnlyGainRoom, KeepsRooms, OnlyMovesTeam, KeepsOtherTeams, cells_in, team_after_change, own_team, revision_of, team_with}
+use Rattle.lf_floor_verbs.specs.Tables.{EntriesFit, OnlyGainRoom, KeepsRooms, OnlyMovesTeam, KeepsOtherTeams, table_cells, team_after_change, own_team, revision_of, team_with}
 
 -- ---- rooms
 
@@ -78,7 +78,7 @@ pub fits_as : (k : ℕ) (old new : Placing) (places : Places) → KeepsRooms old
 fits_as k old new places ground macros fits = last old new k places ground.frame ground.index ground.site ground.rooms macros fits
 
 -- the places of unchanged entries still fit
-pub entries_as : (k : ℕ) (old new : Tables) → KeepsRooms old.placement new.placement → SameMacros (cells_in k old) (cells_in k new)
+pub entries_as : (k : ℕ) (old new : Tables) → KeepsRooms old.placement new.placement → SameMacros (table_cells k old) (table_cells k new)
     → (own_team k new).entries ≡ (own_team k old).entries → EntriesFit k old → EntriesFit k new
 entries_as k old new ground macros entries fit =
     subst (λ (es : List Places). All (λ places. Fits new.placement k places) es) (sym entries)
@@ -91,19 +91,19 @@ entries_stay k old new ground same fit =
 
 -- a change of places, if the old places fit
 pub kept_fit : (k session : ℕ) (now : List Cell) (old new : Tables) → OnlyMovesTeam k old.placement new.placement
-    → Fits old.placement k (places_of (cells_in k old)) → own_team k new ≡ team_after_change k session (cells_in k old) now old → EntriesFit k old → EntriesFit k new
-kept_fit k session now old new only stood is fit =
+    → Fits old.placement k (working_places_of (table_cells k old)) → own_team k new ≡ team_after_change k session (table_cells k old) now old → EntriesFit k old → EntriesFit k new
+kept_fit k session now old new only original_place is fit =
     subst (λ (es : List Places). All (λ places. Fits new.placement k places) es) (sym (ap (λ (s : TeamState). s.entries) is))
-    (All-take (λ (places : Places). Fits new.placement k places) old.undo.limit (places_of (cells_in k old) ∷ (own_team k old).entries)
-    (All-cons (λ (places : Places). Fits new.placement k places) (places_of (cells_in k old)) (own_team k old).entries
-    (fits_only k old.placement new.placement (places_of (cells_in k old)) only stood)
+    (All-take (λ (places : Places). Fits new.placement k places) old.undo.limit (working_places_of (table_cells k old) ∷ (own_team k old).entries)
+    (All-cons (λ (places : Places). Fits new.placement k places) (working_places_of (table_cells k old)) (own_team k old).entries
+    (fits_only k old.placement new.placement (working_places_of (table_cells k old)) only original_place)
     (λ i d within. fits_only k old.placement new.placement _ only (fit i d within))))
 
 -- the moves may be reverted, if the old places fit
-pub back_fits : (k : ℕ) (moves : List Move) (before : List Cell) (first now : Placing) → OnlyMovesTeam k first now → Fits first k (places_of before)
-    → HaveMoved before moves (cells_of now.cells k) → Fits now k (moves_taken_back moves (places_of (cells_of now.cells k)))
-back_fits k moves before first now only stood have =
-    subst (λ (places : Places). Fits now k places) (sym have.places) (fits_only k first now (places_of before) only stood)
+pub back_fits : (k : ℕ) (moves : List Move) (before : List Cell) (first now : Placing) → OnlyMovesTeam k first now → Fits first k (working_places_of before)
+    → HaveMoved before moves (cells_of now.cells k) → Fits now k (moves_taken_back moves (working_places_of (cells_of now.cells k)))
+back_fits k moves before first now only original_place have =
+    subst (λ (places : Places). Fits now k places) (sym have.places) (fits_only k first now (working_places_of before) only original_place)
 
 -- ---- the tables
 
@@ -136,7 +136,7 @@ grown_with k cells old new grown = go where
 
 pub grown_team : (k : ℕ) (old new : Tables) → OnlyGainRoom old new → own_team k new ≡ own_team k old
 grown_team k old new grown =
-    grown_with k (cells_in k new) old new grown ∙ ap (λ (cs : Cells). team_with k (cells_of cs k) old) grown.placement.cells
+    grown_with k (table_cells k new) old new grown ∙ ap (λ (cs : Cells). team_with k (cells_of cs k) old) grown.placement.cells
 
 pub grown_revision : (k : ℕ) (old new : Tables) → OnlyGainRoom old new → revision_of new k ≡ revision_of old k
 grown_revision k old new grown = rw grown.revisions refl
@@ -148,7 +148,7 @@ grown_kept k session before now old new grown =
     ∙ ap (λ (s : TeamState). record {
       cells = now;
       revision = s.revision + 1;
-      entries = take old.undo.limit (places_of before ∷ s.entries);
+      entries = take old.undo.limit (working_places_of before ∷ s.entries);
       slots = slice_set s.slots session (Some (s.revision + 1));
       padding = s.padding;
     }) (grown_with k before old new grown)

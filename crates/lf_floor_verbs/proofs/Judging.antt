@@ -12,7 +12,7 @@ use Rattle.lf_cells.specs.declared.cell.Cell.{Cell}
 use Rattle.lf_cells.specs.declared.cell.CellId.{CellId}
 use Rattle.lf_cells.specs.Cells.{cell_at, cells_of, working_at}
 use Rattle.lf_legalize.specs.Members.{IsSizedCell}
-use Rattle.lf_placement.specs.Placings.{IsBrokenFrameRule, IsBrokenAt, Placing, SameButPlaces}
+use Rattle.lf_placement.specs.Placements.{IsBrokenFrameRule, IsBrokenAt, Placing, SameButPlaces}
 use Rattle.lf_placement.proofs.Changing.{macs_same, sized_in}
 use Rattle.lf_placement.proofs.Judging.{alone_lasts, broken_alone}
 use Rattle.lf_floor_model.specs.Teams.{TeamRules, broken_at, broken_by, team_rules, candidate_of_cell}
@@ -65,10 +65,10 @@ pub alone_anywhere : (l : Legalizer) (p : Placing) (padding : ℕ) (id : CellId)
     → All (IsSizedCell p.frame) (cells_of p.cells id.team) → working_at (cells_of p.cells id.team) id.own ≡ Some was
     → SameButPlaces (cells_of p.cells id.team) now → IsBrokenFrameRule p id place (Some rule)
     → first_broken rule ≡ broken_at (team_rules l p.frame id.team padding) now id.own place
-alone_anywhere l p padding id place was rule now one sized stood same alone =
+alone_anywhere l p padding id place was rule now one sized original_place same alone =
     let old = cells_of p.cells id.team in
     let q : Placing = record p { cells = record p.cells { cells = set p.cells.cells id.team now } } in
-    let within : id.team < length p.cells.cells = row_there p.cells.cells id.team id.own was stood in
+    let within : id.team < length p.cells.cells = row_there p.cells.cells id.team id.own was original_place in
     let are : cells_of q.cells id.team ≡ now = get_or-set_same p.cells.cells id.team now [] within in
     let macros = macs_same old now same in
     let last = alone_lasts p q id place (Some rule) refl (ap (λ (cs : List Cell). Rattle.std.proofs.Common.map (λ (c : Cell). c.mac) cs) are ∙ macros) alone in

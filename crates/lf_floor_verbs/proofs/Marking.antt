@@ -19,11 +19,11 @@ use Rattle.lf_cells.specs.declared.cell.CellId.{CellId}
 use Rattle.lf_cells.specs.Cells.{id_in, id_of, working_at}
 use Rattle.lf_legalize.specs.Members.{IsSizedCell, member_of}
 use Rattle.lf_floor_model.specs.Teams.{TeamRules, broken_by, candidate_of_cell}
-use Rattle.lf_floor_model.specs.Looks.{query_of_cell}
+use Rattle.lf_floor_model.specs.Queries.{query_of_cell}
 use Rattle.lf_floor_model.specs.Changes.{broken_where}
-use Rattle.lf_floor_model.proofs.Standing.{some_one, stands_where}
+use Rattle.lf_floor_model.proofs.Standing.{some_one, is_placed_where}
 use Rattle.lf_floor_verbs.specs.Marking.{AreMarked}
-use Rattle.lf_floor_verbs.specs.Tidying.{target_at}
+use Rattle.lf_floor_verbs.specs.Tidying.{tidy_target_at}
 use Rattle.lf_floor_verbs.proofs.Judging.{sized_there}
 
 -- ---- marks
@@ -42,8 +42,8 @@ none_marked f number padding count cells marks are own marked =
 -- one more cell is marked, and it is legal
 pub one_more_mark : (f : Frame) (number padding own : ℕ) (cells : List Cell) (old new : List Bool) → new ≡ set old own true →
     IsLegalCell f number padding (map member_of cells) own → AreMarked f number padding cells old → AreMarked f number padding cells new
-one_more_mark f number padding own cells old new is stands are other marked = ⊎_elim
-    (λ (same : other ≡ own). subst (λ (k : ℕ). IsLegalCell f number padding (map member_of cells) k) (sym same) stands)
+one_more_mark f number padding own cells old new is is_in_place are other marked = ⊎_elim
+    (λ (same : other ≡ own). subst (λ (k : ℕ). IsLegalCell f number padding (map member_of cells) k) (sym same) is_in_place)
     (λ (differ : other ≢ own).
     are other (sym (slice_get-set_other old own other true differ) ∙ subst (λ (ms : List Bool). slice_get ms other ≡ Some true) is marked))
     (cases_eq other own)
@@ -58,7 +58,7 @@ no_rule t cells own c place one sized legal =
 
 pub legal_breaks_none : (t : TeamRules) (cells : List Cell) (own : ℕ) → VerdictIsUnique → All (IsSizedCell t.frame) cells →
     IsLegalCell t.frame t.number t.padding (map member_of cells) own → None ≡ broken_where t cells own
-legal_breaks_none t cells own one all stands = go (slice_get cells own) refl where
+legal_breaks_none t cells own one all is_in_place = go (slice_get cells own) refl where
   by : (c : Cell) (o : Option Place) → IsSizedCell t.frame c → MatchOption (option_map spot_of o) ⊥ (λ p. IsLegalAt (query_of_cell t cells own c) p) →
       None ≡ option_and_then (λ place. broken_by (Some c) t cells own place) o
   by c None sized none = absurd none
@@ -69,13 +69,13 @@ legal_breaks_none t cells own one all stands = go (slice_get cells own) refl whe
   go None there = refl
   go (Some c) there =
       by c c.working (sized_there t.frame cells own c all there)
-      (stands (member_of c) (slice_get-map member_of cells own ∙ ap (option_map member_of) there))
+      (is_in_place (member_of c) (slice_get-map member_of cells own ∙ ap (option_map member_of) there))
 
 -- ---- a legal cell is not tidied
 
 pub legal_stays : (t : TeamRules) (cells : List Cell) (own : ℕ) → VerdictIsUnique → All (IsSizedCell t.frame) cells →
-    IsLegalCell t.frame t.number t.padding (map member_of cells) own → None ≡ target_at t cells own
-legal_stays t cells own one all stands = go (slice_get cells own) refl where
+    IsLegalCell t.frame t.number t.padding (map member_of cells) own → None ≡ tidy_target_at t cells own
+legal_stays t cells own one all is_in_place = go (slice_get cells own) refl where
   by : (c : Cell) (o : Option Place) → IsSizedCell t.frame c → MatchOption (option_map spot_of o) ⊥ (λ p. IsLegalAt (query_of_cell t cells own c) p) →
       None ≡ target_of t.legalizer (query_of_cell t cells own c) (option_map spot_of o)
   by c None sized none = absurd none
@@ -86,7 +86,7 @@ legal_stays t cells own one all stands = go (slice_get cells own) refl where
   go None there = refl
   go (Some c) there =
       by c c.working (sized_there t.frame cells own c all there)
-      (stands (member_of c) (slice_get-map member_of cells own ∙ ap (option_map member_of) there))
+      (is_in_place (member_of c) (slice_get-map member_of cells own ∙ ap (option_map member_of) there))
 
 -- cells with marks stay legal while a cell is tidied
 pub marked_through : (t : TeamRules) (own moved count : ℕ) (old new : List Cell) (marks : List Bool) → TidyKeepsLegal → All (IsSizedCell t.frame) old →
@@ -100,16 +100,16 @@ marked_through t own moved count old new marks keeps all is are other marked =
 
 -- ---- a placed cell that breaks no rule is legal
 
-pub stands_by : (t : TeamRules) (cells : List Cell) (own : ℕ) (broken : Option Broken) → All (IsSizedCell t.frame) cells → false ≡ is_none (working_at cells own)
+pub is_placed_by : (t : TeamRules) (cells : List Cell) (own : ℕ) (broken : Option Broken) → All (IsSizedCell t.frame) cells → false ≡ is_none (working_at cells own)
     → broken ≡ broken_where t cells own → is_none broken ≡ true → IsLegalCell t.frame t.number t.padding (map member_of cells) own
-stands_by t cells own broken sized placed is none = go (working_at cells own) refl placed where
+is_placed_by t cells own broken sized placed is none = go (working_at cells own) refl placed where
   no_broken : (o : Option Broken) → is_none o ≡ true → o ≡ None
   no_broken None e = refl
   no_broken (Some b) e = absurd cc
 
   go : (o : Option Place) → working_at cells own ≡ o → false ≡ is_none o → IsLegalCell t.frame t.number t.padding (map member_of cells) own
   go None at e = absurd cc
-  go (Some p) at e = stands_where t cells own p sized at (sym is ∙ no_broken broken none)
+  go (Some p) at e = is_placed_where t cells own p sized at (sym is ∙ no_broken broken none)
 
 -- the id of the team's cell at that position
 pub id_is : (cells : List Cell) (number own : ℕ) (id : CellId) → Some id ≡ id_in cells number own → id ≡ id_of number own

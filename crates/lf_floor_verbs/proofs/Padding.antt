@@ -9,12 +9,12 @@ use Rattle.lf_sessions.specs.Slots.{slots_of}
 use Rattle.lf_undo.specs.Stacks.{stack_of}
 use Rattle.lf_undo.specs.Entries.{entries_of}
 use Rattle.lf_proto.specs.declared.reply.Reply.TheVariants.{Revision}
-use Rattle.lf_placement.specs.Placings.{Placing}
+use Rattle.lf_placement.specs.Placements.{Placing}
 use Rattle.lf_floor_model.specs.Changes.{padded}
 use Rattle.lf_floor_model.specs.Outcomes.{IsOutcome, places_of}
 use Rattle.lf_floor_model.specs.States.{TeamState}
 use Rattle.lf_floor_verbs.specs.declared.tables.Tables.{Tables}
-use Rattle.lf_floor_verbs.specs.Tables.{CountsChange, EntriesFit, HasRows, SetsPadding, cells_in, own_team, padding_of, revision_of, sites_in}
+use Rattle.lf_floor_verbs.specs.Tables.{CountsChange, EntriesFit, HasRows, SetsPadding, table_cells, own_team, padding_of, revision_of, sites_in}
 use Rattle.lf_floor_verbs.proofs.Ends.{counted_own, team_of}
 use Rattle.lf_floor_verbs.proofs.Fitting.{entries_as, rooms_stay}
 
@@ -42,15 +42,15 @@ module _ (k session : ℕ) (padding : Sites) (old mid new : Tables) (rows : HasR
     unfolding padded
     padded_team =
         let counted : Tables → ℕ → TeamState = λ (t : Tables) (sites : ℕ).
-        team_of (cells_in k t) (revision_of t k + 1) (entries_of (places_of (cells_in k t)) (stack_of t.undo k))
+        team_of (table_cells k t) (revision_of t k + 1) (entries_of (places_of (table_cells k t)) (stack_of t.undo k))
         (slice_set (slots_of t.sessions k) session (Some (revision_of t k + 1))) sites in
         counted_own k session mid new rows_padded counts ∙ kept_part (λ (t : Tables). counted t (padding_of mid k)) refl
         ∙ ap (counted old) padding_now
 
     pub padded_reaches : (revision : ℕ) → revision ≡ revision_of mid k + 1 → IsOutcome (padded padding session (own_team k old)) (Revision revision) (own_team k new)
     unfolding padded
-    padded_reaches revision told = record {
-      reply_is = ap Revision (told ∙ kept_part (λ (t : Tables). revision_of t k + 1) refl);
+    padded_reaches revision reported = record {
+      reply_is = ap Revision (reported ∙ kept_part (λ (t : Tables). revision_of t k + 1) refl);
       team_is = padded_team;
     }
 

@@ -8,7 +8,7 @@ use Rattle.std.proofs.lemmas.List.Sums.{sum_by-cons}
 use Rattle.std.proofs.lemmas.Option.{slice_get-map}
 use Rattle.lf_floorplan.specs.declared.frame.Frame.{Frame}
 use Rattle.lf_floorplan.specs.declared.place.Place.{Place}
-use Rattle.lf_floorplan.specs.Bounds.{IsName}
+use Rattle.lf_floorplan.specs.Bounds.{IsDesignName}
 use Rattle.lf_floorplan.specs.Boxes.{macro_of}
 use Rattle.lf_rules.specs.declared.rule.Broken.{Broken}
 use Rattle.lf_rules.specs.declared.report_types.Listed.{Listed}
@@ -16,8 +16,8 @@ use Rattle.lf_rules.specs.declared.report_types.Violation.{Violation}
 use Rattle.lf_rules.specs.Legality.{candidate_of}
 use Rattle.lf_rules.specs.Legalizer.{Legalizer}
 use Rattle.lf_rules.specs.Team.{Member, boxes_beside}
-use Rattle.lf_reports.specs.Reports.{broken_among, member_of as listed_member, name_among, violation_at, violation_by, violation_of, violations_in}
-use Rattle.lf_reports.proofs.ReportLemmas.{told_more}
+use Rattle.lf_reports.specs.Reports.{broken_among, listed_member, name_among, violation_at, violation_by, violation_of, violations_in}
+use Rattle.lf_reports.proofs.ReportLemmas.{reported_more}
 use Rattle.lf_cells.specs.declared.cell.Cell.{Cell}
 use Rattle.lf_legalize.specs.Members.{member_of}
 use Rattle.lf_floor_model.specs.Teams.{TeamRules, broken_by, listed_of}
@@ -63,21 +63,21 @@ pub violation_listed : (l : Legalizer) (f : Frame) (padding : ℕ) (listed : Lis
     ((c : Listed (List ℕ)) → slice_get listed own ≡ Some c → verdict ≡ broken_among l f padding listed own c) →
     option_and_then (violation_in (listed_names listed) own) verdict ≡ violation_at l f padding listed own
 violation_listed l f padding listed own verdict is =
-    ap (λ (o : Option (List ℕ)). told o verdict) (slice_get-map (λ (c : Listed (List ℕ)). c.name) listed own) ∙ go (slice_get listed own) refl
+    ap (λ (o : Option (List ℕ)). reported o verdict) (slice_get-map (λ (c : Listed (List ℕ)). c.name) listed own) ∙ go (slice_get listed own) refl
   where
-    told : Option (List ℕ) → Option Broken → Option Violation
-    told o v = option_and_then (λ (b : Broken). option_map (violation_named (listed_names listed) b) o) v
+    reported : Option (List ℕ) → Option Broken → Option Violation
+    reported o v = option_and_then (λ (b : Broken). option_map (violation_named (listed_names listed) b) o) v
 
-    none : (v : Option Broken) → told None v ≡ None
+    none : (v : Option Broken) → reported None v ≡ None
     none None = refl
     none (Some b) = refl
 
-    some : (c : Listed (List ℕ)) (v : Option Broken) → told (Some c.name) v ≡ option_map (violation_of listed c) v
+    some : (c : Listed (List ℕ)) (v : Option Broken) → reported (Some c.name) v ≡ option_map (violation_of listed c) v
     some c None = refl
     some c (Some b) = ap (λ (other : Option (List ℕ)). Some (record { cell = c.name; rule = b.rule; other = other })) (other_listed listed b.other)
 
     go : (o : Option (Listed (List ℕ))) → slice_get listed own ≡ o →
-        told (option_map (λ (c : Listed (List ℕ)). c.name) o) verdict ≡ option_and_then (violation_by l f padding listed own) o
+        reported (option_map (λ (c : Listed (List ℕ)). c.name) o) verdict ≡ option_and_then (violation_by l f padding listed own) o
     go None there = none verdict
     go (Some c) there = some c verdict ∙ ap (option_map (violation_of listed c)) (is c there)
 
@@ -120,8 +120,8 @@ unplaced_listed number (c ∷ cells) =
     ∙ sym (sum_by-cons (λ (x : Listed (List ℕ)). cond (is_none x.place) 1 0) (listed_of number c) (map (listed_of number) cells))
 
 -- the names of cells, each of which a text can have
-pub names_printed : (cells : List Cell) → All (λ c. IsName c.name) cells → All IsName (names_of cells)
-names_printed cells printed = All-map IsName (λ (c : Cell). c.name) cells printed
+pub names_printed : (cells : List Cell) → All (λ c. IsDesignName c.name) cells → All IsDesignName (names_of cells)
+names_printed cells printed = All-map IsDesignName (λ (c : Cell). c.name) cells printed
 
 -- ---- the text
 
@@ -132,7 +132,7 @@ one_more_violation {Y = Y} g k rest =
     let before = filter_map g (range_with_len 0 k) in
     ap (λ (ys : List Y). before ++ ys) (onto (g k))
     ∙ sym (append_assoc before (cons_option (g k) []) rest)
-    ∙ ap (λ (ys : List Y). ys ++ rest) (told_more g k before (before ++ cons_option (g k) []) refl refl)
+    ∙ ap (λ (ys : List Y). ys ++ rest) (reported_more g k before (before ++ cons_option (g k) []) refl refl)
   where
     onto : (o : Option Y) → cons_option o rest ≡ cons_option o [] ++ rest
     onto None = refl

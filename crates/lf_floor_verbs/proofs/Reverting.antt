@@ -4,7 +4,7 @@ use Rattle.lf_floorplan.specs.declared.place.Place.{Place}
 use Rattle.lf_cells.specs.declared.cell.Cell.{Cell}
 use Rattle.lf_cells.specs.Cells.{committed_at, moved, working_at}
 use Rattle.lf_undo.specs.declared.moves.Move.{Move}
-use Rattle.lf_placement.specs.Placings.{committed_of, moves_applied, places_of}
+use Rattle.lf_placement.specs.Placements.{committed_of, moves_applied, working_places_of}
 use Rattle.lf_floor_model.specs.Changes.{back_to_committed}
 use Rattle.lf_floor_verbs.specs.Reverting.{IsRevertMove}
 use Rattle.lf_floor_verbs.proofs.Moves.{made_more, not_moved}
@@ -58,8 +58,8 @@ pub one_more_noted : (n : ℕ) (cells : List Cell) (old new : List Move) → mov
 one_more_noted n cells old new so_far noted = noted (back_first n cells) so_far (working_still n cells) (committed_still n cells) ∙ one_more_back n cells
 
 -- the places to which the moves lead
-pub places_reverted : (cells now : List Cell) → now ≡ map back_to_committed cells → places_of now ≡ committed_of cells
-places_reverted cells now is = ap places_of is ∙ go cells where
-  go : (cs : List Cell) → places_of (map back_to_committed cs) ≡ committed_of cs
+pub places_reverted : (cells now : List Cell) → now ≡ map back_to_committed cells → working_places_of now ≡ committed_of cells
+places_reverted cells now is = ap working_places_of is ∙ go cells where
+  go : (cs : List Cell) → working_places_of (map back_to_committed cs) ≡ committed_of cs
   go [] = refl
   go (c ∷ cs) = ap (λ (r : List (Option Place)). c.committed ∷ r) (go cs)

@@ -13,11 +13,11 @@ use Rattle.lf_cells.specs.declared.cell.CellFacts.{CellFacts}
 use Rattle.lf_cells.specs.Cells.{Cells, cell_at, cells_of, id_in, id_of}
 use Rattle.lf_legalize.specs.Members.{best_of}
 use Rattle.lf_placement.proofs.Moves.{id_there}
-use Rattle.lf_floorplan.specs.Bounds.{IsName}
+use Rattle.lf_floorplan.specs.Bounds.{IsDesignName}
 use Rattle.lf_floor_model.specs.Outcomes.{name_at}
 use Rattle.lf_floor_model.specs.Teams.{TeamRules}
 use Rattle.lf_floor_model.proofs.Standing.{some_one}
-use Rattle.lf_floor_model.specs.Looks.{place_of_spot, query_of_cell, best_at}
+use Rattle.lf_floor_model.specs.Queries.{place_of_spot, query_of_cell, best_at}
 
 pub back : (q : Place) → place_of_spot (spot_of q) ≡ Some q
 back q = place_at-some q
@@ -50,20 +50,20 @@ names_none cells number own none = go (slice_get cells own) none where
   go (Some c) e = absurd cc
 
 -- a name that is returned is that of an existing cell
-pub name_printed : (cells : List Cell) (own : ℕ) (name : List ℕ) → All (λ c. IsName c.name) cells → Some name ≡ name_at cells own → IsName name
+pub name_printed : (cells : List Cell) (own : ℕ) (name : List ℕ) → All (λ c. IsDesignName c.name) cells → Some name ≡ name_at cells own → IsDesignName name
 name_printed cells own name printed is = go (slice_get cells own) refl is where
-  go : (o : Option Cell) → slice_get cells own ≡ o → Some name ≡ option_map (λ (c : Cell). c.name) o → IsName name
+  go : (o : Option Cell) → slice_get cells own ≡ o → Some name ≡ option_map (λ (c : Cell). c.name) o → IsDesignName name
   go None there e = absurd cc
   go (Some c) there e =
       let at : get_or cells own c ≡ c = get_or_from_slice_get cells own c c there in
       let same : name ≡ c.name = some_one e in
-      subst IsName (ap (λ (x : Cell). x.name) at ∙ sym same) (printed own c (slice_get_within cells own c there))
+      subst IsDesignName (ap (λ (x : Cell). x.name) at ∙ sym same) (printed own c (slice_get_within cells own c there))
 
 -- the name that is returned for the cell of this id
-pub name_told : (table : Cells) (number own : ℕ) (id : CellId) (facts : CellFacts) → id_in (cells_of table number) number own ≡ Some id
+pub name_reported : (table : Cells) (number own : ℕ) (id : CellId) (facts : CellFacts) → id_in (cells_of table number) number own ≡ Some id
     → option_map (λ (f : CellFacts). f.name.now) (Some facts) ≡ option_map (λ (c : Cell). c.name) (cell_at table id)
     → Some facts.name.now ≡ name_at (cells_of table number) own
-name_told table number own id facts is told =
-    told ∙ ap (λ (i : CellId). option_map (λ (x : Cell). x.name) (cell_at table i)) (id_there (cells_of table number) number own id is)
+name_reported table number own id facts is reported =
+    reported ∙ ap (λ (i : CellId). option_map (λ (x : Cell). x.name) (cell_at table i)) (id_there (cells_of table number) number own id is)
 
 -- ---- one cell after the other

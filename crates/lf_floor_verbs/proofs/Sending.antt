@@ -23,12 +23,12 @@ use Rattle.lf_legalize.specs.Members.{member_of, best_of}
 use Rattle.lf_floor_verbs.specs.declared.tidy.Tidy.TheVariants.{Done, Stopped}
 use Rattle.lf_floor_model.specs.States.{TeamState}
 use Rattle.lf_floor_model.specs.Outcomes.{places_of, refused, recorded, with_reply, may_be_short}
-use Rattle.lf_placement.specs.Placings.{SameButPlaces}
+use Rattle.lf_placement.specs.Placements.{SameButPlaces}
 use Rattle.lf_floor_model.specs.Teams.{TeamRules, broken_at, broken_by}
-use Rattle.lf_floor_model.specs.Looks.{query_of_cell, place_of_spot}
+use Rattle.lf_floor_model.specs.Queries.{query_of_cell, place_of_spot}
 use Rattle.lf_floor_model.specs.Changes.{restored, places_in, tidied_by, tidied_team}
 use Rattle.lf_floor_verbs.specs.declared.tidy.TidyStep.{TidyStep}
-use Rattle.lf_floor_verbs.specs.Tidying.{TidiesOneCell, TidiesCells, tidy_result_of, target_at}
+use Rattle.lf_floor_verbs.specs.Tidying.{TidiesOneCell, TidiesCells, tidy_result_of, tidy_target_at}
 use Rattle.lf_floor_verbs.proofs.Moves.{restored_is}
 use Rattle.lf_floor_verbs.proofs.Seeking.{back}
 use Rattle.lf_floor_model.proofs.Standing.{some_one}
@@ -38,8 +38,8 @@ use Rattle.lf_floor_model.proofs.Standing.{some_one}
 -- the target to which a placed cell is tidied
 pub target_placed : (t : TeamRules) (cells : List Cell) (own : ℕ) (s : CellPlacement) (place : Place) (broken : Option Broken)
     → Some s ≡ option_map placement_of (slice_get cells own) → s.working ≡ Some place → broken ≡ broken_at t cells own place
-    → option_map (λ (b : Broken). point_of (spot_of place)) broken ≡ target_at t cells own
-target_placed t cells own s place broken stands placed is = go (slice_get cells own) stands is where
+    → option_map (λ (b : Broken). point_of (spot_of place)) broken ≡ tidy_target_at t cells own
+target_placed t cells own s place broken is_in_place placed is = go (slice_get cells own) is_in_place is where
   go : (o : Option Cell) → Some s ≡ option_map placement_of o → broken ≡ broken_by o t cells own place
       → option_map (λ (b : Broken). point_of (spot_of place)) broken
       ≡ option_and_then (λ c. target_of t.legalizer (query_of_cell t cells own c) (option_map spot_of c.working)) o
@@ -67,7 +67,7 @@ tidy_one_is t cells own moved =
     go (Some c) = refl
 
 -- a cell without a target stays
-pub one_stays : (t : TeamRules) (cells : List Cell) (own moved : ℕ) → target_at t cells own ≡ None
+pub one_stays : (t : TeamRules) (cells : List Cell) (own moved : ℕ) → tidy_target_at t cells own ≡ None
     → tidy_one t cells own moved ≡ Going (map member_of cells) moved
 one_stays t cells own moved none = tidy_one_is t cells own moved ∙ go (slice_get cells own) none where
   go : (o : Option Cell) → option_and_then (λ c. target_of t.legalizer (query_of_cell t cells own c) (option_map spot_of c.working)) o ≡ None
@@ -88,7 +88,7 @@ abbrev pub sent_by : Option Place → List Cell → ℕ → ℕ → Tidied
 sent_by None cells own moved = Stuck own
 sent_by (Some place) cells own n = Going (map member_of (moved cells own (Some place))) (n + 1)
 
-pub one_sent : (t : TeamRules) (cells : List Cell) (own moved : ℕ) (target : Point) (found : Option Place) → Some target ≡ target_at t cells own
+pub one_sent : (t : TeamRules) (cells : List Cell) (own moved : ℕ) (target : Point) (found : Option Place) → Some target ≡ tidy_target_at t cells own
     → option_map spot_of found ≡ best_of t.legalizer t.frame t.number t.padding cells own target → tidy_one t cells own moved ≡ sent_by found cells own moved
 one_sent t cells own n target found aimed best = tidy_one_is t cells own n ∙ go (slice_get cells own) refl aimed best where
   by : (c : Cell) (o : Option Place) → slice_get cells own ≡ Some c → tidied_to_best (option_map spot_of o) (map member_of cells) n own c.mac ≡ sent_by o cells own n

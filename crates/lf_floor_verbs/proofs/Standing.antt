@@ -11,7 +11,7 @@ use Rattle.lf_cells.specs.declared.cell.Cell.{Cell}
 use Rattle.lf_cells.specs.Cells.{working_at}
 use Rattle.lf_legalize.specs.Members.{IsSizedCell, member_of}
 use Rattle.lf_floor_model.specs.Teams.{TeamRules}
-use Rattle.lf_floor_model.specs.Looks.{query_of_cell}
+use Rattle.lf_floor_model.specs.Queries.{query_of_cell}
 use Rattle.lf_floor_model.specs.Changes.{broken_where}
 use Rattle.lf_floor_verbs.proofs.Marking.{legal_breaks_none}
 
@@ -23,12 +23,12 @@ cell_there (c ∷ cs) (suc own) within = cell_there cs own (omega arith)
 -- an unplaced cell is not legal
 pub unplaced_is_not : (t : TeamRules) (cells : List Cell) (own : ℕ) → own < length cells → IsLegalCell t.frame t.number t.padding (map member_of cells) own
     → true ≡ is_none (working_at cells own) → ⊥
-unplaced_is_not t cells own within stands none = by found.0.working refl where
+unplaced_is_not t cells own within is_in_place none = by found.0.working refl where
   found : (c : Cell) × (slice_get cells own ≡ Some c)
   found = cell_there cells own within
 
   placed : MatchOption (option_map spot_of found.0.working) ⊥ (λ p. IsLegalAt (query_of_cell t cells own found.0) p)
-  placed = stands (member_of found.0) (slice_get-map member_of cells own ∙ ap (option_map member_of) found.1)
+  placed = is_in_place (member_of found.0) (slice_get-map member_of cells own ∙ ap (option_map member_of) found.1)
 
   by : (o : Option Place) → found.0.working ≡ o → ⊥
   by None is = subst (λ (o : Option Place). MatchOption (option_map spot_of o) ⊥ (λ p. IsLegalAt (query_of_cell t cells own found.0) p)) is placed
@@ -40,6 +40,6 @@ unplaced_is_not t cells own within stands none = by found.0.working refl where
 -- a cell that breaks a rule at its working place is not legal
 pub broken_is_not : (t : TeamRules) (cells : List Cell) (own : ℕ) (broken : Broken) → VerdictIsUnique → All (IsSizedCell t.frame) cells
     → IsLegalCell t.frame t.number t.padding (map member_of cells) own → Some broken ≡ broken_where t cells own → ⊥
-broken_is_not t cells own broken one all stands is = none_some (legal_breaks_none t cells own one all stands ∙ sym is) where
+broken_is_not t cells own broken one all is_in_place is = none_some (legal_breaks_none t cells own one all is_in_place ∙ sym is) where
   none_some : None ≡ Some broken → ⊥
   none_some e = cc

@@ -9,14 +9,14 @@ use Rattle.lf_proto.specs.declared.reply.Refusal.{Refusal}
 use Rattle.lf_proto.specs.declared.reply.Refusal.TheVariants.{Illegal}
 use Rattle.lf_cells.specs.declared.cell.Cell.{Cell}
 use Rattle.lf_cells.specs.Cells.{cell_named, moved, working_at}
-use Rattle.lf_placement.specs.Placings.{SameButPlaces, moves_applied}
+use Rattle.lf_placement.specs.Placements.{SameButPlaces, moves_applied}
 use Rattle.lf_placement.proofs.Moves.{same_moved}
 use Rattle.lf_floor_model.specs.States.{TeamState}
 use Rattle.lf_floor_model.specs.Teams.{TeamRules, broken_at}
 use Rattle.lf_floor_model.specs.Outcomes.{may_be_short, refused}
 use Rattle.lf_floor_model.specs.Changes.{broken_where, exchanged, swapped, swapped_from, swapped_own, swapped_unless}
 use Rattle.lf_floor_verbs.specs.declared.swap.Exchange.{Exchange}
-use Rattle.lf_floor_verbs.specs.Swapping.{IsExchange, exchange_moves, first_of, illegal_by, swap_refusal, swapped_here}
+use Rattle.lf_floor_verbs.specs.Swapping.{IsExchange, exchange_moves, first_refusal_of, illegal_by, swap_refusal, swapped_here}
 use Rattle.lf_floor_verbs.proofs.Judging.{first_broken}
 
 some_same : {X : Type 0} {x y : X} → Some x ≡ Some y → x ≡ y
@@ -71,7 +71,7 @@ module _ (cells : List Cell) (a b : ℕ) (from to : Place) (from_is : working_at
   pub first_refused : (t : TeamRules) (rule : Rule) → first_broken rule ≡ broken_at t (moved half b (Some from)) a to
       → Some (Illegal rule a None) ≡ swap_refusal t (exchanged cells a b) a b
   first_refused t rule verdict =
-      ap (λ (broken : Option Broken). first_of (illegal_by broken a) (illegal_by (broken_where t (moved half b (Some from)) b) b))
+      ap (λ (broken : Option Broken). first_refusal_of (illegal_by broken a) (illegal_by (broken_where t (moved half b (Some from)) b) b))
       (verdict ∙ sym (by (working_at (moved half b (Some from)) a) first_there))
       ∙ ap (λ (cs : List Cell). swap_refusal t cs a b) moved_both
     where
@@ -91,7 +91,7 @@ pub swap_refused : (t : TeamRules) (session first second : ℕ) (s : TeamState) 
 swap_refused t session first second s refusal is =
     go (broken_where t (exchanged s.cells first second) first) (broken_where t (exchanged s.cells first second) second) is
   where
-    go : (a b : Option Broken) → Some refusal ≡ first_of (illegal_by a first) (illegal_by b second)
+    go : (a b : Option Broken) → Some refusal ≡ first_refusal_of (illegal_by a first) (illegal_by b second)
         → swapped_unless a b t session first second (exchanged s.cells first second) s ≡ refused refusal s
     go (Some broken) b e = ap (λ (r : Refusal). refused r s) (sym (some_same e))
     go None (Some broken) e = ap (λ (r : Refusal). refused r s) (sym (some_same e))

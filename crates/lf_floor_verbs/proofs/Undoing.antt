@@ -16,8 +16,8 @@ use Rattle.lf_floor_model.specs.States.{TeamState}
 use Rattle.lf_floor_model.specs.Outcomes.{Outcome, IsOutcome, changed, places_of}
 use Rattle.lf_floor_model.specs.Changes.{restored, undone, undone_by}
 use Rattle.lf_floor_verbs.specs.declared.tables.Tables.{Tables}
-use Rattle.lf_placement.specs.Placings.{Fits, HaveMoved, KeepsRest, OtherCellsStay, Placing, SameButPlaces, without_place}
-use Rattle.lf_floor_verbs.specs.Tables.{CountsChange, EntriesFit, HasRows, OnlyMovesTeam, cells_in, own_team, padding_of, revision_of}
+use Rattle.lf_placement.specs.Placements.{Fits, HaveMoved, KeepsRest, OtherCellsStay, Placing, SameButPlaces, without_place}
+use Rattle.lf_floor_verbs.specs.Tables.{CountsChange, EntriesFit, HasRows, OnlyMovesTeam, table_cells, own_team, padding_of, revision_of}
 use Rattle.lf_floor_verbs.proofs.Ends.{counted_own, team_of}
 use Rattle.lf_floor_verbs.proofs.Fitting.{fits_only, only_same}
 
@@ -47,12 +47,12 @@ led_from moves cells = record { places = sym (places_before moves cells); same =
 -- the team after the moves of its newest entry were reverted
 pub undone_reaches : (k session revision : ℕ) (moves : List Move) (old new : Tables) (undo : Stacks (List Move)) (placing : Placing) → HasRows k old
     → Some moves ≡ slice_get (stack_of old.undo k) 0 → undo.lists ≡ slice_set old.undo.lists k (drop 1 (stack_of old.undo k))
-    → cells_of placing.cells k ≡ cells_before moves (cells_in k old)
+    → cells_of placing.cells k ≡ cells_before moves (table_cells k old)
     → CountsChange k session (record old { placement = placing; undo = undo }) new → revision ≡ revision_of old k + 1
     → IsOutcome (undone session (own_team k old)) (Revision revision) (own_team k new)
 unfolding undone
-undone_reaches k session revision moves old new undo placing rows front lists back counts told =
-    let now = cells_in k old in
+undone_reaches k session revision moves old new undo placing rows front lists back counts reported =
+    let now = table_cells k old in
     let before = cells_before moves now in
     let stack = stack_of old.undo k in
     let s = own_team k old in
@@ -67,7 +67,7 @@ undone_reaches k session revision moves old new undo placing rows front lists ba
     let left : stack_of undo k ≡ drop 1 stack =
     ap (λ (xs : List (List (List Move))). slice_index_or xs k []) lists ∙ get_or-set_same old.undo.lists k (drop 1 stack) [] rows.undo in
     record {
-      reply_is = ap Revision told ∙ ap (λ (o : Outcome). o.reply) (sym outcome);
+      reply_is = ap Revision reported ∙ ap (λ (o : Outcome). o.reply) (sym outcome);
       team_is =
           counted_own k session mid new there counts
           ∙ ap (λ (cs : List Cell). team_of cs (revision_of old k + 1) (entries_of (places_of cs) (stack_of undo k)) slots (padding_of old k)) back
@@ -83,7 +83,7 @@ unfolding undone
 none_reaches k session old none =
     let s = own_team k old in
     let outcome : undone_by s.entries session s ≡ undone_by [] session s =
-    ap (λ (es : List (List (Option Place))). undone_by es session s) (no_entries (places_of (cells_in k old)) (stack_of old.undo k) (sym none)) in
+    ap (λ (es : List (List (Option Place))). undone_by es session s) (no_entries (places_of (table_cells k old)) (stack_of old.undo k) (sym none)) in
     record { reply_is = ap (λ (o : Outcome). o.reply) (sym outcome); team_is = ap (λ (o : Outcome). o.team) (sym outcome) }
 
 -- ---- what fits
@@ -93,13 +93,13 @@ module _ (k session : ℕ) (moves : List Move) (old : Tables) (front : Some move
   Places = List (Option Place)
 
   abbrev head : Places
-  head = moves_taken_back moves (places_of (cells_in k old))
+  head = moves_taken_back moves (places_of (table_cells k old))
 
   abbrev tail : List Places
   tail = entries_of head (drop 1 (stack_of old.undo k))
 
   entries_are : (own_team k old).entries ≡ head ∷ tail
-  entries_are = shrink_entries (places_of (cells_in k old)) moves (stack_of old.undo k) (sym front)
+  entries_are = shrink_entries (places_of (table_cells k old)) moves (stack_of old.undo k) (sym front)
 
   all_of : All (λ (places : Places). Fits old.placement k places) (head ∷ tail)
   all_of = subst (λ (es : List Places). All (λ (places : Places). Fits old.placement k places) es) entries_are fit

@@ -3,7 +3,7 @@ use Rattle.std.specs.Prelude.{◌≡◌, ℕ, List}
 use Rattle.lf_cells.specs.declared.cell.Cell.{Cell}
 use Rattle.lf_cells.specs.Cells.{committed_at, moved, working_at}
 use Rattle.lf_undo.specs.declared.moves.Move.{Move}
-use Rattle.lf_placement.specs.Placings.{moves_applied}
+use Rattle.lf_placement.specs.Placements.{moves_applied}
 
 -- the new moves, appended to the old ones, move the cell at that position to its committed place,
 -- wherever the old moves have moved the other cells

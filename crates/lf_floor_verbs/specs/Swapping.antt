@@ -7,7 +7,7 @@ use Rattle.lf_proto.specs.declared.reply.Refusal.TheVariants.{Illegal}
 use Rattle.lf_cells.specs.declared.cell.Cell.{Cell}
 use Rattle.lf_cells.specs.Cells.{cells_of, working_at}
 use Rattle.lf_undo.specs.declared.moves.Move.{Move}
-use Rattle.lf_placement.specs.Placings.{IsBrokenFrameRule, Placing}
+use Rattle.lf_placement.specs.Placements.{IsBrokenFrameRule, Placing}
 use Rattle.lf_floor_model.specs.States.{TeamState}
 use Rattle.lf_floor_model.specs.Teams.{TeamRules}
 use Rattle.lf_floor_model.specs.Outcomes.{Outcome}
@@ -39,13 +39,13 @@ abbrev pub illegal_by : Option Broken → ℕ → Option Refusal
 illegal_by broken own = option_map (λ b. Illegal b.rule own b.other) broken
 
 -- this refusal, otherwise the other
-abbrev pub first_of : Option Refusal → Option Refusal → Option Refusal
-first_of None other = other
-first_of (Some refusal) other = Some refusal
+abbrev pub first_refusal_of : Option Refusal → Option Refusal → Option Refusal
+first_refusal_of None other = other
+first_refusal_of (Some refusal) other = Some refusal
 
 -- the refusal of two cells at their working places; the first is tested first
 abbrev pub swap_refusal : TeamRules → List Cell → ℕ → ℕ → Option Refusal
-swap_refusal t cells first second = first_of (illegal_by (broken_where t cells first) first) (illegal_by (broken_where t cells second) second)
+swap_refusal t cells first second = first_refusal_of (illegal_by (broken_where t cells first) first) (illegal_by (broken_where t cells second) second)
 
 -- the swap of two placed cells
 abbrev pub swapped_here : TeamRules → ℕ → ℕ → ℕ → TeamState → Outcome

@@ -8,9 +8,9 @@ use Rattle.lf_rules.specs.declared.padding.Padding.{Padding}
 use Rattle.lf_rules.specs.Legalizer.{Legalizer}
 use Rattle.lf_cells.specs.declared.cell.Cell.{Cell}
 use Rattle.lf_cells.specs.Cells.{cells_of}
-use Rattle.lf_cells.specs.Openings.{initial_cells, initial_components}
-use Rattle.lf_occupancy.specs.Occupied.{KeepsCapacities}
-use Rattle.lf_placement.specs.Placings.{Fits, OtherCellsStay, Placing, SameButPlaces, SameButRooms}
+use Rattle.lf_cells.specs.Initial.{initial_cells, initial_components}
+use Rattle.lf_occupancy.specs.Views.{KeepsCapacities}
+use Rattle.lf_placement.specs.Placements.{Fits, OtherCellsStay, Placing, SameButPlaces, SameButRooms}
 use Rattle.lf_sessions.specs.Slots.{seen_at, slots_of, with_slot}
 use Rattle.lf_undo.specs.Stacks.{stack_of}
 use Rattle.lf_undo.specs.Entries.{entries_of}
@@ -28,8 +28,8 @@ abbrev pub frame_of : Tables → Frame
 frame_of tables = tables.placement.frame
 
 -- the cells of the team of that number
-abbrev pub cells_in : ℕ → Tables → List Cell
-cells_in number tables = cells_of tables.placement.cells number
+abbrev pub table_cells : ℕ → Tables → List Cell
+table_cells number tables = cells_of tables.placement.cells number
 
 -- the number of changes that the team of that number has made
 abbrev pub revision_of : Tables → ℕ → ℕ
@@ -56,7 +56,7 @@ team_with number cells tables =
 
 -- the team of that number, with its cells in the table
 abbrev pub own_team : ℕ → Tables → TeamState
-own_team number tables = team_with number (cells_in number tables) tables
+own_team number tables = team_with number (table_cells number tables) tables
 
 -- the team of the context
 abbrev pub team_in : {S : Type 0} → TeamContext S → Tables → TeamState
@@ -112,7 +112,7 @@ pub record IsCurrent (number session : ℕ) (tables : Tables) : Type 0 where
 -- the tables have a row for the team of that number, which is a team of the frame; an undo stack
 -- holds as many entries as the limits allow, and the team's cells fit at the places of each of its
 -- entries
-pub record IsServed (number : ℕ) (tables : Tables) : Type 0 where
+pub record HasTeamRow (number : ℕ) (tables : Tables) : Type 0 where
   pub rows : HasRows number tables
   pub limit : tables.undo.limit ≡ (frame_of tables).limits.undo
   pub team : IsTeamOf (frame_of tables) (own_team number tables)
@@ -120,7 +120,7 @@ pub record IsServed (number : ℕ) (tables : Tables) : Type 0 where
 
 -- the same, and the session may change the team
 pub record CanChange (number session : ℕ) (tables : Tables) : Type 0 where
-  pub served : IsServed number tables
+  pub served : HasTeamRow number tables
   pub current : IsCurrent number session tables
 
 -- the frame and the strips are unchanged, and no strip's room shrinks

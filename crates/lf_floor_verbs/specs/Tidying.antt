@@ -11,11 +11,11 @@ use Rattle.lf_floor_verbs.specs.declared.tidy.TidyStep.TheVariants.{Stays, Goes,
 use Rattle.lf_floor_verbs.specs.declared.tidy.Tidy.{Tidy}
 use Rattle.lf_floor_verbs.specs.declared.tidy.Tidy.TheVariants.{Done, Stopped}
 use Rattle.lf_floor_model.specs.Teams.{TeamRules}
-use Rattle.lf_floor_model.specs.Looks.{query_of_cell}
+use Rattle.lf_floor_model.specs.Queries.{query_of_cell}
 
 -- the target to which the cell at that position is tidied; None if it stays
-abbrev pub target_at : TeamRules → List Cell → ℕ → Option Point
-target_at t cells own =
+abbrev pub tidy_target_at : TeamRules → List Cell → ℕ → Option Point
+tidy_target_at t cells own =
     option_and_then (λ c. target_of t.legalizer (query_of_cell t cells own c) (option_map spot_of c.working)) (slice_get cells own)
 
 -- the result for one cell, as tidying counts it

@@ -6,7 +6,7 @@ ghost use Rattle.lf_rules.specs.Legalizer.{Legalizer};
 ghost use Rattle.lf_cells.specs.Cells.{cells_of, working_at};
 ghost use Rattle.lf_legalize.specs.Members.{best_of};
 ghost use Rattle.lf_floor_model.specs.Teams.{broken_at, team_rules};
-ghost use Rattle.lf_floor_model.specs.Looks.{best_at};
+ghost use Rattle.lf_floor_model.specs.Queries.{best_at};
 ghost use Rattle.lf_floor_model.specs.Changes.{broken_where, first_unplaced};
 ghost use Rattle.lf_floor_verbs.specs.Tables.{context_at};
 

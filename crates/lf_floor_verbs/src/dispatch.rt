@@ -9,7 +9,7 @@ ghost use Rattle.lf_proto.specs.Verbs.{action_of, change_of};
 ghost use Rattle.lf_sessions.specs.Slots.{seen_at, slots_of};
 ghost use Rattle.lf_floor_model.specs.Outcomes.{IsOutcome, IsOutOfMemory};
 ghost use Rattle.lf_floor_model.specs.Verbs.{is_tested, outcome_by_slot, outcome_of, outcome_within, takes_memory, unless_spent, unless_stale};
-ghost use Rattle.lf_floor_verbs.specs.Tables.{EntriesFit, IsServed, KeepsOtherTeams, frame_of, context_in, team_in};
+ghost use Rattle.lf_floor_verbs.specs.Tables.{EntriesFit, HasTeamRow, KeepsOtherTeams, frame_of, context_in, team_in};
 
 use crate::context::TeamContext;
 use crate::tables::Tables;
@@ -30,7 +30,7 @@ impl Tables {
         seen: u32,
         change: &Change<&[u8]>,
     ) -> Result<Reply, AllocError>
-        requires served { IsServed around.now.number self.old }
+        requires served { HasTeamRow around.now.number self.old }
         requires open { seen_at (slots_of self.old.sessions around.now.number) session ≡ Some seen }
         ensures ok { (l : Legalizer) → IfOk result (λ reply. IsOutcome
             (unless_stale seen (context_in l around.now self.old) session (change_of change.now) (team_in around.now self.old))
@@ -64,7 +64,7 @@ impl Tables {
         seen: u32,
         action: &Action<&[u8]>,
     ) -> Result<Reply, AllocError>
-        requires served { IsServed around.now.number self.old }
+        requires served { HasTeamRow around.now.number self.old }
         requires open { seen_at (slots_of self.old.sessions around.now.number) session ≡ Some seen }
         ensures ok { (l : Legalizer) → IfOk result (λ reply. IsOutcome
             (outcome_within seen (context_in l around.now self.old) session (action_of action.now) (team_in around.now self.old))
@@ -98,7 +98,7 @@ impl Tables {
         around: &TeamContext<'_, S>,
         order: &TeamCommand<&[u8]>,
     ) -> Result<Reply, AllocError>
-        requires served { IsServed around.now.number self.old }
+        requires served { HasTeamRow around.now.number self.old }
         ensures ok { (l : Legalizer) → IfOk result (λ reply. IsOutcome
             (outcome_of (context_in l around.now self.old) (order_of order.now) (team_in around.now self.old))
             reply (team_in around.now self.new)) }

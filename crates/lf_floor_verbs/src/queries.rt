@@ -5,7 +5,7 @@ ghost use Rattle.lf_rules.specs.Legalizer.{Legalizer};
 ghost use Rattle.lf_floor_model.specs.Teams.{IsTeamOf};
 ghost use Rattle.lf_floor_verbs.specs.Tables.{frame_of, own_team, context_in, team_in};
 ghost use Rattle.lf_floor_model.specs.Outcomes.{IsOutcome, IsOutOfMemory};
-ghost use Rattle.lf_floor_model.specs.Looks.{checked, found, located, written};
+ghost use Rattle.lf_floor_model.specs.Queries.{checked, found, located, written};
 
 use crate::cell_queries::best_place;
 use crate::context::TeamContext;

@@ -3,9 +3,9 @@
 ghost use Rattle.std.specs.Prelude.{◌≡◌, ◌+◌, List, IfOk, OnErr, OnOk};
 ghost use Rattle.lf_cells.specs.declared.cell.Cell.{Cell};
 ghost use Rattle.lf_cells.specs.Cells.{moved};
-ghost use Rattle.lf_undo.specs.Stacks.{HasRoomFor};
-ghost use Rattle.lf_placement.specs.Placings.{Fits, HaveMoved, moves_applied, places_of};
-ghost use Rattle.lf_floor_verbs.specs.Tables.{EntriesFit, HasRows, OnlyGainRoom, IsCurrent, KeepsOtherTeams, cells_in, team_after_change, own_team, revision_of};
+ghost use Rattle.lf_undo.specs.Stacks.{HasRoomForEntry};
+ghost use Rattle.lf_placement.specs.Placements.{Fits, HaveMoved, moves_applied, working_places_of};
+ghost use Rattle.lf_floor_verbs.specs.Tables.{EntriesFit, HasRows, OnlyGainRoom, IsCurrent, KeepsOtherTeams, table_cells, team_after_change, own_team, revision_of};
 
 use crate::tables::Tables;
 use lf_cells::CellId;
@@ -19,7 +19,7 @@ impl Tables {
     /// `Err` if an allocation fails.
     pub(crate) fn make_room(&mut self, number: usize) -> Result<(), AllocError>
         requires { HasRows number self.old }
-        ensures room { OnOk result (HasRoomFor self.new.undo number) }
+        ensures room { OnOk result (HasRoomForEntry self.new.undo number) }
         ensures grown { OnlyGainRoom self.old self.new }
         ensures placement { self.new.placement ≡ self.old.placement }
     {
@@ -37,8 +37,8 @@ impl Tables {
         moves: &[Move],
     ) -> Result<(), AllocError>
         requires { HasRows number self.old }
-        ensures room { OnOk result (HasRoomFor self.new.undo number) }
-        ensures fits { OnOk result (Fits self.new.placement number (places_of (moves_applied moves.now (cells_in number self.old)))) }
+        ensures room { OnOk result (HasRoomForEntry self.new.undo number) }
+        ensures fits { OnOk result (Fits self.new.placement number (working_places_of (moves_applied moves.now (table_cells number self.old)))) }
         ensures grown { OnlyGainRoom self.old self.new }
     {
         self.make_room(number)?;
@@ -50,9 +50,9 @@ impl Tables {
     pub(crate) fn push_undo(&mut self, number: usize, session: u32, moves: Moves) -> u32
         requires rows { HasRows number self.old }
         requires current { IsCurrent number session self.old }
-        requires room { HasRoomFor self.old.undo number }
-        ensures team { (before : List Cell) → HaveMoved before moves (cells_in number self.old) →
-            own_team number self.new ≡ team_after_change number session before (cells_in number self.old) self.old }
+        requires room { HasRoomForEntry self.old.undo number }
+        ensures team { (before : List Cell) → HaveMoved before moves (table_cells number self.old) →
+            own_team number self.new ≡ team_after_change number session before (table_cells number self.old) self.old }
         ensures revision { result ≡ revision_of self.old number + 1 }
         ensures placement { self.new.placement ≡ self.old.placement }
         ensures others { KeepsOtherTeams number self.old self.new }
@@ -68,10 +68,10 @@ impl Tables {
     pub(crate) fn change_places(&mut self, number: usize, session: u32, moves: Moves) -> u32
         requires rows { HasRows number self.old }
         requires current { IsCurrent number session self.old }
-        requires room { HasRoomFor self.old.undo number }
-        requires fits { Fits self.old.placement number (places_of (moves_applied moves (cells_in number self.old))) }
+        requires room { HasRoomForEntry self.old.undo number }
+        requires fits { Fits self.old.placement number (working_places_of (moves_applied moves (table_cells number self.old))) }
         ensures team { own_team number self.new
-            ≡ team_after_change number session (cells_in number self.old) (moves_applied moves (cells_in number self.old)) self.old }
+            ≡ team_after_change number session (table_cells number self.old) (moves_applied moves (table_cells number self.old)) self.old }
         ensures revision { result ≡ revision_of self.old number + 1 }
         ensures others { KeepsOtherTeams number self.old self.new }
         ensures fit { EntriesFit number self.old → EntriesFit number self.new }
@@ -95,8 +95,8 @@ impl Tables {
     ) -> Result<u32, AllocError>
         requires rows { HasRows id.team self.old }
         requires current { IsCurrent id.team session self.old }
-        ensures ok { OnOk result (own_team id.team self.new ≡ team_after_change id.team session (cells_in id.team self.old)
-            (moved (cells_in id.team self.old) id.own place) self.old) }
+        ensures ok { OnOk result (own_team id.team self.new ≡ team_after_change id.team session (table_cells id.team self.old)
+            (moved (table_cells id.team self.old) id.own place) self.old) }
         ensures revision { IfOk result (λ revision. revision ≡ revision_of self.old id.team + 1) }
         ensures err { OnErr result (own_team id.team self.new ≡ own_team id.team self.old) }
         ensures others { KeepsOtherTeams id.team self.old self.new }

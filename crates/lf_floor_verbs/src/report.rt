@@ -1,7 +1,7 @@
 //! The report of a team's cells.
 
 ghost use Rattle.std.specs.Prelude.{◌≡◌, ◌++◌, [], All, IfOk, OnOk, false, map, true};
-ghost use Rattle.lf_floorplan.specs.Bounds.{IsName};
+ghost use Rattle.lf_floorplan.specs.Bounds.{IsDesignName};
 ghost use Rattle.lf_rules.specs.Legalizer.{Legalizer};
 ghost use Rattle.lf_cells.specs.Cells.{cells_of};
 ghost use Rattle.lf_reports.specs.Reports.{report_of, violations_in};
@@ -9,7 +9,7 @@ ghost use Rattle.lf_proto.specs.ReportText.{report_text, violations_text};
 ghost use Rattle.lf_floor_model.specs.Teams.{IsTeamOf, listed_of, team_rules};
 ghost use Rattle.lf_floor_verbs.specs.Marking.{AreMarked};
 ghost use Rattle.lf_floor_verbs.specs.Reporting.{names_of};
-ghost use Rattle.lf_floor_verbs.specs.Tables.{cells_in, frame_of, team_in};
+ghost use Rattle.lf_floor_verbs.specs.Tables.{table_cells, frame_of, team_in};
 
 use crate::cell_queries::unplaced_in;
 use crate::context::TeamContext;
@@ -49,7 +49,7 @@ fn put_cells(
     text: &mut Vec<u8>,
 ) -> Result<(), AllocError>
     requires marked { AreMarked placement.now.frame number padding.sites (cells_of placement.now.cells number) marks.now }
-    requires printed { All (λ c. IsName c.name) (cells_of placement.now.cells number) }
+    requires printed { All (λ c. IsDesignName c.name) (cells_of placement.now.cells number) }
     ensures { (l : Legalizer) → OnOk result (text.new.items ++ violations_text true []
         ≡ text.old.items ++ violations_text false (violations_in l placement.now.frame padding.sites
         (map (listed_of number) (cells_of placement.now.cells number)))) }
@@ -75,7 +75,7 @@ pub(crate) fn report_text<S>(
 ) -> Result<Text, AllocError>
     requires team { IsTeamOf (frame_of tables.now) (team_in around.now tables.now) }
     ensures { IfOk result (λ text. (l : Legalizer) → text ≡ report_text
-        (report_of l (frame_of tables.now) around.now.padding.sites (map (listed_of around.now.number) (cells_in around.now.number tables.now)))) }
+        (report_of l (frame_of tables.now) around.now.padding.sites (map (listed_of around.now.number) (table_cells around.now.number tables.now)))) }
 {
     let marks = legal_marks(around, tables)?;
     let cells = tables.placement.cells();

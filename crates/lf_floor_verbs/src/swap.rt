@@ -3,12 +3,12 @@
 ghost use Rattle.std.specs.Prelude.{◌≡◌, IfOk, None, OnErr, Some};
 ghost use Rattle.lf_rules.specs.Legalizer.{Legalizer};
 ghost use Rattle.lf_cells.specs.Cells.{cells_of, working_at};
-ghost use Rattle.lf_undo.specs.Stacks.{HasRoomFor};
-ghost use Rattle.lf_placement.specs.Placings.{Fits, IsBrokenFrameRule, IsBrokenAt, moves_applied, places_of};
+ghost use Rattle.lf_undo.specs.Stacks.{HasRoomForEntry};
+ghost use Rattle.lf_placement.specs.Placements.{Fits, IsBrokenFrameRule, IsBrokenAt, moves_applied, working_places_of};
 ghost use Rattle.lf_floor_model.specs.Outcomes.{IsOutcome, IsOutOfMemory};
 ghost use Rattle.lf_floor_model.specs.Teams.{team_rules};
 ghost use Rattle.lf_floor_model.specs.Changes.{broken_where, swapped};
-ghost use Rattle.lf_floor_verbs.specs.Tables.{CanChange, EntriesFit, KeepsOtherTeams, cells_in, frame_of, own_team, context_in, team_in};
+ghost use Rattle.lf_floor_verbs.specs.Tables.{CanChange, EntriesFit, KeepsOtherTeams, table_cells, frame_of, own_team, context_in, team_in};
 ghost use Rattle.lf_floor_verbs.specs.Swapping.{IsExchange, IsExchanged, exchange_moves, illegal_by, swap_refusal, swapped_here};
 
 use crate::context::TeamContext;
@@ -126,9 +126,9 @@ impl Tables {
         padding: Padding,
     ) -> Reply
         requires change { CanChange exchange.now.first.team session self.old }
-        requires room { HasRoomFor self.old.undo exchange.now.first.team }
-        requires fits { Fits self.old.placement exchange.now.first.team (places_of (moves_applied moves (cells_in exchange.now.first.team self.old))) }
-        requires are { IsExchange exchange.now.first.team (cells_in exchange.now.first.team self.old) exchange.now }
+        requires room { HasRoomForEntry self.old.undo exchange.now.first.team }
+        requires fits { Fits self.old.placement exchange.now.first.team (working_places_of (moves_applied moves (table_cells exchange.now.first.team self.old))) }
+        requires are { IsExchange exchange.now.first.team (table_cells exchange.now.first.team self.old) exchange.now }
         requires moves { moves ≡ exchange_moves exchange.now }
         requires first { IsBrokenFrameRule self.old.placement exchange.now.first exchange.now.to None }
         requires second { IsBrokenFrameRule self.old.placement exchange.now.second exchange.now.from alone }
@@ -163,7 +163,7 @@ impl Tables {
         exchange: &Exchange,
     ) -> Result<Reply, AllocError>
         requires change { CanChange around.now.number session self.old }
-        requires are { IsExchange around.now.number (cells_in around.now.number self.old) exchange.now }
+        requires are { IsExchange around.now.number (table_cells around.now.number self.old) exchange.now }
         ensures ok { (l : Legalizer) → IfOk result (λ reply. IsOutcome
             (swapped_here (context_in l around.now self.old) session exchange.now.first.own exchange.now.second.own (team_in around.now self.old))
             reply (team_in around.now self.new)) }

@@ -2,7 +2,7 @@
 
 ghost use Rattle.std.specs.Prelude.{◌≡◌, ◌+◌, IfOk, IfSome, map, option_map, replicate};
 ghost use Rattle.lf_cells.specs.Cells.{cell_named, id_in, working_at};
-ghost use Rattle.lf_floor_verbs.specs.Tables.{AreInitial, CountsChange, HasRows, IsCurrent, SetsPadding, cells_in, padding_of, revision_of};
+ghost use Rattle.lf_floor_verbs.specs.Tables.{AreInitial, CountsChange, HasRows, IsCurrent, SetsPadding, table_cells, padding_of, revision_of};
 
 use lf_cells::CellId;
 use lf_floorplan::{Loaded, Place};
@@ -64,7 +64,7 @@ impl Tables {
     /// Returns the team's cell of that name. `None` for a cell of another team and for a name that
     /// no cell has.
     pub(crate) fn cell_named(&self, number: usize, name: &[u8]) -> Option<CellId>
-        ensures own { option_map (λ id. id.own) result ≡ cell_named name.now (cells_in number self.now) }
+        ensures own { option_map (λ id. id.own) result ≡ cell_named name.now (table_cells number self.now) }
         ensures team { IfSome result (λ id. id.team ≡ number) }
     {
         self.placement.cells().find_own(number, name)
@@ -72,14 +72,14 @@ impl Tables {
 
     /// Returns the team's cell at that position. `None` if the team has no such cell.
     pub fn cell_at(&self, number: usize, own: usize) -> Option<CellId>
-        ensures { result ≡ id_in (cells_in number self.now) number own }
+        ensures { result ≡ id_in (table_cells number self.now) number own }
     {
         self.placement.cells().cell_of(number, own)
     }
 
     /// Returns the working place of a cell. `None` if it is unplaced or there is no such cell.
     pub fn working(&self, id: CellId) -> Option<Place>
-        ensures { result ≡ working_at (cells_in id.team self.now) id.own }
+        ensures { result ≡ working_at (table_cells id.team self.now) id.own }
     {
         self.placement.cells().working(id)
     }

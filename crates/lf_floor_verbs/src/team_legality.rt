@@ -8,7 +8,7 @@ ghost use Rattle.lf_legalize.specs.Members.{member_of};
 ghost use Rattle.lf_floor_model.specs.Teams.{team_rules};
 ghost use Rattle.lf_floor_model.specs.Changes.{broken_cells, broken_where};
 ghost use Rattle.lf_floor_verbs.specs.Marking.{AreMarked};
-ghost use Rattle.lf_floor_verbs.specs.Tables.{cells_in, frame_of, context_in};
+ghost use Rattle.lf_floor_verbs.specs.Tables.{table_cells, frame_of, context_in};
 
 use crate::by_place::by_place;
 use crate::cell_queries::{broken_where, is_unplaced};
@@ -28,7 +28,7 @@ const BATCH: usize = 65536;
 /// cells of its team with this padding. False if there is no such cell. Does not allocate.
 pub fn is_cell_legal(placement: &Placement, id: CellId, padding: Padding) -> bool
     ensures legal { IsTrue result → IsLegalCell placement.now.frame id.team padding.sites (map member_of (cells_of placement.now.cells id.team)) id.own }
-    ensures told { id.own < length (cells_of placement.now.cells id.team)
+    ensures reported { id.own < length (cells_of placement.now.cells id.team)
         → IsLegalCell placement.now.frame id.team padding.sites (map member_of (cells_of placement.now.cells id.team)) id.own → IsTrue result }
 {
     legalizer_exists();
@@ -53,8 +53,8 @@ fn mark(marks: &mut Vec<bool>, own: usize)
 
 /// Marks the team's cell at that position if it is placed and breaks no rule at its working place.
 fn mark_legal<S>(around: &TeamContext<'_, S>, tables: &Tables, own: usize, marks: &mut Vec<bool>)
-    ensures { AreMarked (frame_of tables.now) around.now.number around.now.padding.sites (cells_in around.now.number tables.now) marks.old.items
-        → AreMarked (frame_of tables.now) around.now.number around.now.padding.sites (cells_in around.now.number tables.now) marks.new.items }
+    ensures { AreMarked (frame_of tables.now) around.now.number around.now.padding.sites (table_cells around.now.number tables.now) marks.old.items
+        → AreMarked (frame_of tables.now) around.now.number around.now.padding.sites (table_cells around.now.number tables.now) marks.new.items }
 {
     let Some(id) = tables.cell_at(around.number, own) else {
         return;
@@ -78,8 +78,8 @@ fn mark_batch<S>(
     ids: &[CellId],
     marks: &mut Vec<bool>,
 ) -> Result<(), AllocError>
-    ensures { AreMarked (frame_of tables.now) around.now.number around.now.padding.sites (cells_in around.now.number tables.now) marks.old.items
-        → AreMarked (frame_of tables.now) around.now.number around.now.padding.sites (cells_in around.now.number tables.now) marks.new.items }
+    ensures { AreMarked (frame_of tables.now) around.now.number around.now.padding.sites (table_cells around.now.number tables.now) marks.old.items
+        → AreMarked (frame_of tables.now) around.now.number around.now.padding.sites (table_cells around.now.number tables.now) marks.new.items }
 {
     let order = by_place(around.alloc, tables.placement.cells(), ids)?;
     for cell in &order {
@@ -97,7 +97,7 @@ pub(crate) fn legal_marks<S>(
     tables: &Tables,
 ) -> Result<Vec<bool>, AllocError>
     ensures { IfOk result (λ marks. AreMarked (frame_of tables.now) around.now.number around.now.padding.sites
-        (cells_in around.now.number tables.now) marks.items) }
+        (table_cells around.now.number tables.now) marks.items) }
 {
     let ids = tables.placement.cells().cells_of(around.number);
     let mut marks = vec![in around.alloc; false; ids.len()]?;
@@ -169,7 +169,7 @@ pub(crate) fn first_broken_cell<S>(
     tables: &Tables,
 ) -> Result<Option<BrokenCell>, AllocError>
     ensures { (l : Legalizer) → IfOk result (λ first. first ≡ slice_get
-        (broken_cells (context_in l around.now tables.now) (cells_in around.now.number tables.now)) 0) }
+        (broken_cells (context_in l around.now tables.now) (table_cells around.now.number tables.now)) 0) }
 {
     let marks = legal_marks(around, tables)?;
     Ok(first_broken(&tables.placement, around.number, &marks, around.padding))

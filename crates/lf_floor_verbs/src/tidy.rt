@@ -4,13 +4,13 @@ ghost use Rattle.std.specs.Prelude.{◌≡◌, [], List, IfOk, OnErr, OnOk};
 ghost use Rattle.lf_rules.specs.Legalizer.{Legalizer};
 ghost use Rattle.lf_cells.specs.declared.cell.Cell.{Cell};
 ghost use Rattle.lf_cells.specs.Cells.{cells_of, moved};
-ghost use Rattle.lf_placement.specs.Placings.{HaveMoved};
+ghost use Rattle.lf_placement.specs.Placements.{HaveMoved};
 ghost use Rattle.lf_floor_model.specs.Outcomes.{IsOutcome, IsOutOfMemory};
 ghost use Rattle.lf_floor_model.specs.Changes.{tidied_team};
 ghost use Rattle.lf_floor_model.specs.Teams.{team_rules};
 ghost use Rattle.lf_floor_verbs.specs.Tables.{CanChange, EntriesFit, OnlyMovesTeam, KeepsOtherTeams, frame_of, context_at, context_in, team_in};
 ghost use Rattle.lf_floor_verbs.specs.Marking.{AreMarked};
-ghost use Rattle.lf_floor_verbs.specs.Tidying.{TidiesOneCell, TidiesCells, target_at};
+ghost use Rattle.lf_floor_verbs.specs.Tidying.{TidiesOneCell, TidiesCells, tidy_target_at};
 
 use crate::cell_queries::{best_place, broken_at};
 use crate::context::TeamContext;
@@ -60,7 +60,7 @@ fn corner(place: &Place) -> Point
 /// corner if it breaks a rule. `None` if it stays, as each cell with a mark does.
 fn target_of(placement: &Placement, marks: &[bool], id: CellId, padding: Padding) -> Option<Point>
     requires { AreMarked placement.now.frame id.team padding.sites (cells_of placement.now.cells id.team) marks.now }
-    ensures { (l : Legalizer) → result ≡ target_at (team_rules l placement.now.frame id.team padding.sites) (cells_of placement.now.cells id.team) id.own }
+    ensures { (l : Legalizer) → result ≡ tidy_target_at (team_rules l placement.now.frame id.team padding.sites) (cells_of placement.now.cells id.team) id.own }
 {
     verdict_is_unique();
     placement.cells_are_sized();

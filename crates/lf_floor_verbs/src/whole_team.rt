@@ -3,7 +3,7 @@
 ghost use Rattle.std.specs.Prelude.{◌≡◌, IfOk, OnErr, OnOk, map};
 ghost use Rattle.lf_rules.specs.Legalizer.{Legalizer};
 ghost use Rattle.lf_cells.specs.Cells.{cells_of, committed_at, working_at};
-ghost use Rattle.lf_placement.specs.Placings.{moves_applied};
+ghost use Rattle.lf_placement.specs.Placements.{moves_applied};
 ghost use Rattle.lf_floor_model.specs.Outcomes.{IsOutcome, IsOutOfMemory};
 ghost use Rattle.lf_floor_model.specs.Changes.{back_to_committed, committed, padded, reverted, undone};
 ghost use Rattle.lf_floor_verbs.specs.Reverting.{IsRevertMove};

@@ -3,7 +3,7 @@ use Rattle.std.proofs.Common.{◌≡◌, ◌<◌, ℕ, length, get_or, Some, ref
 use Rattle.std.proofs.lemmas.List.{get_or_default}
 use Rattle.std.proofs.lemmas.Option.{unwrap_or-slice_get, slice_get_read}
 use Rattle.lf_floorplan.specs.declared.frame.Frame.{Frame}
-use Rattle.lf_floorplan.specs.declared.loaded.Cell.{Cell}
+use Rattle.lf_floorplan.specs.declared.loaded.LoadedCell.{LoadedCell}
 use Rattle.lf_floorplan.specs.declared.macros.Macro.{Macro}
 use Rattle.lf_floorplan.specs.Boxes.{IsSized, macro_of, no_macro}
 use Rattle.lf_floorplan.specs.Design.{IsCell}
@@ -13,7 +13,7 @@ pub macro_there : (f : Frame) (number : ℕ) (m : Macro) → number < length f.m
 macro_there f number m within is = is ∙ get_or_default f.macros number m no_macro within ∙ sym (unwrap_or-slice_get f.macros number no_macro)
 
 -- A cell's macro is whole in database units.
-pub cell_sized : (f : Frame) (c : Cell) → IsCell f c → IsSized f (macro_of f c.mac)
+pub cell_sized : (f : Frame) (c : LoadedCell) → IsCell f c → IsSized f (macro_of f c.mac)
 cell_sized f c cell =
     let at : macro_of f c.mac ≡ get_or f.macros c.mac no_macro = unwrap_or-slice_get f.macros c.mac no_macro in
     let there : slice_get f.macros c.mac ≡ Some (macro_of f c.mac) =

@@ -2,7 +2,7 @@
 use Rattle.std.proofs.Common.{◌≡◌, ◌≢◌, ℕ, zero, suc, List, [], ◌∷◌, ◌++◌, length, None, Some, refl, ap, ◌∙◌, arith}
 use Rattle.std.specs.Prelude.{All, slice_get}
 use Rattle.std.proofs.lemmas.List.Elements.{All-nil, All-cons, All-head, All-tail}
-use Rattle.lf_floorplan.specs.declared.loaded.Cell.{Cell}
+use Rattle.lf_floorplan.specs.declared.loaded.LoadedCell.{LoadedCell}
 use Rattle.lf_floorplan.specs.declared.cells.UnnamedCell.{UnnamedCell}
 use Rattle.lf_floorplan.specs.LoadedCells.{with_name, with_names}
 
@@ -18,7 +18,7 @@ apart_seen [] [] name same apart = All-nil (λ n. n ≢ name)
 apart_seen [] (c ∷ cells) name same apart = absurd (omega (arith, same))
 apart_seen (n ∷ names) [] name same apart = absurd (omega (arith, same))
 apart_seen (n ∷ names) (c ∷ cells) name same apart =
-    let P : Cell → Type 0 = λ d. d.name ≢ name in
+    let P : LoadedCell → Type 0 = λ d. d.name ≢ name in
     All-cons (λ m. m ≢ name) n names (All-head P (with_name n c) (with_names names cells) apart)
     (apart_seen names cells name (omega (arith, same)) (All-tail P (with_name n c) (with_names names cells) apart))
 
@@ -28,7 +28,7 @@ one_appended [] [] name cell same = refl
 one_appended [] (c ∷ cells) name cell same = absurd (omega (arith, same))
 one_appended (n ∷ names) [] name cell same = absurd (omega (arith, same))
 one_appended (n ∷ names) (c ∷ cells) name cell same =
-    ap (λ (cs : List Cell). with_name n c ∷ cs) (one_appended names cells name cell (omega (arith, same)))
+    ap (λ (cs : List LoadedCell). with_name n c ∷ cs) (one_appended names cells name cell (omega (arith, same)))
 
 pub cell_seen : (names : List (List ℕ)) (cells : List UnnamedCell) (at : ℕ) (name : List ℕ) (cell : UnnamedCell) → slice_get names at ≡ Some name →
     slice_get cells at ≡ Some cell → slice_get (with_names names cells) at ≡ Some (with_name name cell)

@@ -6,7 +6,7 @@ use Rattle.std.proofs.Math.Path.{Σ_path, to_path_p}
 use Rattle.lf_orient.specs.declared.Orient.{Orient}
 use Rattle.lf_floorplan.specs.declared.place.Place.{Place}
 use Rattle.lf_floorplan.specs.declared.packed_place.PackedPlace.TheInside.{Inside}
-use Rattle.lf_floorplan.specs.PackedPlaces.{place_in}
+use Rattle.lf_floorplan.specs.PackedPlaces.{packed_place_in}
 
 -- A number of DEF.
 abbrev Num : Type 0
@@ -28,5 +28,5 @@ same_place p q x y o =
     ∙ ap (λ (r : Orient). at_nums (q.x, q.x_in_def) (q.y, q.y_in_def) r) o
 
 -- The place of packed fields that have an orientation.
-pub place_seen : (p : Inside) (o : Orient) (q : Place) → p.orient ≡ Some o → q.x ≡ p.x → q.y ≡ p.y → q.orient ≡ o → Some q ≡ place_in p
+pub place_seen : (p : Inside) (o : Orient) (q : Place) → p.orient ≡ Some o → q.x ≡ p.x → q.y ≡ p.y → q.orient ≡ o → Some q ≡ packed_place_in p
 place_seen p o q is x y same = rw is (ap (λ (r : Place). Some r) (same_place q (record { x = p.x; y = p.y; orient = o; x_in_def = p.x_in_def; y_in_def = p.y_in_def }) x y same))

@@ -58,4 +58,4 @@ row_one f r s (i, within_i, is_r) (j, within_j, is_s) meet =
 
 -- A box has one bottom row.
 pub bottom_one : (f : Frame) (box : Rect) (r s : Row) → box.x1 <ℤ box.x2 → IsBottomRow f box r → IsBottomRow f box s → r ≡ s
-bottom_one f box r s wide a b = row_one f r s a.heeded b.heeded (shared f box 0 r s wide a.at_bottom b.at_bottom)
+bottom_one f box r s wide a b = row_one f r s a.core_ones b.core_ones (shared f box 0 r s wide a.at_bottom b.at_bottom)

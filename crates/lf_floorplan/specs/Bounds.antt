@@ -63,6 +63,6 @@ pub record IsPrinted (byte : ℕ) : Type 0 where
   pub most : byte ≤ 126
 
 -- A name of at most 1,024 bytes, each of which a word may have.
-pub record IsName (name : List ℕ) : Type 0 where
+pub record IsDesignName (name : List ℕ) : Type 0 where
   pub short : length name ≤ 1024
   pub printed : All IsPrinted name

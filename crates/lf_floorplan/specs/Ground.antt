@@ -26,8 +26,8 @@ abbrev pub IsClear : Frame → Rect → Type 0
 IsClear f box = All (λ obstacle. SharesPoint box obstacle → ⊥) f.obstacles
 
 -- The box shares a point with a soft blockage.
-abbrev pub MeetsSoft : Frame → Rect → Type 0
-MeetsSoft f box = Any (λ r. SharesPoint box r) f.soft
+abbrev pub OverlapsSoft : Frame → Rect → Type 0
+OverlapsSoft f box = Any (λ r. SharesPoint box r) f.soft
 
 -- Each point is ground of exactly one team.
 pub record PointHasOneTeam : Type 0 where

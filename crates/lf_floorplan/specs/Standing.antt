@@ -35,22 +35,22 @@ IsRowAt f y x found = MatchOption found (All (λ r. ExtendsOver f y x r → ⊥)
 -- The bottom row of the box: a row of core sites that is its row 0, and whose x grid holds the
 -- box's x.
 pub record IsBottomRow (f : Frame) (box : Rect) (r : Row) : Type 0 where
-  pub heeded : Contains f.rows r
+  pub core_ones : Contains f.rows r
   pub at_bottom : IsRowOfBox f box 0 r
   pub site : ℕ
   pub on_grid : box.x1 -ℤ r.x ≡ pos site *ℤ f.pitch.x
 
 -- A rail, alternated j times.
-abbrev pub changed : ℕ → Rail → Rail
-changed zero rail = rail
-changed (suc j) rail = other_rail (changed j rail)
+abbrev pub rail_alternated : ℕ → Rail → Rail
+rail_alternated zero rail = rail
+rail_alternated (suc j) rail = other_rail (rail_alternated j rail)
 
 -- Row s carries the box: it is the box's row j, and its rail is the bottom row's, alternated j
 -- times.
 pub record Supports (f : Frame) (box : Rect) (bottom : Row) (j : ℕ) (s : Row) : Type 0 where
-  pub heeded : Contains f.rows s
+  pub core_ones : Contains f.rows s
   pub at_row : IsRowOfBox f box j s
-  pub rail : rail_below s.orient ≡ option_map (changed j) (rail_below bottom.orient)
+  pub rail : rail_below s.orient ≡ option_map (rail_alternated j) (rail_below bottom.orient)
 
 -- The box is from 1 to 8 core sites high.
 abbrev pub HasHeight : Frame → Rect → Type 0
@@ -69,7 +69,7 @@ IsSupported f box =
 pub record RestsOnRows (f : Frame) (box : Rect) : Type 0 where
   pub height : HasHeight f box
   pub row : HasBottomRow f box
-  pub stand : IsSupported f box
+  pub are_placed : IsSupported f box
 
 -- A box has at most one height in sites, and a box with a width has at most one bottom row.
 pub record BottomRowIsUnique : Type 0 where

@@ -60,9 +60,9 @@ impl Drop for LoadedCells {
 
 impl Model for LoadedCells {
     ghost use Rattle.std.specs.Prelude.{List};
-    ghost use Rattle.lf_floorplan.specs.declared.loaded.Cell.{Cell};
+    ghost use Rattle.lf_floorplan.specs.declared.loaded.LoadedCell.{LoadedCell};
 
-    ghost Value = { List Cell };
+    ghost Value = { List LoadedCell };
 
     ghost use Rattle.std.specs.Prelude.{◌≡◌, length};
     ghost use Rattle.lf_floorplan.specs.LoadedCells.{with_names};

@@ -52,7 +52,7 @@ pub struct Frame {
     pub ghost pitch_whole: { IsPitch header.units site.size pitch },
     pub ghost has_row: { 0 < length rows },
     pub ghost few_rows: { length rows ≤ limits.rows },
-    pub ghost rows_heeded: { All (λ r. IsCoreRow pitch r) rows },
+    pub ghost rows_are_core: { All (λ r. IsCoreRow pitch r) rows },
     pub ghost rows_apart: { RowsApart pitch rows },
     pub ghost few_fences: { length teams ≤ limits.fences },
     pub ghost fences_whole: { All IsFence teams },

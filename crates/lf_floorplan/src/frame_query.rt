@@ -28,14 +28,14 @@ pub trait FrameQuery {
     /// Returns whether every point of the box is ground of the team. The box must rest on rows.
     fn stays_in_ground(&self, team: usize, rect: &Rect) -> bool
         requires wide { rect.now.x1 <ℤ rect.now.x2 }
-        requires stands { RestsOnRows (of self.now) rect.now }
+        requires is_in_place { RestsOnRows (of self.now) rect.now }
         ensures { IsTrue result ↔ StaysInGround (of self.now) team rect.now };
 
     /// Returns whether no point of the box is in an obstacle. The box must rest on rows in the
     /// team's ground.
     fn is_clear(&self, team: usize, rect: &Rect) -> bool
         requires wide { rect.now.x1 <ℤ rect.now.x2 }
-        requires stands { RestsOnRows (of self.now) rect.now }
+        requires is_in_place { RestsOnRows (of self.now) rect.now }
         requires inside { StaysInGround (of self.now) team rect.now }
         ensures { IsTrue result ↔ IsClear (of self.now) rect.now };
 }

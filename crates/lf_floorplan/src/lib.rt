@@ -60,7 +60,7 @@ pub use laws::{
     row_at_is_unique, teams_stay_apart, turning_twice_is_identity,
 };
 pub use limits::Limits;
-pub use loaded::{Cell, Loaded};
+pub use loaded::{Loaded, LoadedCell};
 pub use macros::Macro;
 pub use packed_place::PackedPlace;
 pub use parts::{Header, Row, Team};

@@ -10,7 +10,7 @@ use lf_units::Name;
 
 /// A movable cell as contracts see it: a component of the DEF text that is neither FIXED nor COVER.
 #[derive(Drop)]
-pub struct Cell {
+pub struct LoadedCell {
     pub name: Name,
     /// The number of its team: a fence's position in the frame, or the number of fences for `-`.
     pub team: usize,

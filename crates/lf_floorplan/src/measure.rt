@@ -9,7 +9,7 @@ use lf_units::{Point, Rect};
 impl Row {
     /// Returns the width of all sites of the row, in database units.
     fn width(&self, pitch: &Point) -> i64
-        requires heeded { IsCoreRow pitch.now self.now }
+        requires core_ones { IsCoreRow pitch.now self.now }
         requires wide { pos 0 <ℤ pitch.now.x }
         ensures { result ≡ pos self.now.sites *ℤ pitch.now.x }
     {
@@ -19,7 +19,7 @@ impl Row {
     /// Returns the x at which the row ends, the first one outside it. `pitch` is the size of a core
     /// site in database units. Row and pitch are those of a frame.
     pub fn right_edge(&self, pitch: &Point) -> i64
-        requires heeded { IsCoreRow pitch.now self.now }
+        requires core_ones { IsCoreRow pitch.now self.now }
         requires wide { pos 0 <ℤ pitch.now.x }
         ensures { result ≡ (row_area pitch.now self.now).x2 }
     {
@@ -29,7 +29,7 @@ impl Row {
     /// Returns the points of the row, one site height high. `pitch` is the size of a core site in
     /// database units. Row and pitch are those of a frame.
     pub fn area(&self, pitch: &Point) -> Rect
-        requires heeded { IsCoreRow pitch.now self.now }
+        requires core_ones { IsCoreRow pitch.now self.now }
         requires wide { pos 0 <ℤ pitch.now.x }
         requires high { pos 0 <ℤ pitch.now.y }
         requires low { pitch.now.y ≤ℤ pos 20000000000 }

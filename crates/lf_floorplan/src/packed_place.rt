@@ -23,11 +23,11 @@ impl Model for PackedPlace {
 
     ghost Value = { Option Place };
 
-    ghost use Rattle.lf_floorplan.specs.PackedPlaces.{place_in, packed, packed_back, IsPacked};
+    ghost use Rattle.lf_floorplan.specs.PackedPlaces.{packed_place_in, packed, packed_back, IsPackedPlace};
 
-    ghost view = { place_in };
+    ghost view = { packed_place_in };
 
-    ghost invariant = { IsPacked };
+    ghost invariant = { IsPackedPlace };
 
     ghost inverse = { packed };
 

@@ -33,9 +33,9 @@ core_there i a = by (core_in i) (a NoRows)
     by None e = absurd (none-some i.document.header.design e)
     by (Some s) e = refl
 
-pub lent_there : (lent : Option (Bor Site)) {found : Option Site} → option_copied lent ≡ found → IsSome found → IsSome lent
-lent_there None {found} same there = rw (← same) at there
-lent_there (Some s) {found} same there = refl
+pub borrowed_there : (borrowed_view : Option (Bor Site)) {found : Option Site} → option_copied borrowed_view ≡ found → IsSome found → IsSome borrowed_view
+borrowed_there None {found} same there = rw (← same) at there
+borrowed_there (Some s) {found} same there = refl
 
 -- What is found of the core site.
 pub of_core : (i : LoadInputs) (core : Site) (finds : Site → Finding) → core_in i ≡ Some core → OfCore i finds None → finds core None
@@ -80,14 +80,14 @@ has_true : (b : Bool) → (b ≡ false → ⊥) → b ≡ true
 has_true true not_false = refl
 has_true false not_false = absurd (not_false refl)
 
-stands : {A : Type 0} (P : A → Type 0) (xs : List A) (k : ℕ) → All P xs → IfSome (slice_get xs k) P
-stands P [] k all = tt
-stands P (x ∷ xs) zero all = All-head P x xs all
-stands P (x ∷ xs) (suc k) all = stands P xs k (All-tail P x xs all)
+is_in_place : {A : Type 0} (P : A → Type 0) (xs : List A) (k : ℕ) → All P xs → IfSome (slice_get xs k) P
+is_in_place P [] k all = tt
+is_in_place P (x ∷ xs) zero all = All-head P x xs all
+is_in_place P (x ∷ xs) (suc k) all = is_in_place P xs k (All-tail P x xs all)
 
-place_stands : {A : Type 0} (P : A → Type 0) (xs : List A) (place : Option ℕ) → All P xs → IfSome (at_place xs place) P
-place_stands P xs None all = tt
-place_stands P xs (Some k) all = stands P xs k all
+place_is_kept : {A : Type 0} (P : A → Type 0) (xs : List A) (place : Option ℕ) → All P xs → IfSome (at_place xs place) P
+place_is_kept P xs None all = tt
+place_is_kept P xs (Some k) all = is_in_place P xs k all
 
 sized_macro : (units : ℕ) (found : Option Macro) → 1 ≤ units → units ≤ 20000 → IfSome found IsMacro → (IsSomeAnd found (λ m. has_size m.size ≡ false) → ⊥) →
     (IsSomeAnd found (λ m. IsWholeSize units m.size → ⊥) → ⊥) → IfSome found (IsSizedIn units)
@@ -109,7 +109,7 @@ macros_sized i range a k d within uncovered =
     let has = none_of_name {breaks = HasNoSize i.library} (a NoSize) k d within in
     let whole = none_of_name {breaks = HasPartUnits i.library (units_in i)} (first_nothing (a NotWhole)).1 k d within in
     sized_macro (units_in i) (macro_named i.library c.mac) range.units.least range.units.most
-    (place_stands IsMacro i.library.macros (position_of (macro_names i.library.macros) c.mac) range.macros)
+    (place_is_kept IsMacro i.library.macros (position_of (macro_names i.library.macros) c.mac) range.macros)
     (λ h. has (uncovered, h)) (λ h. whole (uncovered, h))
 
 -- A FIXED component is not COVER.

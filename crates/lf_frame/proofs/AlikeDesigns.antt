@@ -19,10 +19,10 @@ use Rattle.lf_def.specs.declared.components.PlacementKind.{PlacementKind}
 use Rattle.lf_def.specs.declared.components.PlacementKind.TheVariants.{Fixed, Cover, Placed, Unplaced}
 use Rattle.lf_def.specs.Laws.{placement_without_places, without_places}
 use Rattle.lf_floorplan.specs.declared.frame.Frame.{Frame}
-use Rattle.lf_floorplan.specs.declared.loaded.Cell.{Cell}
+use Rattle.lf_floorplan.specs.declared.loaded.LoadedCell.{LoadedCell}
 use Rattle.lf_floorplan.specs.declared.loaded.Loaded.{Loaded}
 use Rattle.lf_def.specs.Kinds.{is_movable}
-use Rattle.lf_frame_claims.specs.Teams.{IsTeamOf}
+use Rattle.lf_frame_claims.specs.Teams.{IsTeamOfComponent}
 use Rattle.lf_floorplan.specs.Sizes.{size_in_dbu}
 use Rattle.lf_frame_claims.specs.Refusals.{HasEarlierName, IsClaimedTwice}
 use Rattle.lf_frame_checks.specs.Refusals.{HasBadStep, OverlapsEarlierRow, HasNoMacro, HasNoSize, HasPartUnits, IsComponentTooMany, EndsTooFar}
@@ -188,13 +188,13 @@ frame_same i xs ys same f is = record {
 }
 
 -- Cells that fit the movable ones of some components fit those of the same components.
-pub cells_same : (kept : Component → Component) → ((a b : Component) → kept a ≡ kept b → Same a b) → (P Q : ℕ × Component → Cell → Type 0) →
-    ((k : ℕ) (a b : Component) (c : Cell) → kept a ≡ kept b → P (k, a) c → Q (k, b) c) →
-    (k : ℕ) (xs ys : List Component) → map kept xs ≡ map kept ys → (cells : List Cell) → AllZip P (movables_from k xs) cells
+pub cells_same : (kept : Component → Component) → ((a b : Component) → kept a ≡ kept b → Same a b) → (P Q : ℕ × Component → LoadedCell → Type 0) →
+    ((k : ℕ) (a b : Component) (c : LoadedCell) → kept a ≡ kept b → P (k, a) c → Q (k, b) c) →
+    (k : ℕ) (xs ys : List Component) → map kept xs ≡ map kept ys → (cells : List LoadedCell) → AllZip P (movables_from k xs) cells
     → AllZip Q (movables_from k ys) cells
 cells_same kept alike P Q made k [] [] same cells zip = by cells zip
   where
-    by : (cells : List Cell) → AllZip P [] cells → AllZip Q [] cells
+    by : (cells : List LoadedCell) → AllZip P [] cells → AllZip Q [] cells
     by [] none = none
     by (c ∷ cs) none = none
 cells_same kept alike P Q made k [] (b ∷ ys) same cells zip = absurd (cc)
@@ -204,8 +204,8 @@ cells_same kept alike P Q made k (a ∷ xs) (b ∷ ys) same cells zip =
     let others : map kept xs ≡ map kept ys = cc in
     by (is_movable a) refl (sym (movable_same a b (alike a b one))) one cells zip (cells_same kept alike P Q made (k + 1) xs ys others)
   where
-    by : (t : Bool) → is_movable a ≡ t → is_movable b ≡ is_movable a → kept a ≡ kept b → (cells : List Cell) → AllZip P (movables_from k (a ∷ xs)) cells →
-        ((rest : List Cell) → AllZip P (movables_from (k + 1) xs) rest → AllZip Q (movables_from (k + 1) ys) rest) → AllZip Q (movables_from k (b ∷ ys)) cells
+    by : (t : Bool) → is_movable a ≡ t → is_movable b ≡ is_movable a → kept a ≡ kept b → (cells : List LoadedCell) → AllZip P (movables_from k (a ∷ xs)) cells →
+        ((rest : List LoadedCell) → AllZip P (movables_from (k + 1) xs) rest → AllZip Q (movables_from (k + 1) ys) rest) → AllZip Q (movables_from k (b ∷ ys)) cells
     by true is movable one [] zip rest = absurd (rw is at zip)
     by true is movable one (c ∷ cs) zip rest = let pair = rw is at zip in rw (movable, is) (made k a b c one pair.0, rest cs pair.1)
     by false is movable one cells zip rest = rw (movable, is) (rest cells (rw is at zip))
@@ -222,13 +222,13 @@ place_without (Some p) = refl
 location_without : (a b : Component) → without_places a ≡ without_places b → location a ≡ location b
 location_without a b same = sym (place_without a.placement) ∙ ap location same ∙ place_without b.placement
 
-cell_without : (i : LoadInputs) (xs ys : List Component) (k : ℕ) (a b : Component) (c : Cell) → without_places a ≡ without_places b →
+cell_without : (i : LoadInputs) (xs ys : List Component) (k : ℕ) (a b : Component) (c : LoadedCell) → without_places a ≡ without_places b →
     IsCellOf (with_components i xs) (k, a) c → IsCellOf (with_components i ys) (k, b) c
 cell_without i xs ys k a b c same is =
     let alike : Same a b = one_without a b same in
     record {
       name = is.name ∙ name_same a b alike;
-      team = subst (λ name. IsTeamOf i.document.regions i.document.groups name c.team) (name_same a b alike) is.team;
+      team = subst (λ name. IsTeamOfComponent i.document.regions i.document.groups name c.team) (name_same a b alike) is.team;
       mac = subst (λ name. position_of (macro_names i.library.macros) name ≡ Some c.mac) (mac_same a b alike) is.mac;
       place = is.place ∙ location_without a b same;
       component = is.component;

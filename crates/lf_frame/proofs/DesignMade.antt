@@ -22,14 +22,14 @@ use Rattle.lf_def.specs.declared.groups.Group.{Group}
 use Rattle.lf_def.specs.declared.components.Component.{Component}
 use Rattle.lf_def.specs.Ranges.{IsComponent}
 use Rattle.lf_floorplan.specs.declared.frame.Frame.{Frame}
-use Rattle.lf_floorplan.specs.declared.loaded.Cell.{Cell}
-use Rattle.lf_floorplan.specs.Bounds.{IsPrinted, IsName}
+use Rattle.lf_floorplan.specs.declared.loaded.LoadedCell.{LoadedCell}
+use Rattle.lf_floorplan.specs.Bounds.{IsPrinted, IsDesignName}
 use Rattle.lf_floorplan.specs.Boxes.{IsSized}
 use Rattle.lf_floorplan.specs.Ground.{IsTeam}
 use Rattle.lf_floorplan.specs.Design.{IsCell, MakeDesign}
 use Rattle.lf_frame_claims.specs.Entries.{NoneBreaks}
 use Rattle.lf_def.specs.Kinds.{is_cover, is_fixed, is_movable}
-use Rattle.lf_frame_claims.specs.Teams.{fences, fence_names, IsTeamOf}
+use Rattle.lf_frame_claims.specs.Teams.{fences, fence_names, IsTeamOfComponent}
 use Rattle.lf_frame_checks.specs.Loading.{macro_named}
 use Rattle.lf_frame_claims.specs.Refusals.{HasEarlierName, IsClaimedTwice}
 use Rattle.lf_frame_checks.specs.Refusals.{HasNoMacro, IsComponentTooMany}
@@ -102,14 +102,14 @@ printed byte is =
     let parts = and_parts (nat_le 33 byte) (nat_le byte 126) is in
     record { least = leb-true 33 byte parts.0; most = leb-true byte 126 parts.1 }
 
-name_printed : (name : List ℕ) → IsReadName name → IsName name
+name_printed : (name : List ℕ) → IsReadName name → IsDesignName name
 name_printed name is = record { short = is.short; printed = λ k d within. printed (get_or name k d) (AllPass-from_list_all is_word_byte name is.printable k d within) }
 
 position_within : (names : List (List ℕ)) (name : List ℕ) (place : ℕ) → position_of names name ≡ Some place → place < length names
 position_within names name place is = (position-Some (Rattle.std.specs.Str.bytes_eq name) names place [] is).0
 
 -- The number of a team is at most the number of fences.
-pub team_within : (regions : List Region) (groups : List Group) (name : List ℕ) (team : ℕ) → IsTeamOf regions groups name team → team ≤ length (fences regions)
+pub team_within : (regions : List Region) (groups : List Group) (name : List ℕ) (team : ℕ) → IsTeamOfComponent regions groups name team → team ≤ length (fences regions)
 team_within regions groups name team (inl one) =
     let within : team < length (fence_names regions) = position_within (fence_names regions) one.fence team one.place in
     let same : length (fence_names regions) ≡ length (fences regions) = grind (arith, common_steps) in
@@ -141,19 +141,19 @@ sized_in f i m k is at sized =
       high = rw units sized.whole.high;
     }
 
-team_there : (i : LoadInputs) (f : Frame) (name : List ℕ) (team : ℕ) → IsFrameOf i f → IsTeamOf i.document.regions i.document.groups name team → IsTeam f team
+team_there : (i : LoadInputs) (f : Frame) (name : List ℕ) (team : ℕ) → IsFrameOf i f → IsTeamOfComponent i.document.regions i.document.groups name team → IsTeam f team
 team_there i f name team is of =
     let count : length f.teams ≡ length (fences i.document.regions) = ap (λ (ts : List Rattle.lf_floorplan.specs.declared.parts.Team.Team). length ts) is.teams ∙ (grind (arith, common_steps)) in
     by count of
   where
-    by : length f.teams ≡ length (fences i.document.regions) → IsTeamOf i.document.regions i.document.groups name team → team ≤ length f.teams
+    by : length f.teams ≡ length (fences i.document.regions) → IsTeamOfComponent i.document.regions i.document.groups name team → team ≤ length f.teams
     by count (inl one) =
         let within : team < length (fence_names i.document.regions) = position_within (fence_names i.document.regions) one.fence team one.place in
         let same : length (fence_names i.document.regions) ≡ length (fences i.document.regions) = grind (arith, common_steps) in
         omega (arith, count, same)
     by count (inr ground) = omega (arith, count, ground.1)
 
-is_cell : (i : LoadInputs) (f : Frame) → IsFrameOf i f → (e : ℕ × Component) (c : Cell) → IsEntry i e → IsCellOf i e c → IsCell f c
+is_cell : (i : LoadInputs) (f : Frame) → IsFrameOf i f → (e : ℕ × Component) (c : LoadedCell) → IsEntry i e → IsCellOf i e c → IsCell f c
 is_cell i f is e c entry of =
     let many : length (macro_names i.library.macros) ≡ length i.library.macros = grind (arith, common_steps) in
     let within : c.mac < length (macro_names i.library.macros) = position_within (macro_names i.library.macros) e.1.mac c.mac of.mac in
@@ -169,18 +169,18 @@ is_cell i f is e c entry of =
 apart : (i : LoadInputs) → IsAccepted i → AllPairs (λ a b. (a.1.name ≢ b.1.name) × (a.0 < b.0)) (enumerate_from 0 i.document.components)
 apart i a j k d below within =
     let long : length (enumerate_from 0 i.document.components) ≡ length i.document.components = length-enumerate_from 0 i.document.components in
-    let behind : k < length i.document.components = omega (arith, long) in
+    let after_it : k < length i.document.components = omega (arith, long) in
     let first = get_or-enumerate_from 0 i.document.components j d (omega (arith, long)) in
-    let second = get_or-enumerate_from 0 i.document.components k d behind in
-    let none = none_of_name {breaks = HasEarlierName} (a SecondName) k d.1 behind in
+    let second = get_or-enumerate_from 0 i.document.components k d after_it in
+    let none = none_of_name {breaks = HasEarlierName} (a SecondName) k d.1 after_it in
     rw (first, second) ((λ same. none (j, get_or i.document.components j d.1, grind (arith, common_steps), grind (arith, common_steps, get_or_default i.document.components j (get_or i.document.components j d.1) d.1), same)), omega arith)
 
 -- The number of components is at most the limit.
 pub few : (i : LoadInputs) → IsAccepted i → length i.document.components ≤ i.limits.components
 few i a =
-    let behind_rows = (first_nothing (a TooMany)).1 in
-    let behind_fences = (first_nothing behind_rows).1 in
-    let none = none_of_name {breaks = IsComponentTooMany i.limits.components} (first_nothing behind_fences).0 in
+    let after_rows = (first_nothing (a TooMany)).1 in
+    let after_fences = (first_nothing after_rows).1 in
+    let none = none_of_name {breaks = IsComponentTooMany i.limits.components} (first_nothing after_fences).0 in
     by i.document.components none
   where
     by : (cs : List Component) → NoneBreaks (IsComponentTooMany i.limits.components) cs → length cs ≤ i.limits.components
@@ -216,7 +216,7 @@ entries_known i range a =
     (all_numbered (λ c. is_cover c ≡ false → IfSome (macro_named i.library c.mac) (IsSizedIn (units_in i))) 0 i.document.components (macros_sized i range a)) in
     λ k d within. (ranged k d within, (movable k d within, sized k d within))
 
-pub design_made : (i : LoadInputs) (f : Frame) (cells : List Cell) → AreInRange i → IsAccepted i → IsFrameOf i f →
+pub design_made : (i : LoadInputs) (f : Frame) (cells : List LoadedCell) → AreInRange i → IsAccepted i → IsFrameOf i f →
     AllZip (IsCellOf i) (movables i.document.components) cells → MakeDesign f cells
 design_made i f cells range a is zip =
     let cs : List Component = i.document.components in
@@ -233,7 +233,7 @@ design_made i f cells range a is zip =
       components_rise = pairs_of (λ (x : ℕ × Component) (y : ℕ × Component). (x.1.name ≢ y.1.name) × (x.0 < y.0)) (λ b c. b.component < c.component) (movables cs) cells zip (λ x y b c p is_b is_c. rw (is_b.component, is_c.component) p.1) pairs;
     }
   where
-    all_long : (xs : List (ℕ × Component)) (ys : List Cell) → AllZip (IsCellOf i) xs ys → length xs ≡ length ys
+    all_long : (xs : List (ℕ × Component)) (ys : List LoadedCell) → AllZip (IsCellOf i) xs ys → length xs ≡ length ys
     all_long [] [] zip = refl
     all_long [] (y ∷ ys) zip = absurd zip
     all_long (x ∷ xs) [] zip = absurd zip

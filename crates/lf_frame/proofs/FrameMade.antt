@@ -18,14 +18,14 @@ use Rattle.lf_floorplan.specs.declared.sites.Site.{Site}
 use Rattle.lf_floorplan.specs.declared.macros.Macro.{Macro}
 use Rattle.lf_names.specs.Names.{position_of}
 use Rattle.lf_lef.specs.Contents.{Contents, macro_names, IsMacro}
-use Rattle.lf_lef.specs.Lengths.{IsInRange, HasRange}
-use Rattle.lf_def.specs.declared.rows.Row.{Row}
+use Rattle.lf_lef.specs.Lengths.{IsLengthInRange, HasRange}
+use Rattle.lf_def.specs.declared.rows.RowStatement.{RowStatement}
 use Rattle.lf_def.specs.declared.regions.Region.{Region}
 use Rattle.lf_def.specs.declared.components.Component.{Component}
 use Rattle.lf_def.specs.declared.components.Location.{Location}
 use Rattle.lf_def.specs.declared.components.PlacementClause.{PlacementClause}
 use Rattle.lf_def.specs.declared.blockages.Blockage.{Blockage}
-use Rattle.lf_def.specs.Ranges.{IsCoordinate, IsRect, IsRow, IsRegion, IsComponent, IsBlockage, IsLocation, IsPlacement}
+use Rattle.lf_def.specs.Ranges.{IsDefCoordinate, IsRect, IsRow, IsRegion, IsComponent, IsBlockage, IsLocation, IsPlacement}
 use Rattle.lf_floorplan.specs.Bounds.{IsDefNumber, IsLefLength, IsLefSize, IsDefRect}
 use Rattle.lf_floorplan.specs.Obstacles.{IsMacroBox, IsObstacle}
 use Rattle.lf_floorplan.specs.Rows.{row_area, IsPitch, IsCoreRow, RowsApart}
@@ -40,16 +40,16 @@ use Rattle.lf_frame_checks.specs.Refusals.{IsFenceTooMany}
 use Rattle.lf_frame_checks.specs.Findings.{LoadInputs, units_in, core_in, NameOfFirst, IsAccepted}
 use Rattle.lf_frame.specs.Loads.{frame_team, location, IsSizedIn, FixedIsSized, fixed_box, blocked, softly_blocked, obstacles_in, soft_in, AreInRange}
 use Rattle.lf_frame_checks.proofs.Gathered.{none_of_name, pairs_from_none, all_kept, pairs_kept, few_kept, all_filter_map, all_flat_map}
-use Rattle.lf_frame_checks.proofs.CoreLemmas.{pitch_of_core, core_heeded}
+use Rattle.lf_frame_checks.proofs.CoreLemmas.{pitch_of_core, core_row_is_core}
 use Rattle.lf_frame.proofs.Accepted.{of_core, of_pitch, first_nothing, fixed_sized}
 
-lef_length : (v : ℤ) → IsInRange v → IsLefLength v
+lef_length : (v : ℤ) → IsLengthInRange v → IsLefLength v
 lef_length v r = record { least = r.low; most = r.high }
 
 lef_size : (p : Point) → HasRange p → IsLefSize p
 lef_size p r = record { across = lef_length p.x r.x; up = lef_length p.y r.y }
 
-def_number : (v : ℤ) → IsCoordinate v → IsDefNumber v
+def_number : (v : ℤ) → IsDefCoordinate v → IsDefNumber v
 def_number v c = record { above = omega (arith, ints, c.low); most = c.high }
 
 upright : (found : Option Rail) → ((IsSome found → ⊥) → ⊥) → IsSome found
@@ -64,9 +64,9 @@ not_above x near =
       | inr far ↦ absurd (near far)
     ]
 
-heeded_row : (pitch : Point) (r : Row) → IsRow r → ((IsSome (rail_below r.orient) → ⊥) → ⊥) → (pos 2147483647 <ℤ (row_area pitch (frame_row r)).x2 → ⊥) →
+row_of_core : (pitch : Point) (r : RowStatement) → IsRow r → ((IsSome (rail_below r.orient) → ⊥) → ⊥) → (pos 2147483647 <ℤ (row_area pitch (frame_row r)).x2 → ⊥) →
     IsCoreRow pitch (frame_row r)
-heeded_row pitch r range standing near = record {
+row_of_core pitch r range standing near = record {
   x_in_def = def_number r.x range.x;
   y_in_def = def_number r.y range.y;
   has_site = range.sites_x.some;
@@ -74,12 +74,12 @@ heeded_row pitch r range standing near = record {
   upright = upright (rail_below r.orient) standing;
 }
 
-rows_heeded : (core : Site) (pitch : Point) (rows : List Row) → All IsRow rows → NoneBreaks (IsSideways core) rows → NoneBreaks (EndsTooFar core pitch) rows →
+rows_are_core : (core : Site) (pitch : Point) (rows : List RowStatement) → All IsRow rows → NoneBreaks (IsSideways core) rows → NoneBreaks (EndsTooFar core pitch) rows →
     All (λ r. IsCoreRow pitch r) (map frame_row (filter (is_core_row core) rows))
-rows_heeded core pitch rows range standing near =
-    all_kept (λ r. IsCoreRow pitch r) frame_row (is_core_row core) rows (λ k d within is. heeded_row pitch (get_or rows k d) (range k d within) (λ turned. standing k d within (is, turned)) (λ far. near k d within (is, far)))
+rows_are_core core pitch rows range standing near =
+    all_kept (λ r. IsCoreRow pitch r) frame_row (is_core_row core) rows (λ k d within is. row_of_core pitch (get_or rows k d) (range k d within) (λ turned. standing k d within (is, turned)) (λ far. near k d within (is, far)))
 
-rows_apart : (core : Site) (pitch : Point) (rows : List Row) → NoneBreaks (OverlapsEarlierRow core pitch) rows →
+rows_apart : (core : Site) (pitch : Point) (rows : List RowStatement) → NoneBreaks (OverlapsEarlierRow core pitch) rows →
     RowsApart pitch (map frame_row (filter (is_core_row core) rows))
 rows_apart core pitch rows none =
     pairs_kept (λ a b. SharesPoint (row_area pitch a) (row_area pitch b) → ⊥) frame_row (is_core_row core) rows
@@ -183,9 +183,9 @@ macros_in_lef macros range = All-weaker IsMacro (λ m. IsLefSize m.size × IsLef
 near_rows : (i : LoadInputs) (core : Site) → core_in i ≡ Some core → IsWholeSize (units_in i) core.size → IsAccepted i →
     NoneBreaks (EndsTooFar core (size_in_dbu (units_in i) core.size)) i.document.rows
 near_rows i core is whole a =
-    let behind_rows = (first_nothing (a TooMany)).1 in
-    let behind_fences = (first_nothing behind_rows).1 in
-    none_of_name (of_pitch i core (λ s pitch. NameOfFirst (λ r. r.name) (EndsTooFar s pitch) i.document.rows) is whole (first_nothing behind_fences).1)
+    let after_rows = (first_nothing (a TooMany)).1 in
+    let after_fences = (first_nothing after_rows).1 in
+    none_of_name (of_pitch i core (λ s pitch. NameOfFirst (λ r. r.name) (EndsTooFar s pitch) i.document.rows) is whole (first_nothing after_fences).1)
 
 -- The number of core rows is at most the limit.
 few_rows : (i : LoadInputs) (core : Site) → core_in i ≡ Some core → IsAccepted i → length (map frame_row (filter (is_core_row core) i.document.rows)) ≤ i.limits.rows
@@ -196,8 +196,8 @@ few_rows i core is a =
 -- The number of fences is at most the limit.
 pub few_fences : (i : LoadInputs) → IsAccepted i → length (map frame_team (fences i.document.regions)) ≤ i.limits.fences
 few_fences i a =
-    let behind_rows = (first_nothing (a TooMany)).1 in
-    few_kept frame_team is_fence i.limits.fences i.document.regions (none_of_name {breaks = IsFenceTooMany i.limits.fences} (first_nothing behind_rows).0)
+    let after_rows = (first_nothing (a TooMany)).1 in
+    few_kept frame_team is_fence i.limits.fences i.document.regions (none_of_name {breaks = IsFenceTooMany i.limits.fences} (first_nothing after_rows).0)
 
 -- The facts about the core rows, the fences, the obstacles, the soft blockages and the macros that
 -- a frame of an accepted design with this core site guarantees.
@@ -206,7 +206,7 @@ pub record IsFrameKept (i : LoadInputs) (core : Site) : Type 0 where
   pub pitch_whole : IsPitch (units_in i) core.size (size_in_dbu (units_in i) core.size)
   pub has_row : 0 < length (map frame_row (filter (is_core_row core) i.document.rows))
   pub few_rows : length (map frame_row (filter (is_core_row core) i.document.rows)) ≤ i.limits.rows
-  pub rows_heeded : All (λ r. IsCoreRow (size_in_dbu (units_in i) core.size) r) (map frame_row (filter (is_core_row core) i.document.rows))
+  pub rows_are_core : All (λ r. IsCoreRow (size_in_dbu (units_in i) core.size) r) (map frame_row (filter (is_core_row core) i.document.rows))
   pub rows_apart : RowsApart (size_in_dbu (units_in i) core.size) (map frame_row (filter (is_core_row core) i.document.rows))
   pub few_fences : length (map frame_team (fences i.document.regions)) ≤ i.limits.fences
   pub fences_whole : All IsFence (map frame_team (fences i.document.regions))
@@ -225,9 +225,9 @@ frame_kept i core range a is site sized whole =
     record {
       site_in_lef = lef_size core.size site;
       pitch_whole = pitch_of_core (units_in i) core.size range.units.least range.units.most site sized whole;
-      has_row = core_heeded i.library i.document.rows core is;
+      has_row = core_row_is_core i.library i.document.rows core is;
       few_rows = few_rows i core is a;
-      rows_heeded = rows_heeded core at i.document.rows range.rows turned (near_rows i core is whole a);
+      rows_are_core = rows_are_core core at i.document.rows range.rows turned (near_rows i core is whole a);
       rows_apart = rows_apart core at i.document.rows meeting;
       few_fences = few_fences i a;
       fences_whole = fences_whole i.document.regions range.regions (none_of_name (a TeamName));

@@ -7,7 +7,7 @@ use Rattle.lf_def.specs.declared.components.Component.{Component}
 use Rattle.lf_def.specs.Laws.{placement_without_places, document_without_places}
 use Rattle.lf_def.specs.Kinds.{is_movable}
 use Rattle.lf_floorplan.specs.declared.loaded.Loaded.{Loaded}
-use Rattle.lf_frame_checks.specs.Findings.{LoadInputs, Finds, IsAccepted, IsFault}
+use Rattle.lf_frame_checks.specs.Findings.{LoadInputs, Finds, IsAccepted, IsLoadFault}
 use Rattle.lf_frame.specs.Loads.{IsLoadedFrom}
 
 -- The parts of a component that teams cannot change: all but the placement of a movable one. Its
@@ -32,7 +32,7 @@ AcceptedAlike = (i j : LoadInputs) → AreAlike i j → IsAccepted i → IsAccep
 
 -- A fault of one of two inputs that are alike is a fault of the other.
 abbrev pub RefusedAlike : Type 0
-RefusedAlike = (i j : LoadInputs) → AreAlike i j → (fault : LoadFault) → IsFault i fault → IsFault j fault
+RefusedAlike = (i j : LoadInputs) → AreAlike i j → (fault : LoadFault) → IsLoadFault i fault → IsLoadFault j fault
 
 -- A design that is loaded from one of two inputs that are alike is loaded from the other.
 abbrev pub LoadedAlike : Type 0

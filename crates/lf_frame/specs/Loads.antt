@@ -15,13 +15,13 @@ use Rattle.lf_floorplan.specs.declared.place.Place.{Place}
 use Rattle.lf_floorplan.specs.declared.parts.Header.{Header}
 use Rattle.lf_floorplan.specs.declared.parts.Team.{Team}
 use Rattle.lf_floorplan.specs.declared.frame.Frame.{Frame}
-use Rattle.lf_floorplan.specs.declared.loaded.Cell.{Cell}
+use Rattle.lf_floorplan.specs.declared.loaded.LoadedCell.{LoadedCell}
 use Rattle.lf_floorplan.specs.declared.loaded.Loaded.{Loaded}
 use Rattle.lf_floorplan.specs.Bounds.{IsLimit}
 use Rattle.lf_floorplan.specs.Rows.{IsPitch}
 use Rattle.lf_floorplan.specs.Sizes.{turned, box_at, size_in_dbu}
 use Rattle.lf_def.specs.Kinds.{is_fixed, is_movable}
-use Rattle.lf_frame_claims.specs.Teams.{fences, IsTeamOf}
+use Rattle.lf_frame_claims.specs.Teams.{fences, IsTeamOfComponent}
 use Rattle.lf_frame_checks.specs.Loading.{macro_named, is_core_row, frame_row}
 use Rattle.lf_frame_claims.specs.Refusals.{HasTwoFences}
 use Rattle.lf_frame_checks.specs.Findings.{LoadInputs, units_in, core_in, IsAccepted}
@@ -115,9 +115,9 @@ abbrev pub as_location : Place → Location
 as_location p = record { x = p.x; y = p.y; orient = p.orient }
 
 -- Holds if this is the cell of a movable component.
-pub record IsCellOf (i : LoadInputs) (entry : ℕ × Component) (c : Cell) : Type 0 where
+pub record IsCellOf (i : LoadInputs) (entry : ℕ × Component) (c : LoadedCell) : Type 0 where
   pub name : c.name ≡ entry.1.name
-  pub team : IsTeamOf i.document.regions i.document.groups entry.1.name c.team
+  pub team : IsTeamOfComponent i.document.regions i.document.groups entry.1.name c.team
   pub mac : position_of (macro_names i.library.macros) entry.1.mac ≡ Some c.mac
   pub place : option_map as_location c.place ≡ location entry.1
   pub component : c.component ≡ entry.0

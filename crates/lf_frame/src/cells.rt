@@ -5,12 +5,12 @@ ghost use Rattle.std.specs.List.{AllZip};
 ghost use Rattle.lf_def.specs.Ranges.{IsComponent};
 ghost use Rattle.lf_floorplan.specs.LoadedCells.{with_name};
 ghost use Rattle.lf_def.specs.Kinds.{is_movable as is_movable_component};
-ghost use Rattle.lf_frame_claims.specs.Teams.{fences, IsTeamOf};
+ghost use Rattle.lf_frame_claims.specs.Teams.{fences, IsTeamOfComponent};
 ghost use Rattle.lf_frame_claims.specs.Entries.{NoneBreaks};
 ghost use Rattle.lf_frame_claims.specs.Refusals.{HasEarlierName};
 ghost use Rattle.lf_frame_claims.specs.ClaimTables.{IsTableOf};
 ghost use Rattle.lf_frame_checks.specs.Findings.{LoadInputs, inputs};
-ghost use Rattle.lf_frame_checks.specs.MacroTables.{macro_of, macros_of};
+ghost use Rattle.lf_frame_checks.specs.MacroTables.{macro_number_of, macros_of};
 ghost use Rattle.lf_frame.specs.Loads.{location as location_of, as_location, movables, CanBeCell, IsCellOf};
 
 use crate::convert::{location, place_at};
@@ -46,8 +46,8 @@ fn cell_of(team: usize, mac: usize, number: usize, component: &Component) -> Unn
     requires few_macros { mac < 1000000 }
     requires few_components { number < 4000000 }
     requires range { IsComponent component.now }
-    ensures { (i : LoadInputs) → IsTeamOf i.document.regions i.document.groups component.now.name team
-        → macro_of i.library component.now ≡ Some mac → IsCellOf i (number, component.now) (with_name component.now.name result) }
+    ensures { (i : LoadInputs) → IsTeamOfComponent i.document.regions i.document.groups component.now.name team
+        → macro_number_of i.library component.now ≡ Some mac → IsCellOf i (number, component.now) (with_name component.now.name result) }
 {
     let own_team = in_32_bits(team);
     let own_macro = in_32_bits(mac);

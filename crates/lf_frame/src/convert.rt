@@ -2,15 +2,15 @@
 
 ghost use Rattle.std.specs.Prelude.{◌≡◌, ℕ, ◌++◌, ◌∷◌, [], true, false, Some, None, IfOk, IfSome, OnOk, OnErr, All, map, filter};
 ghost use Rattle.std.specs.Prelude.{filter_map, flat_map, unwrap_or, option_map};
-ghost use Rattle.lf_def.specs.Ranges.{IsCoordinate, IsRow, IsComponent, IsLocation};
+ghost use Rattle.lf_def.specs.Ranges.{IsDefCoordinate, IsRow, IsComponent, IsLocation};
 ghost use Rattle.lf_floorplan.specs.Sizes.{turned, box_at, size_in_dbu};
 ghost use Rattle.lf_frame_claims.specs.Teams.{fences};
-ghost use Rattle.lf_frame_checks.specs.Loading.{is_core_row as is_heeded_row, frame_row as frame_row_of};
+ghost use Rattle.lf_frame_checks.specs.Loading.{is_core_row as row_is_core, frame_row as frame_row_of};
 ghost use Rattle.lf_frame.specs.Loads.{IsSizedIn, FixedIsSized, frame_team as frame_team_of, location as location_of};
 ghost use Rattle.lf_frame.specs.Loads.{as_location, fixed_box as fixed_box_of, blocked, softly_blocked};
 
 use lf_def::{
-    Blockage, Component, Header as DefHeader, Location, Region, Row as DefRow, is_fence, is_fixed,
+    Blockage, Component, DocumentHeader, Location, Region, RowStatement, is_fence, is_fixed,
 };
 use lf_floorplan::{Header, Macro, Place, Row, Site, Team, macro_box};
 use lf_frame_checks::{is_core_row, macro_named};
@@ -63,7 +63,7 @@ pub(crate) fn copy_macros(alloc: Global, macros: &[Macro]) -> Result<Sequence<Ma
 /// fails.
 pub(crate) fn copy_header(
     alloc: Global,
-    header: &DefHeader,
+    header: &DocumentHeader,
     units: u32,
 ) -> Result<Header, AllocError>
     ensures { IfOk result (λ copy. copy ≡ record { version = header.now.version; divider = header.now.divider; brackets = header.now.brackets; design = header.now.design; units = units }) }
@@ -79,14 +79,14 @@ pub(crate) fn copy_header(
 
 /// Returns a coordinate of a row in 32 bits.
 fn narrow(coordinate: i64) -> i32
-    requires { IsCoordinate coordinate }
+    requires { IsDefCoordinate coordinate }
     ensures { result ≡ coordinate }
 {
     coordinate as i32
 }
 
 /// Returns a row in the form of the frame. `Err` if an allocation fails.
-fn frame_row(alloc: Global, row: &DefRow) -> Result<Row, AllocError>
+fn frame_row(alloc: Global, row: &RowStatement) -> Result<Row, AllocError>
     requires { IsRow row.now }
     ensures { IfOk result (λ r. r ≡ frame_row_of row.now) }
 {
@@ -102,19 +102,19 @@ fn frame_row(alloc: Global, row: &DefRow) -> Result<Row, AllocError>
 /// Returns the core rows, in the order of the text. `Err` if an allocation fails.
 pub(crate) fn core_rows(
     alloc: Global,
-    rows: &[DefRow],
+    rows: &[RowStatement],
     core: &Site,
 ) -> Result<Sequence<Row>, AllocError>
     requires { All IsRow rows.now }
-    ensures { IfOk result (λ heeded. heeded ≡ map frame_row_of (filter (is_heeded_row core.now) rows.now)) }
+    ensures { IfOk result (λ core_ones. core_ones ≡ map frame_row_of (filter (row_is_core core.now) rows.now)) }
 {
-    let mut heeded = Sequence::new(alloc);
+    let mut core_ones = Sequence::new(alloc);
     for row in rows {
         if is_core_row(row, core) {
-            heeded.push(frame_row(alloc, row)?)?;
+            core_ones.push(frame_row(alloc, row)?)?;
         }
     }
-    Ok(heeded)
+    Ok(core_ones)
 }
 
 /// Returns a copy of the rectangles. `Err` if an allocation fails.

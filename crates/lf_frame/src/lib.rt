@@ -34,7 +34,7 @@ mod loading;
 
 pub use laws::positions_play_no_part;
 pub use lf_floorplan::{
-    Cell, CellParts, CellRef, Frame, Header, Limits, Loaded, LoadedCells, Macro, PackedPlace,
+    CellParts, CellRef, Frame, Header, Limits, Loaded, LoadedCell, LoadedCells, Macro, PackedPlace,
     Place, Row, Site, Team, UnnamedCell, bottom_row_is_unique, cell_is_sized, is_sized, mac_at,
     obstacles_are_bounded, point_has_one_team, teams_stay_apart, turning_twice_is_identity,
 };

@@ -5,7 +5,7 @@ ghost use Rattle.lf_lex.specs.declared.fault.ReadError.TheVariants.{Memory};
 ghost use Rattle.lf_lex.specs.Faults.{load_fault_of};
 ghost use Rattle.lf_floorplan.specs.Design.{MakeDesign};
 ghost use Rattle.lf_frame_claims.specs.ClaimTables.{IsTableOf};
-ghost use Rattle.lf_frame_checks.specs.Findings.{inputs, units_in, IsAccepted, IsFault};
+ghost use Rattle.lf_frame_checks.specs.Findings.{inputs, units_in, IsAccepted, IsLoadFault};
 ghost use Rattle.lf_frame_checks.specs.MacroTables.{macros_of};
 ghost use Rattle.lf_frame.specs.Loads.{fixed_box, blocked, FixedIsSized, AreInRange, IsFrameOf, IsLoadedFrom};
 
@@ -154,7 +154,7 @@ pub fn load<'d>(
     limits: Limits,
 ) -> Result<Loaded, LoadFault<'d>>
     ensures ok { IfOk result (λ loaded. IsLoadedFrom (inputs library.now document.now limits) loaded) }
-    ensures err { IfErr result (λ fault. (fault ≡ load_fault_of Memory) ⊎ IsFault (inputs library.now document.now limits) fault) }
+    ensures err { IfErr result (λ fault. (fault ≡ load_fault_of Memory) ⊎ IsLoadFault (inputs library.now document.now limits) fault) }
 {
     let Ok(claims) = claims_of(alloc, document) else {
         return Err(out_of_memory());

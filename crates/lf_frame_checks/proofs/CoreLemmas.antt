@@ -18,7 +18,7 @@ use Rattle.lf_units.specs.Length.{IsLength, in_dbu}
 use Rattle.lf_floorplan.specs.declared.sites.Site.{Site}
 use Rattle.lf_lef.specs.Contents.{Contents, site_names}
 use Rattle.lf_lef.specs.Lengths.{HasRange}
-use Rattle.lf_def.specs.declared.rows.Row.{Row}
+use Rattle.lf_def.specs.declared.rows.RowStatement.{RowStatement}
 use Rattle.lf_frame_checks.specs.Loading.{at_place, is_core_row, frame_row, site_named, has_size, is_core, core_site, IsWholeSize}
 use Rattle.lf_floorplan.specs.Sizes.{size_in_dbu}
 use Rattle.lf_floorplan.specs.Rows.{IsPitch}
@@ -29,7 +29,7 @@ sized None is = tt
 sized (Some s) is = (and_parts s.core (has_size s.size) is).1
 
 -- The site of the first core row has a size.
-pub core_sized : (library : Contents) (rows : List Row) → IfSome (core_site library rows) (λ s. has_size s.size ≡ true)
+pub core_sized : (library : Contents) (rows : List RowStatement) → IfSome (core_site library rows) (λ s. has_size s.size ≡ true)
 core_sized library [] = tt
 core_sized library (r ∷ rs) = by (is_core (site_named library r.site)) refl (core_sized library rs)
   where
@@ -63,10 +63,10 @@ pitch_of_core units size some few range is whole =
     }
 
 -- A fact about a site holds of the site that is borrowed.
-pub of_lent : (lent : Option (Bor Site)) {found : Option Site} → IfSome found (λ s. has_size s.size ≡ true) → option_copied lent ≡ found →
-    IfSome lent (λ s. has_size s.now.size ≡ true)
-of_lent None {found} is same = tt
-of_lent (Some s) {found} is same = rw (← same) at is
+pub of_borrowed : (borrowed_view : Option (Bor Site)) {found : Option Site} → IfSome found (λ s. has_size s.size ≡ true) → option_copied borrowed_view ≡ found →
+    IfSome borrowed_view (λ s. has_size s.now.size ≡ true)
+of_borrowed None {found} is same = tt
+of_borrowed (Some s) {found} is same = rw (← same) at is
 
 -- The site that is found has the name.
 site_bears : (sites : List Site) (name : List ℕ) (place : Option ℕ) (s : Site) → place ≡ position_of (site_names sites) name → at_place sites place ≡ Some s →
@@ -82,10 +82,10 @@ site_bears sites name (Some k) s is found =
     read_at xs k x e = sym (unwrap_or-slice_get xs k x) ∙ ap (λ o. unwrap_or o x) e
 
 -- The row of the core site is a core row, so there is a core row.
-pub core_heeded : (library : Contents) (rows : List Row) (core : Site) → core_site library rows ≡ Some core →
+pub core_row_is_core : (library : Contents) (rows : List RowStatement) (core : Site) → core_site library rows ≡ Some core →
     0 < length (map frame_row (filter (is_core_row core) rows))
-core_heeded library [] core is = absurd (none-some core is)
-core_heeded library (r ∷ rs) core is = by (is_core (site_named library r.site)) refl is (core_heeded library rs core)
+core_row_is_core library [] core is = absurd (none-some core is)
+core_row_is_core library (r ∷ rs) core is = by (is_core (site_named library r.site)) refl is (core_row_is_core library rs core)
   where
     more : (t : Bool) → is_core_row core r ≡ t → 0 < length (map frame_row (filter (is_core_row core) rs)) →
         0 < length (map frame_row (filter (is_core_row core) (r ∷ rs)))
@@ -97,6 +97,6 @@ core_heeded library (r ∷ rs) core is = by (is_core (site_named library r.site)
         0 < length (map frame_row (filter (is_core_row core) (r ∷ rs)))
     by true e found rest =
         let same : core.name ≡ r.site = site_bears library.sites r.site (position_of (site_names library.sites) r.site) core refl (rw e at found) in
-        let heeded : is_core_row core r ≡ true = (bytes_eq-Decides r.site core.name).1 (sym same) in
-        rw heeded (omega arith)
+        let core_ones : is_core_row core r ≡ true = (bytes_eq-Decides r.site core.name).1 (sym same) in
+        rw core_ones (omega arith)
     by false e found rest = more (is_core_row core r) refl (rest (rw e at found))

@@ -13,7 +13,7 @@ use Rattle.lf_units.specs.declared.geometry.Point.{Point}
 use Rattle.lf_units.specs.declared.geometry.Rect.{Rect}
 use Rattle.lf_units.specs.Area.{SharesPoint}
 use Rattle.lf_floorplan.specs.declared.sites.Site.{Site}
-use Rattle.lf_def.specs.declared.rows.Row.{Row}
+use Rattle.lf_def.specs.declared.rows.RowStatement.{RowStatement}
 use Rattle.lf_def.specs.declared.regions.Region.{Region}
 use Rattle.lf_units.proofs.Edges.{EdgesCross, edges_of_shared, shared_of_edges}
 use Rattle.lf_frame_checks.specs.declared.sweep.SweepRect.{SweepRect}
@@ -22,7 +22,7 @@ use Rattle.lf_frame_claims.specs.Entries.{NoneBreaks}
 use Rattle.lf_def.specs.Kinds.{is_fence}
 use Rattle.lf_frame_checks.specs.Loading.{is_core_row, frame_row}
 use Rattle.lf_frame_checks.specs.Refusals.{OverlapsEarlierRow, OverlapsEarlierFence}
-use Rattle.lf_frame_checks.specs.Sweep.{piece_area, piece_of, EndsBefore, Clash, ClashesWithNone, NoneClash, Rise, row_pieces, fence_pieces, ArePiecesOf}
+use Rattle.lf_frame_checks.specs.Sweep.{piece_area, piece_of, EndsBefore, Clash, ClashesWithNone, NoneClash, PiecesRise, row_pieces, fence_pieces, ArePiecesOf}
 use Rattle.lf_frame_checks.proofs.RectLemmas.{rects_of_point}
 use Rattle.lf_frame_checks.proofs.RowEdges.{less}
 
@@ -72,9 +72,9 @@ none_above a b above h = (pieces_pass a b h.point).first (inr above)
 
 -- In a rising list, no piece clashes with a piece that ends below one of them, if no earlier one
 -- does.
-pub none_behind : (a : SweepRect) (pieces : List SweepRect) (n : ℕ) (e : SweepRect) → n < length pieces → Rise pieces → a.top ≤ℤ (get_or pieces n e).bottom →
+pub none_after : (a : SweepRect) (pieces : List SweepRect) (n : ℕ) (e : SweepRect) → n < length pieces → PiecesRise pieces → a.top ≤ℤ (get_or pieces n e).bottom →
     ((k : ℕ) (d : SweepRect) → k < n → Clash a (get_or pieces k d) → ⊥) → ClashesWithNone a pieces
-none_behind a pieces n e within rise above before k d inside clash =
+none_after a pieces n e within rise above before k d inside clash =
     let cases : (k < n) ⊎ ((k ≡ n) ⊎ (n < k)) = grind arith in
     let at : get_or pieces n d ≡ get_or pieces n e = get_or_default pieces n d e within in
     elim cases [
@@ -88,8 +88,8 @@ none_behind a pieces n e within rise above before k d inside clash =
       ]
     ]
 
-pub rise_behind : (pieces : List SweepRect) (n : ℕ) → Rise pieces → Rise (drop n pieces)
-rise_behind pieces n rise i j d below within =
+pub rise_after : (pieces : List SweepRect) (n : ℕ) → PiecesRise pieces → PiecesRise (drop n pieces)
+rise_after pieces n rise i j d below within =
     let inside : n + j < length pieces = omega (arith, length-drop n pieces) in
     let lower : n + i < n + j = omega arith in
     rw (get_or-drop n pieces i d, get_or-drop n pieces j d) (rise (n + i) (n + j) d lower inside)
@@ -147,7 +147,7 @@ none_in_any_order xs ys moved = (permuted ys xs (IsPermutation-sym xs ys moved),
 not_below : (x y : ℤ) → is_lt (int_cmp y x) ≡ false → x ≤ℤ y
 not_below x y h = grind (arith, ints)
 
-pub rise_of_sorted : (pieces : List SweepRect) → IsSortedByKey (λ p. p.bottom) int_cmp pieces → Rise pieces
+pub rise_of_sorted : (pieces : List SweepRect) → IsSortedByKey (λ p. p.bottom) int_cmp pieces → PiecesRise pieces
 rise_of_sorted pieces sorted i j d below within =
     not_below (get_or pieces i d).bottom (get_or pieces j d).bottom
     (sorted_far (λ a b. is_lt (int_cmp a.bottom b.bottom)) (ranks_by int_cmp_total (λ p. p.bottom)) pieces sorted i j d (omega arith) within)
@@ -181,14 +181,14 @@ apart_of_none pieces j k a b none first second earlier meet =
     (All-contains (λ p. ClashesWithNone p pieces) pieces (piece_of j a) none first) second
     (record { entries = λ e. omega arith; point = meet })
 
-held_row : (core : Site) (pitch : Point) (k : ℕ) (r : Row) (pieces : List SweepRect) → is_core_row core r ≡ true → All (Contains pieces) (row_pieces core pitch k r) →
+held_row : (core : Site) (pitch : Point) (k : ℕ) (r : RowStatement) (pieces : List SweepRect) → is_core_row core r ≡ true → All (Contains pieces) (row_pieces core pitch k r) →
     Contains pieces (piece_of k (row_area pitch (frame_row r)))
-held_row core pitch k r pieces heeded h =
-    let one : row_pieces core pitch k r ≡ piece_of k (row_area pitch (frame_row r)) ∷ [] = ap (λ t. if t then piece_of k (row_area pitch (frame_row r)) ∷ [] else []) heeded in
+held_row core pitch k r pieces core_ones h =
+    let one : row_pieces core pitch k r ≡ piece_of k (row_area pitch (frame_row r)) ∷ [] = ap (λ t. if t then piece_of k (row_area pitch (frame_row r)) ∷ [] else []) core_ones in
     All-head (Contains pieces) (piece_of k (row_area pitch (frame_row r))) [] (rw one at h)
 
 -- If no pieces clash, no row shares a point with an earlier one.
-pub rows_apart : (core : Site) (pitch : Point) (rows : List Row) (pieces : List SweepRect) → ArePiecesOf (row_pieces core pitch) rows pieces → NoneClash pieces →
+pub rows_apart : (core : Site) (pitch : Point) (rows : List RowStatement) (pieces : List SweepRect) → ArePiecesOf (row_pieces core pitch) rows pieces → NoneClash pieces →
     NoneBreaks (OverlapsEarlierRow core pitch) rows
 rows_apart core pitch rows pieces held none k d within broken =
     let earlier = broken.1 in

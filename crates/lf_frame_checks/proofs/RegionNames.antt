@@ -7,7 +7,7 @@ use Rattle.std.proofs.lemmas.Option.{slice_get_within, get_or_from_slice_get}
 use Rattle.lf_names.specs.Adds.{AddsName}
 use Rattle.lf_names.specs.declared.table.Added.{Added}
 use Rattle.lf_names.specs.declared.table.Added.TheVariants.{New, Present}
-use Rattle.lf_names.proofs.Positions.{stands_there}
+use Rattle.lf_names.proofs.Positions.{is_found_there}
 use Rattle.lf_def.specs.declared.regions.Region.{Region}
 use Rattle.lf_def.specs.declared.groups.Group.{Group}
 use Rattle.lf_frame_checks.specs.Tables.{HoldSameNames, region_names, IsOutside}
@@ -29,8 +29,8 @@ same_more names after others name (New at) (absent, last, is) same = record {
   ];
 }
 same_more names after others name (Present at) (there, is) same =
-    let stands = stands_there names name at there in
-    let known : Contains names name = (at, slice_get_within names at name stands, get_or_from_slice_get names at name name stands) in
+    let is_in_place = is_found_there names name at there in
+    let known : Contains names name = (at, slice_get_within names at name is_in_place, get_or_from_slice_get names at name name is_in_place) in
     record {
       forth = λ n h. Contains-append_left others (name ∷ []) n (same.forth n (rw is at h));
       back = λ n h. elim (Contains-push_cases others name n h) [

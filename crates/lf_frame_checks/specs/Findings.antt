@@ -113,31 +113,31 @@ Finds i UnknownStatement = λ found. found ≡ None
 Finds i OutOfMemory = λ found. found ≡ None
 
 -- The number of a refusal, from 1 to 24.
-abbrev pub number_of : FaultNumber → ℕ
-number_of BadToken = 1
-number_of UnexpectedEnd = 2
-number_of Unexpected = 3
-number_of BadNumber = 4
-number_of WrongEnd = 5
-number_of UnknownStatement = 6
-number_of NoUnits = 7
-number_of NoSite = 8
-number_of NoRows = 9
-number_of VerticalRow = 10
-number_of BadStep = 11
-number_of RowOrient = 12
-number_of RowsOverlap = 13
-number_of NoMacro = 14
-number_of NoSize = 15
-number_of NotWhole = 16
-number_of SecondName = 17
-number_of SecondRegion = 18
-number_of NoRegion = 19
-number_of TeamName = 20
-number_of FencesOverlap = 21
-number_of TwoFences = 22
-number_of TooMany = 23
-number_of OutOfMemory = 24
+abbrev pub finding_number : FaultNumber → ℕ
+finding_number BadToken = 1
+finding_number UnexpectedEnd = 2
+finding_number Unexpected = 3
+finding_number BadNumber = 4
+finding_number WrongEnd = 5
+finding_number UnknownStatement = 6
+finding_number NoUnits = 7
+finding_number NoSite = 8
+finding_number NoRows = 9
+finding_number VerticalRow = 10
+finding_number BadStep = 11
+finding_number RowOrient = 12
+finding_number RowsOverlap = 13
+finding_number NoMacro = 14
+finding_number NoSize = 15
+finding_number NotWhole = 16
+finding_number SecondName = 17
+finding_number SecondRegion = 18
+finding_number NoRegion = 19
+finding_number TeamName = 20
+finding_number FencesOverlap = 21
+finding_number TwoFences = 22
+finding_number TooMany = 23
+finding_number OutOfMemory = 24
 
 -- Holds if no refusal finds anything.
 abbrev pub IsAccepted : LoadInputs → Type 0
@@ -146,11 +146,11 @@ IsAccepted i = (n : FaultNumber) → Finds i n None
 -- Holds if this refusal finds the name, and no refusal of a lesser number finds anything.
 pub record IsRefused (i : LoadInputs) (number : FaultNumber) (name : List ℕ) : Type 0 where
   pub finds : Finds i number (Some name)
-  pub least : (n : FaultNumber) → number_of n < number_of number → Finds i n None
+  pub least : (n : FaultNumber) → finding_number n < finding_number number → Finds i n None
 
 -- Holds if this is the fault that loading returns: a refusal's number and the name that it finds,
 -- without a line.
-pub record IsFault (i : LoadInputs) (fault : LoadFault) : Type 0 where
+pub record IsLoadFault (i : LoadInputs) (fault : LoadFault) : Type 0 where
   pub name : List ℕ
   pub named : option_copied fault.name ≡ Some name
   pub no_line : fault.line ≡ None

@@ -5,4 +5,4 @@ pub mod Refusals
 pub mod Findings
 pub mod Sweep
 pub mod Tables
-pub mod Meetings
+pub mod Conflicts

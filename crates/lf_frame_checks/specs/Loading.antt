@@ -10,7 +10,7 @@ use Rattle.lf_names.specs.Names.{position_of}
 use Rattle.lf_floorplan.specs.declared.sites.Site.{Site}
 use Rattle.lf_floorplan.specs.declared.macros.Macro.{Macro}
 use Rattle.lf_lef.specs.Contents.{Contents, site_names, macro_names}
-use Rattle.lf_def.specs.declared.rows.Row.{Row}
+use Rattle.lf_def.specs.declared.rows.RowStatement.{RowStatement}
 use Rattle.lf_floorplan.specs.declared.parts.Row.{Row as FrameRow}
 
 -- The entry at a position of a list, if there is one.
@@ -41,17 +41,17 @@ is_core None = false
 is_core (Some s) = s.core && has_size s.size
 
 -- The first row whose site has CLASS CORE and a size.
-abbrev pub core_row : Contents → List Row → Option Row
+abbrev pub core_row : Contents → List RowStatement → Option RowStatement
 core_row library rows = find (λ r. is_core (site_named library r.site)) rows
 
 -- The core site: the site of that row.
-abbrev pub core_site : Contents → List Row → Option Site
+abbrev pub core_site : Contents → List RowStatement → Option Site
 core_site library rows = option_and_then (λ r. site_named library r.site) (core_row library rows)
 
 -- True for a core row: its site is the core site.
-abbrev pub is_core_row : Site → Row → Bool
+abbrev pub is_core_row : Site → RowStatement → Bool
 is_core_row core r = bytes_eq r.site core.name
 
 -- A core row in the form of the frame.
-abbrev pub frame_row : Row → FrameRow
+abbrev pub frame_row : RowStatement → FrameRow
 frame_row r = record { name = r.name; x = r.x; y = r.y; orient = r.orient; sites = r.sites_x }

@@ -9,22 +9,22 @@ number_of_code zero = None
 number_of_code (suc number) = Some number
 
 -- The code of a number.
-abbrev pub code_of : Option ℕ → ℕ
-code_of None = 0
-code_of (Some number) = suc number
+abbrev pub number_code_of : Option ℕ → ℕ
+number_code_of None = 0
+number_code_of (Some number) = suc number
 
 -- The number of these fields.
-abbrev pub number_in : Inside → Option ℕ
-number_in n = number_of_code n.code
+abbrev pub stored_number_in : Inside → Option ℕ
+stored_number_in n = number_of_code n.code
 
 -- The fields of a number.
-abbrev pub shortened : Option ℕ → Inside
-shortened number = record { code = code_of number }
+abbrev pub stored_number : Option ℕ → Inside
+stored_number number = record { code = number_code_of number }
 
-code_back : (code : ℕ) → code_of (number_of_code code) ≡ code
-code_back zero = refl
-code_back (suc number) = refl
+number_code_back : (code : ℕ) → number_code_of (number_of_code code) ≡ code
+number_code_back zero = refl
+number_code_back (suc number) = refl
 
 -- Fields are those of their own number.
-pub shortened_back : (n : Inside) → shortened (number_in n) ≡ n
-shortened_back n = ap (λ code. record { code = code }) (code_back n.code)
+pub stored_number_back : (n : Inside) → stored_number (stored_number_in n) ≡ n
+stored_number_back n = ap (λ code. record { code = code }) (number_code_back n.code)

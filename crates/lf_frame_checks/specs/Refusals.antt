@@ -8,7 +8,7 @@ use Rattle.lf_units.specs.Area.{SharesPoint, CoveredBy}
 use Rattle.lf_orient.specs.Orientation.{rail_below}
 use Rattle.lf_floorplan.specs.declared.sites.Site.{Site}
 use Rattle.lf_lef.specs.Contents.{Contents}
-use Rattle.lf_def.specs.declared.rows.Row.{Row}
+use Rattle.lf_def.specs.declared.rows.RowStatement.{RowStatement}
 use Rattle.lf_def.specs.declared.regions.Region.{Region}
 use Rattle.lf_def.specs.declared.groups.Group.{Group}
 use Rattle.lf_def.specs.declared.components.Component.{Component}
@@ -20,23 +20,23 @@ use Rattle.lf_def.specs.Kinds.{is_fence, is_cover}
 use Rattle.lf_frame_checks.specs.Loading.{site_named, macro_named, has_size, IsWholeSize, is_core_row, frame_row}
 
 -- NoSite: no LEF text has the row's site.
-abbrev pub HasNoSite : Contents → List Row → Row → Type 0
+abbrev pub HasNoSite : Contents → List RowStatement → RowStatement → Type 0
 HasNoSite library earlier r = site_named library r.site ≡ None
 
 -- VerticalRow: a core row has a numY other than 1.
-abbrev pub IsVertical : Site → List Row → Row → Type 0
+abbrev pub IsVertical : Site → List RowStatement → RowStatement → Type 0
 IsVertical core earlier r = (is_core_row core r ≡ true) × (r.sites_y ≢ 1)
 
 -- BadStep: a core row of several sites has a step that is not the site's width.
-abbrev pub HasBadStep : Site → Point → List Row → Row → Type 0
+abbrev pub HasBadStep : Site → Point → List RowStatement → RowStatement → Type 0
 HasBadStep core pitch earlier r = (is_core_row core r ≡ true) × (1 < r.sites_x) × IsSomeAnd r.step (λ step. step.x ≢ pitch.x)
 
 -- RowOrient: a core row is not N, S, FN or FS.
-abbrev pub IsSideways : Site → List Row → Row → Type 0
+abbrev pub IsSideways : Site → List RowStatement → RowStatement → Type 0
 IsSideways core earlier r = (is_core_row core r ≡ true) × (IsSome (rail_below r.orient) → ⊥)
 
 -- RowsOverlap: a core row shares a point with an earlier one.
-abbrev pub OverlapsEarlierRow : Site → Point → List Row → Row → Type 0
+abbrev pub OverlapsEarlierRow : Site → Point → List RowStatement → RowStatement → Type 0
 OverlapsEarlierRow core pitch earlier r =
     (is_core_row core r ≡ true) × Any (λ e. (is_core_row core e ≡ true) × SharesPoint (row_area pitch (frame_row e)) (row_area pitch (frame_row r))) earlier
 
@@ -82,7 +82,7 @@ abbrev pub OverlapsEarlierFence : List Region → Region → Type 0
 OverlapsEarlierFence earlier r = (is_fence r ≡ true) × Any (λ e. (is_fence e ≡ true) × SharePoint e.rects r.rects) earlier
 
 -- TooMany, for core rows.
-abbrev pub IsRowTooMany : Site → ℕ → List Row → Row → Type 0
+abbrev pub IsRowTooMany : Site → ℕ → List RowStatement → RowStatement → Type 0
 IsRowTooMany core limit earlier r = (is_core_row core r ≡ true) × (limit ≤ length (filter (is_core_row core) earlier))
 
 -- TooMany, for fences.
@@ -94,5 +94,5 @@ abbrev pub IsComponentTooMany : ℕ → List Component → Component → Type 0
 IsComponentTooMany limit earlier c = limit ≤ length earlier
 
 -- TooMany, for a core row that ends past the largest coordinate.
-abbrev pub EndsTooFar : Site → Point → List Row → Row → Type 0
+abbrev pub EndsTooFar : Site → Point → List RowStatement → RowStatement → Type 0
 EndsTooFar core pitch earlier r = (is_core_row core r ≡ true) × (pos 2147483647 <ℤ (row_area pitch (frame_row r)).x2)

@@ -4,7 +4,7 @@ use Rattle.lf_units.specs.declared.geometry.Point.{Point}
 use Rattle.lf_units.specs.declared.geometry.Rect.{Rect}
 use Rattle.lf_units.specs.Area.{SharesPoint}
 use Rattle.lf_floorplan.specs.declared.sites.Site.{Site}
-use Rattle.lf_def.specs.declared.rows.Row.{Row}
+use Rattle.lf_def.specs.declared.rows.RowStatement.{RowStatement}
 use Rattle.lf_def.specs.declared.regions.Region.{Region}
 use Rattle.lf_floorplan.specs.Rows.{row_area}
 use Rattle.lf_def.specs.Kinds.{is_fence}
@@ -38,11 +38,11 @@ abbrev pub NoneClash : List SweepRect → Type 0
 NoneClash pieces = All (λ a. ClashesWithNone a pieces) pieces
 
 -- Holds if no piece begins below an earlier one.
-abbrev pub Rise : List SweepRect → Type 0
-Rise pieces = AllPairs (λ a b. a.bottom ≤ℤ b.bottom) pieces
+abbrev pub PiecesRise : List SweepRect → Type 0
+PiecesRise pieces = AllPairs (λ a b. a.bottom ≤ℤ b.bottom) pieces
 
 -- The pieces of a row: all of it, if it is a core row.
-abbrev pub row_pieces : Site → Point → ℕ → Row → List SweepRect
+abbrev pub row_pieces : Site → Point → ℕ → RowStatement → List SweepRect
 row_pieces core pitch number r = if is_core_row core r then piece_of number (row_area pitch (frame_row r)) ∷ [] else []
 
 -- The pieces of a region: its rectangles, if it is a fence.

@@ -9,7 +9,7 @@ ghost use Rattle.lf_frame_claims.specs.Refusals.{HasEarlierName};
 ghost use Rattle.lf_frame_checks.specs.MacroTables.{macros_of};
 ghost use Rattle.lf_frame_checks.specs.Refusals.{AreMacroFaults};
 ghost use Rattle.lf_frame_claims.specs.ClaimTables.{IsTableOf};
-ghost use Rattle.lf_frame_checks.specs.Findings.{inputs, units_in, Finds, number_of, IsAccepted, IsFault};
+ghost use Rattle.lf_frame_checks.specs.Findings.{inputs, units_in, Finds, finding_number, IsAccepted, IsLoadFault};
 
 use crate::component_checks::{MacroFaults, macro_faults};
 use crate::findings::{
@@ -35,7 +35,7 @@ const END: u8 = 24;
 fn numbered(number: u8) -> FaultNumber
     requires least { 7 ≤ number }
     requires most { number < 24 }
-    ensures { number_of result ≡ number }
+    ensures { finding_number result ≡ number }
 {
     match number {
         7 => FaultNumber::NoUnits,
@@ -116,7 +116,7 @@ pub fn first_finding<'d>(
     requires claims { IsTableOf document.now.regions document.now.groups document.now.components claims.now }
     requires macros { macros.now ≡ macros_of library.now document.now.components }
     ensures { IfOk result (λ found. MatchOption found (IsAccepted (inputs library.now document.now limits.now))
-        (λ fault. IsFault (inputs library.now document.now limits.now) fault)) }
+        (λ fault. IsLoadFault (inputs library.now document.now limits.now) fault)) }
 {
     let components = document.components.as_slice();
     let faults = macro_faults(components, macros, library, units_of(document));

@@ -2,11 +2,11 @@
 
 ghost use Rattle.std.specs.Prelude.{[], ◌≡◌, ◌↔◌, ◌<◌, ◌≤◌, true, false, None, Some, IsTrue, IfSome, length, ◌&&◌};
 ghost use Rattle.std.specs.Option.{option_copied};
-ghost use Rattle.lf_lef.specs.Lengths.{IsInRange, HasRange};
+ghost use Rattle.lf_lef.specs.Lengths.{IsLengthInRange, HasRange};
 ghost use Rattle.lf_units.specs.Length.{IsLength, in_dbu};
-ghost use Rattle.lf_frame_claims.specs.Entries.{FirstIs, first_of};
+ghost use Rattle.lf_frame_claims.specs.Entries.{FirstIs, first_counted};
 ghost use Rattle.lf_frame_checks.specs.Loading.{at_place, macro_named as named_macro, has_size as is_size, IsWholeSize};
-ghost use Rattle.lf_frame_checks.specs.MacroTables.{macro_of, macros_of};
+ghost use Rattle.lf_frame_checks.specs.MacroTables.{macro_number_of, macros_of};
 ghost use Rattle.lf_frame_checks.specs.Refusals.{HasNoMacro, HasNoSize, HasPartUnits, AreMacroFaults, IsComponentTooMany};
 
 use crate::macro_numbers::MacroTable;
@@ -42,7 +42,7 @@ pub(crate) fn has_size(size: &Point) -> bool
 fn is_whole(micros: i64, units: u32) -> bool
     requires least { 1 ≤ units }
     requires most { units ≤ 20000 }
-    requires range { IsInRange micros }
+    requires range { IsLengthInRange micros }
     ensures { IsTrue result ↔ IsLength units micros (in_dbu units micros) }
 {
     micros_to_dbu(micros, units).is_some()
@@ -88,7 +88,7 @@ fn macro_fault(
 ) -> MacroFault
     requires least { 1 ≤ units }
     requires most { units ≤ 20000 }
-    requires number { number ≡ macro_of library.now component.now }
+    requires number { number ≡ macro_number_of library.now component.now }
     ensures unknown { IsTrue result.unknown ↔ HasNoMacro library.now [] component.now }
     ensures sizeless { IsTrue result.sizeless ↔ HasNoSize library.now [] component.now }
     ensures part_units { IsTrue result.part_units ↔ HasPartUnits library.now units [] component.now }
@@ -113,7 +113,7 @@ fn macro_fault(
 
 /// Returns the first number so far, given whether this number counts.
 fn first_so_far(first: Option<usize>, number: usize, counts: bool) -> Option<usize>
-    ensures { result ≡ first_of first number counts }
+    ensures { result ≡ first_counted first number counts }
 {
     match first {
         Some(earlier) => Some(earlier),

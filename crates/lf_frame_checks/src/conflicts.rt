@@ -6,7 +6,7 @@ ghost use Rattle.lf_def.specs.Kinds.{is_fence as is_fence_region};
 ghost use Rattle.lf_frame_claims.specs.Entries.{FirstIs};
 ghost use Rattle.lf_frame_claims.specs.Teams.{NamedBy};
 ghost use Rattle.lf_frame_checks.specs.Findings.{NameOfFirst, region_name};
-ghost use Rattle.lf_frame_checks.specs.Meetings.{AreClaimers, ClaimsBut, IsOverlappedBy, ConflictsWith, OverlapsFence, fence_named as named_fence, conflict_in};
+ghost use Rattle.lf_frame_checks.specs.Conflicts.{AreClaimers, ClaimsBut, IsOverlappedBy, ConflictsWith, OverlapsFence, fence_named as named_fence, conflict_in};
 
 use crate::fence_checks::do_regions_meet;
 use crate::findings::{region_at, region_of_group};
@@ -40,7 +40,7 @@ fn fence_named<'d>(regions: &'d [Region], name: &[u8]) -> Option<&'d Region>
 }
 
 /// True if the region is a fence of another name that shares a point with the fence.
-fn meets(fence: &Region, region: &Region) -> bool
+fn does_overlap(fence: &Region, region: &Region) -> bool
     ensures { IsTrue result ↔ OverlapsFence fence.now [] region.now }
 {
     is_fence(region) && !region.name.is(fence.name.as_bytes()) && do_regions_meet(region, fence)
@@ -48,11 +48,11 @@ fn meets(fence: &Region, region: &Region) -> bool
 
 /// Returns the number of the first fence of another name that shares a point with this one, or
 /// `None`.
-fn first_met(regions: &[Region], fence: &Region) -> Option<usize>
+fn first_overlapped(regions: &[Region], fence: &Region) -> Option<usize>
     ensures { FirstIs (OverlapsFence fence.now) regions.now result }
 {
     for (number, region) in regions.iter().enumerate() {
-        if meets(fence, region) {
+        if does_overlap(fence, region) {
             return Some(number);
         }
     }
@@ -61,13 +61,13 @@ fn first_met(regions: &[Region], fence: &Region) -> Option<usize>
 
 /// Returns the name of the first other fence that shares a point with the fence of this name, or
 /// `None`.
-fn met_by<'d>(regions: &'d [Region], name: &[u8]) -> Option<&'d [u8]>
+fn overlapped_by<'d>(regions: &'d [Region], name: &[u8]) -> Option<&'d [u8]>
     ensures { IsOverlappedBy regions.now name.now (option_copied result) }
 {
     let Some(fence) = fence_named(regions, name) else {
         return None;
     };
-    region_at(regions, first_met(regions, fence))
+    region_at(regions, first_overlapped(regions, fence))
 }
 
 /// True if the name matches a pattern of the group.
@@ -91,13 +91,13 @@ fn has_fence(regions: &[Region], name: &[u8]) -> bool
 }
 
 /// True if the group binds the name to a fence other than `told`.
-fn claims_but(regions: &[Region], name: &[u8], told: Option<&[u8]>, group: &Group) -> bool
-    ensures { IsTrue result ↔ ClaimsBut regions.now name.now (option_copied told.entry) [] group.now }
+fn claims_but(regions: &[Region], name: &[u8], reported: Option<&[u8]>, group: &Group) -> bool
+    ensures { IsTrue result ↔ ClaimsBut regions.now name.now (option_copied reported.entry) [] group.now }
 {
     let Some(fence) = &group.region else {
         return false;
     };
-    told != Some(fence.as_bytes())
+    reported != Some(fence.as_bytes())
         && has_fence(regions, fence.as_bytes())
         && is_named_by(group, name)
 }
@@ -108,12 +108,12 @@ fn first_claiming(
     regions: &[Region],
     groups: &[Group],
     name: &[u8],
-    told: Option<&[u8]>,
+    reported: Option<&[u8]>,
 ) -> Option<usize>
-    ensures { FirstIs (ClaimsBut regions.now name.now (option_copied told.entry)) groups.now result }
+    ensures { FirstIs (ClaimsBut regions.now name.now (option_copied reported.entry)) groups.now result }
 {
     for (number, group) in groups.iter().enumerate() {
-        if claims_but(regions, name, told, group) {
+        if claims_but(regions, name, reported, group) {
             return Some(number);
         }
     }
@@ -121,11 +121,11 @@ fn first_claiming(
 }
 
 /// Returns the first fence other than `told` to which a group binds the name, or `None`.
-fn claimer<'d>(document: &'d DefDoc, name: &[u8], told: Option<&[u8]>) -> Option<&'d [u8]>
-    ensures { NameOfFirst region_name (ClaimsBut document.now.regions name.now (option_copied told.entry)) document.now.groups (option_copied result) }
+fn claimer<'d>(document: &'d DefDoc, name: &[u8], reported: Option<&[u8]>) -> Option<&'d [u8]>
+    ensures { NameOfFirst region_name (ClaimsBut document.now.regions name.now (option_copied reported.entry)) document.now.groups (option_copied result) }
 {
     let groups = document.groups.as_slice();
-    let first = first_claiming(document.regions.as_slice(), groups, name, told);
+    let first = first_claiming(document.regions.as_slice(), groups, name, reported);
     region_of_group(groups, first)
 }
 
@@ -149,7 +149,7 @@ pub fn conflicting_fences<'d>(document: &'d DefDoc, fault: &LoadFault<'_>) -> Fe
     };
     match fault.number {
         FaultNumber::FencesOverlap => FenceConflict {
-            first: met_by(document.regions.as_slice(), name),
+            first: overlapped_by(document.regions.as_slice(), name),
             second: None,
         },
         FaultNumber::TwoFences => claimers(document, name),

@@ -107,7 +107,7 @@ pub(crate) fn first_without_region(
 }
 
 /// True if the rectangle shares a point with one of the list.
-fn meets_rect(rect: &Rect, others: &[Rect]) -> bool
+fn overlaps_rect(rect: &Rect, others: &[Rect]) -> bool
     ensures { IsTrue result ↔ Any (λ b. SharesPoint rect.now b) others.now }
 {
     others.iter().any(|other| rect.overlaps(other))
@@ -118,7 +118,7 @@ fn do_rects_meet(first: &[Rect], second: &[Rect]) -> bool
     ensures { IsTrue result ↔ Any (λ a. Any (λ b. SharesPoint a b) second.now) first.now }
 {
     for rect in first {
-        if meets_rect(rect, second) {
+        if overlaps_rect(rect, second) {
             return true;
         }
     }
@@ -133,7 +133,7 @@ pub(crate) fn do_regions_meet(first: &Region, second: &Region) -> bool
 }
 
 /// True if a fence of the list shares a point with the region.
-fn meets_one_of(region: &Region, earlier: &[Region]) -> bool
+fn overlaps_one_of(region: &Region, earlier: &[Region]) -> bool
     ensures { IsTrue result ↔ Any (λ e. (is_fence_region e ≡ true) × SharePoint e.rects region.now.rects) earlier.now }
 {
     for other in earlier {
@@ -150,7 +150,7 @@ fn fence_overlap_by_pairs(regions: &[Region]) -> Option<usize>
     ensures { FirstIs OverlapsEarlierFence regions.now result }
 {
     for (number, region) in regions.iter().enumerate() {
-        if is_fence(region) && meets_one_of(region, &regions[..number]) {
+        if is_fence(region) && overlaps_one_of(region, &regions[..number]) {
             return Some(number);
         }
     }

@@ -24,7 +24,7 @@ use crate::row_checks::{
     core_site, first_bad_step, first_row_overlap, first_row_too_many, first_too_far, first_turned,
     first_vertical, first_without_site,
 };
-use lf_def::{Component, DefDoc, Group, Region, Row};
+use lf_def::{Component, DefDoc, Group, Region, RowStatement};
 use lf_floorplan::{Limits, Site};
 use lf_frame_claims::{ClaimTable, first_claimed_twice};
 use lf_lef::Library;
@@ -32,7 +32,7 @@ use lf_units::{Point, micros_to_dbu};
 use std::alloc::{AllocError, Global};
 
 /// Returns the name of the row at this position, or `None`.
-fn row_name<'d>(rows: &'d [Row], place: Option<usize>) -> Option<&'d [u8]>
+fn row_name<'d>(rows: &'d [RowStatement], place: Option<usize>) -> Option<&'d [u8]>
     ensures { option_copied result ≡ option_map (λ r. r.name) (at_place rows.now place) }
 {
     match place {
@@ -45,7 +45,7 @@ fn row_name<'d>(rows: &'d [Row], place: Option<usize>) -> Option<&'d [u8]>
 }
 
 /// Returns the name of the site of the row at this position, or `None`.
-fn row_site<'d>(rows: &'d [Row], place: Option<usize>) -> Option<&'d [u8]>
+fn row_site<'d>(rows: &'d [RowStatement], place: Option<usize>) -> Option<&'d [u8]>
     ensures { option_copied result ≡ option_map (λ r. r.site) (at_place rows.now place) }
 {
     match place {

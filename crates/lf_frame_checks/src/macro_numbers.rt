@@ -1,7 +1,7 @@
 //! The macro of each component.
 
 ghost use Rattle.std.specs.Prelude.{◌≡◌, ◌≤◌, IfOk, IfSome};
-ghost use Rattle.lf_frame_checks.specs.MacroTables.{macro_of, macros_of, macro_at as macro_at_number};
+ghost use Rattle.lf_frame_checks.specs.MacroTables.{macro_number_of, macros_of, macro_at as macro_at_number};
 
 use lf_def::Component;
 use lf_lef::Library;
@@ -21,13 +21,13 @@ impl Model for MacroNumber {
 
     ghost Value = { Option ℕ };
 
-    ghost use Rattle.lf_frame_checks.specs.MacroNumbers.{number_in, shortened, shortened_back};
+    ghost use Rattle.lf_frame_checks.specs.MacroNumbers.{stored_number_in, stored_number, stored_number_back};
 
-    ghost view = { number_in };
+    ghost view = { stored_number_in };
 
-    ghost inverse = { shortened };
+    ghost inverse = { stored_number };
 
-    ghost inverse_ok = { λ a h. shortened_back a };
+    ghost inverse_ok = { λ a h. stored_number_back a };
 }
 
 const _: () = prove!(size_of::<MacroNumber>() == 4);
@@ -74,7 +74,7 @@ impl MacroNumber {
 
 /// Returns the number of the component's macro in the library.
 fn number_of(component: &Component, library: &Library) -> MacroNumber
-    ensures { result ≡ macro_of library.now component.now }
+    ensures { result ≡ macro_number_of library.now component.now }
 {
     let _ = library.macros();
     MacroNumber::new(library.find_macro(component.macro_name()))

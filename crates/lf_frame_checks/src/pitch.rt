@@ -9,7 +9,7 @@ ghost use Rattle.lf_floorplan.specs.Rows.{IsPitch};
 
 use crate::component_checks::is_whole_size;
 use crate::row_checks::core_site;
-use lf_def::Row;
+use lf_def::RowStatement;
 use lf_floorplan::{Site, size_in_units};
 use lf_lef::Library;
 use lf_units::Point;
@@ -27,7 +27,7 @@ pub struct Pitch {
 
 /// Returns the core site, with lengths in the range of LEF and above 0. `None` if no row has such a
 /// site.
-pub fn sized_core_site<'l>(library: &'l Library, rows: &[Row]) -> Option<&'l Site>
+pub fn sized_core_site<'l>(library: &'l Library, rows: &[RowStatement]) -> Option<&'l Site>
     ensures core { option_copied result ≡ core_site_of library.now rows.now }
     ensures range { IfSome result (λ s. HasRange s.now.size) }
     ensures sized { IfSome result (λ s. has_size s.now.size ≡ true) }

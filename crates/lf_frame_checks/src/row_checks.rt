@@ -8,14 +8,14 @@ ghost use Rattle.lf_lef.specs.Lengths.{HasRange};
 ghost use Rattle.lf_def.specs.Ranges.{IsRow};
 ghost use Rattle.lf_floorplan.specs.Rows.{row_area};
 ghost use Rattle.lf_frame_claims.specs.Entries.{FirstIs};
-ghost use Rattle.lf_frame_checks.specs.Loading.{site_named, is_core, core_row as core_row_of, core_site as core_site_of, is_core_row as is_heeded_row, frame_row};
+ghost use Rattle.lf_frame_checks.specs.Loading.{site_named, is_core, core_row as core_row_of, core_site as core_site_of, is_core_row as row_is_core, frame_row};
 ghost use Rattle.lf_frame_checks.specs.Sweep.{piece_of, row_pieces as row_pieces_of, ArePiecesOf};
 ghost use Rattle.lf_frame_checks.specs.Refusals.{HasNoSite, IsVertical, HasBadStep, IsSideways, OverlapsEarlierRow, IsRowTooMany, EndsTooFar};
 
 use crate::component_checks::has_size;
 use crate::pitch::Pitch;
 use crate::sweep::{SweepRect, none_clash};
-use lf_def::Row;
+use lf_def::RowStatement;
 use lf_floorplan::Site;
 use lf_lef::Library;
 use lf_orient::row_rail;
@@ -30,7 +30,7 @@ pub(crate) fn site_named<'l>(library: &'l Library, name: &[u8]) -> Option<&'l Si
 }
 
 /// True if the row's site has CLASS CORE and a SIZE with both lengths above 0.
-fn has_core_site(row: &Row, library: &Library) -> bool
+fn has_core_site(row: &RowStatement, library: &Library) -> bool
     ensures { result ≡ is_core (site_named library.now row.now.site) }
 {
     match site_named(library, row.site.as_bytes()) {
@@ -40,7 +40,7 @@ fn has_core_site(row: &Row, library: &Library) -> bool
 }
 
 /// Returns the first row whose site has CLASS CORE and a SIZE with both lengths above 0, or `None`.
-fn core_row<'d>(rows: &'d [Row], library: &Library) -> Option<&'d Row>
+fn core_row<'d>(rows: &'d [RowStatement], library: &Library) -> Option<&'d RowStatement>
     ensures { option_copied result ≡ core_row_of library.now rows.now }
 {
     rows.iter().find(|row| has_core_site(row, library))
@@ -48,7 +48,7 @@ fn core_row<'d>(rows: &'d [Row], library: &Library) -> Option<&'d Row>
 
 /// Returns the core site: that of the first row whose site has CLASS CORE and a SIZE with both
 /// lengths above 0. `None` if there is no such row.
-pub(crate) fn core_site<'l>(library: &'l Library, rows: &[Row]) -> Option<&'l Site>
+pub(crate) fn core_site<'l>(library: &'l Library, rows: &[RowStatement]) -> Option<&'l Site>
     ensures core { option_copied result ≡ core_site_of library.now rows.now }
     ensures range { IfSome result (λ s. HasRange s.now.size) }
 {
@@ -59,14 +59,14 @@ pub(crate) fn core_site<'l>(library: &'l Library, rows: &[Row]) -> Option<&'l Si
 }
 
 /// True if no LEF text has the row's site.
-fn has_no_site(row: &Row, library: &Library) -> bool
+fn has_no_site(row: &RowStatement, library: &Library) -> bool
     ensures { IsTrue result ↔ HasNoSite library.now [] row.now }
 {
     site_named(library, row.site.as_bytes()).is_none()
 }
 
 /// Returns the number of the first row whose site no LEF text has, or `None`.
-pub(crate) fn first_without_site(rows: &[Row], library: &Library) -> Option<usize>
+pub(crate) fn first_without_site(rows: &[RowStatement], library: &Library) -> Option<usize>
     ensures { FirstIs (HasNoSite library.now) rows.now result }
 {
     for (number, row) in rows.iter().enumerate() {
@@ -78,21 +78,21 @@ pub(crate) fn first_without_site(rows: &[Row], library: &Library) -> Option<usiz
 }
 
 /// True if the row is a core row: its site is the core site.
-pub fn is_core_row(row: &Row, core: &Site) -> bool
-    ensures { result ≡ is_heeded_row core.now row.now }
+pub fn is_core_row(row: &RowStatement, core: &Site) -> bool
+    ensures { result ≡ row_is_core core.now row.now }
 {
     row.site.is(core.name.as_bytes())
 }
 
 /// True if the row is a core row whose numY is not 1.
-fn is_vertical(row: &Row, core: &Site) -> bool
+fn is_vertical(row: &RowStatement, core: &Site) -> bool
     ensures { IsTrue result ↔ IsVertical core.now [] row.now }
 {
     is_core_row(row, core) && row.sites_y != 1
 }
 
 /// Returns the number of the first core row whose numY is not 1, or `None`.
-pub(crate) fn first_vertical(rows: &[Row], core: &Site) -> Option<usize>
+pub(crate) fn first_vertical(rows: &[RowStatement], core: &Site) -> Option<usize>
     ensures { FirstIs (IsVertical core.now) rows.now result }
 {
     for (number, row) in rows.iter().enumerate() {
@@ -104,7 +104,7 @@ pub(crate) fn first_vertical(rows: &[Row], core: &Site) -> Option<usize>
 }
 
 /// True if the row is a core row of several sites whose step is not the width of its site.
-fn has_bad_step(row: &Row, core: &Site, pitch: &Pitch) -> bool
+fn has_bad_step(row: &RowStatement, core: &Site, pitch: &Pitch) -> bool
     ensures { IsTrue result ↔ HasBadStep core.now pitch.now.size [] row.now }
 {
     match row.step {
@@ -115,7 +115,7 @@ fn has_bad_step(row: &Row, core: &Site, pitch: &Pitch) -> bool
 
 /// Returns the number of the first core row of several sites whose step is not the site's width, or
 /// `None`.
-pub(crate) fn first_bad_step(rows: &[Row], core: &Site, pitch: &Pitch) -> Option<usize>
+pub(crate) fn first_bad_step(rows: &[RowStatement], core: &Site, pitch: &Pitch) -> Option<usize>
     ensures { FirstIs (HasBadStep core.now pitch.now.size) rows.now result }
 {
     for (number, row) in rows.iter().enumerate() {
@@ -127,14 +127,14 @@ pub(crate) fn first_bad_step(rows: &[Row], core: &Site, pitch: &Pitch) -> Option
 }
 
 /// True if the row is a core row that is neither N, S, FN nor FS.
-fn is_turned(row: &Row, core: &Site) -> bool
+fn is_turned(row: &RowStatement, core: &Site) -> bool
     ensures { IsTrue result ↔ IsSideways core.now [] row.now }
 {
     is_core_row(row, core) && row_rail(row.orient).is_none()
 }
 
 /// Returns the number of the first core row that is neither N, S, FN nor FS, or `None`.
-pub(crate) fn first_turned(rows: &[Row], core: &Site) -> Option<usize>
+pub(crate) fn first_turned(rows: &[RowStatement], core: &Site) -> Option<usize>
     ensures { FirstIs (IsSideways core.now) rows.now result }
 {
     for (number, row) in rows.iter().enumerate() {
@@ -146,30 +146,30 @@ pub(crate) fn first_turned(rows: &[Row], core: &Site) -> Option<usize>
 }
 
 /// Returns the number of the first core row beyond the limit, or `None`.
-pub(crate) fn first_row_too_many(rows: &[Row], core: &Site, limit: usize) -> Option<usize>
+pub(crate) fn first_row_too_many(rows: &[RowStatement], core: &Site, limit: usize) -> Option<usize>
     ensures { FirstIs (IsRowTooMany core.now limit) rows.now result }
 {
-    let mut heeded = 0;
+    let mut core_ones = 0;
     for (number, row) in rows.iter().enumerate() {
         if is_core_row(row, core) {
-            if limit <= heeded {
+            if limit <= core_ones {
                 return Some(number);
             }
-            heeded += 1;
+            core_ones += 1;
         }
     }
     None
 }
 
 /// Returns the width of all sites of a row in database units, which may exceed 64 bits.
-fn full_width(row: &Row, pitch: &Pitch) -> i128
+fn full_width(row: &RowStatement, pitch: &Pitch) -> i128
     ensures { result ≡ pos row.now.sites_x *ℤ pitch.now.size.x }
 {
     i128::from(row.sites_x) * i128::from(pitch.size.x)
 }
 
 /// Returns the x at which the row ends, which may exceed 64 bits.
-fn right_edge(row: &Row, pitch: &Pitch) -> i128
+fn right_edge(row: &RowStatement, pitch: &Pitch) -> i128
     requires row { IsRow row.now }
     ensures { result ≡ (row_area pitch.now.size (frame_row row.now)).x2 }
 {
@@ -177,7 +177,7 @@ fn right_edge(row: &Row, pitch: &Pitch) -> i128
 }
 
 /// True if the row's upper edge is at or below the other's lower edge.
-fn is_below(row: &Row, other: &Row, pitch: &Pitch) -> bool
+fn is_below(row: &RowStatement, other: &RowStatement, pitch: &Pitch) -> bool
     requires row { IsRow row.now }
     ensures { IsTrue result ↔ ((row.now.y +ℤ pitch.now.size.y) ≤ℤ other.now.y) }
 {
@@ -185,7 +185,7 @@ fn is_below(row: &Row, other: &Row, pitch: &Pitch) -> bool
 }
 
 /// True if the row ends at the x at which the other begins, or left of it.
-fn ends_before(row: &Row, other: &Row, pitch: &Pitch) -> bool
+fn ends_before(row: &RowStatement, other: &RowStatement, pitch: &Pitch) -> bool
     requires row { IsRow row.now }
     ensures { IsTrue result ↔ ((row_area pitch.now.size (frame_row row.now)).x2 ≤ℤ other.now.x) }
 {
@@ -193,7 +193,7 @@ fn ends_before(row: &Row, other: &Row, pitch: &Pitch) -> bool
 }
 
 /// True if the two rows share a point.
-fn do_rows_meet(first: &Row, second: &Row, pitch: &Pitch) -> bool
+fn do_rows_meet(first: &RowStatement, second: &RowStatement, pitch: &Pitch) -> bool
     requires first { IsRow first.now }
     requires second { IsRow second.now }
     ensures { IsTrue result ↔ SharesPoint (row_area pitch.now.size (frame_row first.now)) (row_area pitch.now.size (frame_row second.now)) }
@@ -211,10 +211,10 @@ fn do_rows_meet(first: &Row, second: &Row, pitch: &Pitch) -> bool
 }
 
 /// True if a core row of the list shares a point with this row.
-fn meets_one_of(row: &Row, earlier: &[Row], core: &Site, pitch: &Pitch) -> bool
+fn overlaps_one_of(row: &RowStatement, earlier: &[RowStatement], core: &Site, pitch: &Pitch) -> bool
     requires row { IsRow row.now }
     requires each { All IsRow earlier.now }
-    ensures { IsTrue result ↔ Any (λ e. (is_heeded_row core.now e ≡ true)
+    ensures { IsTrue result ↔ Any (λ e. (row_is_core core.now e ≡ true)
         × SharesPoint (row_area pitch.now.size (frame_row e)) (row_area pitch.now.size (frame_row row.now))) earlier.now }
 {
     for other in earlier {
@@ -227,12 +227,12 @@ fn meets_one_of(row: &Row, earlier: &[Row], core: &Site, pitch: &Pitch) -> bool
 
 /// Returns the number of the first core row that shares a point with an earlier one, or `None`.
 /// Compares all pairs.
-fn row_overlap_by_pairs(rows: &[Row], core: &Site, pitch: &Pitch) -> Option<usize>
+fn row_overlap_by_pairs(rows: &[RowStatement], core: &Site, pitch: &Pitch) -> Option<usize>
     requires each { All IsRow rows.now }
     ensures { FirstIs (OverlapsEarlierRow core.now pitch.now.size) rows.now result }
 {
     for (number, row) in rows.iter().enumerate() {
-        if is_core_row(row, core) && meets_one_of(row, &rows[..number], core, pitch) {
+        if is_core_row(row, core) && overlaps_one_of(row, &rows[..number], core, pitch) {
             return Some(number);
         }
     }
@@ -240,7 +240,7 @@ fn row_overlap_by_pairs(rows: &[Row], core: &Site, pitch: &Pitch) -> Option<usiz
 }
 
 /// Returns the row as a piece of the sweep.
-fn row_piece(number: usize, row: &Row, pitch: &Pitch) -> SweepRect
+fn row_piece(number: usize, row: &RowStatement, pitch: &Pitch) -> SweepRect
     requires row { IsRow row.now }
     ensures { result ≡ piece_of number (row_area pitch.now.size (frame_row row.now)) }
 {
@@ -257,7 +257,7 @@ fn row_piece(number: usize, row: &Row, pitch: &Pitch) -> SweepRect
 fn push_row(
     pieces: &mut Vec<SweepRect>,
     number: usize,
-    row: &Row,
+    row: &RowStatement,
     core: &Site,
     pitch: &Pitch,
 ) -> Result<(), AllocError>
@@ -273,7 +273,7 @@ fn push_row(
 /// Returns the core rows as pieces of the sweep. `Err` if an allocation fails.
 fn row_pieces(
     alloc: Global,
-    rows: &[Row],
+    rows: &[RowStatement],
     core: &Site,
     pitch: &Pitch,
 ) -> Result<Vec<SweepRect>, AllocError>
@@ -292,7 +292,7 @@ fn row_pieces(
 /// allocation fails.
 pub(crate) fn first_row_overlap(
     alloc: Global,
-    rows: &[Row],
+    rows: &[RowStatement],
     core: &Site,
     pitch: &Pitch,
 ) -> Result<Option<usize>, AllocError>
@@ -307,7 +307,7 @@ pub(crate) fn first_row_overlap(
 }
 
 /// True if the row is a core row that ends past the largest coordinate.
-fn ends_too_far(row: &Row, core: &Site, pitch: &Pitch) -> bool
+fn ends_too_far(row: &RowStatement, core: &Site, pitch: &Pitch) -> bool
     requires row { IsRow row.now }
     ensures { IsTrue result ↔ EndsTooFar core.now pitch.now.size [] row.now }
 {
@@ -315,7 +315,7 @@ fn ends_too_far(row: &Row, core: &Site, pitch: &Pitch) -> bool
 }
 
 /// Returns the number of the first core row that ends past the largest coordinate, or `None`.
-pub(crate) fn first_too_far(rows: &[Row], core: &Site, pitch: &Pitch) -> Option<usize>
+pub(crate) fn first_too_far(rows: &[RowStatement], core: &Site, pitch: &Pitch) -> Option<usize>
     requires each { All IsRow rows.now }
     ensures { FirstIs (EndsTooFar core.now pitch.now.size) rows.now result }
 {

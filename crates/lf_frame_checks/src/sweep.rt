@@ -3,7 +3,7 @@
 
 ghost use Rattle.std.specs.Prelude.{◌≡◌, ◌↔◌, ◌+◌, ◌<◌, ◌≤ℤ◌, All, AllPairs, IsTrue, IsPermutation, length, drop};
 ghost use Rattle.lf_units.specs.Area.{SharesPoint};
-ghost use Rattle.lf_frame_checks.specs.Sweep.{piece_area, EndsBefore, Clash, ClashesWithNone, NoneClash, Rise};
+ghost use Rattle.lf_frame_checks.specs.Sweep.{piece_area, EndsBefore, Clash, ClashesWithNone, NoneClash, PiecesRise};
 
 /// A rectangle of the entry with this number, in database units. A row's end may exceed 64 bits.
 #[derive(Clone, Copy)]
@@ -57,11 +57,11 @@ fn do_clash(first: &SweepRect, second: &SweepRect) -> bool
 
 /// True if the piece clashes with no piece after it. Those pieces begin no lower. Pieces that begin
 /// above its upper edge are not tested.
-fn clashes_with_none(piece: &SweepRect, behind: &[SweepRect]) -> bool
-    requires { Rise behind.now }
-    ensures { IsTrue result ↔ ClashesWithNone piece.now behind.now }
+fn clashes_with_none(piece: &SweepRect, after_it: &[SweepRect]) -> bool
+    requires { PiecesRise after_it.now }
+    ensures { IsTrue result ↔ ClashesWithNone piece.now after_it.now }
 {
-    for other in behind {
+    for other in after_it {
         if is_below(piece, other) {
             return true;
         }
@@ -73,7 +73,7 @@ fn clashes_with_none(piece: &SweepRect, behind: &[SweepRect]) -> bool
 }
 
 /// Returns the pieces after this one.
-fn behind(pieces: &[SweepRect], number: usize) -> &[SweepRect]
+fn after_it(pieces: &[SweepRect], number: usize) -> &[SweepRect]
     requires { number < length pieces.now }
     ensures { result.now ≡ drop (number + 1) pieces.now }
 {
@@ -82,11 +82,11 @@ fn behind(pieces: &[SweepRect], number: usize) -> &[SweepRect]
 
 /// True if no two pieces clash. No piece may begin below an earlier one.
 fn none_clash_upwards(pieces: &[SweepRect]) -> bool
-    requires { Rise pieces.now }
+    requires { PiecesRise pieces.now }
     ensures { IsTrue result ↔ NoneClash pieces.now }
 {
     for (number, piece) in pieces.iter().enumerate() {
-        if !clashes_with_none(piece, behind(pieces, number)) {
+        if !clashes_with_none(piece, after_it(pieces, number)) {
             return false;
         }
     }
@@ -96,7 +96,7 @@ fn none_clash_upwards(pieces: &[SweepRect]) -> bool
 /// Sorts the pieces by their lower edges.
 fn sort_upwards(pieces: &mut [SweepRect])
     ensures same { IsPermutation pieces.old pieces.new }
-    ensures rise { Rise pieces.new }
+    ensures rise { PiecesRise pieces.new }
 {
     pieces.sort_unstable_by_key(|piece| piece.bottom);
 }

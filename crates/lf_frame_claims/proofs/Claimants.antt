@@ -8,14 +8,14 @@ use Rattle.std.proofs.lemmas.List.Concat.{flat_map-append}
 use Rattle.std.proofs.lemmas.Option.{slice_get_within, get_or_from_slice_get}
 use Rattle.lf_names.specs.Names.{position_of}
 use Rattle.lf_names.specs.Pattern.{Matches}
-use Rattle.lf_names.proofs.Positions.{stands_there, stands_nowhere}
+use Rattle.lf_names.proofs.Positions.{is_found_there, has_no_place}
 use Rattle.lf_def.specs.declared.regions.Region.{Region}
 use Rattle.lf_def.specs.declared.groups.Group.{Group}
 use Rattle.lf_frame_claims.specs.declared.claim.Claim.{Claim}
 use Rattle.lf_frame_claims.specs.declared.claim.Claim.TheVariants.{Unclaimed, ByOne, ByTwo}
 use Rattle.lf_frame_claims.specs.declared.star_patterns.FencePattern.{FencePattern}
 use Rattle.lf_frame_claims.specs.declared.name_map.NameMap.{NameMap}
-use Rattle.lf_frame_claims.specs.NameMaps.{value_of}
+use Rattle.lf_frame_claims.specs.NameMaps.{value_of_name}
 use Rattle.lf_def.specs.Kinds.{is_fence}
 use Rattle.lf_frame_claims.specs.Teams.{fence_names, Claims, IsClaimed, IsUnclaimed, IsClaimedBy}
 use Rattle.lf_frame_claims.specs.Refusals.{HasTwoFences}
@@ -42,8 +42,8 @@ there_is_fence : (regions : List Region) (fence : List ℕ) (n : ℕ) → positi
     Any (λ r. (is_fence r ≡ true) × (r.name ≡ fence)) regions
 there_is_fence regions fence n place =
     let names = fence_names regions in
-    let stands = stands_there names fence n place in
-    fence_borne regions fence (n, slice_get_within names n fence stands, get_or_from_slice_get names n fence fence stands)
+    let is_in_place = is_found_there names fence n place in
+    fence_borne regions fence (n, slice_get_within names n fence is_in_place, get_or_from_slice_get names n fence fence is_in_place)
 
 group_claimant : (regions : List Region) (g : Group) (name : List ℕ) (n : ℕ) → ClaimsBy (group_bounds regions g) name n → GroupClaimant regions g name n
 group_claimant regions g name n h = by g.region (option_and_then (position_of (fence_names regions)) g.region) refl refl h
@@ -104,7 +104,7 @@ numbered : (regions : List Region) (groups : List Group) (name fence : List ℕ)
 numbered regions groups name fence h = by (position_of (fence_names regions) fence) refl
   where
     by : (at : Option ℕ) → position_of (fence_names regions) fence ≡ at → Numbered regions groups name fence
-    by None e = absurd (stands_nowhere (fence_names regions) fence e (fence_known regions fence h.4.fence_there))
+    by None e = absurd (has_no_place (fence_names regions) fence e (fence_known regions fence h.4.fence_there))
     by (Some n) e = record { n = n; place = e; claims = claims_of regions groups name fence n e h }
 
 -- A claim that counts the numbers of fences counts the fences.
@@ -151,10 +151,10 @@ bounds_more regions groups n g within is =
     ∙ ap (λ l. all_bounds regions (take n groups) ++ l) (append-nil (group_bounds regions g))
 
 pub bounds_by_number : (regions : List Region) (numbers : NameMap ℕ) (g : Group) → NumbersNames (fence_names regions) numbers →
-    bound_to (option_and_then (value_of numbers) g.region) g.patterns ≡ group_bounds regions g
+    bound_to (option_and_then (value_of_name numbers) g.region) g.patterns ≡ group_bounds regions g
 bounds_by_number regions numbers g numbered = by g.region
   where
     by : (region : Option (List ℕ)) →
-        bound_to (option_and_then (value_of numbers) region) g.patterns ≡ bound_to (option_and_then (position_of (fence_names regions)) region) g.patterns
+        bound_to (option_and_then (value_of_name numbers) region) g.patterns ≡ bound_to (option_and_then (position_of (fence_names regions)) region) g.patterns
     by None = refl
     by (Some fence) = ap (λ o. bound_to o g.patterns) (numbered fence)

@@ -17,54 +17,54 @@ use Rattle.lf_frame_claims.specs.declared.claim.Claim.TheVariants.{Unclaimed}
 use Rattle.lf_frame_claims.specs.declared.star_patterns.FencePattern.{FencePattern}
 use Rattle.lf_frame_claims.specs.declared.pattern_index.PatternIndex.{PatternIndex}
 use Rattle.lf_frame_claims.specs.Tables.{numbered_names}
-use Rattle.lf_frame_claims.specs.Claims.{joined, CountsFences, ClaimsBy, Labels, IsMatched, all_bounds, IndexesPatterns, AreClaimsByName}
+use Rattle.lf_frame_claims.specs.Claims.{claim_with, CountsFences, ClaimsBy, Labels, IsMatched, all_bounds, IndexesPatterns, AreClaimsByName}
 use Rattle.lf_frame_claims.specs.ClaimTables.{IsClaimOf, claim_at, AreClaimsOf}
 use Rattle.lf_frame_claims.proofs.MapLemmas.{get_set, get_set_other}
 use Rattle.lf_frame_claims.proofs.Numbered.{numbered_has, numbered_is}
-use Rattle.lf_frame_claims.proofs.Tellings.{tells_joined, tells_same}
+use Rattle.lf_frame_claims.proofs.Tellings.{reports_joined, reports_same}
 use Rattle.lf_frame_claims.proofs.Claimants.{claim_says}
 
 -- One more match: its fence is added to the claim at its number, and the other claims are
 -- unchanged.
 matched_more : (matches : List Match) (m : Match) (claims : List Claim) (number : ℕ) → number < length claims →
     CountsFences (IsMatched matches number) (claim_at claims number) →
-    CountsFences (IsMatched (matches ++ m ∷ []) number) (claim_at (set claims m.own (joined (claim_at claims m.own) m.asked)) number)
-matched_more matches m claims number within told = by (eqb m.own number) refl
+    CountsFences (IsMatched (matches ++ m ∷ []) number) (claim_at (set claims m.own (claim_with (claim_at claims m.own) m.requested)) number)
+matched_more matches m claims number within reported = by (eqb m.own number) refl
   where
     old : (fence : ℕ) → IsMatched matches number fence → IsMatched (matches ++ m ∷ []) number fence
-    old fence h = Contains-append_left matches (m ∷ []) (record { own = number; asked = fence }) h
+    old fence h = Contains-append_left matches (m ∷ []) (record { own = number; requested = fence }) h
 
     by : (t : Bool) → eqb m.own number ≡ t →
-        CountsFences (IsMatched (matches ++ m ∷ []) number) (claim_at (set claims m.own (joined (claim_at claims m.own) m.asked)) number)
+        CountsFences (IsMatched (matches ++ m ∷ []) number) (claim_at (set claims m.own (claim_with (claim_at claims m.own) m.requested)) number)
     by true e =
         let same : m.own ≡ number = eqb-true m.own number e in
-        let claim : claim_at (set claims m.own (joined (claim_at claims m.own) m.asked)) number ≡ joined (claim_at claims number) m.asked =
-        ap (λ k. claim_at (set claims k (joined (claim_at claims k) m.asked)) number) same ∙ ap (λ o. unwrap_or o Unclaimed) (get_set claims number (joined (claim_at claims number) m.asked) within) in
-        let new : IsMatched (matches ++ m ∷ []) number m.asked = rw (← same) (Contains-push matches m) in
+        let claim : claim_at (set claims m.own (claim_with (claim_at claims m.own) m.requested)) number ≡ claim_with (claim_at claims number) m.requested =
+        ap (λ k. claim_at (set claims k (claim_with (claim_at claims k) m.requested)) number) same ∙ ap (λ o. unwrap_or o Unclaimed) (get_set claims number (claim_with (claim_at claims number) m.requested) within) in
+        let new : IsMatched (matches ++ m ∷ []) number m.requested = rw (← same) (Contains-push matches m) in
         rw claim (
-        tells_joined (IsMatched matches number) (IsMatched (matches ++ m ∷ []) number) (claim_at claims number) m.asked old new
-        (λ fence h. elim (Contains-push_cases matches m (record { own = number; asked = fence }) h) [ inl early ↦ inl early | inr here ↦ inr (sym (ap (λ (q : Match). q.asked) here)) ]) told
+        reports_joined (IsMatched matches number) (IsMatched (matches ++ m ∷ []) number) (claim_at claims number) m.requested old new
+        (λ fence h. elim (Contains-push_cases matches m (record { own = number; requested = fence }) h) [ inl early ↦ inl early | inr here ↦ inr (sym (ap (λ (q : Match). q.requested) here)) ]) reported
         )
     by false e =
         let other : number ≢ m.own = λ same. eqb-false m.own number e (sym same) in
-        let claim : claim_at (set claims m.own (joined (claim_at claims m.own) m.asked)) number ≡ claim_at claims number =
-        ap (λ o. unwrap_or o Unclaimed) (get_set_other claims m.own number (joined (claim_at claims m.own) m.asked) other) in
+        let claim : claim_at (set claims m.own (claim_with (claim_at claims m.own) m.requested)) number ≡ claim_at claims number =
+        ap (λ o. unwrap_or o Unclaimed) (get_set_other claims m.own number (claim_with (claim_at claims m.own) m.requested) other) in
         rw claim (
-        tells_same (IsMatched matches number) (IsMatched (matches ++ m ∷ []) number) (claim_at claims number) old
-        (λ fence h. elim (Contains-push_cases matches m (record { own = number; asked = fence }) h) [ inl early ↦ early | inr here ↦ absurd (other (sym (ap (λ (q : Match). q.own) here))) ]) told
+        reports_same (IsMatched matches number) (IsMatched (matches ++ m ∷ []) number) (claim_at claims number) old
+        (λ fence h. elim (Contains-push_cases matches m (record { own = number; requested = fence }) h) [ inl early ↦ early | inr here ↦ absurd (other (sym (ap (λ (q : Match). q.own) here))) ]) reported
         )
 
 -- The first `count` names have the claims of these matches.
-abbrev pub MatchesTold : List Match → ℕ → List Claim → Type 0
-MatchesTold matches count claims = (number : ℕ) → number < count → CountsFences (IsMatched matches number) (claim_at claims number)
+abbrev pub MatchesFound : List Match → ℕ → List Claim → Type 0
+MatchesFound matches count claims = (number : ℕ) → number < count → CountsFences (IsMatched matches number) (claim_at claims number)
 
-pub no_match_told : (count : ℕ) (claims : List Claim) → ((number : ℕ) → claim_at claims number ≡ Unclaimed) → MatchesTold [] count claims
-no_match_told count claims nothing number within = rw (nothing number) (λ fence h. omega (arith, h.1))
+pub no_match_reported : (count : ℕ) (claims : List Claim) → ((number : ℕ) → claim_at claims number ≡ Unclaimed) → MatchesFound [] count claims
+no_match_reported count claims nothing number within = rw (nothing number) (λ fence h. omega (arith, h.1))
 
-pub matches_told_more : (matches : List Match) (n : ℕ) (m : Match) (count : ℕ) (claims : List Claim) → n < length matches → m ≡ get_or matches n m →
-    length claims ≡ count → MatchesTold (take n matches) count claims →
-    MatchesTold (take (n + 1) matches) count (set claims m.own (joined (claim_at claims m.own) m.asked))
-matches_told_more matches n m count claims within is long before number below =
+pub matches_reported_more : (matches : List Match) (n : ℕ) (m : Match) (count : ℕ) (claims : List Claim) → n < length matches → m ≡ get_or matches n m →
+    length claims ≡ count → MatchesFound (take n matches) count claims →
+    MatchesFound (take (n + 1) matches) count (set claims m.own (claim_with (claim_at claims m.own) m.requested))
+matches_reported_more matches n m count claims within is long before number below =
     let more : take (n + 1) matches ≡ take n matches ++ m ∷ [] = grind (arith, common_steps) in
     rw more (matched_more (take n matches) m claims number (omega arith) (before number below))
 
@@ -73,39 +73,39 @@ pub matches_label : (components : List Component) (literals : List Labelled) (ma
     k < length components → AreMatches (numbered_names components) literals matches →
     IsMatched matches k fence → Labels literals (get_or components k d).name fence
 matches_label components literals matches k d fence within are h =
-    let one : IsMatch (numbered_names components) literals (record { own = k; asked = fence }) = (are (record { own = k; asked = fence })).0 h in
-    rw (← numbered_is components k d one.name within one.is_own) one.is_asked
+    let one : IsMatch (numbered_names components) literals (record { own = k; requested = fence }) = (are (record { own = k; requested = fence })).0 h in
+    rw (← numbered_is components k d one.name within one.is_own) one.is_requested
 
 pub label_matches : (components : List Component) (literals : List Labelled) (matches : List Match) (k : ℕ) (d : Component) (fence : ℕ) →
     k < length components → AreMatches (numbered_names components) literals matches →
     Labels literals (get_or components k d).name fence → IsMatched matches k fence
 label_matches components literals matches k d fence within are h =
-    (are (record { own = k; asked = fence })).1 (record { name = (get_or components k d).name; is_own = numbered_has components k d within; is_asked = h })
+    (are (record { own = k; requested = fence })).1 (record { name = (get_or components k d).name; is_own = numbered_has components k d within; is_requested = h })
 
-pub told_by_matches : (components : List Component) (literals : List Labelled) (matches : List Match) (claims : List Claim) →
-    AreMatches (numbered_names components) literals matches → MatchesTold matches (length components) claims → AreClaimsByName (Labels literals) components claims
-told_by_matches components literals matches claims are told k d within =
-    tells_same (IsMatched matches k) (Labels literals (get_or components k d).name) (claim_at claims k) (λ fence. matches_label components literals matches k d fence within are) (λ fence. label_matches components literals matches k d fence within are)
-    (told k within)
+pub reported_by_matches : (components : List Component) (literals : List Labelled) (matches : List Match) (claims : List Claim) →
+    AreMatches (numbered_names components) literals matches → MatchesFound matches (length components) claims → AreClaimsByName (Labels literals) components claims
+reported_by_matches components literals matches claims are reported k d within =
+    reports_same (IsMatched matches k) (Labels literals (get_or components k d).name) (claim_at claims k) (λ fence. matches_label components literals matches k d fence within are) (λ fence. label_matches components literals matches k d fence within are)
+    (reported k within)
 
 -- The components below n have their claims.
-abbrev pub ToldBelow : (List ℕ → ℕ → Type 0) → List Component → List Claim → ℕ → Type 0
-ToldBelow claims components told n = (k : ℕ) (d : Component) → k < n → CountsFences (claims (get_or components k d).name) (claim_at told k)
+abbrev pub ClaimedBelow : (List ℕ → ℕ → Type 0) → List Component → List Claim → ℕ → Type 0
+ClaimedBelow claims components reported n = (k : ℕ) (d : Component) → k < n → CountsFences (claims (get_or components k d).name) (claim_at reported k)
 
 -- The component at n has a new claim, and the others keep theirs.
-pub told_put : (claims : List ℕ → ℕ → Type 0) (components : List Component) (told : List Claim) (n : ℕ) (c : Component) (claim : Claim) → n < length told →
+pub reported_put : (claims : List ℕ → ℕ → Type 0) (components : List Component) (reported : List Claim) (n : ℕ) (c : Component) (claim : Claim) → n < length reported →
     n < length components → c ≡ get_or components n c → CountsFences (claims c.name) claim →
-    ToldBelow claims components told n → ToldBelow claims components (set told n claim) (n + 1)
-told_put claims components told n c claim there within is one before k d below = by (grind arith)
+    ClaimedBelow claims components reported n → ClaimedBelow claims components (set reported n claim) (n + 1)
+reported_put claims components reported n c claim there within is one before k d below = by (grind arith)
   where
-    by : (k < n) ⊎ (k ≡ n) → CountsFences (claims (get_or components k d).name) (claim_at (set told n claim) k)
+    by : (k < n) ⊎ (k ≡ n) → CountsFences (claims (get_or components k d).name) (claim_at (set reported n claim) k)
     by (inl less) =
         let other : k ≢ n = λ e. omega (arith, less, e) in
-        let same : claim_at (set told n claim) k ≡ claim_at told k = ap (λ o. unwrap_or o Unclaimed) (get_set_other told n k claim other) in
+        let same : claim_at (set reported n claim) k ≡ claim_at reported k = ap (λ o. unwrap_or o Unclaimed) (get_set_other reported n k claim other) in
         rw same (before k d less)
     by (inr last) =
         let item : get_or components k d ≡ c = ap (λ i. get_or components i d) last ∙ sym (is ∙ get_or_default components n c d within) in
-        let here : claim_at (set told n claim) k ≡ claim = ap (claim_at (set told n claim)) last ∙ ap (λ o. unwrap_or o Unclaimed) (get_set told n claim there) in
+        let here : claim_at (set reported n claim) k ≡ claim = ap (claim_at (set reported n claim)) last ∙ ap (λ o. unwrap_or o Unclaimed) (get_set reported n claim there) in
         rw (here, item) one
 
 -- From n on, each component has its old claim.
@@ -118,27 +118,27 @@ same_from_put old new n claim same k from =
     ap (λ o. unwrap_or o Unclaimed) (get_set_other new n k claim other) ∙ same k (omega arith)
 
 -- Without patterns to try, nothing is added.
-pub told_without_starred : (told : List ℕ → ℕ → Type 0) (starred : List FencePattern) (components : List Component) (claims : List Claim) → starred ≡ [] →
-    AreClaimsByName told components claims → AreClaimsByName (λ name fence. told name fence ⊎ ClaimsBy starred name fence) components claims
-told_without_starred told starred components claims empty h k d within =
+pub reported_without_starred : (reported : List ℕ → ℕ → Type 0) (starred : List FencePattern) (components : List Component) (claims : List Claim) → starred ≡ [] →
+    AreClaimsByName reported components claims → AreClaimsByName (λ name fence. reported name fence ⊎ ClaimsBy starred name fence) components claims
+reported_without_starred reported starred components claims empty h k d within =
     let name : List ℕ = (get_or components k d).name in
     let none : length starred ≡ 0 = ap length empty in
-    tells_same (told name) (λ fence. told name fence ⊎ ClaimsBy starred name fence) (claim_at claims k) (λ fence s. inl s)
+    reports_same (reported name) (λ fence. reported name fence ⊎ ClaimsBy starred name fence) (claim_at claims k) (λ fence s. inl s)
     (λ fence u. elim u [ inl s ↦ s | inr c ↦ absurd (omega (arith, c.2)) ]) (h k d within)
 
 -- All patterns of the index claim what literal and starred patterns claim together.
-pub told_by_index : (index : PatternIndex) (bounds : List FencePattern) (components : List Component) (claims : List Claim) (h : IndexesPatterns index bounds) →
+pub reported_by_index : (index : PatternIndex) (bounds : List FencePattern) (components : List Component) (claims : List Claim) (h : IndexesPatterns index bounds) →
     AreClaimsByName (λ name fence. Labels index.literals name fence ⊎ ClaimsBy h.starred name fence) components claims →
     AreClaimsByName (ClaimsBy bounds) components claims
-told_by_index index bounds components claims h told k d within =
+reported_by_index index bounds components claims h reported k d within =
     let name : List ℕ = (get_or components k d).name in
-    tells_same (λ fence. Labels index.literals name fence ⊎ ClaimsBy h.starred name fence) (ClaimsBy bounds name) (claim_at claims k) (h.back name)
-    (h.forth name) (told k d within)
+    reports_same (λ fence. Labels index.literals name fence ⊎ ClaimsBy h.starred name fence) (ClaimsBy bounds name) (claim_at claims k) (h.back name)
+    (h.forth name) (reported k d within)
 
 -- The claims of all groups.
 pub claims_made : (regions : List Region) (groups : List Group) (components : List Component) (claims : List Claim) →
     AreClaimsByName (ClaimsBy (all_bounds regions groups)) components claims → AreClaimsOf regions groups components claims
-claims_made regions groups components claims told k d within = claim_says regions groups (get_or components k d).name (claim_at claims k) (told k d within)
+claims_made regions groups components claims reported k d within = claim_says regions groups (get_or components k d).name (claim_at claims k) (reported k d within)
 
 -- The claim on a component at a number.
 pub claim_there : (regions : List Region) (groups : List Group) (components : List Component) (claims : List Claim) (k : ℕ) (c : Component) →
@@ -153,8 +153,8 @@ claim_known regions groups components claims k c at =
     claim_there regions groups components claims k c (slice_get_within components k c at) (sym (get_or_from_slice_get components k c c at))
 
 -- A claim that is read.
-pub claim_read : (all lent : List Claim) (number : ℕ) (claim : Claim) → lent ≡ all → claim ≡ claim_at lent number → claim_at all number ≡ claim
-claim_read all lent number claim same is = sym (is ∙ ap (λ claims. claim_at claims number) same)
+pub claim_read : (all borrowed_view : List Claim) (number : ℕ) (claim : Claim) → borrowed_view ≡ all → claim ≡ claim_at borrowed_view number → claim_at all number ≡ claim
+claim_read all borrowed_view number claim same is = sym (is ∙ ap (λ claims. claim_at claims number) same)
 
 pub claim_is : (regions : List Region) (groups : List Group) (name : List ℕ) (old claim : Claim) → old ≡ claim → IsClaimOf regions groups name old →
     IsClaimOf regions groups name claim

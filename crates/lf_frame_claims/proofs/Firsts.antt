@@ -3,7 +3,7 @@ use Rattle.std.proofs.Common.{◌≡◌, ℕ, ◌+◌, ◌<◌, ◌≤◌, ◌�
 use Rattle.std.proofs.lemmas.List.{get_or_default}
 use Rattle.std.specs.Prelude.{MatchOption, IsTrue}
 use Rattle.std.proofs.lemmas.Bool.{false≢true}
-use Rattle.lf_frame_claims.specs.Entries.{IsFirst, FirstIs, first_of}
+use Rattle.lf_frame_claims.specs.Entries.{IsFirst, FirstIs, first_counted}
 
 -- No entry below n breaks the rule.
 abbrev pub NoneBelow : {A : Type 0} → (List A → A → Type 0) → List A → ℕ → Type 0
@@ -34,7 +34,7 @@ FoundBelow breaks entries n found = MatchOption found (NoneBelow breaks entries 
 
 pub found_more : {A : Type 0} (breaks : List A → A → Type 0) (entries : List A) (n : ℕ) (x : A) (found : Option ℕ) (counts : Bool) → n < length entries →
     x ≡ get_or entries n x →
-    (IsTrue counts ↔ breaks (take n entries) x) → FoundBelow breaks entries n found → FoundBelow breaks entries (n + 1) (first_of found n counts)
+    (IsTrue counts ↔ breaks (take n entries) x) → FoundBelow breaks entries n found → FoundBelow breaks entries (n + 1) (first_counted found n counts)
 found_more breaks entries n x (Some k) counts within is test first = first
 found_more breaks entries n x None true within is test none = first_found breaks entries n x within is (test.0 refl) none
 found_more breaks entries n x None false within is test none = none_more breaks entries n x within is (λ broken. false≢true (test.1 broken)) none

@@ -10,15 +10,15 @@ use Rattle.std.proofs.lemmas.Slice.Eq.{bytes_eq-Decides}
 use Rattle.std.proofs.lemmas.Option.{slice_get_within}
 use Rattle.lf_names.specs.Names.{position_of}
 use Rattle.lf_names.specs.Pattern.{Part, byte, star, parts_of, Becomes, Matches}
-use Rattle.lf_names.proofs.Positions.{stands_there}
+use Rattle.lf_names.proofs.Positions.{is_found_there}
 use Rattle.lf_frame_claims.specs.declared.claim.Claim.{Claim}
 use Rattle.lf_frame_claims.specs.declared.star_patterns.FencePattern.{FencePattern}
 use Rattle.lf_frame_claims.specs.declared.star_patterns.PatternsAtEnd.{PatternsAtEnd}
-use Rattle.lf_frame_claims.specs.Ends.{key_of, part_of}
+use Rattle.lf_frame_claims.specs.Ends.{key_of, name_part_at}
 use Rattle.lf_frame_claims.specs.Claims.{merged, CountsFences, ClaimsBy, bounds_there, kept_under, ClaimsUnder, HasAtEnd, AddsUnderKey}
 use Rattle.lf_frame_claims.proofs.EndLemmas.{part_is_key}
 use Rattle.lf_frame_claims.proofs.MapLemmas.{new_there, new_others, old_there, old_others}
-use Rattle.lf_frame_claims.proofs.Tellings.{one_bound_more, claims_parts, claims_old, claims_new, tells_same, tells_merged}
+use Rattle.lf_frame_claims.proofs.Tellings.{one_bound_more, claims_parts, claims_old, claims_new, reports_same, reports_merged}
 use Rattle.lf_units.proofs.Any.{any_first, none_of_nothing, any_parts, any_left, any_right, any_one, has_item, any_more}
 
 -- Parts become some bytes.
@@ -80,10 +80,10 @@ keeps_old old new key b place before after whole known there more keys bounds le
 }
 
 -- Each known key has patterns of its own.
-pub bounds_stand : (kept : PatternsAtEnd) (key : List ℕ) (place : ℕ) → length kept.keys ≡ length kept.bounds.items →
+pub bounds_hold : (kept : PatternsAtEnd) (key : List ℕ) (place : ℕ) → length kept.keys ≡ length kept.bounds.items →
     position_of kept.keys key ≡ Some place → (before : Vec FencePattern Global) × (slice_get kept.bounds.items place ≡ Some before)
-bounds_stand kept key place whole known =
-    let within : place < length kept.keys = slice_get_within kept.keys place key (stands_there kept.keys key place known) in
+bounds_hold kept key place whole known =
+    let within : place < length kept.keys = slice_get_within kept.keys place key (is_found_there kept.keys key place known) in
     at kept.bounds.items place (omega arith)
   where
     at : (all : List (Vec FencePattern Global)) (k : ℕ) → k < length all → (before : Vec FencePattern Global) × (slice_get all k ≡ Some before)
@@ -121,7 +121,7 @@ module _ (old new : PatternsAtEnd) (key : List ℕ) (b : FencePattern) (keeps : 
   claims_by_own name h =
       let is : key_of new.end b.pattern ≡ key = ap (λ e. key_of e b.pattern) keeps.end ∙ sym own in
       let part = rw is at (part_is_key new.end b.pattern name h) in
-      let there : kept_under new (part_of new.end (length key) name) ≡ kept_under old key ++ b ∷ [] = ap (kept_under new) part.1 ∙ keeps.there in
+      let there : kept_under new (name_part_at new.end (length key) name) ≡ kept_under old key ++ b ∷ [] = ap (kept_under new) part.1 ∙ keeps.there in
       (part.0, rw there (claims_new (kept_under old key) b name h))
 
   pub has_one_more : (lengths : Vec ℕ Global) → ((n : ℕ) → Contains lengths.items n ↔ (Contains new.lengths.items n ⊎ (n ≡ length key))) →
@@ -148,17 +148,17 @@ module _ (old new : PatternsAtEnd) (key : List ℕ) (b : FencePattern) (keeps : 
       grown : (n : ℕ) → Contains lengths.items n ↔ (Contains old.lengths.items n ⊎ (n ≡ length key))
       grown n = rw keeps.lengths at (added n)
 
-      still_under : (name : List ℕ) (count fence : ℕ) → ClaimsBy (kept_under old (part_of old.end count name)) name fence →
-          ClaimsBy (kept_under new (part_of new.end count name)) name fence
+      still_under : (name : List ℕ) (count fence : ℕ) → ClaimsBy (kept_under old (name_part_at old.end count name)) name fence →
+          ClaimsBy (kept_under new (name_part_at new.end count name)) name fence
       still_under name count fence c =
-          subst (λ e. ClaimsBy (kept_under new (part_of e count name)) name fence) (sym keeps.end) (still_claims (part_of old.end count name) name fence c)
+          subst (λ e. ClaimsBy (kept_under new (name_part_at e count name)) name fence) (sym keeps.end) (still_claims (name_part_at old.end count name) name fence c)
 
 -- The claim with the claims of the patterns of one more length.
-pub tells_length_more : (kept : PatternsAtEnd) (name : List ℕ) (lengths : List ℕ) (count : ℕ) (claim more : Claim) →
+pub reports_length_more : (kept : PatternsAtEnd) (name : List ℕ) (lengths : List ℕ) (count : ℕ) (claim more : Claim) →
     CountsFences (λ fence. Any (λ n. ClaimsUnder kept name n fence) lengths) claim → CountsFences (ClaimsUnder kept name count) more →
     CountsFences (λ fence. Any (λ n. ClaimsUnder kept name n fence) (lengths ++ count ∷ [])) (merged claim more)
-tells_length_more kept name lengths count claim more h g =
-    tells_same (λ fence. Any (λ n. ClaimsUnder kept name n fence) lengths ⊎ ClaimsUnder kept name count fence)
+reports_length_more kept name lengths count claim more h g =
+    reports_same (λ fence. Any (λ n. ClaimsUnder kept name n fence) lengths ⊎ ClaimsUnder kept name count fence)
     (λ fence. Any (λ n. ClaimsUnder kept name n fence) (lengths ++ count ∷ [])) (merged claim more)
     (λ fence u. elim u [
       | inl early ↦ any_left (λ n. ClaimsUnder kept name n fence) lengths (count ∷ []) early
@@ -168,29 +168,29 @@ tells_length_more kept name lengths count claim more h g =
       | inl early ↦ inl early
       | inr last ↦ inr (any_one (λ n. ClaimsUnder kept name n fence) count last)
     ])
-    (tells_merged (λ fence. Any (λ n. ClaimsUnder kept name n fence) lengths) (ClaimsUnder kept name count) claim more h g)
+    (reports_merged (λ fence. Any (λ n. ClaimsUnder kept name n fence) lengths) (ClaimsUnder kept name count) claim more h g)
 
 -- All patterns claim what the patterns of all lengths claim.
-pub tells_all : (kept : PatternsAtEnd) (name : List ℕ) (claim : Claim) →
+pub reports_all : (kept : PatternsAtEnd) (name : List ℕ) (claim : Claim) →
     CountsFences (λ fence. Any (λ n. ClaimsUnder kept name n fence) kept.lengths.items) claim → (bounds : List FencePattern) → HasAtEnd kept bounds →
     CountsFences (ClaimsBy bounds name) claim
-tells_all kept name claim told bounds h =
-    tells_same (λ fence. Any (λ n. ClaimsUnder kept name n fence) kept.lengths.items) (ClaimsBy bounds name) claim
-    (λ fence a. h.own (part_of kept.end a.1 name) name fence a.4.1) (λ fence. h.found name fence) told
+reports_all kept name claim reported bounds h =
+    reports_same (λ fence. Any (λ n. ClaimsUnder kept name n fence) kept.lengths.items) (ClaimsBy bounds name) claim
+    (λ fence a. h.own (name_part_at kept.end a.1 name) name fence a.4.1) (λ fence. h.found name fence) reported
 
-pub tells_next_length : (kept : PatternsAtEnd) (name read : List ℕ) (index : ℕ) (claim more : Claim) → read ≡ kept.lengths.items → index < length read →
+pub reports_next_length : (kept : PatternsAtEnd) (name read : List ℕ) (index : ℕ) (claim more : Claim) → read ≡ kept.lengths.items → index < length read →
     CountsFences (λ fence. Any (λ n. ClaimsUnder kept name n fence) (take index kept.lengths.items)) claim →
     CountsFences (ClaimsUnder kept name (get_or read index 0)) more → CountsFences (λ fence. Any (λ n. ClaimsUnder kept name n fence) (take (index + 1) kept.lengths.items)) (merged claim more)
-tells_next_length kept name read index claim more same within h g =
+reports_next_length kept name read index claim more same within h g =
     let lengths : List ℕ = kept.lengths.items in
     let inside : index < length lengths = rw same at within in
     let count : ℕ = get_or lengths index 0 in
     let one : take index lengths ++ count ∷ [] ≡ take (index + 1) lengths = one_bound_more lengths index count inside (get_or_default lengths index 0 count inside) in
-    rw (← one) (tells_length_more kept name (take index lengths) count claim more h (rw same at g))
+    rw (← one) (reports_length_more kept name (take index lengths) count claim more h (rw same at g))
 
 -- The patterns of a key that the name has at this end.
-pub tells_under : (kept : PatternsAtEnd) (name part : List ℕ) (count : ℕ) (claim : Claim) → count ≤ length name → part ≡ part_of kept.end count name →
+pub reports_under : (kept : PatternsAtEnd) (name part : List ℕ) (count : ℕ) (claim : Claim) → count ≤ length name → part ≡ name_part_at kept.end count name →
     CountsFences (ClaimsBy (kept_under kept part) name) claim → CountsFences (ClaimsUnder kept name count) claim
-tells_under kept name part count claim within is h =
-    tells_same (ClaimsBy (kept_under kept (part_of kept.end count name)) name) (ClaimsUnder kept name count) claim
+reports_under kept name part count claim within is h =
+    reports_same (ClaimsBy (kept_under kept (name_part_at kept.end count name)) name) (ClaimsUnder kept name count) claim
     (λ fence one. (within, one)) (λ fence one. one.1) (rw is at h)

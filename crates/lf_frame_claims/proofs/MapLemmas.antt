@@ -11,9 +11,9 @@ use Rattle.std.proofs.lemmas.List.Folds.{position_or_len_push}
 use Rattle.std.proofs.lemmas.Option.{slice_get_within}
 use Rattle.std.proofs.lemmas.Slice.Eq.{bytes_eq-Decides}
 use Rattle.lf_names.specs.Names.{position_of}
-use Rattle.lf_names.proofs.Positions.{stands_there}
+use Rattle.lf_names.proofs.Positions.{is_found_there}
 use Rattle.lf_frame_claims.specs.declared.name_map.NameMap.{NameMap}
-use Rattle.lf_frame_claims.specs.NameMaps.{value_of, HasAllValues, SetsValue}
+use Rattle.lf_frame_claims.specs.NameMaps.{value_of_name, HasAllValues, SetsValue}
 use Rattle.lf_frame_claims.specs.Claims.{NumbersNames, NumbersOneMore}
 
 -- A position is a place in the list. Without a position the place is its length.
@@ -115,13 +115,13 @@ new_others names vs y v whole q apart = by (position_of names q) refl
     by : (at : Option ℕ) → position_of names q ≡ at → value_at (names ++ y ∷ []) (vs ++ v ∷ []) q ≡ value_at names vs q
     by None e = value_by (names ++ y ∷ []) (vs ++ v ∷ []) q None (stays_out names y q apart e) ∙ sym (value_by names vs q None e)
     by (Some n) e =
-        let within : n < length names = slice_get_within names n q (stands_there names q n e) in
+        let within : n < length names = slice_get_within names n q (is_found_there names q n e) in
         value_by (names ++ y ∷ []) (vs ++ v ∷ []) q (Some n) (stays names y q n e) ∙ get_push vs v n (omega arith) ∙ sym (value_by names vs q (Some n) e)
 
 pub old_there : {V : Type 0} (names : List (List ℕ)) (vs : List V) (q : List ℕ) (n : ℕ) (v : V) → length names ≡ length vs → position_of names q ≡ Some n →
     value_at names (set vs n v) q ≡ Some v
 old_there names vs q n v whole e =
-    let within : n < length names = slice_get_within names n q (stands_there names q n e) in
+    let within : n < length names = slice_get_within names n q (is_found_there names q n e) in
     value_by names (set vs n v) q (Some n) e ∙ get_set vs n v (omega arith)
 
 pub old_others : {V : Type 0} (names : List (List ℕ)) (vs : List V) (y : List ℕ) (n : ℕ) (v : V) → position_of names y ≡ Some n → (q : List ℕ) → q ≢ y →
@@ -136,15 +136,15 @@ old_others names vs y n v at_y q apart = by (position_of names q) refl
       where
         one_name : (m : ℕ) → m ≡ n → position_of names q ≡ Some m → q ≡ y
         one_name m same e =
-            let first : slice_get names m ≡ Some q = stands_there names q m e in
-            let second : slice_get names n ≡ Some y = stands_there names y n at_y in
+            let first : slice_get names m ≡ Some q = is_found_there names q m e in
+            let second : slice_get names n ≡ Some y = is_found_there names y n at_y in
             cc
 
 -- Names at one place are equal.
 pub one_at_place : (names : List (List ℕ)) (a b : List ℕ) (n : ℕ) → position_of names a ≡ Some n → position_of names b ≡ Some n → a ≡ b
 one_at_place names a b n at_a at_b =
-    let first : slice_get names n ≡ Some a = stands_there names a n at_a in
-    let second : slice_get names n ≡ Some b = stands_there names b n at_b in
+    let first : slice_get names n ≡ Some a = is_found_there names a n at_a in
+    let second : slice_get names n ≡ Some b = is_found_there names b n at_b in
     cc
 
 -- A name that is appended moves no other name.
@@ -156,23 +156,23 @@ unmoved names y q known = by (position_of names q) refl
     by (Some n) e = stays names y q n e ∙ sym e
 
 -- A map of places after a name is appended to the list.
-pub numbers_put : (old new : NameMap ℕ) (number : ℕ) (name : List ℕ) → value_of old name ≡ None → SetsValue old new name number → NumbersOneMore old new number name
+pub numbers_put : (old new : NameMap ℕ) (number : ℕ) (name : List ℕ) → value_of_name old name ≡ None → SetsValue old new name number → NumbersOneMore old new number name
 numbers_put old new number name absent puts = record { whole = puts.whole; numbers = λ names many numbered q. by names many numbered q (bytes_eq q name) refl }
   where
     by : (names : List (List ℕ)) → number ≡ length names → NumbersNames names old → (q : List ℕ) (t : Bool) → bytes_eq q name ≡ t →
-        value_of new q ≡ position_of (names ++ name ∷ []) q
+        value_of_name new q ≡ position_of (names ++ name ∷ []) q
     by names many numbered q true e =
         let same : q ≡ name = (bytes_eq-Decides q name).0 e in
         let nowhere : position_of names name ≡ None = sym (numbered name) ∙ absent in
-        ap (value_of new) same ∙ puts.there ∙ ap Some many ∙ sym (goes_last names name nowhere) ∙ ap (position_of (names ++ name ∷ [])) (sym same)
+        ap (value_of_name new) same ∙ puts.there ∙ ap Some many ∙ sym (goes_last names name nowhere) ∙ ap (position_of (names ++ name ∷ [])) (sym same)
     by names many numbered q false e =
         let apart : q ≢ name = λ same. false≢true (sym e ∙ (bytes_eq-Decides q name).1 same) in
         puts.others q apart ∙ numbered q ∙ sym (unmoved names name q (λ same _. apart same))
 
-pub numbers_kept : (old : NameMap ℕ) (number n : ℕ) (name : List ℕ) → HasAllValues old → value_of old name ≡ Some n → NumbersOneMore old old number name
+pub numbers_kept : (old : NameMap ℕ) (number n : ℕ) (name : List ℕ) → HasAllValues old → value_of_name old name ≡ Some n → NumbersOneMore old old number name
 numbers_kept old number n name whole known = record {
   whole = whole;
-  numbers = λ names many numbered q. numbered q ∙ sym (unmoved names name q (λ same none. not_both (sym (numbered q ∙ none) ∙ ap (value_of old) same ∙ known)));
+  numbers = λ names many numbered q. numbered q ∙ sym (unmoved names name q (λ same none. not_both (sym (numbered q ∙ none) ∙ ap (value_of_name old) same ∙ known)));
 }
   where
     not_both : None ≡ Some n → ⊥

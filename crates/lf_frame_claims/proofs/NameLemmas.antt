@@ -33,15 +33,15 @@ names_more components n c within is = grind (arith, common_steps)
 pub names_apart : (components : List Component) (d : Component) → NoneBreaks HasEarlierName components →
     AllPairs (λ name later. name ≢ later) (names_of components)
 names_apart components d none i j e below within same =
-    let behind : j < length components = omega (arith, many_names components) in
+    let after_it : j < length components = omega (arith, many_names components) in
     let early : i < length (take j components) = grind (arith, common_steps) in
     let there : get_or (take j components) i (get_or components i d) ≡ get_or components i d = grind (arith, common_steps, get_or_default components i (get_or components i d) d) in
-    none j d behind (i, get_or components i d, early, there, sym (name_at components i d e (omega arith)) ∙ same ∙ name_at components j d e behind)
+    none j d after_it (i, get_or components i d, early, there, sym (name_at components i d e (omega arith)) ∙ same ∙ name_at components j d e after_it)
 
 -- If all names differ, no component has the name of an earlier one.
 pub differ_none : (components : List Component) → AllPairs (λ name later. name ≢ later) (names_of components) → NoneBreaks HasEarlierName components
 differ_none components differ k d within (i, e, inside, is, same) =
-    let behind : k < length (names_of components) = omega (arith, many_names components) in
+    let after_it : k < length (names_of components) = omega (arith, many_names components) in
     let early : i < k = grind (arith, common_steps) in
     let earlier : get_or (take k components) i e ≡ get_or components i e = grind (arith, common_steps) in
-    differ i k [] early behind (name_at components i e [] (omega arith) ∙ ap (λ (c : Component). c.name) (sym earlier ∙ is) ∙ same ∙ sym (name_at components k d [] within))
+    differ i k [] early after_it (name_at components i e [] (omega arith) ∙ ap (λ (c : Component). c.name) (sym earlier ∙ is) ∙ same ∙ sym (name_at components k d [] within))

@@ -63,16 +63,16 @@ first (c ∷ components) some = c
 pub none_differ : (components : List Component) → NoneBreaks HasEarlierName components → Differ (numbered_names components)
 none_differ components none i j e below within same =
     let d : Component = first components (omega (arith, many_numbered components)) in
-    let behind : j < length components = omega (arith, many_numbered components) in
+    let after_it : j < length components = omega (arith, many_numbered components) in
     let early : i < length components = omega arith in
     names_apart components d none i j [] below (omega (arith, many_names components))
-    (name_at components i d [] early ∙ sym (ap (λ (l : Labelled). l.name) (numbered_at components i d e early)) ∙ same ∙ ap (λ (l : Labelled). l.name) (numbered_at components j d e behind) ∙ sym (name_at components j d [] behind))
+    (name_at components i d [] early ∙ sym (ap (λ (l : Labelled). l.name) (numbered_at components i d e early)) ∙ same ∙ ap (λ (l : Labelled). l.name) (numbered_at components j d e after_it) ∙ sym (name_at components j d [] after_it))
 
 pub differ_breaks_none : (components : List Component) → Differ (numbered_names components) → NoneBreaks HasEarlierName components
 differ_breaks_none components differ = differ_none components (λ i j e below within same.
     let d : Component = first components (omega (arith, many_names components)) in
-    let behind : j < length components = omega (arith, many_names components) in
+    let after_it : j < length components = omega (arith, many_names components) in
     let early : i < length components = omega arith in
     let none : Labelled = record { label = 0; name = [] } in
     differ i j none below (omega (arith, many_numbered components))
-    (ap (λ (l : Labelled). l.name) (numbered_at components i d none early) ∙ sym (name_at components i d e early) ∙ same ∙ name_at components j d e behind ∙ sym (ap (λ (l : Labelled). l.name) (numbered_at components j d none behind))))
+    (ap (λ (l : Labelled). l.name) (numbered_at components i d none early) ∙ sym (name_at components i d e early) ∙ same ∙ name_at components j d e after_it ∙ sym (ap (λ (l : Labelled). l.name) (numbered_at components j d none after_it))))

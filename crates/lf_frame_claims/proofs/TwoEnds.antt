@@ -7,7 +7,7 @@ use Rattle.lf_frame_claims.specs.declared.star_patterns.FencePattern.{FencePatte
 use Rattle.lf_frame_claims.specs.declared.star_patterns.StarredPatterns.{StarredPatterns}
 use Rattle.lf_frame_claims.specs.Claims.{merged, CountsFences, ClaimsBy, HasAtEnd, HasStarred}
 use Rattle.lf_frame_claims.proofs.KeyLemmas.{no_claim_no_pattern}
-use Rattle.lf_frame_claims.proofs.Tellings.{claims_parts, claims_old, claims_new, tells_same, tells_merged}
+use Rattle.lf_frame_claims.proofs.Tellings.{claims_parts, claims_old, claims_new, reports_same, reports_merged}
 use Rattle.lf_units.proofs.Any.{none_of_nothing}
 
 claims_none : (bounds : List FencePattern) (name : List ℕ) (fence : ℕ) → bounds ≡ [] → ClaimsBy bounds name fence → ⊥
@@ -74,18 +74,18 @@ module _ (old new : StarredPatterns) (b : FencePattern) where
   }
 
 -- All patterns claim what the patterns at the two ends claim.
-pub tells_together : (starred : StarredPatterns) (name : List ℕ) (front back : Claim) →
+pub reports_together : (starred : StarredPatterns) (name : List ℕ) (front back : Claim) →
     ((fronts : List FencePattern) → HasAtEnd starred.fronts fronts → CountsFences (ClaimsBy fronts name) front) →
     ((backs : List FencePattern) → HasAtEnd starred.backs backs → CountsFences (ClaimsBy backs name) back) → (bounds : List FencePattern) → HasStarred starred bounds →
     CountsFences (ClaimsBy bounds name) (merged front back)
-tells_together starred name front back by_front by_back bounds h =
-    tells_same (λ fence. ClaimsBy h.fronts name fence ⊎ ClaimsBy h.backs name fence) (ClaimsBy bounds name) (merged front back)
+reports_together starred name front back by_front by_back bounds h =
+    reports_same (λ fence. ClaimsBy h.fronts name fence ⊎ ClaimsBy h.backs name fence) (ClaimsBy bounds name) (merged front back)
     (λ fence u. (h.together name fence).1 u) (λ fence c. (h.together name fence).0 c)
-    (tells_merged (ClaimsBy h.fronts name) (ClaimsBy h.backs name) front back (by_front h.fronts h.by_front) (by_back h.backs h.by_back))
+    (reports_merged (ClaimsBy h.fronts name) (ClaimsBy h.backs name) front back (by_front h.fronts h.by_front) (by_back h.backs h.by_back))
 
 -- All patterns claim what the patterns at the front claim, if there are no patterns at the back.
-pub tells_at_front : (starred : StarredPatterns) (name : List ℕ) (front : Claim) →
+pub reports_at_front : (starred : StarredPatterns) (name : List ℕ) (front : Claim) →
     ((fronts : List FencePattern) → HasAtEnd starred.fronts fronts → CountsFences (ClaimsBy fronts name) front) →
     ((backs : List FencePattern) → HasAtEnd starred.backs backs → backs ≡ []) → (bounds : List FencePattern) → HasStarred starred bounds → CountsFences (ClaimsBy bounds name) front
-tells_at_front starred name front by_front none bounds h =
-    tells_together starred name front Unclaimed by_front (λ backs has fence c. claims_none backs name fence (none backs has) c) bounds h
+reports_at_front starred name front by_front none bounds h =
+    reports_together starred name front Unclaimed by_front (λ backs has fence c. claims_none backs name fence (none backs has) c) bounds h

@@ -6,7 +6,7 @@ use Rattle.lf_def.specs.declared.groups.Group.{Group}
 use Rattle.lf_def.specs.declared.components.Component.{Component}
 use Rattle.lf_frame_claims.specs.declared.claim.Claim.{Claim}
 use Rattle.lf_frame_claims.specs.declared.claim.Claim.TheVariants.{Unclaimed, ByOne, ByTwo}
-use Rattle.lf_frame_claims.specs.Teams.{fences, IsUnclaimed, IsClaimedBy, IsTeamOf}
+use Rattle.lf_frame_claims.specs.Teams.{fences, IsUnclaimed, IsClaimedBy, IsTeamOfComponent}
 use Rattle.lf_frame_claims.specs.Entries.{NoneBreaks, FirstIs}
 use Rattle.lf_frame_claims.specs.Refusals.{HasTwoFences, HasEarlierName, IsClaimedTwice}
 
@@ -51,7 +51,7 @@ FindsDuplicate table found =
 abbrev pub FindsTeam : ClaimFacts → ℕ → ℕ → Type 0
 FindsTeam table number team =
     (regions : List Region) (groups : List Group) (components : List Component) → IsTableOf regions groups components table
-    → NoneBreaks HasEarlierName components → (c : Component) → slice_get components number ≡ Some c → (HasTwoFences regions groups c.name → ⊥) → IsTeamOf regions groups c.name team
+    → NoneBreaks HasEarlierName components → (c : Component) → slice_get components number ≡ Some c → (HasTwoFences regions groups c.name → ⊥) → IsTeamOfComponent regions groups c.name team
 
 -- Holds if, for any regions and groups that make this claim on the component, the result is true if
 -- and only if two fences claim it.

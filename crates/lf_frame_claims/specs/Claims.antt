@@ -18,23 +18,23 @@ use Rattle.lf_frame_claims.specs.declared.star_patterns.PatternsAtEnd.{PatternsA
 use Rattle.lf_frame_claims.specs.declared.star_patterns.StarredPatterns.{StarredPatterns}
 use Rattle.lf_frame_claims.specs.declared.pattern_index.PatternIndex.{PatternIndex}
 use Rattle.lf_frame_claims.specs.declared.name_map.NameMap.{NameMap}
-use Rattle.lf_frame_claims.specs.NameMaps.{value_of, HasAllValues}
+use Rattle.lf_frame_claims.specs.NameMaps.{value_of_name, HasAllValues}
 use Rattle.lf_frame_claims.specs.Teams.{fence_names}
 use Rattle.lf_frame_claims.specs.Entries.{NoneBreaks}
 use Rattle.lf_frame_claims.specs.Refusals.{HasEarlierName}
 use Rattle.lf_frame_claims.specs.ClaimTables.{claim_at}
-use Rattle.lf_frame_claims.specs.Ends.{key_of, part_of}
+use Rattle.lf_frame_claims.specs.Ends.{key_of, name_part_at}
 
 -- The claim with this fence added.
-abbrev pub joined : Claim → ℕ → Claim
-joined Unclaimed fence = ByOne fence
-joined (ByOne other) fence = if other == fence then ByOne other else ByTwo
-joined ByTwo fence = ByTwo
+abbrev pub claim_with : Claim → ℕ → Claim
+claim_with Unclaimed fence = ByOne fence
+claim_with (ByOne other) fence = if other == fence then ByOne other else ByTwo
+claim_with ByTwo fence = ByTwo
 
 -- The union of two claims.
 abbrev pub merged : Claim → Claim → Claim
 merged claim Unclaimed = claim
-merged claim (ByOne fence) = joined claim fence
+merged claim (ByOne fence) = claim_with claim fence
 merged claim ByTwo = ByTwo
 
 -- Holds if the claim counts the fences of a set: none, exactly one, or two different ones.
@@ -50,7 +50,7 @@ ClaimsBy bounds name fence = Any (λ b. (b.fence ≡ fence) × Matches b.pattern
 -- Holds if the pattern's fence is added to the claim when the name matches. Otherwise the claim is
 -- unchanged.
 abbrev pub AddsPattern : FencePattern → List ℕ → Claim → Claim → Type 0
-AddsPattern b name claim after = (Matches b.pattern name × (after ≡ joined claim b.fence)) ⊎ ((Matches b.pattern name → ⊥) × (after ≡ claim))
+AddsPattern b name claim after = (Matches b.pattern name × (after ≡ claim_with claim b.fence)) ⊎ ((Matches b.pattern name → ⊥) × (after ≡ claim))
 
 -- Holds if the name is in the list with this label.
 abbrev pub Labels : List Labelled → List ℕ → ℕ → Type 0
@@ -58,7 +58,7 @@ Labels names name label = Contains names (record { label = label; name = name })
 
 -- Holds if a match pairs the name of this number with a requested name of this label.
 abbrev pub IsMatched : List Match → ℕ → ℕ → Type 0
-IsMatched matches number label = Contains matches (record { own = number; asked = label })
+IsMatched matches number label = Contains matches (record { own = number; requested = label })
 
 -- Holds if the pattern matches its own bytes and no others.
 abbrev pub MatchesItselfAlone : List ℕ → Type 0
@@ -89,7 +89,7 @@ kept_under kept key = bounds_there (option_and_then (slice_get kept.bounds.items
 -- Holds if a pattern that is stored under this number of the name's bytes at this end claims the
 -- name.
 abbrev pub ClaimsUnder : PatternsAtEnd → List ℕ → ℕ → ℕ → Type 0
-ClaimsUnder kept name count fence = (count ≤ length name) × ClaimsBy (kept_under kept (part_of kept.end count name)) name fence
+ClaimsUnder kept name count fence = (count ≤ length name) × ClaimsBy (kept_under kept (name_part_at kept.end count name)) name fence
 
 -- Holds if these patterns are stored. If one of them claims a name, some pattern that is stored
 -- under the name's bytes at this end, with one of the listed lengths, claims it. The stored
@@ -140,7 +140,7 @@ ExtendsIndex old new more = (bounds : List FencePattern) → IndexesPatterns old
 -- Holds if the map has the position of each name of the list. If a name is in the list twice, it
 -- has the first position.
 abbrev pub NumbersNames : List (List ℕ) → NameMap ℕ → Type 0
-NumbersNames names numbers = (name : List ℕ) → value_of numbers name ≡ position_of names name
+NumbersNames names numbers = (name : List ℕ) → value_of_name numbers name ≡ position_of names name
 
 -- Holds if the new map numbers the names that the old map numbers, and then this name.
 pub record NumbersOneMore (old new : NameMap ℕ) (number : ℕ) (name : List ℕ) : Type 0 where
@@ -149,12 +149,12 @@ pub record NumbersOneMore (old new : NameMap ℕ) (number : ℕ) (name : List �
 
 -- Holds if each component has the claim at its number, by the fences that its name determines.
 abbrev pub AreClaimsByName : (List ℕ → ℕ → Type 0) → List Component → List Claim → Type 0
-AreClaimsByName claims components told = (k : ℕ) (d : Component) → k < length components → CountsFences (claims (slice_index_or components k d).name) (claim_at told k)
+AreClaimsByName claims components reported = (k : ℕ) (d : Component) → k < length components → CountsFences (claims (slice_index_or components k d).name) (claim_at reported k)
 
 -- Holds if each component has its claim when all names differ. There are no claims if and only if
 -- two components have the same name.
 abbrev pub AreClaimsWhereDistinct : (List ℕ → ℕ → Type 0) → List Component → Option (List Claim) → Type 0
-AreClaimsWhereDistinct claims components (Some told) = NoneBreaks HasEarlierName components × AreClaimsByName claims components told
+AreClaimsWhereDistinct claims components (Some reported) = NoneBreaks HasEarlierName components × AreClaimsByName claims components reported
 AreClaimsWhereDistinct claims components None = NoneBreaks HasEarlierName components → ⊥
 
 -- Holds if the new claims add those of the starred patterns of the index to the old claims, which

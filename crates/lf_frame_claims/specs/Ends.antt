@@ -10,6 +10,6 @@ key_of Front pattern = prefix_of pattern
 key_of Back pattern = suffix_of pattern
 
 -- The first or last `count` bytes of a name.
-abbrev pub part_of : End → ℕ → List ℕ → List ℕ
-part_of Front count name = take count name
-part_of Back count name = drop (length name - count) name
+abbrev pub name_part_at : End → ℕ → List ℕ → List ℕ
+name_part_at Front count name = take count name
+name_part_at Back count name = drop (length name - count) name

@@ -17,7 +17,7 @@ abbrev pub FirstIs : {A : Type 0} → (List A → A → Type 0) → List A → O
 FirstIs breaks entries found = MatchOption found (NoneBreaks breaks entries) (IsFirst breaks entries)
 
 -- The first number so far, given whether this number counts.
-abbrev pub first_of : Option ℕ → ℕ → Bool → Option ℕ
-first_of (Some earlier) number counts = Some earlier
-first_of None number true = Some number
-first_of None number false = None
+abbrev pub first_counted : Option ℕ → ℕ → Bool → Option ℕ
+first_counted (Some earlier) number counts = Some earlier
+first_counted None number true = Some number
+first_counted None number false = None

@@ -1,7 +1,7 @@
 //! Claims of fences on component names.
 
 ghost use Rattle.std.specs.Prelude.{◌≡◌};
-ghost use Rattle.lf_frame_claims.specs.Claims.{joined as joined_claim, merged as merged_claim};
+ghost use Rattle.lf_frame_claims.specs.Claims.{claim_with as joined_claim, merged as merged_claim};
 
 /// The claim on a name.
 #[derive(Clone, Copy)]

@@ -1,7 +1,7 @@
 //! The claims of fences on each name of a list.
 
 ghost use Rattle.std.specs.Prelude.{◌≡◌, ◌<◌, ℕ, IfOk, OnErr, OnOk, SomeIff, length, replicate, slice_set};
-ghost use Rattle.lf_frame_claims.specs.ShortClaims.{IsShort};
+ghost use Rattle.lf_frame_claims.specs.ShortClaims.{IsShortClaim};
 ghost use Rattle.lf_frame_claims.specs.Claims.{merged as merged_claim, CountsFences, IsMatched};
 ghost use Rattle.lf_frame_claims.specs.ClaimTables.{claim_at};
 
@@ -23,13 +23,13 @@ impl Model for ShortClaim {
 
     ghost Value = { Claim };
 
-    ghost use Rattle.lf_frame_claims.specs.ShortClaims.{claim_in, shortened, shortened_back};
+    ghost use Rattle.lf_frame_claims.specs.ShortClaims.{claim_in, stored_claim, stored_claim_back};
 
     ghost view = { claim_in };
 
-    ghost inverse = { shortened };
+    ghost inverse = { stored_claim };
 
-    ghost inverse_ok = { λ a h. shortened_back a };
+    ghost inverse_ok = { λ a h. stored_claim_back a };
 }
 
 const _: () = prove!(size_of::<ShortClaim>() == 4 && size_of::<Claim>() == 16);
@@ -75,7 +75,7 @@ impl ShortClaim {
 
 /// Returns the claim of only this fence in 32 bits, or `None` if it needs more.
 fn short_by_one(fence: usize) -> Option<ShortClaim>
-    ensures { SomeIff result (IsShort (Claim.ByOne fence)) (Claim.ByOne fence) }
+    ensures { SomeIff result (IsShortClaim (Claim.ByOne fence)) (Claim.ByOne fence) }
 {
     let code = fence.checked_add(2)?;
     match u32::try_from(code) {
@@ -86,7 +86,7 @@ fn short_by_one(fence: usize) -> Option<ShortClaim>
 
 /// Returns the claim in 32 bits, or `None` if it needs more.
 fn short_claim(claim: Claim) -> Option<ShortClaim>
-    ensures { SomeIff result (IsShort claim) claim }
+    ensures { SomeIff result (IsShortClaim claim) claim }
 {
     match claim {
         Claim::Unclaimed => Some(ShortClaim { code: 0 }),
@@ -203,11 +203,11 @@ pub(crate) fn claims_by_match(
     matches: &[Match],
 ) -> Result<Claims, AllocError>
     ensures long { IfOk result (λ claims. length claims ≡ count) }
-    ensures told { IfOk result (λ claims. (number : ℕ) → number < count → CountsFences (IsMatched matches.now number) (claim_at claims number)) }
+    ensures reported { IfOk result (λ claims. (number : ℕ) → number < count → CountsFences (IsMatched matches.now number) (claim_at claims number)) }
 {
     let mut claims = Claims::unclaimed(alloc, count)?;
     for found in matches {
-        claims.merge(alloc, found.own, Claim::ByOne(found.asked))?;
+        claims.merge(alloc, found.own, Claim::ByOne(found.requested))?;
     }
     Ok(claims)
 }

@@ -1,7 +1,7 @@
 //! Maps from names.
 
 ghost use Rattle.std.specs.Prelude.{◌≡◌, ℕ, List, None, OnOk};
-ghost use Rattle.lf_frame_claims.specs.NameMaps.{value_of, HasAllValues, SetsValue};
+ghost use Rattle.lf_frame_claims.specs.NameMaps.{value_of_name, HasAllValues, SetsValue};
 
 use lf_names::{Added, NameTable};
 use std::alloc::{AllocError, Global};
@@ -18,7 +18,7 @@ impl<V: Copy> NameMap<V> {
     /// Returns an empty map.
     pub(crate) fn new(alloc: Global) -> Self
         ensures whole { HasAllValues result }
-        ensures nothing { (name : List ℕ) → value_of result name ≡ None }
+        ensures nothing { (name : List ℕ) → value_of_name result name ≡ None }
     {
         NameMap {
             names: NameTable::new(alloc),
@@ -28,7 +28,7 @@ impl<V: Copy> NameMap<V> {
 
     /// Returns the name's value, or `None` if it has no value.
     pub(crate) fn get(&self, name: &[u8]) -> Option<V>
-        ensures { result ≡ value_of self.now name.now }
+        ensures { result ≡ value_of_name self.now name.now }
     {
         match self.names.find(name) {
             Some(at) => self.values.get(at).copied(),

@@ -4,7 +4,7 @@ ghost use Rattle.std.specs.Prelude.{◌≡◌, [], ◌∷◌, List, Some, IfOk, 
 ghost use Rattle.std.specs.Option.{option_and_then};
 ghost use Rattle.lf_def.specs.declared.regions.Region.{Region};
 ghost use Rattle.lf_frame_claims.specs.Teams.{fence_names};
-ghost use Rattle.lf_frame_claims.specs.NameMaps.{value_of};
+ghost use Rattle.lf_frame_claims.specs.NameMaps.{value_of_name};
 ghost use Rattle.lf_frame_claims.specs.declared.star_patterns.FencePattern.{FencePattern};
 ghost use Rattle.lf_frame_claims.specs.Claims.{AddStarred, AreClaimsWhereDistinct, ClaimsBy, ExtendsIndex, IndexesPatterns, Labels, MatchesItselfAlone, NumbersNames};
 ghost use Rattle.lf_frame_claims.specs.Claims.{all_bounds, bound_to};
@@ -87,7 +87,7 @@ impl PatternIndex {
         numbers: &NameMap<usize>,
     ) -> Result<(), AllocError>
         ensures { OnOk result (ExtendsIndex self.old self.new
-            (bound_to (option_and_then (value_of numbers.now) group.now.region) group.now.patterns)) }
+            (bound_to (option_and_then (value_of_name numbers.now) group.now.region) group.now.patterns)) }
     {
         match fence_of(group, numbers) {
             Some(fence) => self.add_patterns(alloc, group.patterns.as_slice(), fence),
@@ -103,7 +103,7 @@ impl PatternIndex {
         components: &[Component],
     ) -> Result<Option<Claims>, AllocError>
         ensures long { IfOk result (λ claims. IfSome claims (λ all. length all ≡ length components.now)) }
-        ensures told { IfOk result (AreClaimsWhereDistinct (Labels self.now.literals) components.now) }
+        ensures reported { IfOk result (AreClaimsWhereDistinct (Labels self.now.literals) components.now) }
     {
         let names = parts_of_components(alloc, components)?;
         let Some(matches) = names.matches(alloc, &self.literals)? else {
@@ -167,7 +167,7 @@ impl PatternIndex {
 /// Returns the number of the fence to which the group is bound, or `None` if it is bound to no
 /// fence.
 fn fence_of(group: &Group, numbers: &NameMap<usize>) -> Option<usize>
-    ensures { result ≡ option_and_then (value_of numbers.now) group.now.region }
+    ensures { result ≡ option_and_then (value_of_name numbers.now) group.now.region }
 {
     match &group.region {
         Some(region) => numbers.get(region.as_bytes()),

@@ -12,9 +12,9 @@ use Rattle.lf_spans.proofs.Anys.{any_cases, any_head, any_tail, any_left, any_sp
 use Rattle.lf_spans.proofs.Edges.{InOne, in_of_lies, in_one_of_lies, rising_drop}
 use Rattle.lf_spans.specs.declared.grid.SiteGrid.{SiteGrid}
 use Rattle.lf_gaps.specs.declared.row.Target.{Target}
-use Rattle.lf_spans.specs.Grids.{FindsNearest, FitsSpan, IsBoundedSpan, IsNoFarther, LiesInSpanFrom, distance}
+use Rattle.lf_spans.specs.Grids.{FindsNearest, FitsSpan, IsBoundedSpan, IsNoFarther, LiesInSpanFrom, distance_to}
 use Rattle.lf_gaps.specs.Gaps.{FitsRows}
-use Rattle.lf_gaps.specs.Steps.{FitsOne, IsBefore, IsNearerOf, IsPast}
+use Rattle.lf_gaps.specs.Steps.{FitsOne, IsNearestSoFar, IsNearerOf, IsPast}
 
 along : (t x y z : ℤ) → IsNoFarther t x y → IsNoFarther t y z → IsNoFarther t x z
 along t x y z (inl a) (inl b) = inl (omega (arith, a, b))
@@ -53,7 +53,7 @@ nearest_of_same F G t (Some z) to from p = record { fit = to z p.fit; least = λ
 
 -- Numbers farther than the best so far do not matter.
 pub nearest_of_near : (F H : ℤ → Type 0) (t : ℤ) (found : Option ℤ) → ((x : ℤ) → F x → H x) → FindsNearest F t found →
-    IsSomeAnd found (λ z. (x : ℤ) → H x → F x ⊎ (distance t z < distance t x)) → FindsNearest H t found
+    IsSomeAnd found (λ z. (x : ℤ) → H x → F x ⊎ (distance_to t z < distance_to t x)) → FindsNearest H t found
 nearest_of_near F H t None to p far = absurd far
 nearest_of_near F H t (Some z) to p far = record {
   fit = to z p.fit;
@@ -149,7 +149,7 @@ found_in_front spans g width t k d (Some z) r within p past =
     below_or : (m : ℕ) → (m < k) ⊎ (k ≤ m)
     below_or m = grind arith
 
-    far : (x : ℤ) → FitsOne spans g width x → FitsOne (take k spans) g width x ⊎ (distance t z < distance t x)
+    far : (x : ℤ) → FitsOne spans g width x → FitsOne (take k spans) g width x ⊎ (distance_to t z < distance_to t x)
     far x f =
         let a : Any (λ s. LiesInSpanFrom s width x) spans = f.within in
         elim (below_or a.0) [
@@ -219,7 +219,7 @@ in_back {X} P k xs (m, x, within, is, p) above =
 
 -- The rest is too far left.
 pub found_in_back : (spans : List Span) (g : SiteGrid) (wanted : Target) (k : ℕ) (d : Span) (best : Option ℤ) → IsRising spans → k < length spans →
-    FindsNearest (λ x. FitsOne (drop (k + 1) spans) g wanted.width x) wanted.target best → IsBefore (get_or spans k d) best wanted →
+    FindsNearest (λ x. FitsOne (drop (k + 1) spans) g wanted.width x) wanted.target best → IsNearestSoFar (get_or spans k d) best wanted →
     FindsNearest (λ x. FitsOne spans g wanted.width x) wanted.target best
 found_in_back spans g wanted k d None r within p before = absurd before
 found_in_back spans g wanted k d (Some z) r within p before =
@@ -229,7 +229,7 @@ found_in_back spans g wanted k d (Some z) r within p before =
     above_or : (m : ℕ) → (k + 1 ≤ m) ⊎ (m ≤ k)
     above_or m = grind arith
 
-    far : (x : ℤ) → FitsOne spans g wanted.width x → FitsOne (drop (k + 1) spans) g wanted.width x ⊎ (distance wanted.target z < distance wanted.target x)
+    far : (x : ℤ) → FitsOne spans g wanted.width x → FitsOne (drop (k + 1) spans) g wanted.width x ⊎ (distance_to wanted.target z < distance_to wanted.target x)
     far x f =
         let a : Any (λ s. LiesInSpanFrom s wanted.width x) spans = f.within in
         elim (above_or a.0) [
@@ -245,16 +245,16 @@ found_in_back spans g wanted k d (Some z) r within p before =
 pub rest_from : {X : Type 0} (xs : List X) (n : ℕ) → take (length xs - n) (drop n xs) ≡ drop n xs
 rest_from xs n = take_all (length xs - n) (drop n xs) (omega (arith, length-drop n xs))
 
-pub found_behind : (spans : List Span) (g : SiteGrid) (width t : ℤ) (n : ℕ) (best : Option ℤ) →
+pub found_after : (spans : List Span) (g : SiteGrid) (width t : ℤ) (n : ℕ) (best : Option ℤ) →
     FindsNearest (λ x. FitsOne (take (length spans - n) (drop n spans)) g width x) t best →
     FindsNearest (λ x. FitsOne (drop n spans) g width x) t best
-found_behind spans g width t n best p = subst (λ (xs : List Span). FindsNearest (λ x. FitsOne xs g width x) t best) (rest_from spans n) p
+found_after spans g width t n best p = subst (λ (xs : List Span). FindsNearest (λ x. FitsOne xs g width x) t best) (rest_from spans n) p
 
-pub rising_behind : (spans : List Span) (n : ℕ) → IsRising spans → IsRising (take (length spans - n) (drop n spans))
-rising_behind spans n r = subst (λ (xs : List Span). IsRising xs) (sym (rest_from spans n)) (rising_drop n spans r)
+pub rising_after_it : (spans : List Span) (n : ℕ) → IsRising spans → IsRising (take (length spans - n) (drop n spans))
+rising_after_it spans n r = subst (λ (xs : List Span). IsRising xs) (sym (rest_from spans n)) (rising_drop n spans r)
 
-pub near_behind : (spans : List Span) (n : ℕ) → All IsBoundedSpan spans → All IsBoundedSpan (take (length spans - n) (drop n spans))
-near_behind spans n near = subst (λ (xs : List Span). All IsBoundedSpan xs) (sym (rest_from spans n)) (All-drop IsBoundedSpan n spans near)
+pub near_after : (spans : List Span) (n : ℕ) → All IsBoundedSpan spans → All IsBoundedSpan (take (length spans - n) (drop n spans))
+near_after spans n near = subst (λ (xs : List Span). All IsBoundedSpan xs) (sym (rest_from spans n)) (All-drop IsBoundedSpan n spans near)
 
 pub found_at_last : (spans : List Span) (g : SiteGrid) (width t : ℤ) (n : ℕ) (best : Option ℤ) → n ≤ 0 →
     FindsNearest (λ x. FitsOne (drop n spans) g width x) t best →
@@ -277,12 +277,12 @@ within_of_lies s width x some lies =
     let e : ContainsSpan (from_on x width) s = in_of_lies (from_on x width) s (omega (arith, ints, some)) lies in
     record { low = e.low; high = e.high }
 
-rows_of_met : (lists : List (List Span)) (met : List Span) (g : SiteGrid) (width x : ℤ) → pos 0 <ℤ width → IsMeetAll lists met → FitsOne met g width x →
+rows_of_overlapped : (lists : List (List Span)) (overlapping_one : List Span) (g : SiteGrid) (width x : ℤ) → pos 0 <ℤ width → IsMeetAll lists overlapping_one → FitsOne overlapping_one g width x →
     FitsRows lists g width x
-rows_of_met lists met g width x some m f =
+rows_of_overlapped lists overlapping_one g width x some m f =
     let filled : IsFilled (from_on x width) = omega (arith, ints, some) in
-    let inside : LiesInOneOf met (from_on x width) = any_weaker (λ s. LiesInSpanFrom s width x) (λ s. LiesIn (from_on x width) s) (λ s. lies_of_within s width x)
-    met f.within in
+    let inside : LiesInOneOf overlapping_one (from_on x width) = any_weaker (λ s. LiesInSpanFrom s width x) (λ s. LiesIn (from_on x width) s) (λ s. lies_of_within s width x)
+    overlapping_one f.within in
     let each : All (λ spans. LiesInOneOf spans (from_on x width)) lists = (m.exact (from_on x width) filled).0 inside in
     record {
       on_grid = f.on_grid;
@@ -290,29 +290,29 @@ rows_of_met lists met g width x some m f =
           (each k d below);
     }
 
-met_of_rows : (lists : List (List Span)) (met : List Span) (g : SiteGrid) (width x : ℤ) → pos 0 <ℤ width → IsMeetAll lists met → FitsRows lists g width x →
-    FitsOne met g width x
-met_of_rows lists met g width x some m f =
+overlapped_of_rows : (lists : List (List Span)) (overlapping_one : List Span) (g : SiteGrid) (width x : ℤ) → pos 0 <ℤ width → IsMeetAll lists overlapping_one → FitsRows lists g width x →
+    FitsOne overlapping_one g width x
+overlapped_of_rows lists overlapping_one g width x some m f =
     let filled : IsFilled (from_on x width) = omega (arith, ints, some) in
     let each : All (λ spans. LiesInOneOf spans (from_on x width)) lists =
     λ k d below. any_weaker (λ s. LiesInSpanFrom s width x) (λ s. LiesIn (from_on x width) s) (λ s. lies_of_within s width x) (get_or lists k d)
     (f.within k d below) in
-    let inside : LiesInOneOf met (from_on x width) = (m.exact (from_on x width) filled).1 each in
+    let inside : LiesInOneOf overlapping_one (from_on x width) = (m.exact (from_on x width) filled).1 each in
     record {
       on_grid = f.on_grid;
-      within = any_weaker (λ s. LiesIn (from_on x width) s) (λ s. LiesInSpanFrom s width x) (λ s. within_of_lies s width x some) met
+      within = any_weaker (λ s. LiesIn (from_on x width) s) (λ s. LiesInSpanFrom s width x) (λ s. within_of_lies s width x some) overlapping_one
           inside;
     }
 
-pub found_in_rows : (lists : List (List Span)) (met : List Span) (g : SiteGrid) (width target w t : ℤ) (best : Option ℤ) → pos 0 <ℤ width → w ≡ width →
-    t ≡ target → IsMeetAll lists met →
-    FindsNearest (λ x. FitsOne met g w x) t best → FindsNearest (λ x. FitsRows lists g width x) target best
-found_in_rows lists met g width target w t best some same_width same_target m p =
-    let first : FindsNearest (λ x. FitsOne met g width x) t best = subst (λ (v : ℤ). FindsNearest (λ x. FitsOne met g v x) t best) same_width p in
-    let second : FindsNearest (λ x. FitsOne met g width x) target best = subst (λ (v : ℤ). FindsNearest (λ x. FitsOne met g width x) v best) same_target
+pub found_in_rows : (lists : List (List Span)) (overlapping_one : List Span) (g : SiteGrid) (width target w t : ℤ) (best : Option ℤ) → pos 0 <ℤ width → w ≡ width →
+    t ≡ target → IsMeetAll lists overlapping_one →
+    FindsNearest (λ x. FitsOne overlapping_one g w x) t best → FindsNearest (λ x. FitsRows lists g width x) target best
+found_in_rows lists overlapping_one g width target w t best some same_width same_target m p =
+    let first : FindsNearest (λ x. FitsOne overlapping_one g width x) t best = subst (λ (v : ℤ). FindsNearest (λ x. FitsOne overlapping_one g v x) t best) same_width p in
+    let second : FindsNearest (λ x. FitsOne overlapping_one g width x) target best = subst (λ (v : ℤ). FindsNearest (λ x. FitsOne overlapping_one g width x) v best) same_target
     first in
-    nearest_of_same (λ x. FitsOne met g width x) (λ x. FitsRows lists g width x) target best
-    (λ x. rows_of_met lists met g width x some m) (λ x. met_of_rows lists met g width x some m) second
+    nearest_of_same (λ x. FitsOne overlapping_one g width x) (λ x. FitsRows lists g width x) target best
+    (λ x. rows_of_overlapped lists overlapping_one g width x some m) (λ x. overlapped_of_rows lists overlapping_one g width x some m) second
 
 -- One list alone.
 pub meet_of_one : (spans : List Span) → IsRising spans → IsMeetAll (spans ∷ []) spans
@@ -331,12 +331,12 @@ one_list (v ∷ []) first one is = ap (λ (w : Vec Span Global). w.items ∷ [])
 one_list (v ∷ w ∷ vs) first one is = absurd (omega (arith, one))
 
 -- The intersection is within the bounds of the first list.
-pub near_met : (lists : List (List Span)) (met : List Span) → 0 < length lists → ((d : List Span) → All IsBoundedSpan (get_or lists 0 d)) →
-    IsMeetAll lists met → All IsBoundedSpan met
-near_met lists met some near m k d within =
-    let s : Span = get_or met k d in
+pub near_overlapped : (lists : List (List Span)) (overlapping_one : List Span) → 0 < length lists → ((d : List Span) → All IsBoundedSpan (get_or lists 0 d)) →
+    IsMeetAll lists overlapping_one → All IsBoundedSpan overlapping_one
+near_overlapped lists overlapping_one some near m k d within =
+    let s : Span = get_or overlapping_one k d in
     let filled : IsFilled s = m.rising.filled k d within in
-    let itself : LiesInOneOf met s = (k, s, within, get_or_default met k s d within, λ x h. h) in
+    let itself : LiesInOneOf overlapping_one s = (k, s, within, get_or_default overlapping_one k s d within, λ x h. h) in
     let first : LiesInOneOf (get_or lists 0 []) s = (m.exact s filled).0 itself 0 [] some in
     let inside : InOne (get_or lists 0 []) s = in_one_of_lies s (get_or lists 0 []) filled first in
     let outer : IsBoundedSpan inside.1 = all_at IsBoundedSpan (λ t. ContainsSpan s t) (get_or lists 0 []) (near []) inside in
@@ -348,13 +348,13 @@ near_met lists met some near m k d within =
       high = record { low = omega (arith, ints, low.low, held.low, filled); high = omega (arith, ints, high.high, held.high) };
     }
 
-pub near_met_of : (lists : List (Vec Span Global)) (met : List Span) → 0 < length lists → All (λ list. All IsBoundedSpan list.items) lists →
-    IsMeetAll (map (λ list. list.items) lists) met →
-    All IsBoundedSpan met
-near_met_of [] met some near m = absurd (omega (arith, some))
-near_met_of (v ∷ vs) met some near m = near_met (map (λ list. list.items) (v ∷ vs)) met (omega arith) (λ d. near 0 v some) m
+pub near_overlapped_of : (lists : List (Vec Span Global)) (overlapping_one : List Span) → 0 < length lists → All (λ list. All IsBoundedSpan list.items) lists →
+    IsMeetAll (map (λ list. list.items) lists) overlapping_one →
+    All IsBoundedSpan overlapping_one
+near_overlapped_of [] overlapping_one some near m = absurd (omega (arith, some))
+near_overlapped_of (v ∷ vs) overlapping_one some near m = near_overlapped (map (λ list. list.items) (v ∷ vs)) overlapping_one (omega arith) (λ d. near 0 v some) m
 
 pub before_is : (span : Span) (best : Option ℤ) (wanted : Target) (x : ℤ) → best ≡ Some x → (span.hi -ℤ wanted.width) ≤ℤ wanted.target →
-    distance wanted.target x < distance wanted.target (span.hi -ℤ wanted.width) → IsBefore span best wanted
+    distance_to wanted.target x < distance_to wanted.target (span.hi -ℤ wanted.width) → IsNearestSoFar span best wanted
 before_is span best wanted x e left less =
-    subst (λ (o : Option ℤ). IsBefore span o wanted) (sym e) (λ y h. omega (arith, ints, h, left, less))
+    subst (λ (o : Option ℤ). IsNearestSoFar span o wanted) (sym e) (λ y h. omega (arith, ints, h, left, less))

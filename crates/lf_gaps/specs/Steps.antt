@@ -2,7 +2,7 @@
 use Rattle.std.specs.Prelude.{◌≡◌, ℤ, pos, ◌+ℤ◌, ◌≤ℤ◌, ◌<ℤ◌, ◌<◌, ◌⊎◌, List, Any, Option, IfSome, IsSomeAnd}
 use Rattle.lf_spans.specs.declared.span.Span.{Span}
 use Rattle.lf_spans.specs.declared.grid.SiteGrid.{SiteGrid}
-use Rattle.lf_spans.specs.Grids.{IsBounded, IsNoFarther, IsOnGrid, LiesInSpanFrom, distance}
+use Rattle.lf_spans.specs.Grids.{IsBounded, IsNoFarther, IsOnGrid, LiesInSpanFrom, distance_to}
 use Rattle.lf_gaps.specs.declared.row.Target.{Target}
 
 -- A width above 0, and a target. The absolute values of both are at most 2^40.
@@ -24,9 +24,9 @@ pub record IsNearerOf (a b : Option ℤ) (target : ℤ) (found : Option ℤ) : T
 
 -- There is a best number so far, nearer than each number from the start of the span on.
 abbrev pub IsPast : Span → Option ℤ → ℤ → Type 0
-IsPast span best target = IsSomeAnd best (λ x. (y : ℤ) → span.lo ≤ℤ y → distance target x < distance target y)
+IsPast span best target = IsSomeAnd best (λ x. (y : ℤ) → span.lo ≤ℤ y → distance_to target x < distance_to target y)
 
 -- There is a best number so far, nearer than each number at which the width ends in the span or
 -- left of it.
-abbrev pub IsBefore : Span → Option ℤ → Target → Type 0
-IsBefore span best wanted = IsSomeAnd best (λ x. (y : ℤ) → (y +ℤ wanted.width) ≤ℤ span.hi → distance wanted.target x < distance wanted.target y)
+abbrev pub IsNearestSoFar : Span → Option ℤ → Target → Type 0
+IsNearestSoFar span best wanted = IsSomeAnd best (λ x. (y : ℤ) → (y +ℤ wanted.width) ≤ℤ span.hi → distance_to wanted.target x < distance_to wanted.target y)

@@ -5,7 +5,7 @@ ghost use Rattle.std.specs.Bool.{OnFalse, OnTrue};
 ghost use Rattle.lf_spans.specs.Grids.{FindsNearest, FitsSpan, IsBounded, IsBoundedSpan, IsGrid, IsNoFarther};
 ghost use Rattle.lf_spans.specs.Spans.{IsMeetAll, IsRising};
 ghost use Rattle.lf_gaps.specs.Gaps.{FitsRows};
-ghost use Rattle.lf_gaps.specs.Steps.{FitsOne, IsBefore, IsNearerOf, IsPast, IsWanted};
+ghost use Rattle.lf_gaps.specs.Steps.{FitsOne, IsNearestSoFar, IsNearerOf, IsPast, IsWanted};
 
 use lf_spans::{SiteGrid, Span, nearest_fit, spans_meet_all};
 use std::alloc::{AllocError, Global};
@@ -82,7 +82,7 @@ fn is_past(span: &Span, best: &Option<i64>, wanted: &Target) -> bool
 fn is_before(span: &Span, best: &Option<i64>, wanted: &Target) -> bool
     requires bounded { IsBoundedSpan span.now }
     requires wanted { IsWanted wanted.now }
-    ensures { IsTrue result → IsBefore span.now best.now wanted.now }
+    ensures { IsTrue result → IsNearestSoFar span.now best.now wanted.now }
 {
     let Some(found) = best else {
         return false;
@@ -162,6 +162,6 @@ pub fn best_in_row(
     if lists.len() == 1 {
         return Ok(nearest_of(lists[0].as_slice(), grid, &wanted));
     }
-    let met = spans_meet_all(alloc, lists)?;
-    Ok(nearest_of(met.as_slice(), grid, &wanted))
+    let overlapping_one = spans_meet_all(alloc, lists)?;
+    Ok(nearest_of(overlapping_one.as_slice(), grid, &wanted))
 }

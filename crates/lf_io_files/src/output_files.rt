@@ -121,7 +121,7 @@ impl<'a, T: Files + AllocGlobal> FsOutputFiles<'a, T> {
 /// Converts the result of writing a text, or of trying a path. Sets `failed` if a file could not be
 /// written.
 fn note_failure(failed: &mut bool, written: io::Result<()>) -> Result<(), WriteFailure>
-    ensures told { result ≡ result_of_write written }
+    ensures reported { result ≡ result_of_write written }
     ensures noted { failed.new ≡ (is_of_file result || failed.old) }
 {
     let result = put_result(written);

@@ -103,7 +103,7 @@ fn store<T: Files + AllocGlobal, P: TextSource>(
 }
 
 /// Stores the text at the end of the file.
-fn store_behind<T: Files + AllocGlobal, P: TextSource>(
+fn store_after<T: Files + AllocGlobal, P: TextSource>(
     rt: &T,
     path: &str,
     text: &P,
@@ -210,7 +210,7 @@ pub(crate) fn replace<T: Files + AllocGlobal, P: TextSource>(
 ) -> io::Result<()> {
     let target = target_of(rt, path)?;
     if is_output(rt, &target)? {
-        return store_behind(rt, &target, text);
+        return store_after(rt, &target, text);
     }
     let (name, file) = new_beside(rt, &target)?;
     fill_and_rename(rt, &name, &target, file, text)

@@ -8,7 +8,7 @@ use Rattle.std.proofs.Props.{props}
 use Rattle.std.proofs.Math.Path.{Σ_path, to_path_p}
 use Rattle.std.proofs.lemmas.Bool.Decides.{nat_tests}
 use Rattle.lf_floorplan.specs.declared.place.Place.{Place}
-use Rattle.lf_floorplan.specs.declared.loaded.Cell.{Cell}
+use Rattle.lf_floorplan.specs.declared.loaded.LoadedCell.{LoadedCell}
 use Rattle.lf_def.specs.declared.components.Component.{Component}
 use Rattle.lf_def.specs.declared.components.Location.{Location}
 use Rattle.lf_def.specs.declared.components.PlacementClause.{PlacementClause}
@@ -18,9 +18,9 @@ use Rattle.lf_def.specs.Kinds.{is_movable}
 use Rattle.lf_frame.specs.Loads.{location, movables_from, as_location}
 use Rattle.lf_frame.specs.Alike.{without_movable_place}
 use Rattle.lf_frame.proofs.AlikeEntries.{movable_same, settled_without}
-use Rattle.lf_write.specs.Export.{Rise, stands_at, placement_at, with_place, given_to, perhaps_with_place, given_places}
+use Rattle.lf_write.specs.Export.{PositionsRise, is_placed_at, placement_at, with_place, given_to, perhaps_with_place, given_places}
 use Rattle.lf_write.proofs.Reading.{reads_back, have_places}
-use Rattle.lf_write.proofs.Standing.{stands_there}
+use Rattle.lf_write.proofs.Standing.{is_found_there}
 use Rattle.lf_laws_roundtrip.specs.Moved.{DifferInPlaces, document_but_movable_places, movable_locations}
 use Rattle.lf_laws_roundtrip.specs.Exports.{with_document, ExportsLoadAgain}
 use Rattle.lf_laws_roundtrip.proofs.Elsewhere.{positions_not_settled, accepted_elsewhere, loaded_elsewhere}
@@ -29,7 +29,7 @@ use Rattle.lf_laws_roundtrip.proofs.Given.{Given, AreForMovables, by_first, risi
 -- One component at its given place.
 
 settled_there : (c : Component) (given : Option Place) → is_movable c ≡ true → without_movable_place (with_place given c) ≡ without_movable_place c
-settled_there c given is = by (stands_at c given)
+settled_there c given is = by (is_placed_at c given)
   where
     new : (given : Option Place) → without_movable_place (record c { placement = Some (placement_at given) }) ≡ without_movable_place c
     new None = rw is refl
@@ -40,15 +40,15 @@ settled_there c given is = by (stands_at c given)
     by false = new given
 
 located_there : (c : Component) (given : Option Place) → location (with_place given c) ≡ option_map as_location given
-located_there c given = by (stands_at c given) refl
+located_there c given = by (is_placed_at c given) refl
   where
     new : (given : Option Place) → location (record c { placement = Some (placement_at given) }) ≡ option_map as_location given
     new None = refl
     new (Some p) = refl
 
-    by : (test : Bool) → stands_at c given ≡ test
+    by : (test : Bool) → is_placed_at c given ≡ test
         → location (if test then c else record c { placement = Some (placement_at given) }) ≡ option_map as_location given
-    by true is = (stands_there c given).0 is
+    by true is = (is_found_there c given).0 is
     by false is = new given
 
 movable_there : (c : Component) (given : Option Place) → is_movable c ≡ true → is_movable (with_place given c) ≡ true
@@ -64,7 +64,7 @@ abbrev given_from : ℕ → Given → List Component → List Component
 given_from n places cs = map (λ e. perhaps_with_place (given_to places e.0) e.1) (enumerate_from n cs)
 
 -- No place is given in front of the first position.
-none_before : (from to n : ℕ) (places : Given) → Rise from to places → n < from → given_to places n ≡ None
+none_before : (from to n : ℕ) (places : Given) → PositionsRise from to places → n < from → given_to places n ≡ None
 none_before from to n [] h lt = refl
 none_before from to n (g ∷ places) h lt = rw (not_it (omega (arith, h.0, lt))) (none_before (g.0 + 1) to n places h.2 (omega (arith, h.0, lt)))
   where
@@ -72,10 +72,10 @@ none_before from to n (g ∷ places) h lt = rw (not_it (omega (arith, h.0, lt)))
     not_it less = grind (arith, nat_tests)
 
 -- A given place has no effect on later components.
-same_behind : (n : ℕ) (g : ℕ × Option Place) (places : Given) (cs : List Component) → g.0 < n → given_from n (g ∷ places) cs ≡ given_from n places cs
-same_behind n g places [] lt = refl
-same_behind n g places (c ∷ cs) lt =
-    rw not_it (ap (λ (xs : List Component). perhaps_with_place (given_to places n) c ∷ xs) (same_behind (n + 1) g places cs (omega (arith, lt))))
+same_after : (n : ℕ) (g : ℕ × Option Place) (places : Given) (cs : List Component) → g.0 < n → given_from n (g ∷ places) cs ≡ given_from n places cs
+same_after n g places [] lt = refl
+same_after n g places (c ∷ cs) lt =
+    rw not_it (ap (λ (xs : List Component). perhaps_with_place (given_to places n) c ∷ xs) (same_after (n + 1) g places cs (omega (arith, lt))))
   where
     not_it : (g.0 == n) ≡ false
     not_it = grind (arith, nat_tests, lt)
@@ -83,33 +83,33 @@ same_behind n g places (c ∷ cs) lt =
 -- The components are unchanged, except for the places of the movable ones, which are these.
 record AreGiven (n : ℕ) (cs : List Component) (places : Given) : Type 0 where
   stay : map without_movable_place (given_from n places cs) ≡ map without_movable_place cs
-  stand : map (λ e. location e.1) (movables_from n (given_from n places cs)) ≡ map (λ g. option_map as_location g.1) places
+  are_placed : map (λ e. location e.1) (movables_from n (given_from n places cs)) ≡ map (λ g. option_map as_location g.1) places
 
 one_stays : (n : ℕ) (c : Component) (cs : List Component) (places : Given) → given_to places n ≡ None → is_movable c ≡ false → AreGiven (n + 1) cs places
     → AreGiven n (c ∷ cs) places
 one_stays n c cs places none is rest = record {
   stay = rw none (ap (λ (xs : List Component). without_movable_place c ∷ xs) rest.stay);
-  stand = rw none (rw is rest.stand);
+  are_placed = rw none (rw is rest.are_placed);
 }
 
 one_moves : (n : ℕ) (c : Component) (cs : List Component) (g : ℕ × Option Place) (places : Given) → g.0 ≡ n → is_movable c ≡ true → AreGiven (n + 1) cs places
     → AreGiven n (c ∷ cs) (g ∷ places)
 one_moves n c cs g places first is rest =
     let it : (g.0 == n) ≡ true = grind (arith, nat_tests, first) in
-    let behind : given_from (n + 1) (g ∷ places) cs ≡ given_from (n + 1) places cs = same_behind (n + 1) g places cs (omega (arith, first)) in
+    let after_it : given_from (n + 1) (g ∷ places) cs ≡ given_from (n + 1) places cs = same_after (n + 1) g places cs (omega (arith, first)) in
     let whole : given_from n (g ∷ places) (c ∷ cs) ≡ with_place g.1 c ∷ given_from (n + 1) places cs =
-    rw it (ap (λ (xs : List Component). with_place g.1 c ∷ xs) behind) in
+    rw it (ap (λ (xs : List Component). with_place g.1 c ∷ xs) after_it) in
     let movable : is_movable (with_place g.1 c) ≡ true = movable_there c g.1 is in
-    let stand : map (λ (e : ℕ × Component). location e.1) (movables_from n (with_place g.1 c ∷ given_from (n + 1) places cs))
+    let are_placed : map (λ (e : ℕ × Component). location e.1) (movables_from n (with_place g.1 c ∷ given_from (n + 1) places cs))
     ≡ option_map as_location g.1 ∷ map (λ (x : ℕ × Option Place). option_map as_location x.1) places =
-    rw movable (begins (located_there c g.1) rest.stand) in
+    rw movable (begins (located_there c g.1) rest.are_placed) in
     record {
       stay = ap (map without_movable_place) whole ∙ begins (settled_there c g.1 is) rest.stay;
-      stand = ap (λ (xs : List Component). map (λ (e : ℕ × Component). location e.1) (movables_from n xs)) whole ∙ stand;
+      are_placed = ap (λ (xs : List Component). map (λ (e : ℕ × Component). location e.1) (movables_from n xs)) whole ∙ are_placed;
     }
 
 all_given : (n to : ℕ) (cs : List Component) (places : Given) → to ≡ n + length cs → AreForMovables n cs places → AreGiven n cs places
-all_given n to [] [] long same = record { stay = refl; stand = refl }
+all_given n to [] [] long same = record { stay = refl; are_placed = refl }
 all_given n to [] (g ∷ places) long same = absurd cc
 all_given n to (c ∷ cs) places long same =
     by_first n c cs (AreGiven n (c ∷ cs))
@@ -191,7 +191,7 @@ one_list [] (q ∷ qs) e = absurd cc
 one_list (p ∷ ps) [] e = absurd cc
 one_list (p ∷ ps) (q ∷ qs) e = begins (one_given p q (same_first e)) (one_list ps qs (same_rest e))
 
-of_cells : (cells : List Cell) → map (option_map as_location) (map (λ c. c.place) cells) ≡ map (λ c. option_map as_location c.place) cells
+of_cells : (cells : List LoadedCell) → map (option_map as_location) (map (λ c. c.place) cells) ≡ map (λ c. option_map as_location c.place) cells
 of_cells [] = refl
 of_cells (c ∷ cs) = ap (λ (xs : List (Option Location)). option_map as_location c.place ∷ xs) (of_cells cs)
 
@@ -207,14 +207,14 @@ exports_load_again text i l places said loaded same fit =
     let cs = d.components in
     let positions = for_movables i l places loaded same in
     let given : AreGiven 0 cs places = all_given 0 (length cs) cs places (omega arith) positions in
-    let rise : Rise 0 (length cs) places = rising 0 (length cs) cs places (omega arith) positions in
+    let rise : PositionsRise 0 (length cs) places = rising 0 (length cs) cs places (omega arith) positions in
     let back = reads_back places (have_places places fit) text d said rise in
     let again = back.0 in
     let alike : document_without_places again ≡ document_without_places (given_places places d) = back.2 in
     let document : document_but_movable_places again ≡ document_but_movable_places d = positions_not_settled again (given_places places d) alike ∙ same_settled d places given in
     let differ : DifferInPlaces i (with_document i again) = record { library = refl; document = sym document; limits = refl } in
-    let stand : movable_locations again ≡ map (λ (g : ℕ × Option Place). option_map as_location g.1) places =
-    same_locations again (given_places places d) alike ∙ given.stand in
+    let are_placed : movable_locations again ≡ map (λ (g : ℕ × Option Place). option_map as_location g.1) places =
+    same_locations again (given_places places d) alike ∙ given.are_placed in
     record {
       again = back.0;
       read = back.1;
@@ -224,7 +224,7 @@ exports_load_again text i l places said loaded same fit =
           record {
             frame = elsewhere.frame;
             cells = elsewhere.cells;
-            at_places = one_list (map (λ (c : Cell). c.place) m.cells) (map (λ (g : ℕ × Option Place). g.1) places)
-                (of_cells m.cells ∙ elsewhere.at_places ∙ stand ∙ sym (of_given places));
+            at_places = one_list (map (λ (c : LoadedCell). c.place) m.cells) (map (λ (g : ℕ × Option Place). g.1) places)
+                (of_cells m.cells ∙ elsewhere.at_places ∙ are_placed ∙ sym (of_given places));
           };
     }

@@ -56,7 +56,7 @@ frame_with (x, k) = record {
   pitch_whole = k.2;
   has_row = k.3;
   few_rows = k.4;
-  rows_heeded = k.5;
+  rows_are_core = k.5;
   rows_apart = k.6;
   few_fences = k.7;
   fences_whole = k.8;
@@ -87,7 +87,7 @@ kept_of f = (
   f.pitch_whole,
   f.has_row,
   f.few_rows,
-  f.rows_heeded,
+  f.rows_are_core,
   f.rows_apart,
   f.few_fences,
   f.fences_whole,

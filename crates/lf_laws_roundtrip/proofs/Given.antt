@@ -4,7 +4,7 @@ use Rattle.std.specs.Prelude.{IfSome, slice_get}
 use Rattle.std.specs.List.{AllZip}
 use Rattle.std.proofs.lemmas.List.Elements.{All-nil, All-cons}
 use Rattle.lf_floorplan.specs.declared.place.Place.{Place}
-use Rattle.lf_floorplan.specs.declared.loaded.Cell.{Cell}
+use Rattle.lf_floorplan.specs.declared.loaded.LoadedCell.{LoadedCell}
 use Rattle.lf_floorplan.specs.declared.loaded.Loaded.{Loaded}
 use Rattle.lf_def.specs.declared.components.Component.{Component}
 use Rattle.lf_def.specs.declared.components.Location.{Location}
@@ -14,7 +14,7 @@ use Rattle.lf_def.specs.declared.components.PlacementKind.TheVariants.{Fixed, Co
 use Rattle.lf_def.specs.Kinds.{is_movable}
 use Rattle.lf_frame_checks.specs.Findings.{LoadInputs}
 use Rattle.lf_frame.specs.Loads.{movables, movables_from, IsCellOf, IsLoadedFrom}
-use Rattle.lf_write.specs.Export.{IsMovable, Rise}
+use Rattle.lf_write.specs.Export.{IsMovable, PositionsRise}
 use Rattle.lf_laws_roundtrip.specs.Exports.{AreForCells, LoadedIsExportable}
 
 abbrev pub Given : Type 0
@@ -65,20 +65,20 @@ by_first n c cs P stays moves places same = first_cases n c cs P stays moves pla
 
 -- Positions rise.
 
-later : (from more to : ℕ) (places : Given) → more ≤ from → Rise from to places → Rise more to places
+later : (from more to : ℕ) (places : Given) → more ≤ from → PositionsRise from to places → PositionsRise more to places
 later from more to [] le h = tt
 later from more to (g ∷ places) le h = (omega (arith, le, h.0), h.1, h.2)
 
-pub rising : (n to : ℕ) (cs : List Component) (places : Given) → to ≡ n + length cs → AreForMovables n cs places → Rise n to places
+pub rising : (n to : ℕ) (cs : List Component) (places : Given) → to ≡ n + length cs → AreForMovables n cs places → PositionsRise n to places
 rising n to [] [] long same = tt
 rising n to [] (g ∷ places) long same = absurd cc
 rising n to (c ∷ cs) places long same =
-    by_first n c cs (λ q. Rise n to q)
+    by_first n c cs (λ q. PositionsRise n to q)
     (λ is q others. later (n + 1) n to q (omega arith) (rising (n + 1) to cs q (omega (arith, long)) others))
     (λ is g q first others. (omega (arith, first), omega (arith, first, long), next g q first (rising (n + 1) to cs q (omega (arith, long)) others)))
     places same
   where
-    next : (g : ℕ × Option Place) (q : Given) → g.0 ≡ n → Rise (n + 1) to q → Rise (g.0 + 1) to q
+    next : (g : ℕ × Option Place) (q : Given) → g.0 ≡ n → PositionsRise (n + 1) to q → PositionsRise (g.0 + 1) to q
     next g q first h = rw first h
 
 -- The components are movable.
@@ -106,13 +106,13 @@ all_movable whole n (c ∷ cs) places there same =
 
 -- Cells.
 
-positions_of_cells : (i : LoadInputs) (entries : List (ℕ × Component)) (cells : List Cell) → AllZip (IsCellOf i) entries cells
+positions_of_cells : (i : LoadInputs) (entries : List (ℕ × Component)) (cells : List LoadedCell) → AllZip (IsCellOf i) entries cells
     → map (λ c. c.component) cells ≡ map (λ e. e.0) entries
 positions_of_cells i [] [] h = refl
 positions_of_cells i [] (c ∷ cs) h = absurd h
 positions_of_cells i (e ∷ es) [] h = absurd h
 positions_of_cells i (e ∷ es) (c ∷ cs) h =
-    ap (λ (k : ℕ). k ∷ map (λ (d : Cell). d.component) cs) h.0.component ∙ ap (λ (ks : List ℕ). e.0 ∷ ks) (positions_of_cells i es cs h.1)
+    ap (λ (k : ℕ). k ∷ map (λ (d : LoadedCell). d.component) cs) h.0.component ∙ ap (λ (ks : List ℕ). e.0 ∷ ks) (positions_of_cells i es cs h.1)
 
 -- Places for the cells of a design are places for the movable components.
 pub for_movables : (i : LoadInputs) (l : Loaded) (places : Given) → IsLoadedFrom i l → AreForCells l places → AreForMovables 0 i.document.components places

@@ -5,7 +5,7 @@ use Rattle.std.specs.Prelude.{All}
 use Rattle.std.proofs.lemmas.List.Elements.{All-head, All-tail}
 use Rattle.lf_lex.specs.declared.fault.ReadFault.{ReadFault}
 use Rattle.lf_lex.specs.Tokens.{Lexed, Lexeme}
-use Rattle.lf_lex.specs.Reading.{◌>>=◌, Reader, ReadValue, Turn, Statement, taken, turn, token, first_of, behind, statements, block}
+use Rattle.lf_lex.specs.Reading.{◌>>=◌, Reader, ReadValue, Turn, Statement, taken, turn, token, first_token, lexed_after, statements, block}
 use Rattle.lf_lex.proofs.Runs.{left, ok_is}
 use Rattle.lf_def.proofs.Local.{Local}
 use Rattle.lf_laws_roundtrip.proofs.ReadTokens.{IsSpelledToken}
@@ -19,14 +19,14 @@ Gives P reader = (l m : Lexed) (x : _) → AreSpelled l → reader l ≡ taken x
 abbrev pub Anything : {A : Type 0} → A → Type 0
 Anything x = Unit {0}
 
-all_behind : (xs ys : List Lexeme) → All IsSpelledToken (xs ++ ys) → All IsSpelledToken ys
-all_behind [] ys h = h
-all_behind (x ∷ xs) ys h = all_behind xs ys (All-tail IsSpelledToken x (xs ++ ys) h)
+all_after : (xs ys : List Lexeme) → All IsSpelledToken (xs ++ ys) → All IsSpelledToken ys
+all_after [] ys h = h
+all_after (x ∷ xs) ys h = all_after xs ys (All-tail IsSpelledToken x (xs ++ ys) h)
 
 pub gives_local : {A : Type 0} (reader : Reader A) → Local reader → Gives Anything reader
 gives_local reader f l m x spelled e =
     let r = f l m x e in
-    (tt, all_behind r.run m.tokens (subst AreSpelled r.whole spelled))
+    (tt, all_after r.run m.tokens (subst AreSpelled r.whole spelled))
 
 pub gives_pure : {A : Type 0} (P : A → Type 0) (x : A) → P x → Gives P (λ l. taken x l)
 gives_pure P x h l m y spelled e = let r = ok_is x l y m e in (subst P r.0 h, subst AreSpelled r.1 spelled)
@@ -54,10 +54,10 @@ pub gives_bind : {A B : Type 0} (P : A → Type 0) (Q : B → Type 0) (r : Reade
     → ((x : A) → P x → Gives Q (λ l. k (left x l))) → Gives Q (λ l. r l >>= k)
 gives_bind P Q r k f next l m y spelled e = bind_by P Q r k f next l m y spelled (r l) refl e
 
-first_gives : (ts : List Lexeme) (l m : Lexed) (x : Lexeme) → All IsSpelledToken ts → first_of ts l ≡ taken x m → IsSpelledToken x × AreSpelled m
+first_gives : (ts : List Lexeme) (l m : Lexed) (x : Lexeme) → All IsSpelledToken ts → first_token ts l ≡ taken x m → IsSpelledToken x × AreSpelled m
 first_gives [] l m x spelled e = absurd cc
 first_gives (t ∷ ts) l m x spelled e =
-    let r = ok_is t (behind ts l) x m e in
+    let r = ok_is t (lexed_after ts l) x m e in
     (subst IsSpelledToken r.0 (All-head IsSpelledToken t ts spelled), subst AreSpelled r.1 (All-tail IsSpelledToken t ts spelled))
 
 pub token_gives : Gives IsSpelledToken token

@@ -6,7 +6,7 @@ use Rattle.std.proofs.lemmas.List.{length-map}
 use Rattle.std.proofs.lemmas.List.Elements.{All-nil, All-cons, All-head, All-tail, All-map, All-filter}
 use Rattle.std.proofs.lemmas.Option.{get_or_from_slice_get, slice_get_within, slice_get-map}
 use Rattle.lf_names.specs.Names.{position_of}
-use Rattle.lf_names.proofs.Positions.{stands_there}
+use Rattle.lf_names.proofs.Positions.{is_found_there}
 use Rattle.lf_lef.specs.Contents.{macro_names}
 use Rattle.lf_def.specs.declared.regions.Region.{Region}
 use Rattle.lf_def.specs.declared.groups.Group.{Group}
@@ -15,12 +15,12 @@ use Rattle.lf_floorplan.specs.declared.frame.Frame.{Frame}
 use Rattle.lf_floorplan.specs.declared.macros.Macro.{Macro}
 use Rattle.lf_floorplan.specs.declared.parts.Header.{Header}
 use Rattle.lf_floorplan.specs.declared.parts.Team.{Team}
-use Rattle.lf_floorplan.specs.declared.loaded.Cell.{Cell as LoadedCell}
+use Rattle.lf_floorplan.specs.declared.loaded.LoadedCell.{LoadedCell}
 use Rattle.lf_floorplan.specs.declared.loaded.Loaded.{Loaded}
 use Rattle.lf_floorplan.specs.Boxes.{macro_of, no_macro}
 use Rattle.lf_cells.specs.declared.cell.Cell.{Cell}
 use Rattle.lf_def.specs.Kinds.{is_fence, is_movable}
-use Rattle.lf_frame_claims.specs.Teams.{fences, fence_names, Claims, IsTeamOf}
+use Rattle.lf_frame_claims.specs.Teams.{fences, fence_names, Claims, IsTeamOfComponent}
 use Rattle.lf_frame_checks.specs.Findings.{LoadInputs}
 use Rattle.lf_frame.specs.Loads.{frame_team, header_in, movables, IsFrameOf, IsCellOf, IsLoadedFrom}
 use Rattle.lf_laws_roundtrip.specs.Spelled.{IsSpelledName, IsSpelledHeader, IsSpelledCell, CanBeBound, IsSpelledTeam}
@@ -54,7 +54,7 @@ macro_named : (f : Frame) (macros : List Macro) (name : List ℕ) (n : ℕ) → 
 macro_named f macros name n same at =
     let there : option_map (λ (m : Macro). m.name) (slice_get f.macros n) ≡ Some name =
     sym (slice_get-map (λ (m : Macro). m.name) f.macros n) ∙ ap (λ (ms : List Macro). slice_get (macro_names ms) n) same
-    ∙ stands_there (macro_names macros) name n at in
+    ∙ is_found_there (macro_names macros) name n at in
     by (slice_get f.macros n) there
   where
     by : (o : Option Macro) → option_map (λ (m : Macro). m.name) o ≡ Some name → (unwrap_or o no_macro).name ≡ name
@@ -87,10 +87,10 @@ same_fence regions f number t fence teams there named =
     by (Some r) e h = let is : frame_team r ≡ t = cc in let also : r.name ≡ fence = cc in sym (ap (λ (x : Team). x.name) is) ∙ also
 
 team_name : (i : LoadInputs) (f : Frame) (name : List ℕ) (number : ℕ) (t : Team) → IsFrameOf i f → All IsBindable i.document.groups
-    → IsTeamOf i.document.regions i.document.groups name number → slice_get f.teams number ≡ Some t → t.name ≢ codes "("
+    → IsTeamOfComponent i.document.regions i.document.groups name number → slice_get f.teams number ≡ Some t → t.name ≢ codes "("
 team_name i f name number t is bindable (inl one) there e =
     let fence : t.name ≡ one.fence =
-    same_fence i.document.regions f number t one.fence is.teams there (stands_there (fence_names i.document.regions) one.fence number one.place) in
+    same_fence i.document.regions f number t one.fence is.teams there (is_found_there (fence_names i.document.regions) one.fence number one.place) in
     not_parenthesis i.document.regions i.document.groups name one.fence bindable one.claimed (sym fence ∙ e)
 team_name i f name number t is bindable (inr ground) there e =
     let within : number < length f.teams = slice_get_within f.teams number t there in

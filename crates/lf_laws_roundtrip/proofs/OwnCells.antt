@@ -5,12 +5,12 @@ use Rattle.std.proofs.lemmas.Bool.Decides.{nat_tests}
 use Rattle.std.proofs.lemmas.List.{length-map, get_or_default}
 use Rattle.std.proofs.lemmas.List.Elements.{All-nil, All-cons, All-head, All-tail}
 use Rattle.lf_def.specs.Ranges.{IsLocation}
-use Rattle.lf_floorplan.specs.declared.loaded.Cell.{Cell as LoadedCell}
+use Rattle.lf_floorplan.specs.declared.loaded.LoadedCell.{LoadedCell}
 use Rattle.lf_floorplan.specs.declared.loaded.Loaded.{Loaded}
 use Rattle.lf_cells.specs.declared.cell.Cell.{Cell}
-use Rattle.lf_cells.specs.Openings.{initial_cell, own_cells}
+use Rattle.lf_cells.specs.Initial.{initial_cell, own_cells}
 use Rattle.lf_frame.specs.Loads.{as_location}
-use Rattle.lf_laws_roundtrip.specs.LoadedTeams.{IsCellOfTeam, lasting, OwnCellsAreTeamCells}
+use Rattle.lf_laws_roundtrip.specs.LoadedTeams.{IsCellOfTeam, lasting_part, OwnCellsAreTeamCells}
 
 -- The elements that pass a test, if all elements have a property.
 passing : {X : Type 0} (p : X → Bool) (P : X → Type 0) (xs : List X) → All P xs → All (λ x. P x × (p x ≡ true)) (filter p xs)
@@ -43,13 +43,13 @@ all_own l number =
 abbrev IsPlaced : Cell → Type 0
 IsPlaced c = IfSome c.working (λ p. IsLocation (as_location p))
 
-own_each : (l : Loaded) (number : ℕ) (cells : List Cell) (loaded : List LoadedCell) → map lasting cells ≡ map lasting (map initial_cell loaded)
+own_each : (l : Loaded) (number : ℕ) (cells : List Cell) (loaded : List LoadedCell) → map lasting_part cells ≡ map lasting_part (map initial_cell loaded)
     → All (IsOwn l number) loaded → All IsPlaced cells → All (IsCellOfTeam l number) cells
 own_each l number [] loaded same own placed = All-nil (IsCellOfTeam l number)
 own_each l number (c ∷ cs) [] same own placed = absurd cc
 own_each l number (c ∷ cs) (d ∷ ds) same own placed =
-    let here : lasting c ≡ lasting (initial_cell d) = cc in
-    let others : map lasting cs ≡ map lasting (map initial_cell ds) = cc in
+    let here : lasting_part c ≡ lasting_part (initial_cell d) = cc in
+    let others : map lasting_part cs ≡ map lasting_part (map initial_cell ds) = cc in
     let known = All-head (IsOwn l number) d ds own in
     All-cons (IsCellOfTeam l number) c cs
     (record {
@@ -66,7 +66,7 @@ pub own_are_team_cells : OwnCellsAreTeamCells
 own_are_team_cells l number cells are =
     let loaded : List LoadedCell = filter (λ d. d.team == number) l.cells in
     let many : length cells ≡ length loaded =
-    sym (length-map cells lasting) ∙ ap (λ xs. length xs) are.same ∙ length-map (own_cells number l.cells) lasting ∙ length-map loaded initial_cell in
+    sym (length-map cells lasting_part) ∙ ap (λ xs. length xs) are.same ∙ length-map (own_cells number l.cells) lasting_part ∙ length-map loaded initial_cell in
     let least : length loaded ≤ length l.cells = fewer (λ d. d.team == number) l.cells in
     let most = l.few_cells in
     record {

@@ -22,15 +22,15 @@ use Rattle.lf_def.specs.declared.header.HeaderParts.{HeaderParts}
 use Rattle.lf_def.specs.declared.regions.Region.{Region}
 use Rattle.lf_def.specs.declared.groups.GroupParts.{GroupParts}
 use Rattle.lf_def.specs.declared.doc_parts.DocParts.{DocParts}
-use Rattle.lf_def.specs.Coordinates.{rect}
-use Rattle.lf_def.specs.Entries.{entry_or_end, section, name_of}
+use Rattle.lf_def.specs.Coordinates.{def_rectangle}
+use Rattle.lf_def.specs.Entries.{entry_or_end, section, name_token}
 use Rattle.lf_def.specs.Header.{version, quoted, design, units, is_header, header_statement}
 use Rattle.lf_def.specs.Rows.{with_row}
 use Rattle.lf_def.specs.Regions.{region, region_token, first_rect, regions}
 use Rattle.lf_def.specs.Groups.{group, group_token, group_from, group_part, with_pattern, with_region, no_group, groups}
 use Rattle.lf_def.specs.Components.{component, component_token, no_component, components}
 use Rattle.lf_def.specs.Blockages.{blockages}
-use Rattle.lf_def.specs.Document.{Document, document_from, statement, statement_from, body_statement, passed_from, end_design, no_parts}
+use Rattle.lf_def.specs.Document.{Document, document_from, def_statement, def_statement_from, body_statement, skip_from, end_design, no_parts}
 use Rattle.lf_def.proofs.Following.{rect_follows, units_follows, region_token_follows, region_token_goes}
 use Rattle.lf_def.proofs.Places.{component_token_goes, with_row_follows, blockages_alike, passed_follows}
 use Rattle.lf_def.proofs.Local.{local_of, local_block}
@@ -201,7 +201,7 @@ region_gives : Gives RegionIsSpelled region
 unfolding region
 region_gives =
     gives_bind (λ t. IsSpelledName t.text) RegionIsSpelled name _ name_gives
-    (λ n k. gives_bind Anything RegionIsSpelled rect _ (gives_local rect (local_of rect rect_follows))
+    (λ n k. gives_bind Anything RegionIsSpelled def_rectangle _ (gives_local def_rectangle (local_of def_rectangle rect_follows))
     (λ r _. gives_bind Anything RegionIsSpelled (block region_token (first_rect r)) _
     (gives_local (block region_token (first_rect r))
     (local_block region_token (λ s. local_of (region_token s) (region_token_follows s)) region_token_goes (first_rect r)))
@@ -224,7 +224,7 @@ PartsAreBindable p = IfSome p.region (λ n. n ≢ codes "(")
 
 pattern_gives : (s : GroupParts) (t : Lexeme) → PartsAreBindable s → Gives (Keeps PartsAreBindable) (with_pattern s t)
 unfolding with_pattern
-pattern_gives s t h = gives_given (Keeps PartsAreBindable) (name_of t) _
+pattern_gives s t h = gives_given (Keeps PartsAreBindable) (name_token t) _
     (λ p _. gives_turn PartsAreBindable (record s { patterns = s.patterns ++ p ∷ [] }) true h)
 
 binding_gives : (s : GroupParts) → PartsAreBindable s → Gives (Keeps PartsAreBindable) (with_region s)
@@ -313,7 +313,7 @@ body_gives s t h =
     (λ _. gives_bind Anything AreSpelledParts (blockages s.blockages) _
     (gives_local (blockages s.blockages) (local_of (blockages s.blockages) (blockages_alike s.blockages s.blockages refl)))
     (λ x _. gives_pure AreSpelledParts (record s { blockages = x }) (as_before (record s { blockages = x }) h)))
-    (λ _. gives_bind Anything AreSpelledParts (passed_from t) _ (gives_local (passed_from t) (local_of (passed_from t) (passed_follows t t refl)))
+    (λ _. gives_bind Anything AreSpelledParts (skip_from t) _ (gives_local (skip_from t) (local_of (skip_from t) (passed_follows t t refl)))
     (λ _ _. gives_pure AreSpelledParts s h))))))
   where
     as_before : (d : DocParts) → AreSpelledParts (record d { rows = s.rows; blockages = s.blockages }) → AreSpelledParts d
@@ -327,8 +327,8 @@ body_gives s t h =
 goes : (s : DocParts) → AreSpelledParts s → Gives Ends (λ l. taken (turn s true) l)
 goes s h = gives_pure Ends (turn s true) (h, λ e. absurd cc)
 
-statement_from_gives : (s : DocParts) (t : Lexeme) → AreSpelledParts s → Gives Ends (statement_from s t)
-unfolding statement_from
+statement_from_gives : (s : DocParts) (t : Lexeme) → AreSpelledParts s → Gives Ends (def_statement_from s t)
+unfolding def_statement_from
 statement_from_gives s t h =
     gives_choose Ends (is (codes "END") t) _ _
     (λ _. gives_bind (λ _. is_some s.header.design ≡ true) Ends (end_design s) _ (end_gives s) (λ _ there. gives_pure Ends (turn s false) (h, λ _. (h, there))))
@@ -338,8 +338,8 @@ statement_from_gives s t h =
     (record { header_spelled = k; regions_spelled = h.regions_spelled; groups_bindable = h.groups_bindable; components_spelled = h.components_spelled })))
     (λ _. gives_bind AreSpelledParts Ends (body_statement s t) _ (body_gives s t h) (λ x k. goes x k)))
 
-statement_gives : (s : DocParts) → AreSpelledParts s → Gives Ends (statement s)
-unfolding statement
+statement_gives : (s : DocParts) → AreSpelledParts s → Gives Ends (def_statement s)
+unfolding def_statement
 statement_gives s h = gives_bind IsSpelledToken Ends token _ token_gives (λ t _. statement_from_gives s t h)
 
 -- The initial state is spelled.
@@ -376,10 +376,10 @@ said_by parts d h e = subst IsSpelledDocument (one _ d e) (record {
     one x y e = cc
 
 pub read_is_spelled : ReadIsSpelled
-read_is_spelled text d e = by (block statement no_parts (tokens_of text)) refl e
+read_is_spelled text d e = by (block def_statement no_parts (tokens_of text)) refl e
   where
-    by : (o : Result (ReadValue DocParts) ReadFault) → block statement no_parts (tokens_of text) ≡ o → document_from (value_of o) ≡ Ok d → IsSpelledDocument d
+    by : (o : Result (ReadValue DocParts) ReadFault) → block def_statement no_parts (tokens_of text) ≡ o → document_from (value_of o) ≡ Ok d → IsSpelledDocument d
     by (Err f) read e = absurd cc
     by (Ok t) read e =
-        said_by t.value d (block_gives AreSpelledParts IsNamed statement statement_gives no_parts nothing_known (tokens_of text) t.rest t.value
+        said_by t.value d (block_gives AreSpelledParts IsNamed def_statement statement_gives no_parts nothing_known (tokens_of text) t.rest t.value
         (spelled_from 0 0 1 text) read).0 e

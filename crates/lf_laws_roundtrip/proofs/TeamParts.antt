@@ -9,12 +9,12 @@ use Rattle.std.proofs.lemmas.List.Concat.{flat_map-append}
 use Rattle.std.proofs.lemmas.Option.{get_or_from_slice_get, slice_get_within}
 use Rattle.std.proofs.lemmas.List.Elements.{All-nil, All-cons, All-append, All-map, All-head}
 use Rattle.lf_lex.specs.Tokens.{PlainToken}
-use Rattle.lf_lex.specs.Splices.{is_word_text, word_of}
+use Rattle.lf_lex.specs.Splices.{is_word_text, plain_word}
 use Rattle.lf_def.specs.Ranges.{IsRect, IsLocation}
 use Rattle.lf_def.specs.Printed.{IsWord, IsPattern, IsRegionName, IsPrintedRegion, IsPrintedGroup, IsPrintedComponent, HasPlace}
 use Rattle.lf_def.specs.Printed as print
 use Rattle.lf_def.specs.Document.{Document, no_parts}
-use Rattle.lf_def.specs.PrintedTexts.{with_parts, Part, version_is, divider_is, brackets_are, design_is, units_are, regions_section, groups_section}
+use Rattle.lf_def.specs.PrintedTexts.{with_parts, TextPart, version_is, divider_is, brackets_are, design_is, units_are, regions_section, groups_section}
 use Rattle.lf_def.specs.PrintedTexts.{components_section, part_tokens, text_tokens, IsPrintedPart, printed_document, ReadsApartFromOffsets}
 use Rattle.lf_def.proofs.PrintedNumbers.{decimals_are_read}
 use Rattle.lf_def.proofs.PrintedTexts.{parts_read_back}
@@ -27,91 +27,91 @@ use Rattle.lf_floorplan.specs.Fences.{IsFence}
 use Rattle.lf_cells.specs.declared.cell.Cell.{Cell}
 use Rattle.lf_frame.specs.Loads.{as_location}
 use Rattle.lf_team_def.specs.TeamText as text
-use Rattle.lf_team_def.specs.TeamText.{line_of, section_lines, team_lines, team_text}
+use Rattle.lf_team_def.specs.TeamText.{words_line, section_lines, team_lines, team_text}
 use Rattle.lf_laws_roundtrip.specs.Spelled.{IsSpelledName, IsSpelledHeader, IsSpelledCell, CanBeBound}
-use Rattle.lf_laws_roundtrip.specs.TeamDocument.{placement_of, component_of, region_of, regions_of, group_of, groups_of, TeamTextReadsBack}
+use Rattle.lf_laws_roundtrip.specs.TeamDocument.{clause_of_place, component_of, region_of, regions_of, group_of, groups_of, TeamTextReadsBack}
 use Rattle.lf_laws_roundtrip.proofs.Fronts.{read, read_nothing, AreWords, line_front, lines_front, quoted_line}
 use Rattle.lf_laws_roundtrip.proofs.Words.{one_more, rect_in_range, region_lines_are_words, group_lines_are_words, component_lines_are_words}
 use Rattle.lf_laws_roundtrip.proofs.Lines.{section_tokens, component_lines, region_lines, group_lines, count_is_word, count_is_other}
 
 -- The parts.
 
-abbrev region_parts : Option Team → List Part
+abbrev region_parts : Option Team → List TextPart
 region_parts None = []
 region_parts (Some t) = regions_section (decimal 1) (region_of t ∷ []) ∷ []
 
-abbrev group_parts : Option Team → List Cell → List Part
+abbrev group_parts : Option Team → List Cell → List TextPart
 group_parts None cells = []
 group_parts (Some t) [] = []
 group_parts (Some t) (c ∷ cs) = groups_section (decimal 1) (group_of t (c ∷ cs) ∷ []) ∷ []
 
-abbrev section_parts : Frame → Option Team → List Cell → List Part
+abbrev section_parts : Frame → Option Team → List Cell → List TextPart
 section_parts f fence cells = region_parts fence
-    ++ components_section (decimal (length (map (text.component_words f) cells))) (map (component_of f) cells) ∷ group_parts fence cells
+    ++ components_section (decimal (length (map (text.team_component_words f) cells))) (map (component_of f) cells) ∷ group_parts fence cells
 
 -- The parts from one of the header's statements on.
-abbrev from_units : Frame → Option Team → List Cell → List Part
+abbrev from_units : Frame → Option Team → List Cell → List TextPart
 from_units f fence cells = units_are f.header.units ∷ section_parts f fence cells
 
-abbrev from_design : Frame → Option Team → List Cell → List Part
+abbrev from_design : Frame → Option Team → List Cell → List TextPart
 from_design f fence cells = design_is f.header.design ∷ from_units f fence cells
 
-abbrev from_brackets : Frame → Option Team → List Cell → List Part
+abbrev from_brackets : Frame → Option Team → List Cell → List TextPart
 from_brackets f fence cells = brackets_are f.header.brackets ∷ from_design f fence cells
 
-abbrev from_divider : Frame → Option Team → List Cell → List Part
+abbrev from_divider : Frame → Option Team → List Cell → List TextPart
 from_divider f fence cells = divider_is f.header.divider ∷ from_brackets f fence cells
 
-abbrev parts : Frame → Option Team → List Cell → List Part
+abbrev parts : Frame → Option Team → List Cell → List TextPart
 parts f fence cells = version_is f.header.version ∷ from_divider f fence cells
 
 -- The tokens.
 
-abbrev tokens_of_parts : List Part → List PlainToken
+abbrev tokens_of_parts : List TextPart → List PlainToken
 tokens_of_parts ps = text_tokens signed_decimal ps
 
 abbrev section_text : Frame → Option Team → List Cell → List (List (List ℕ))
 section_text f fence cells =
     text.region_lines fence
-    ++ (section_lines (codes "COMPONENTS") (map (text.component_words f) cells) ++ (text.group_lines fence cells ++ (codes "END" ∷ codes "DESIGN" ∷ []) ∷ []))
+    ++ (section_lines (codes "COMPONENTS") (map (text.team_component_words f) cells) ++ (text.group_lines fence cells ++ (codes "END" ∷ codes "DESIGN" ∷ []) ∷ []))
 
 group_tokens : (fence : Option Team) (cells : List Cell)
-    → flat_map (map word_of) (text.group_lines fence cells ++ (codes "END" ∷ codes "DESIGN" ∷ []) ∷ []) ≡ tokens_of_parts (group_parts fence cells)
+    → flat_map (map plain_word) (text.group_lines fence cells ++ (codes "END" ∷ codes "DESIGN" ∷ []) ∷ []) ≡ tokens_of_parts (group_parts fence cells)
 group_tokens None cells = refl
 group_tokens (Some t) [] = refl
 group_tokens (Some t) (c ∷ cs) =
-    flat_map-append (map word_of) (section_lines (codes "GROUPS") (text.group_words t (c ∷ cs) ∷ [])) ((codes "END" ∷ codes "DESIGN" ∷ []) ∷ [])
-    ∙ ap (λ (y : List PlainToken). y ++ map word_of (codes "END" ∷ codes "DESIGN" ∷ []))
-    (section_tokens (codes "GROUPS") print.group_words (group_of t (c ∷ cs) ∷ []) (text.group_words t (c ∷ cs) ∷ []) (group_lines t (c ∷ cs)))
+    flat_map-append (map plain_word) (section_lines (codes "GROUPS") (text.team_group_words t (c ∷ cs) ∷ [])) ((codes "END" ∷ codes "DESIGN" ∷ []) ∷ [])
+    ∙ ap (λ (y : List PlainToken). y ++ map plain_word (codes "END" ∷ codes "DESIGN" ∷ []))
+    (section_tokens (codes "GROUPS") print.group_words (group_of t (c ∷ cs) ∷ []) (text.team_group_words t (c ∷ cs) ∷ []) (group_lines t (c ∷ cs)))
 
 component_tokens : (f : Frame) (fence : Option Team) (cells : List Cell)
-    → flat_map (map word_of) (section_lines (codes "COMPONENTS") (map (text.component_words f) cells)
+    → flat_map (map plain_word) (section_lines (codes "COMPONENTS") (map (text.team_component_words f) cells)
     ++ (text.group_lines fence cells ++ (codes "END" ∷ codes "DESIGN" ∷ []) ∷ []))
-    ≡ tokens_of_parts (components_section (decimal (length (map (text.component_words f) cells))) (map (component_of f) cells) ∷ group_parts fence cells)
+    ≡ tokens_of_parts (components_section (decimal (length (map (text.team_component_words f) cells))) (map (component_of f) cells) ∷ group_parts fence cells)
 component_tokens f fence cells =
-    let lines : List (List (List ℕ)) = map (text.component_words f) cells in
-    flat_map-append (map word_of) (section_lines (codes "COMPONENTS") lines) (text.group_lines fence cells ++ (codes "END" ∷ codes "DESIGN" ∷ []) ∷ [])
-    ∙ ap (λ (y : List PlainToken). y ++ flat_map (map word_of) (text.group_lines fence cells ++ (codes "END" ∷ codes "DESIGN" ∷ []) ∷ []))
+    let lines : List (List (List ℕ)) = map (text.team_component_words f) cells in
+    flat_map-append (map plain_word) (section_lines (codes "COMPONENTS") lines) (text.group_lines fence cells ++ (codes "END" ∷ codes "DESIGN" ∷ []) ∷ [])
+    ∙ ap (λ (y : List PlainToken). y ++ flat_map (map plain_word) (text.group_lines fence cells ++ (codes "END" ∷ codes "DESIGN" ∷ []) ∷ []))
     (section_tokens (codes "COMPONENTS") (print.component_words signed_decimal) (map (component_of f) cells) lines (component_lines f cells))
     ∙ ap (λ (y : List PlainToken). part_tokens signed_decimal (components_section (decimal (length lines)) (map (component_of f) cells)) ++ y)
     (group_tokens fence cells)
 
 section_text_tokens : (f : Frame) (fence : Option Team) (cells : List Cell)
-    → flat_map (map word_of) (section_text f fence cells) ≡ tokens_of_parts (section_parts f fence cells)
+    → flat_map (map plain_word) (section_text f fence cells) ≡ tokens_of_parts (section_parts f fence cells)
 section_text_tokens f None cells = component_tokens f None cells
 section_text_tokens f (Some t) cells =
-    let behind : List (List (List ℕ)) =
-    section_lines (codes "COMPONENTS") (map (text.component_words f) cells) ++ (text.group_lines (Some t) cells ++ (codes "END" ∷ codes "DESIGN" ∷ []) ∷ []) in
-    flat_map-append (map word_of) (section_lines (codes "REGIONS") (text.region_words t ∷ [])) behind
-    ∙ ap (λ (y : List PlainToken). y ++ flat_map (map word_of) behind)
-    (section_tokens (codes "REGIONS") (print.region_words signed_decimal) (region_of t ∷ []) (text.region_words t ∷ []) (region_lines t))
+    let after_it : List (List (List ℕ)) =
+    section_lines (codes "COMPONENTS") (map (text.team_component_words f) cells) ++ (text.group_lines (Some t) cells ++ (codes "END" ∷ codes "DESIGN" ∷ []) ∷ []) in
+    flat_map-append (map plain_word) (section_lines (codes "REGIONS") (text.team_region_words t ∷ [])) after_it
+    ∙ ap (λ (y : List PlainToken). y ++ flat_map (map plain_word) after_it)
+    (section_tokens (codes "REGIONS") (print.region_words signed_decimal) (region_of t ∷ []) (text.team_region_words t ∷ []) (region_lines t))
     ∙ ap (λ (y : List PlainToken). part_tokens signed_decimal (regions_section (decimal 1) (region_of t ∷ [])) ++ y) (component_tokens f (Some t) cells)
 
 section_text_are_words : (f : Frame) (fence : Option Team) (cells : List Cell) → IfSome fence (λ t. (is_word_text t.name ≡ true) × All IsRect t.rects)
-    → length (map (text.component_words f) cells) ≤ 4000000 → All (IsSpelledCell f) cells → All AreWords (section_text f fence cells)
+    → length (map (text.team_component_words f) cells) ≤ 4000000 → All (IsSpelledCell f) cells → All AreWords (section_text f fence cells)
 section_text_are_words f fence cells h few each =
     All-append AreWords (text.region_lines fence) _ (region_lines_are_words fence h)
-    (All-append AreWords (section_lines (codes "COMPONENTS") (map (text.component_words f) cells)) _ (component_lines_are_words f cells few each)
+    (All-append AreWords (section_lines (codes "COMPONENTS") (map (text.team_component_words f) cells)) _ (component_lines_are_words f cells few each)
     (All-append AreWords (text.group_lines fence cells) ((codes "END" ∷ codes "DESIGN" ∷ []) ∷ []) (group_lines_are_words f fence cells (named fence h) each)
     (All-cons AreWords (codes "END" ∷ codes "DESIGN" ∷ []) [] refl (All-nil AreWords))))
   where
@@ -134,7 +134,7 @@ divider_line h = (codes "DIVIDERCHAR" ∷ h.divider ∷ codes ";" ∷ []) ∷ br
 
 -- The tokens of the header's lines, and of what follows them.
 header_tokens : (h : Header) (rest : List ℕ) → IsSpelledHeader h → IsLimit h.units 20000
-    → read (flat_map line_of (text.header_lines h) ++ rest)
+    → read (flat_map words_line (text.header_lines h) ++ rest)
     ≡ part_tokens signed_decimal (version_is h.version)
     ++ (part_tokens signed_decimal (divider_is h.divider) ++ (part_tokens signed_decimal (brackets_are h.brackets)
     ++ (part_tokens signed_decimal (design_is h.design) ++ (part_tokens signed_decimal (units_are h.units) ++ read rest))))
@@ -157,23 +157,23 @@ header_tokens h rest spelled count =
     (one_more (decimal h.units) (codes ";" ∷ []) (count_is_word h.units (omega (arith, count.most))) refl))))))
   where
     head : (l : List (List ℕ)) (ls : List (List (List ℕ))) (rest : List ℕ) (tokens : List PlainToken)
-        → ((more : List ℕ) → read (line_of l ++ more) ≡ tokens ++ read more)
-        → read (flat_map line_of (l ∷ ls) ++ rest) ≡ tokens ++ read (flat_map line_of ls ++ rest)
-    head l ls rest tokens each = ap read (append_assoc (line_of l) (flat_map line_of ls) rest) ∙ each (flat_map line_of ls ++ rest)
+        → ((more : List ℕ) → read (words_line l ++ more) ≡ tokens ++ read more)
+        → read (flat_map words_line (l ∷ ls) ++ rest) ≡ tokens ++ read (flat_map words_line ls ++ rest)
+    head l ls rest tokens each = ap read (append_assoc (words_line l) (flat_map words_line ls) rest) ∙ each (flat_map words_line ls ++ rest)
 
 text_tokens_are : (f : Frame) (fence : Option Team) (cells : List Cell) → IsSpelledHeader f.header → IsLimit f.header.units 20000
-    → IfSome fence (λ t. (is_word_text t.name ≡ true) × All IsRect t.rects) → length (map (text.component_words f) cells) ≤ 4000000
+    → IfSome fence (λ t. (is_word_text t.name ≡ true) × All IsRect t.rects) → length (map (text.team_component_words f) cells) ≤ 4000000
     → All (IsSpelledCell f) cells
-    → read (flat_map line_of (team_lines f fence cells)) ≡ tokens_of_parts (parts f fence cells)
+    → read (flat_map words_line (team_lines f fence cells)) ≡ tokens_of_parts (parts f fence cells)
 text_tokens_are f fence cells header count h few each =
-    let sections : read (flat_map line_of (section_text f fence cells)) ≡ tokens_of_parts (section_parts f fence cells) =
-    ap read (sym (append-nil (flat_map line_of (section_text f fence cells))))
+    let sections : read (flat_map words_line (section_text f fence cells)) ≡ tokens_of_parts (section_parts f fence cells) =
+    ap read (sym (append-nil (flat_map words_line (section_text f fence cells))))
     ∙ lines_front (section_text f fence cells) [] (section_text_are_words f fence cells h few each)
-    ∙ ap (λ (y : List PlainToken). flat_map (map word_of) (section_text f fence cells) ++ y) read_nothing
-    ∙ append-nil (flat_map (map word_of) (section_text f fence cells))
+    ∙ ap (λ (y : List PlainToken). flat_map (map plain_word) (section_text f fence cells) ++ y) read_nothing
+    ∙ append-nil (flat_map (map plain_word) (section_text f fence cells))
     ∙ section_text_tokens f fence cells in
-    ap read (flat_map-append line_of (text.header_lines f.header) (section_text f fence cells))
-    ∙ header_tokens f.header (flat_map line_of (section_text f fence cells)) header count
+    ap read (flat_map-append words_line (text.header_lines f.header) (section_text f fence cells))
+    ∙ header_tokens f.header (flat_map words_line (section_text f fence cells)) header count
     ∙ ap (λ (y : List PlainToken). part_tokens signed_decimal (version_is f.header.version) ++ (part_tokens signed_decimal (divider_is f.header.divider)
     ++ (part_tokens signed_decimal (brackets_are f.header.brackets) ++ (part_tokens signed_decimal (design_is f.header.design)
     ++ (part_tokens signed_decimal (units_are f.header.units) ++ y))))) sections
@@ -184,7 +184,7 @@ fence_of : {X : Type 0} (P : X → Type 0) (xs : List X) (n : ℕ) → All P xs 
 fence_of P xs n all None is = tt
 fence_of P xs n all (Some x) is = subst P (get_or_from_slice_get xs n x x is) (all n x (slice_get_within xs n x is))
 
-place_printed : (p : Option Place) → IfSome p (λ q. IsLocation (as_location q)) → HasPlace (placement_of p).kind (placement_of p).place
+place_printed : (p : Option Place) → IfSome p (λ q. IsLocation (as_location q)) → HasPlace (clause_of_place p).kind (clause_of_place p).place
 place_printed None h = tt
 place_printed (Some q) h = h
 
@@ -214,7 +214,7 @@ group_printed f t cells name each bound other = record {
   region = record { word = name.word; other = other };
 }
 
-one_part : (p : Part) → IsPrintedPart p → All IsPrintedPart (p ∷ [])
+one_part : (p : TextPart) → IsPrintedPart p → All IsPrintedPart (p ∷ [])
 one_part p h = All-cons IsPrintedPart p [] h (All-nil IsPrintedPart)
 
 abbrev FenceIsSpelled : List Cell → Team → Type 0
@@ -239,7 +239,7 @@ group_parts_printed f (Some t) (c ∷ cs) spelled each =
     )
 
 parts_printed : (f : Frame) (fence : Option Team) (cells : List Cell) → IsSpelledHeader f.header → IsLimit f.header.units 20000
-    → IfSome fence (FenceIsSpelled cells) → IfSome fence IsFence → length (map (text.component_words f) cells) ≤ 4000000 → All (IsSpelledCell f) cells
+    → IfSome fence (FenceIsSpelled cells) → IfSome fence IsFence → length (map (text.team_component_words f) cells) ≤ 4000000 → All (IsSpelledCell f) cells
     → All IsPrintedPart (parts f fence cells)
 parts_printed f fence cells header count spelled whole few each =
     All-cons IsPrintedPart (version_is f.header.version) (from_divider f fence cells) header.version.other
@@ -248,10 +248,10 @@ parts_printed f fence cells header count spelled whole few each =
     (All-cons IsPrintedPart (design_is f.header.design) (from_units f fence cells) header.design.word
     (All-cons IsPrintedPart (units_are f.header.units) (section_parts f fence cells) (record { some = count.least; few = count.most })
     (All-append IsPrintedPart (region_parts fence)
-    (components_section (decimal (length (map (text.component_words f) cells))) (map (component_of f) cells) ∷ group_parts fence cells)
+    (components_section (decimal (length (map (text.team_component_words f) cells))) (map (component_of f) cells) ∷ group_parts fence cells)
     (region_parts_printed fence cells spelled whole)
-    (All-cons IsPrintedPart (components_section (decimal (length (map (text.component_words f) cells))) (map (component_of f) cells)) (group_parts fence cells)
-    (count_is_other (length (map (text.component_words f) cells)) few, components_printed f cells each)
+    (All-cons IsPrintedPart (components_section (decimal (length (map (text.team_component_words f) cells))) (map (component_of f) cells)) (group_parts fence cells)
+    (count_is_other (length (map (text.team_component_words f) cells)) few, components_printed f cells each)
     (group_parts_printed f fence cells spelled each)))))))
 
 -- The document of the parts.
@@ -283,13 +283,13 @@ named f (Some t) [] = refl
 named f (Some t) (c ∷ cs) = refl
 
 says : (f : Frame) (fence : Option Team) (cells : List Cell) → IsSpelledHeader f.header → IfSome fence (FenceIsSpelled cells) → IfSome fence IsFence
-    → length cells ≤ 4000000 → All (IsSpelledCell f) cells → ReadsApartFromOffsets (flat_map line_of (team_lines f fence cells)) (document_by f fence cells)
+    → length cells ≤ 4000000 → All (IsSpelledCell f) cells → ReadsApartFromOffsets (flat_map words_line (team_lines f fence cells)) (document_by f fence cells)
 says f fence cells header spelled whole few each =
-    let many : length (map (text.component_words f) cells) ≤ 4000000 = omega (arith, length-map cells (text.component_words f)) in
-    subst (λ (d : Document). ReadsApartFromOffsets (flat_map line_of (team_lines f fence cells)) d) (parts_say f fence cells)
+    let many : length (map (text.team_component_words f) cells) ≤ 4000000 = omega (arith, length-map cells (text.team_component_words f)) in
+    subst (λ (d : Document). ReadsApartFromOffsets (flat_map words_line (team_lines f fence cells)) d) (parts_say f fence cells)
     (parts_read_back signed_decimal decimals_are_read (parts f fence cells) (parts_printed f fence cells header f.units_in_range spelled whole many each)
     (named f fence cells)
-    (flat_map line_of (team_lines f fence cells)) (
+    (flat_map words_line (team_lines f fence cells)) (
       [],
       text_tokens_are f fence cells header f.units_in_range (words fence spelled whole) many each
           ∙ sym (append-nil (tokens_of_parts (parts f fence cells))),

@@ -11,7 +11,7 @@ use Rattle.lf_orient.specs.declared.Orient.TheVariants.{N, W, S, E, FN, FW, FS, 
 use Rattle.lf_orient.specs.Words.{orient_word}
 use Rattle.lf_lex.specs.Splices.{is_word_text}
 use Rattle.lf_lex.proofs.Splicing.{and_true}
-use Rattle.lf_def.specs.Ranges.{IsCoordinate, IsRect, IsLocation}
+use Rattle.lf_def.specs.Ranges.{IsDefCoordinate, IsRect, IsLocation}
 use Rattle.lf_def.proofs.PrintedNumbers.{decimals_are_words}
 use Rattle.lf_floorplan.specs.declared.frame.Frame.{Frame}
 use Rattle.lf_floorplan.specs.declared.parts.Team.{Team}
@@ -30,11 +30,11 @@ use Rattle.lf_laws_roundtrip.proofs.Lines.{count_is_word}
 pub one_more : (w : List ℕ) (ws : List (List ℕ)) → is_word_text w ≡ true → AreWords ws → AreWords (w ∷ ws)
 one_more w ws p q = rw p q
 
-behind_each_other : (xs ys : List (List ℕ)) → AreWords xs → AreWords ys → AreWords (xs ++ ys)
-behind_each_other [] ys p q = q
-behind_each_other (x ∷ xs) ys p q =
+after_each_other : (xs ys : List (List ℕ)) → AreWords xs → AreWords ys → AreWords (xs ++ ys)
+after_each_other [] ys p q = q
+after_each_other (x ∷ xs) ys p q =
     let h = and_true (is_word_text x) (list_all is_word_text xs) p in
-    one_more x (xs ++ ys) h.0 (behind_each_other xs ys h.1 q)
+    one_more x (xs ++ ys) h.0 (after_each_other xs ys h.1 q)
 
 orient_is_word : (o : Orient) → is_word_text (orient_word o) ≡ true
 orient_is_word N = refl
@@ -53,14 +53,14 @@ clause_are_words (Some p) h =
     (one_more (signed_decimal p.y) (codes ")" ∷ orient_word p.orient ∷ codes ";" ∷ []) (decimals_are_words p.y h.1)
     (one_more (orient_word p.orient) (codes ";" ∷ []) (orient_is_word p.orient) refl))
 
-component_is_words : (f : Frame) (c : Cell) → IsSpelledCell f c → AreWords (text.component_words f c)
+component_is_words : (f : Frame) (c : Cell) → IsSpelledCell f c → AreWords (text.team_component_words f c)
 component_is_words f c h =
     one_more c.name ((macro_of f c.mac).name ∷ (clause_words c.working ++ codes ";" ∷ [])) h.name.spelled
     (one_more (macro_of f c.mac).name (clause_words c.working ++ codes ";" ∷ []) h.mac.spelled (clause_are_words c.working h.place))
 
 -- Coordinates.
 
-pub coordinate : (x : ℤ) → IsDefNumber x → IsCoordinate x
+pub coordinate : (x : ℤ) → IsDefNumber x → IsDefCoordinate x
 coordinate x h = let above = h.above in let most = h.most in record { low = omega (arith, ints); high = most }
 
 pub rect_in_range : (r : Rect) → IsDefRect r → IsRect r
@@ -73,7 +73,7 @@ rect_in_range r h = record {
   up = h.up.in_order;
 }
 
-rect_is_words : (r : Rect) → IsRect r → AreWords (text.rect_words r)
+rect_is_words : (r : Rect) → IsRect r → AreWords (text.team_rect_words r)
 rect_is_words r h =
     one_more (signed_decimal r.x1) (signed_decimal r.y1 ∷ codes ")" ∷ codes "(" ∷ signed_decimal r.x2 ∷ signed_decimal r.y2 ∷ codes ")" ∷ [])
     (decimals_are_words r.x1 h.x1)
@@ -81,25 +81,25 @@ rect_is_words r h =
     (one_more (signed_decimal r.x2) (signed_decimal r.y2 ∷ codes ")" ∷ []) (decimals_are_words r.x2 h.x2)
     (one_more (signed_decimal r.y2) (codes ")" ∷ []) (decimals_are_words r.y2 h.y2) refl)))
 
-rects_are_words : (rs : List Rect) → All IsRect rs → AreWords (flat_map text.rect_words rs)
+rects_are_words : (rs : List Rect) → All IsRect rs → AreWords (flat_map text.team_rect_words rs)
 rects_are_words [] h = refl
 rects_are_words (r ∷ rs) h =
-    behind_each_other (text.rect_words r) (flat_map text.rect_words rs) (rect_is_words r (All-head IsRect r rs h)) (rects_are_words rs (All-tail IsRect r rs h))
+    after_each_other (text.team_rect_words r) (flat_map text.team_rect_words rs) (rect_is_words r (All-head IsRect r rs h)) (rects_are_words rs (All-tail IsRect r rs h))
 
-region_is_words : (t : Team) → is_word_text t.name ≡ true → All IsRect t.rects → AreWords (text.region_words t)
+region_is_words : (t : Team) → is_word_text t.name ≡ true → All IsRect t.rects → AreWords (text.team_region_words t)
 region_is_words t name rects =
-    one_more t.name (flat_map text.rect_words t.rects ++ codes "+" ∷ codes "TYPE" ∷ codes "FENCE" ∷ codes ";" ∷ []) name
-    (behind_each_other (flat_map text.rect_words t.rects) (codes "+" ∷ codes "TYPE" ∷ codes "FENCE" ∷ codes ";" ∷ []) (rects_are_words t.rects rects) refl)
+    one_more t.name (flat_map text.team_rect_words t.rects ++ codes "+" ∷ codes "TYPE" ∷ codes "FENCE" ∷ codes ";" ∷ []) name
+    (after_each_other (flat_map text.team_rect_words t.rects) (codes "+" ∷ codes "TYPE" ∷ codes "FENCE" ∷ codes ";" ∷ []) (rects_are_words t.rects rects) refl)
 
 names_are_words : (f : Frame) (cells : List Cell) → All (IsSpelledCell f) cells → AreWords (map (λ c. c.name) cells)
 names_are_words f [] h = refl
 names_are_words f (c ∷ cs) h =
     one_more c.name (map (λ (x : Cell). x.name) cs) (All-head (IsSpelledCell f) c cs h).name.spelled (names_are_words f cs (All-tail (IsSpelledCell f) c cs h))
 
-group_is_words : (f : Frame) (t : Team) (cells : List Cell) → is_word_text t.name ≡ true → All (IsSpelledCell f) cells → AreWords (text.group_words t cells)
+group_is_words : (f : Frame) (t : Team) (cells : List Cell) → is_word_text t.name ≡ true → All (IsSpelledCell f) cells → AreWords (text.team_group_words t cells)
 group_is_words f t cells name h =
     one_more t.name (map (λ (c : Cell). c.name) cells ++ codes "+" ∷ codes "REGION" ∷ t.name ∷ codes ";" ∷ []) name
-    (behind_each_other (map (λ (c : Cell). c.name) cells) (codes "+" ∷ codes "REGION" ∷ t.name ∷ codes ";" ∷ []) (names_are_words f cells h)
+    (after_each_other (map (λ (c : Cell). c.name) cells) (codes "+" ∷ codes "REGION" ∷ t.name ∷ codes ";" ∷ []) (names_are_words f cells h)
     (one_more t.name (codes ";" ∷ []) name refl))
 
 -- Sections.
@@ -117,23 +117,23 @@ pub region_lines_are_words : (fence : Option Team) → IfSome fence (λ t. (is_w
     → All AreWords (text.region_lines fence)
 region_lines_are_words None h = All-nil AreWords
 region_lines_are_words (Some t) h =
-    section_is_words (codes "REGIONS") (text.region_words t ∷ []) refl (omega arith)
-    (All-cons AreWords (text.region_words t) [] (region_is_words t h.0 h.1) (All-nil AreWords))
+    section_is_words (codes "REGIONS") (text.team_region_words t ∷ []) refl (omega arith)
+    (All-cons AreWords (text.team_region_words t) [] (region_is_words t h.0 h.1) (All-nil AreWords))
 
 pub group_lines_are_words : (f : Frame) (fence : Option Team) (cells : List Cell) → IfSome fence (λ t. is_word_text t.name ≡ true) → All (IsSpelledCell f) cells
     → All AreWords (text.group_lines fence cells)
 group_lines_are_words f None cells h each = All-nil AreWords
 group_lines_are_words f (Some t) [] h each = All-nil AreWords
 group_lines_are_words f (Some t) (c ∷ cs) h each =
-    section_is_words (codes "GROUPS") (text.group_words t (c ∷ cs) ∷ []) refl (omega arith)
-    (All-cons AreWords (text.group_words t (c ∷ cs)) [] (group_is_words f t (c ∷ cs) h each) (All-nil AreWords))
+    section_is_words (codes "GROUPS") (text.team_group_words t (c ∷ cs) ∷ []) refl (omega arith)
+    (All-cons AreWords (text.team_group_words t (c ∷ cs)) [] (group_is_words f t (c ∷ cs) h each) (All-nil AreWords))
 
-components_are_words : (f : Frame) (cells : List Cell) → All (IsSpelledCell f) cells → All AreWords (map (text.component_words f) cells)
+components_are_words : (f : Frame) (cells : List Cell) → All (IsSpelledCell f) cells → All AreWords (map (text.team_component_words f) cells)
 components_are_words f [] h = All-nil AreWords
 components_are_words f (c ∷ cs) h =
-    All-cons AreWords (text.component_words f c) (map (text.component_words f) cs) (component_is_words f c (All-head (IsSpelledCell f) c cs h))
+    All-cons AreWords (text.team_component_words f c) (map (text.team_component_words f) cs) (component_is_words f c (All-head (IsSpelledCell f) c cs h))
     (components_are_words f cs (All-tail (IsSpelledCell f) c cs h))
 
-pub component_lines_are_words : (f : Frame) (cells : List Cell) → length (map (text.component_words f) cells) ≤ 4000000 → All (IsSpelledCell f) cells
-    → All AreWords (section_lines (codes "COMPONENTS") (map (text.component_words f) cells))
-component_lines_are_words f cells few h = section_is_words (codes "COMPONENTS") (map (text.component_words f) cells) refl few (components_are_words f cells h)
+pub component_lines_are_words : (f : Frame) (cells : List Cell) → length (map (text.team_component_words f) cells) ≤ 4000000 → All (IsSpelledCell f) cells
+    → All AreWords (section_lines (codes "COMPONENTS") (map (text.team_component_words f) cells))
+component_lines_are_words f cells few h = section_is_words (codes "COMPONENTS") (map (text.team_component_words f) cells) refl few (components_are_words f cells h)

@@ -7,7 +7,7 @@ use Rattle.lf_frame_checks.specs.Findings.{LoadInputs, IsAccepted}
 use Rattle.lf_frame.specs.Loads.{IsLoadedFrom}
 use Rattle.lf_write.specs.Export.{AreExportable, exported}
 use Rattle.lf_write.specs.Laws.{FitsText}
-use Rattle.lf_laws_roundtrip.specs.Moved.{unplaced}
+use Rattle.lf_laws_roundtrip.specs.Moved.{cell_without_place}
 
 -- Holds if there is a place for each cell of the design, in the order of its cells, by the
 -- positions of their components.
@@ -26,7 +26,7 @@ with_document i d = record i { document = d }
 -- Holds if the second design has the first one's frame and cells, and the cells are at the places.
 pub record IsAtPlaces (l m : Loaded) (places : List (Option Place)) : Type 0 where
   pub frame : m.frame ≡ l.frame
-  pub cells : map unplaced m.cells ≡ map unplaced l.cells
+  pub cells : map cell_without_place m.cells ≡ map cell_without_place l.cells
   pub at_places : map (λ c. c.place) m.cells ≡ places
 
 -- Holds if the text reads, and its document is accepted with the same library and limits. Each

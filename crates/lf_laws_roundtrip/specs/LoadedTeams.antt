@@ -4,10 +4,10 @@ use Rattle.std.specs.Prelude.{◌≡◌, ◌≢◌, ℕ, ◌≤◌, List, All, C
 use Rattle.lf_def.specs.Document.{document_of}
 use Rattle.lf_def.specs.PrintedTexts.{ReadsApartFromOffsets}
 use Rattle.lf_def.specs.Ranges.{IsLocation}
-use Rattle.lf_floorplan.specs.declared.loaded.Cell.{Cell as LoadedCell}
+use Rattle.lf_floorplan.specs.declared.loaded.LoadedCell.{LoadedCell}
 use Rattle.lf_floorplan.specs.declared.loaded.Loaded.{Loaded}
 use Rattle.lf_cells.specs.declared.cell.Cell.{Cell}
-use Rattle.lf_cells.specs.Openings.{own_cells}
+use Rattle.lf_cells.specs.Initial.{own_cells}
 use Rattle.lf_frame_checks.specs.Findings.{LoadInputs}
 use Rattle.lf_frame.specs.Loads.{as_location, IsLoadedFrom}
 use Rattle.lf_team_def.specs.TeamText.{team_text}
@@ -31,12 +31,12 @@ pub record AreTeamCells (l : Loaded) (number : ℕ) (cells : List Cell) : Type 0
   pub no_plus : IsSome (slice_get l.frame.teams number) → All (λ c. c.name ≢ codes "+") cells
 
 -- The name and the macro of a cell, which no command changes.
-abbrev pub lasting : Cell → List ℕ × ℕ
-lasting c = (c.name, c.mac)
+abbrev pub lasting_part : Cell → List ℕ × ℕ
+lasting_part c = (c.name, c.mac)
 
 -- Holds if these are the cells of the team with this number, in loading order, at any places.
 pub record AreOwnCells (l : Loaded) (number : ℕ) (cells : List Cell) : Type 0 where
-  pub same : map lasting cells ≡ map lasting (own_cells number l.cells)
+  pub same : map lasting_part cells ≡ map lasting_part (own_cells number l.cells)
   pub places : All (λ c. IfSome c.working (λ p. IsLocation (as_location p))) cells
   pub no_plus : IsSome (slice_get l.frame.teams number) → All (λ c. c.name ≢ codes "+") cells
 

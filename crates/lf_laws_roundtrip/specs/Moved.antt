@@ -4,7 +4,7 @@ use Rattle.lf_def.specs.declared.components.Location.{Location}
 use Rattle.lf_def.specs.Document.{Document}
 use Rattle.lf_def.specs.Laws.{document_without_places}
 use Rattle.lf_floorplan.specs.declared.frame.Frame.{Frame}
-use Rattle.lf_floorplan.specs.declared.loaded.Cell.{Cell}
+use Rattle.lf_floorplan.specs.declared.loaded.LoadedCell.{LoadedCell}
 use Rattle.lf_floorplan.specs.declared.loaded.Loaded.{Loaded}
 use Rattle.lf_frame_checks.specs.Findings.{LoadInputs, IsAccepted}
 use Rattle.lf_frame.specs.Loads.{location, movables, as_location, IsFrameOf, IsLoadedFrom}
@@ -27,14 +27,14 @@ abbrev pub movable_locations : Document → List (Option Location)
 movable_locations d = map (λ e. location e.1) (movables d.components)
 
 -- The cell without its place.
-abbrev pub unplaced : Cell → Cell
-unplaced c = record c { place = None }
+abbrev pub cell_without_place : LoadedCell → LoadedCell
+cell_without_place c = record c { place = None }
 
 -- Holds if the frame is the same, and the cells differ from the others only in their places, which
 -- are these.
 pub record IsElsewhere (l m : Loaded) (places : List (Option Location)) : Type 0 where
   pub frame : m.frame ≡ l.frame
-  pub cells : map unplaced m.cells ≡ map unplaced l.cells
+  pub cells : map cell_without_place m.cells ≡ map cell_without_place l.cells
   pub at_places : map (λ c. option_map as_location c.place) m.cells ≡ places
 
 -- Documents that differ only in byte positions agree in the parts that teams cannot change.

@@ -18,13 +18,13 @@ use Rattle.lf_team_def.specs.TeamText.{team_text}
 use Rattle.lf_laws_roundtrip.specs.Spelled.{IsSpelledTeam}
 
 -- A placement clause for a place, or for no place. Its position in a text is left out.
-abbrev pub placement_of : Option Place → PlacementClause
-placement_of None = record { kind = Unplaced; place = None; start = 0; stop = 0 }
-placement_of (Some p) = record { kind = Placed; place = Some (as_location p); start = 0; stop = 0 }
+abbrev pub clause_of_place : Option Place → PlacementClause
+clause_of_place None = record { kind = Unplaced; place = None; start = 0; stop = 0 }
+clause_of_place (Some p) = record { kind = Placed; place = Some (as_location p); start = 0; stop = 0 }
 
 -- The component of a cell at its working place.
 abbrev pub component_of : Frame → Cell → Component
-component_of f c = record { name = c.name; mac = (macro_of f c.mac).name; placement = Some (placement_of c.working); semicolon = 0 }
+component_of f c = record { name = c.name; mac = (macro_of f c.mac).name; placement = Some (clause_of_place c.working); semicolon = 0 }
 
 -- The fence as a region.
 abbrev pub region_of : Team → Region

@@ -16,11 +16,11 @@ use Rattle.lf_def.specs.declared.regions.Region.{Region}
 use Rattle.lf_def.specs.declared.groups.Group.{Group}
 use Rattle.lf_def.specs.declared.components.Component.{Component}
 use Rattle.lf_def.specs.declared.components.Location.{Location}
-use Rattle.lf_def.specs.declared.rows.Row.{Row as DefRow}
+use Rattle.lf_def.specs.declared.rows.RowStatement.{RowStatement as DefRow}
 use Rattle.lf_def.specs.Kinds.{is_movable}
-use Rattle.lf_frame_claims.specs.Teams.{IsTeamOf}
+use Rattle.lf_frame_claims.specs.Teams.{IsTeamOfComponent}
 use Rattle.lf_floorplan.specs.declared.frame.Frame.{Frame}
-use Rattle.lf_floorplan.specs.declared.loaded.Cell.{Cell as LoadedCell}
+use Rattle.lf_floorplan.specs.declared.loaded.LoadedCell.{LoadedCell}
 use Rattle.lf_floorplan.specs.declared.loaded.Loaded.{Loaded}
 use Rattle.lf_floorplan.specs.declared.macros.Macro.{Macro}
 use Rattle.lf_floorplan.specs.declared.parts.Header.{Header}
@@ -31,7 +31,7 @@ use Rattle.lf_floorplan.specs.Rows.{IsPitch}
 use Rattle.lf_frame_checks.specs.Loading.{at_place, macro_named, is_core_row, frame_row}
 use Rattle.lf_frame_checks.specs.Findings.{LoadInputs}
 use Rattle.lf_frame.specs.Loads.{location, as_location, movables_from, IsFrameOf, IsCellOf, IsLoadedFrom, obstacles_in, soft_in}
-use Rattle.lf_cells.specs.Openings.{initial_cell, own_cells}
+use Rattle.lf_cells.specs.Initial.{initial_cell, own_cells}
 use Rattle.lf_floor_model.specs.Teams.{team_number}
 use Rattle.lf_floor_model.proofs.Parts.{taken, passed, not_equal}
 use Rattle.lf_laws_slices.specs.Alike.{AreSameRects, AreFramesAlike, AreCellsAlike, AreDesignsAlike}
@@ -103,7 +103,7 @@ places_same (Some p) (Some q) e = ap (λ (z : Place). Some z) (one_place p q (sa
 
 -- ---- cells
 
-pub team_is_one : (regions : List Region) (groups : List Group) (name : List ℕ) (s t : ℕ) → IsTeamOf regions groups name s → IsTeamOf regions groups name t → s ≡ t
+pub team_is_one : (regions : List Region) (groups : List Group) (name : List ℕ) (s t : ℕ) → IsTeamOfComponent regions groups name s → IsTeamOfComponent regions groups name t → s ≡ t
 team_is_one regions groups name s t (inl a) (inl b) = let fence : b.fence ≡ a.fence = a.only b.fence b.claimed in cc (a.place, b.place)
 team_is_one regions groups name s t (inl a) (inr b) = absurd (b.0 a.fence a.claimed)
 team_is_one regions groups name s t (inr a) (inl b) = absurd (a.0 b.fence b.claimed)
@@ -176,20 +176,20 @@ module _ (number : ℕ) (i j : LoadInputs) (f g : Frame) (frame : IsFrameOf i f)
   none_alike (d ∷ ds) ys same z = absurd same
 
   module _ (own : Component → Bool) where
-    abbrev Tells : Component → Type 0
-    Tells c = Decides (own c) (IsOwn i number c)
+    abbrev DecidesOwn : Component → Type 0
+    DecidesOwn c = Decides (own c) (IsOwn i number c)
 
-    own_alike : (cs : List Component) (xs : List LoadedCell) (ds : List Component) (ys : List LoadedCell) → All Tells cs → AllZip (Makes i) cs xs
+    own_alike : (cs : List Component) (xs : List LoadedCell) (ds : List Component) (ys : List LoadedCell) → All DecidesOwn cs → AllZip (Makes i) cs xs
         → AllZip (AreSameComponents i j) (filter own cs) ds → AllZip (Makes j) ds ys
         → AllZip (AreCellsAlike f g) (map initial_cell (filter (is_own number) xs)) (map initial_cell ys)
-    own_alike [] [] ds ys tells z same w = none_alike ds ys same w
-    own_alike [] (x ∷ xs) ds ys tells z same w = absurd z
-    own_alike (c ∷ cs) [] ds ys tells z same w = absurd z
-    own_alike (c ∷ cs) (x ∷ xs) ds ys tells z same w =
-        by (own c) refl ds ys same w (λ ds ys same w. own_alike cs xs ds ys (All-tail Tells c cs tells) z.1 same w)
+    own_alike [] [] ds ys decides z same w = none_alike ds ys same w
+    own_alike [] (x ∷ xs) ds ys decides z same w = absurd z
+    own_alike (c ∷ cs) [] ds ys decides z same w = absurd z
+    own_alike (c ∷ cs) (x ∷ xs) ds ys decides z same w =
+        by (own c) refl ds ys same w (λ ds ys same w. own_alike cs xs ds ys (All-tail DecidesOwn c cs decides) z.1 same w)
       where
-        told : Tells c
-        told = All-head Tells c cs tells
+        reported : DecidesOwn c
+        reported = All-head DecidesOwn c cs decides
 
         by : (b : Bool) → own c ≡ b → (ds : List Component) (ys : List LoadedCell)
             → AllZip (AreSameComponents i j) (cond b (c ∷ filter own cs) (filter own cs)) ds → AllZip (Makes j) ds ys
@@ -198,7 +198,7 @@ module _ (number : ℕ) (i j : LoadInputs) (f g : Frame) (frame : IsFrameOf i f)
             → AllZip (AreCellsAlike f g) (map initial_cell (filter (is_own number) (x ∷ xs))) (map initial_cell ys)
         by false is ds ys same w rest =
             subst (λ (ks : List LoadedCell). AllZip (AreCellsAlike f g) (map initial_cell ks) (map initial_cell ys))
-            (sym (passed (is_own number) x xs (other_team i c x z.0 (λ mine. differ (sym is ∙ told.1 mine))))) (rest ds ys same w)
+            (sym (passed (is_own number) x xs (other_team i c x z.0 (λ mine. differ (sym is ∙ reported.1 mine))))) (rest ds ys same w)
           where
             differ : false ≡ true → ⊥
             differ e = cc
@@ -206,7 +206,7 @@ module _ (number : ℕ) (i j : LoadInputs) (f g : Frame) (frame : IsFrameOf i f)
         by true is (d ∷ ds) [] same w rest = absurd w
         by true is (d ∷ ds) (y ∷ ys) same w rest =
             subst (λ (ks : List LoadedCell). AllZip (AreCellsAlike f g) (map initial_cell ks) (map initial_cell (y ∷ ys)))
-            (sym (taken (is_own number) x xs (own_team i c x z.0 (told.0 is))))
+            (sym (taken (is_own number) x xs (own_team i c x z.0 (reported.0 is))))
             (cell_alike c d x y z.0 w.0 same.0, rest ds ys same.1 w.1)
 
 pub loads_alike : (team : List ℕ) (number : ℕ) (i j : LoadInputs) (a b : Loaded) → IsCutFrom number i j → IsLoadedFrom i a → IsLoadedFrom j b
@@ -223,5 +223,5 @@ loads_alike team number i j a b cut here there named =
       cells =
           subst (λ (ys : List LoadedCell). AllZip (AreCellsAlike a.frame b.frame) (own_cells number a.cells) (map initial_cell ys))
           (sym (all_own number i j a.frame b.frame here.frame there.frame slice b.cells makes' cut.cells.no_others))
-          (own_alike number i j a.frame b.frame here.frame there.frame cut.cells.own whole a.cells slice b.cells cut.cells.tells makes cut.cells.kept makes');
+          (own_alike number i j a.frame b.frame here.frame there.frame cut.cells.own whole a.cells slice b.cells cut.cells.decides makes cut.cells.kept makes');
     }

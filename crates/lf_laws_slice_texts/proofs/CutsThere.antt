@@ -9,9 +9,9 @@ use Rattle.lf_units.specs.declared.geometry.Rect.{Rect}
 use Rattle.lf_def.specs.declared.components.Component.{Component}
 use Rattle.lf_lef.specs.Contents.{Contents}
 use Rattle.lf_def.specs.Kinds.{is_fixed, is_cover, is_movable}
-use Rattle.lf_floorplan.specs.declared.loaded.Cell.{Cell as LoadedCell}
+use Rattle.lf_floorplan.specs.declared.loaded.LoadedCell.{LoadedCell}
 use Rattle.lf_floorplan.specs.declared.loaded.Loaded.{Loaded}
-use Rattle.lf_frame_claims.specs.Teams.{IsTeamOf}
+use Rattle.lf_frame_claims.specs.Teams.{IsTeamOfComponent}
 use Rattle.lf_frame_checks.specs.Loading.{macro_named}
 use Rattle.lf_frame_checks.specs.Findings.{LoadInputs, units_in}
 use Rattle.lf_frame.specs.Loads.{fixed_box, blocked, obstacles_in, IsLoadedFrom}
@@ -37,18 +37,18 @@ both_true false b e = absurd cc
 module _ (i : LoadInputs) (number : ℕ) where
   -- the name of a cell of the team is a name in the team
   found_own : (cs : List Component) (xs : List LoadedCell) → AllZip (Makes i) cs xs → (name : List ℕ) → is_among number xs name ≡ true
-      → IsTeamOf i.document.regions i.document.groups name number
+      → IsTeamOfComponent i.document.regions i.document.groups name number
   found_own [] [] z name is = absurd cc
   found_own [] (x ∷ xs) z name is = absurd z
   found_own (c ∷ cs) [] z name is = absurd z
   found_own (c ∷ cs) (x ∷ xs) z name is = by (bytes_eq x.name name && eqb x.team number) refl is (λ rest. found_own cs xs z.1 name rest) where
     by : (b : Bool) → (bytes_eq x.name name && eqb x.team number) ≡ b → (b || is_among number xs name) ≡ true
-        → (is_among number xs name ≡ true → IsTeamOf i.document.regions i.document.groups name number) → IsTeamOf i.document.regions i.document.groups name number
+        → (is_among number xs name ≡ true → IsTeamOfComponent i.document.regions i.document.groups name number) → IsTeamOfComponent i.document.regions i.document.groups name number
     by false e is rest = rest is
     by true e is rest =
         let both = both_true (bytes_eq x.name name) (eqb x.team number) e in
-        subst (λ (n : ℕ). IsTeamOf i.document.regions i.document.groups name n) (eqb-true x.team number both.1)
-        (subst (λ (m : List ℕ). IsTeamOf i.document.regions i.document.groups m x.team) (sym z.0.name ∙ (bytes_eq-Decides x.name name).0 both.0) z.0.team)
+        subst (λ (n : ℕ). IsTeamOfComponent i.document.regions i.document.groups name n) (eqb-true x.team number both.1)
+        (subst (λ (m : List ℕ). IsTeamOfComponent i.document.regions i.document.groups m x.team) (sym z.0.name ∙ (bytes_eq-Decides x.name name).0 both.0) z.0.team)
 
   -- a component of the team has a cell in the team
   own_found : (cs : List Component) (xs : List LoadedCell) → AllZip (Makes i) cs xs → All (λ c. IsOwn i number c → is_among number xs c.name ≡ true) cs
@@ -151,7 +151,7 @@ cut_there number i a loaded = (
     soft = λ r. ((λ h. h), (λ h. h));
     cells = record {
       own = own;
-      tells = λ k d within. ((λ is. found_own i number movables a.cells makes _ is), own_found i number movables a.cells makes k d within);
+      decides = λ k d within. ((λ is. found_own i number movables a.cells makes _ is), own_found i number movables a.cells makes k d within);
       kept = subst (λ (cs : List Component). AllZip (AreSameComponents i j) (filter own movables) cs) (sym left) (same_each i j refl (filter own movables));
       no_others =
           subst (λ (cs : List Component). All (IsOwn j number) cs) (sym left)

@@ -17,11 +17,11 @@ use Rattle.lf_floor_model.specs.Steps.{outcome_by_rules}
 use Rattle.lf_floor_model.specs.Runs.{own_commands}
 use Rattle.lf_floor_model.proofs.Isolation.{has_number}
 use Rattle.lf_server.specs.Devices.{Writer}
-use Rattle.lf_server.specs.Exchanges.{Exchange, cells_in}
+use Rattle.lf_server.specs.Exchanges.{Exchange, reply_cells}
 use Rattle.lf_server.specs.Endings.{WritesReplies}
 use Rattle.lf_server.specs.Laws.{commands, replies, reply_texts}
 use Rattle.lf_server.specs.declared.serve_loop.Ending.{Ending}
-use Rattle.lf_server.proofs.Telling.{acts_at, told_own, own_texts}
+use Rattle.lf_server.proofs.Telling.{acts_at, reported_own, own_texts}
 use Rattle.lf_laws_slices.specs.Alike.{AreFramesAlike, AreCellsAlike, AreTeamsAlike, AreFloorsAlike}
 use Rattle.lf_laws_slices.proofs.Cells.{zip_option}
 use Rattle.lf_laws_slices.proofs.Zips.{zip_get}
@@ -34,7 +34,7 @@ name_for s (Some own) = unwrap_or (name_at s.cells own) []
 
 -- the text of a reply to the team in that state
 abbrev text_for : TeamState → Reply → List ℕ
-text_for s reply = reply_text reply (name_for s (cells_in reply).0) (name_for s (cells_in reply).1)
+text_for s reply = reply_text reply (name_for s (reply_cells reply).0) (name_for s (reply_cells reply).1)
 
 name_same : (f g : Frame) (cs ds : List Cell) (own : ℕ) → AllZip (AreCellsAlike f g) cs ds → name_at cs own ≡ name_at ds own
 name_same f g cs ds own z =
@@ -47,8 +47,8 @@ name_for_same f g s t a (Some own) = ap (λ (name : Option (List ℕ)). unwrap_o
 -- the text of a reply is the same for both
 text_same : (f g : Frame) (s t : TeamState) → AreTeamsAlike f g s t → (reply : Reply) → text_for s reply ≡ text_for t reply
 text_same f g s t a reply =
-    ap (λ (name : List ℕ). reply_text reply name (name_for s (cells_in reply).1)) (name_for_same f g s t a (cells_in reply).0)
-    ∙ ap (λ (name : List ℕ). reply_text reply (name_for t (cells_in reply).0) name) (name_for_same f g s t a (cells_in reply).1)
+    ap (λ (name : List ℕ). reply_text reply name (name_for s (reply_cells reply).1)) (name_for_same f g s t a (reply_cells reply).0)
+    ∙ ap (λ (name : List ℕ). reply_text reply (name_for t (reply_cells reply).0) name) (name_for_same f g s t a (reply_cells reply).1)
 
 module _ (verdict_one : VerdictIsUnique) (choice_one : BestPlaceIsUnique) (l m : Legalizer) where
   -- the texts of the replies to a team's own commands are the same for both
@@ -69,8 +69,8 @@ module _ (verdict_one : VerdictIsUnique) (choice_one : BestPlaceIsUnique) (l m :
   lines_same team end end' a a' b b' v v' w w' done others alike comes comes' same =
       let named = has_number a team alike.here alike.is_here in
       let named_b : team_number b.frame team ≡ Some named.0 = sym (number_same a.frame b.frame alike.frames team) ∙ named.1 in
-      let here = told_own l a.frame team named.0 named.1 done a a' refl (acts_at end l a a' v v' done comes) alike.here alike.is_here in
-      let there = told_own m b.frame team named.0 named_b others b b' refl (acts_at end' m b b' w w' others comes') alike.there alike.is_there in
+      let here = reported_own l a.frame team named.0 named.1 done a a' refl (acts_at end l a a' v v' done comes) alike.here alike.is_here in
+      let there = reported_own m b.frame team named.0 named_b others b b' refl (acts_at end' m b b' w w' others comes') alike.there alike.is_there in
       here
       ∙ own_same a.frame b.frame named.0 alike.frames (own_commands team (commands done) (replies done)) alike.here alike.there alike.teams
       ∙ ap (λ (orders : List (TeamCommand (List ℕ) Place)). own_texts m b.frame named.0 orders alike.there) same

@@ -4,7 +4,7 @@ use Rattle.std.specs.Prelude.{◌≡◌, ℕ, Bool, not, ◌||◌, List, All, De
 use Rattle.std.specs.List.{AllZip}
 use Rattle.lf_def.specs.declared.components.Component.{Component}
 use Rattle.lf_def.specs.Kinds.{is_movable}
-use Rattle.lf_frame_claims.specs.Teams.{fences, IsTeamOf}
+use Rattle.lf_frame_claims.specs.Teams.{fences, IsTeamOfComponent}
 use Rattle.lf_floorplan.specs.declared.loaded.Loaded.{Loaded}
 use Rattle.lf_frame_checks.specs.Loading.{macro_named}
 use Rattle.lf_frame_checks.specs.Findings.{LoadInputs, core_in}
@@ -14,7 +14,7 @@ use Rattle.lf_laws_slices.specs.Alike.{AreSameRects, AreDesignsAlike}
 
 -- the component is in the team of that number
 abbrev pub IsOwn : LoadInputs → ℕ → Component → Type 0
-IsOwn i number c = IsTeamOf i.document.regions i.document.groups c.name number
+IsOwn i number c = IsTeamOfComponent i.document.regions i.document.groups c.name number
 
 -- two components have the same name and location, and name the same macro
 pub record AreSameComponents (i j : LoadInputs) (c d : Component) : Type 0 where
@@ -25,7 +25,7 @@ pub record AreSameComponents (i j : LoadInputs) (c d : Component) : Type 0 where
 -- the slice has the whole design's components of the team, in their order, and no others
 pub record KeepsOwn (i j : LoadInputs) (number : ℕ) (whole slice : List Component) : Type 0 where
   pub own : Component → Bool
-  pub tells : All (λ c. Decides (own c) (IsOwn i number c)) whole
+  pub decides : All (λ c. Decides (own c) (IsOwn i number c)) whole
   pub kept : AllZip (AreSameComponents i j) (filter own whole) slice
   pub no_others : All (IsOwn j number) slice
 

@@ -10,7 +10,7 @@ use Rattle.lf_floorplan.specs.declared.loaded.Loaded.{Loaded}
 use Rattle.lf_floorplan.specs.declared.macros.Macro.{Macro}
 use Rattle.lf_floorplan.specs.Boxes.{IsSized, macro_of, no_macro}
 use Rattle.lf_cells.specs.declared.cell.Cell.{Cell}
-use Rattle.lf_cells.specs.Openings.{own_cells}
+use Rattle.lf_cells.specs.Initial.{own_cells}
 use Rattle.lf_legalize.specs.Members.{IsSizedCell}
 use Rattle.lf_floor_model.specs.States.{TeamState, FloorState}
 use Rattle.lf_laws_slices.specs.Alike.{AreFramesAlike, AreCellsAlike, AreTeamsAlike, AreFloorsAlike, AreDesignsAlike}

@@ -21,19 +21,19 @@ use Rattle.lf_rules.specs.Choice.{SpotPlace, PlacementQuery, spot_of, BestPlaceI
 use Rattle.lf_rules.specs.Legalizer.{Legalizer, VerdictIsUnique}
 use Rattle.lf_rules.specs.Team.{Member, boxes_beside, query_from}
 use Rattle.lf_reports.specs.declared.broken_cell.BrokenCell.{BrokenCell}
-use Rattle.lf_reports.specs.Reports.{member_of as listed_member, candidate_among, broken_among, name_among, violation_of, violation_by, violation_at, violations_in, report_of}
+use Rattle.lf_reports.specs.Reports.{listed_member, candidate_among, broken_among, name_among, violation_of, violation_by, violation_at, violations_in, report_of}
 use Rattle.lf_cells.specs.declared.cell.Cell.{Cell}
 use Rattle.lf_cells.specs.Cells.{working_at}
 use Rattle.lf_legalize.specs.Members.{member_of}
-use Rattle.lf_team_def.specs.TeamText.{line_of, section_lines, header_lines, region_lines, component_words, group_words, group_lines, team_lines, team_text}
+use Rattle.lf_team_def.specs.TeamText.{words_line, section_lines, header_lines, region_lines, team_component_words, team_group_words, group_lines, team_lines, team_text}
 use Rattle.lf_team_def.specs.Clauses.{clause_words}
 use Rattle.lf_floor_model.specs.Teams.{TeamRules, team_rules, listed_of, broken_by, broken_at}
-use Rattle.lf_floor_model.specs.Looks.{place_of_spot, best_at}
+use Rattle.lf_floor_model.specs.Queries.{place_of_spot, best_at}
 use Rattle.lf_floor_model.specs.Changes.{broken_where, broken_cells}
 use Rattle.lf_laws_slices.specs.Alike.{AreFramesAlike}
 use Rattle.lf_laws_slices.proofs.Zips.{OptionZip, zip_length, zip_get, zip_map, zip_same, zip_count, filter_map_agree}
 use Rattle.lf_laws_slices.proofs.Places.{verdict_same, best_same}
-use Rattle.lf_laws_slices.proofs.Members.{AreMembersAlike, beside_same, lifted_same}
+use Rattle.lf_laws_slices.proofs.Members.{AreMembersAlike, beside_same, query_same}
 use Rattle.lf_laws_slices.proofs.Cells.{AreSizedAlike, AreAllAlike, zip_then, zip_option, members_alike, working_same}
 
 -- equal functions give the same result for an option
@@ -45,9 +45,9 @@ then_same h k each (Some x) = each x
 
 module _ (verdict_one : VerdictIsUnique) (l l' : Legalizer) (f g : Frame) (a : AreFramesAlike f g) where
   -- the first broken rule of a cell at a place among other cells
-  trial_same : (team padding : ℕ) (m n : Macro) (place : Place) (ms ns : List Member) (own : ℕ) → m ≡ n → IsSized f m → AllZip (AreMembersAlike f g) ms ns
+  candidate_same : (team padding : ℕ) (m n : Macro) (place : Place) (ms ns : List Member) (own : ℕ) → m ≡ n → IsSized f m → AllZip (AreMembersAlike f g) ms ns
       → l.first_broken (candidate_of f team padding m place (boxes_beside f ms own)) ≡ l'.first_broken (candidate_of g team padding n place (boxes_beside g ns own))
-  trial_same team padding m n place ms ns own same sized z =
+  candidate_same team padding m n place ms ns own same sized z =
       verdict_same verdict_one l l' (candidate_of f team padding m place (boxes_beside f ms own)) g a sized
       ∙ ap (λ (mac : Macro). l'.first_broken (candidate_of g team padding mac place (boxes_beside f ms own))) same
       ∙ ap (λ (boxes : List Placed). l'.first_broken (candidate_of g team padding n place boxes)) (beside_same f g a ms ns own z)
@@ -65,7 +65,7 @@ module _ (verdict_one : VerdictIsUnique) (l l' : Legalizer) (f g : Frame) (a : A
     by_same cs ds own place z None (Some d) there = absurd there
     by_same cs ds own place z (Some c) None there = absurd there
     by_same cs ds own place z (Some c) (Some d) there =
-        trial_same number padding (macro_of f c.mac) (macro_of g d.mac) place (map member_of cs) (map member_of ds) own there.alike.same_macro there.sized.sized
+        candidate_same number padding (macro_of f c.mac) (macro_of g d.mac) place (map member_of cs) (map member_of ds) own there.alike.same_macro there.sized.sized
         (members_alike f g cs ds z)
 
     pub broken_same : (cs ds : List Cell) (own : ℕ) (place : Place) → AreAllAlike f g cs ds → broken_at t cs own place ≡ broken_at u ds own place
@@ -88,22 +88,22 @@ module _ (verdict_one : VerdictIsUnique) (l l' : Legalizer) (f g : Frame) (a : A
 
     pub best_place_same : BestPlaceIsUnique → (cs ds : List Cell) (own : ℕ) (target : Point) → AreAllAlike f g cs ds → best_at t cs own target ≡ best_at u ds own target
     best_place_same choice_one cs ds own target z =
-        zip_then (AreSizedAlike f g) (λ c. option_and_then (λ best. place_of_spot best) (l.best_place (lifted c) target))
-        (λ d. option_and_then (λ best. place_of_spot best) (l'.best_place (lifted' d) target)) each (slice_get cs own) (slice_get ds own)
+        zip_then (AreSizedAlike f g) (λ c. option_and_then (λ best. place_of_spot best) (l.best_place (query_unplaced c) target))
+        (λ d. option_and_then (λ best. place_of_spot best) (l'.best_place (query_unplaced' d) target)) each (slice_get cs own) (slice_get ds own)
         (zip_get (AreSizedAlike f g) cs ds z own)
       where
-        lifted : Cell → PlacementQuery
-        lifted c = query_from f number padding (map member_of cs) own c.mac
+        query_unplaced : Cell → PlacementQuery
+        query_unplaced c = query_from f number padding (map member_of cs) own c.mac
 
-        lifted' : Cell → PlacementQuery
-        lifted' d = query_from g number padding (map member_of ds) own d.mac
+        query_unplaced' : Cell → PlacementQuery
+        query_unplaced' d = query_from g number padding (map member_of ds) own d.mac
 
         each : (c d : Cell) → AreSizedAlike f g c d
-            → option_and_then (λ best. place_of_spot best) (l.best_place (lifted c) target) ≡ option_and_then (λ best. place_of_spot best) (l'.best_place (lifted' d) target)
+            → option_and_then (λ best. place_of_spot best) (l.best_place (query_unplaced c) target) ≡ option_and_then (λ best. place_of_spot best) (l'.best_place (query_unplaced' d) target)
         each c d r =
             ap (λ (o : Option SpotPlace). option_and_then (λ best. place_of_spot best) o)
-            (best_same choice_one l l' (lifted c) target g a r.sized.sized
-            ∙ ap (λ (x : PlacementQuery). l'.best_place x target) (lifted_same f g a number padding (map member_of cs) (map member_of ds) own c.mac d.mac (members_alike f g cs ds z) r.alike.same_macro))
+            (best_same choice_one l l' (query_unplaced c) target g a r.sized.sized
+            ∙ ap (λ (x : PlacementQuery). l'.best_place x target) (query_same f g a number padding (map member_of cs) (map member_of ds) own c.mac d.mac (members_alike f g cs ds z) r.alike.same_macro))
 
 -- ---- reports
 
@@ -145,7 +145,7 @@ module _ (verdict_one : VerdictIsUnique) (l l' : Legalizer) (f g : Frame) (a : A
       each : (p : Place) → l.first_broken (candidate_among f padding cs own c p) ≡ l'.first_broken (candidate_among g padding ds own d p)
       each p =
           ap (λ (team : ℕ). l.first_broken (candidate_of f team padding (macro_of f c.mac) p (boxes_beside f (map listed_member cs) own))) r.team
-          ∙ trial_same verdict_one l l' f g a d.team padding (macro_of f c.mac) (macro_of g d.mac) p (map listed_member cs) (map listed_member ds) own r.same_macro r.sized members
+          ∙ candidate_same verdict_one l l' f g a d.team padding (macro_of f c.mac) (macro_of g d.mac) p (map listed_member cs) (map listed_member ds) own r.same_macro r.sized members
 
   name_same : (own : ℕ) → name_among cs own ≡ name_among ds own
   name_same own =
@@ -184,7 +184,7 @@ report_same verdict_one l l' f g a padding number cs ds z =
 
 -- ---- texts
 
-group_words_same : (f g : Frame) (t : Team) (cs ds : List Cell) → AreAllAlike f g cs ds → group_words t cs ≡ group_words t ds
+group_words_same : (f g : Frame) (t : Team) (cs ds : List Cell) → AreAllAlike f g cs ds → team_group_words t cs ≡ team_group_words t ds
 group_words_same f g t cs ds z =
     ap (λ (names : List (List ℕ)). codes "-" ∷ t.name ∷ (names ++ codes "+" ∷ codes "REGION" ∷ t.name ∷ codes ";" ∷ []))
     (zip_same (AreSizedAlike f g) (λ c. c.name) (λ d. d.name) (λ c d r. r.alike.name) cs ds z)
@@ -197,7 +197,7 @@ group_same f g (Some t) (c ∷ cs) [] z = absurd z
 group_same f g (Some t) (c ∷ cs) (d ∷ ds) z =
     ap (λ (words : List (List ℕ)). section_lines (codes "GROUPS") (words ∷ [])) (group_words_same f g t (c ∷ cs) (d ∷ ds) z)
 
-component_same : (f g : Frame) (c d : Cell) → AreSizedAlike f g c d → component_words f c ≡ component_words g d
+component_same : (f g : Frame) (c d : Cell) → AreSizedAlike f g c d → team_component_words f c ≡ team_component_words g d
 component_same f g c d r =
     ap (λ (name : List ℕ). codes "-" ∷ name ∷ (macro_of f c.mac).name ∷ (clause_words c.working ++ codes ";" ∷ [])) r.alike.name
     ∙ ap (λ (m : Macro). codes "-" ∷ d.name ∷ m.name ∷ (clause_words c.working ++ codes ";" ∷ [])) r.alike.same_macro
@@ -211,14 +211,14 @@ lines_with header fence components groups =
 lines_same : (f g : Frame) → AreFramesAlike f g → (number : ℕ) (cs ds : List Cell) → AreAllAlike f g cs ds
     → team_lines f (slice_get f.teams number) cs ≡ team_lines g (slice_get g.teams number) ds
 lines_same f g a number cs ds z =
-    ap (λ (header : Header). lines_with header (slice_get f.teams number) (map (component_words f) cs) (group_lines (slice_get f.teams number) cs)) a.header
-    ∙ ap (λ (teams : List Team). lines_with g.header (slice_get teams number) (map (component_words f) cs) (group_lines (slice_get teams number) cs)) a.fences
+    ap (λ (header : Header). lines_with header (slice_get f.teams number) (map (team_component_words f) cs) (group_lines (slice_get f.teams number) cs)) a.header
+    ∙ ap (λ (teams : List Team). lines_with g.header (slice_get teams number) (map (team_component_words f) cs) (group_lines (slice_get teams number) cs)) a.fences
     ∙ ap (λ (components : List (List (List ℕ))). lines_with g.header (slice_get g.teams number) components (group_lines (slice_get g.teams number) cs))
-    (zip_same (AreSizedAlike f g) (component_words f) (component_words g) (component_same f g) cs ds z)
-    ∙ ap (λ (groups : List (List (List ℕ))). lines_with g.header (slice_get g.teams number) (map (component_words g) ds) groups)
+    (zip_same (AreSizedAlike f g) (team_component_words f) (team_component_words g) (component_same f g) cs ds z)
+    ∙ ap (λ (groups : List (List (List ℕ))). lines_with g.header (slice_get g.teams number) (map (team_component_words g) ds) groups)
     (group_same f g (slice_get g.teams number) cs ds z)
 
 -- the DEF text of a team
 pub text_same : (f g : Frame) → AreFramesAlike f g → (number : ℕ) (cs ds : List Cell) → AreAllAlike f g cs ds → team_text f number cs ≡ team_text g number ds
 unfolding team_text
-text_same f g a number cs ds z = ap (λ (lines : List (List (List ℕ))). flat_map line_of lines) (lines_same f g a number cs ds z)
+text_same f g a number cs ds z = ap (λ (lines : List (List (List ℕ))). flat_map words_line lines) (lines_same f g a number cs ds z)

@@ -45,13 +45,13 @@ module _ (f g : Frame) (a : AreFramesAlike f g) where
   beside_same ms ns own z = ap (λ (boxes : List Placed). filter (λ box. not (box.own == own)) boxes) (boxes_same 0 ms ns z)
 
 -- the search for a place of a cell that is removed from its own place
-abbrev lifted_with : Frame → ℕ → ℕ → Macro → List Placed → PlacementQuery
-lifted_with f team padding mac others = record { frame = f; team = team; padding = padding; mac = mac; others = others }
+abbrev unplaced_with : Frame → ℕ → ℕ → Macro → List Placed → PlacementQuery
+unplaced_with f team padding mac others = record { frame = f; team = team; padding = padding; mac = mac; others = others }
 
 -- the searches for a place of a cell on both frames are the same
-pub lifted_same : (f g : Frame) → AreFramesAlike f g → (team padding : ℕ) (ms ns : List Member) (own mac other : ℕ)
+pub query_same : (f g : Frame) → AreFramesAlike f g → (team padding : ℕ) (ms ns : List Member) (own mac other : ℕ)
     → AllZip (AreMembersAlike f g) ms ns → macro_of f mac ≡ macro_of g other
     → query_on g (query_from f team padding ms own mac) ≡ query_from g team padding ns own other
-lifted_same f g a team padding ms ns own mac other z same =
-    ap (λ (m : Macro). lifted_with g team padding m (boxes_beside f ms own)) same
-    ∙ ap (λ (boxes : List Placed). lifted_with g team padding (macro_of g other) boxes) (beside_same f g a ms ns own z)
+query_same f g a team padding ms ns own mac other z same =
+    ap (λ (m : Macro). unplaced_with g team padding m (boxes_beside f ms own)) same
+    ∙ ap (λ (boxes : List Placed). unplaced_with g team padding (macro_of g other) boxes) (beside_same f g a ms ns own z)

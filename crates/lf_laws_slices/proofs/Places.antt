@@ -8,7 +8,7 @@ use Rattle.lf_floorplan.specs.declared.frame.Frame.{Frame}
 use Rattle.lf_floorplan.specs.declared.parts.Row.{Row}
 use Rattle.lf_floorplan.specs.declared.parts.Team.{Team}
 use Rattle.lf_floorplan.specs.Boxes.{IsSized}
-use Rattle.lf_floorplan.specs.Ground.{MeetsSoft}
+use Rattle.lf_floorplan.specs.Ground.{OverlapsSoft}
 use Rattle.lf_rules.specs.declared.rule.Rule.TheVariants.{Overlap}
 use Rattle.lf_rules.specs.declared.rule.Broken.{Broken}
 use Rattle.lf_rules.specs.Legality.{Candidate, box_of, IsTeamLegal, IsFirstOverlapping, IsFirstBroken}
@@ -47,7 +47,7 @@ verdict_same one l m t g a sized =
 may_go_on : (c : PlacementQuery) (g : Frame) → AreFramesAlike c.frame g → (p : SpotPlace) → IsAllowedPlace c p → IsAllowedPlace (query_on g c) p
 may_go_on c g a p may = record {
   legal = legal_on (candidate_at c p) g a may.legal;
-  off_soft = λ meets. may.off_soft (soft_on g c.frame (turned_round c.frame g a) (box_of (candidate_at c p)) (subst (λ (box : Rect). MeetsSoft g box) (sym (box_same (candidate_at c p) g a)) meets));
+  off_soft = λ does_overlap. may.off_soft (soft_on g c.frame (turned_round c.frame g a) (box_of (candidate_at c p)) (subst (λ (box : Rect). OverlapsSoft g box) (sym (box_same (candidate_at c p) g a)) does_overlap));
 }
 
 may_go_back : (c : PlacementQuery) (g : Frame) → AreFramesAlike c.frame g → (p : SpotPlace) → IsAllowedPlace (query_on g c) p → IsAllowedPlace c p

@@ -16,7 +16,7 @@ use Rattle.lf_floorplan.specs.declared.sites.Site.{Site}
 use Rattle.lf_floorplan.specs.Boxes.{IsSized, size_of}
 use Rattle.lf_floorplan.specs.Sizes.{size_in_dbu, turned, box_at}
 use Rattle.lf_floorplan.specs.Rows.{row_area}
-use Rattle.lf_floorplan.specs.Ground.{InGround, StaysInGround, IsClear, MeetsSoft}
+use Rattle.lf_floorplan.specs.Ground.{InGround, StaysInGround, IsClear, OverlapsSoft}
 use Rattle.lf_floorplan.specs.Standing.{IsSitesHigh, IsRowOfBox, IsBottomRow, Supports, HasHeight, HasBottomRow, IsSupported}
 use Rattle.lf_rules.specs.declared.rule.Rule.{Rule}
 use Rattle.lf_rules.specs.declared.rule.Rule.TheVariants.{Height, Row as RowRule, Stand, Orient as OrientRule, Rail as RailRule, Fence, Obstacle, Overlap}
@@ -79,14 +79,14 @@ module _ (f g : Frame) (a : AreFramesAlike f g) where
 
   bottom_row : (box : Rect) (r : Row) → IsBottomRow f box r → IsBottomRow g box r
   bottom_row box r h = record {
-    heeded = a_row r h.heeded;
+    core_ones = a_row r h.core_ones;
     at_bottom = row_of_box box 0 r h.at_bottom;
     site = h.site;
     on_grid = h.on_grid ∙ ap (λ (p : Point). pos h.site *ℤ p.x) a.pitch;
   }
 
   carries : (box : Rect) (bottom : Row) (j : ℕ) (s : Row) → Supports f box bottom j s → Supports g box bottom j s
-  carries box bottom j s h = record { heeded = a_row s h.heeded; at_row = row_of_box box j s h.at_row; rail = h.rail }
+  carries box bottom j s h = record { core_ones = a_row s h.core_ones; at_row = row_of_box box j s h.at_row; rail = h.rail }
 
   -- ---- ground
 
@@ -98,7 +98,7 @@ module _ (f g : Frame) (a : AreFramesAlike f g) where
   pub clear_on : (box : Rect) → IsClear f box → IsClear g box
   clear_on box h = all_of_same (λ o. SharesPoint box o → ⊥) f.obstacles g.obstacles (λ r. (a.obstacles r).1) h
 
-  pub soft_on : (box : Rect) → MeetsSoft f box → MeetsSoft g box
+  pub soft_on : (box : Rect) → OverlapsSoft f box → OverlapsSoft g box
   soft_on box h = any_of_same (λ r. SharesPoint box r) f.soft g.soft (λ r. (a.soft r).0) h
 
   -- ---- boxes
@@ -131,8 +131,8 @@ module _ (t : Candidate) (g : Frame) (a : AreFramesAlike t.frame g) where
   back : AreFramesAlike g t.frame
   back = turned_round t.frame g a
 
-  stands : (box : Rect) → IsSupported t.frame box → IsSupported g box
-  stands box h k r high bottom j less =
+  is_in_place : (box : Rect) → IsSupported t.frame box → IsSupported g box
+  is_in_place box h k r high bottom j less =
       let s = h k r (sites_high g t.frame back box k high) (bottom_row g t.frame back box r bottom) j less in
       (s.0, carries t.frame g a box r j s.0 s.1)
 
@@ -151,7 +151,7 @@ module _ (t : Candidate) (g : Frame) (a : AreFramesAlike t.frame g) where
 pub rule_on : (t : Candidate) (g : Frame) → AreFramesAlike t.frame g → (r : Rule) → Holds t r → Holds (candidate_on g t) r
 rule_on t g a Height h = subst (λ (box : Rect). HasHeight g box) (box_same t g a) (h.0, sites_high t.frame g a (box_of t) h.0 h.1)
 rule_on t g a RowRule h = subst (λ (box : Rect). HasBottomRow g box) (box_same t g a) (h.0, bottom_row t.frame g a (box_of t) h.0 h.1)
-rule_on t g a Stand h = subst (λ (box : Rect). IsSupported g box) (box_same t g a) (stands t g a (box_of t) h)
+rule_on t g a Stand h = subst (λ (box : Rect). IsSupported g box) (box_same t g a) (is_in_place t g a (box_of t) h)
 rule_on t g a OrientRule h = subst (λ (box : Rect). OrientedAt (candidate_on g t) box) (box_same t g a) (oriented t g a (box_of t) h)
 rule_on t g a RailRule h = subst (λ (box : Rect). RailAt (candidate_on g t) box) (box_same t g a) (on_rail t g a (box_of t) h)
 rule_on t g a Fence h =

@@ -96,11 +96,11 @@ module _ (verdict_one : VerdictIsUnique) (choice_one : BestPlaceIsUnique) (l m :
       let orders_a = own_commands team commands replies in
       let orders_b = own_commands team others answers in
       let both = own_alike a.frame b.frame named.0 alike.frames orders_a alike.here alike.there alike.teams in
-      let told_b = ap (λ (os : List (TeamCommand (List ℕ) Place)). own_replies m b.frame named.0 os alike.there) same in
+      let reported_b = ap (λ (os : List (TeamCommand (List ℕ) Place)). own_replies m b.frame named.0 os alike.there) same in
       let state_b = ap (λ (os : List (TeamCommand (List ℕ) Place)). Some (own_state m b.frame named.0 os alike.there)) same in
       let frame_a = sym (run_frame l commands replies a a' run_a) in
       let frame_b = sym (run_frame m others answers b b' run_b) in (
-        own_a.replies_are ∙ both.0 ∙ told_b ∙ sym own_b.replies_are,
+        own_a.replies_are ∙ both.0 ∙ reported_b ∙ sym own_b.replies_are,
         record {
           frames =
               subst (λ (g : Frame). AreFramesAlike a'.frame g) frame_b

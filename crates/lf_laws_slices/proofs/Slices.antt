@@ -9,14 +9,14 @@ use Rattle.std.proofs.lemmas.List.Kept.{AllPairs-filter}
 use Rattle.std.proofs.lemmas.List.Sums.{length-filter, count_by-le-length}
 use Rattle.lf_units.specs.declared.geometry.Rect.{Rect}
 use Rattle.lf_floorplan.specs.declared.frame.Frame.{Frame}
-use Rattle.lf_floorplan.specs.declared.loaded.Cell.{Cell as LoadedCell}
+use Rattle.lf_floorplan.specs.declared.loaded.LoadedCell.{LoadedCell}
 use Rattle.lf_floorplan.specs.declared.loaded.Loaded.{Loaded}
 use Rattle.lf_floorplan.specs.declared.macros.Macro.{Macro}
 use Rattle.lf_floorplan.specs.Bounds.{IsDefRect}
 use Rattle.lf_floorplan.specs.Boxes.{macro_of, no_macro}
 use Rattle.lf_floorplan.specs.Design.{IsCell, CellsNamed, ComponentsRise}
 use Rattle.lf_floorplan.specs.Obstacles.{IsMacroBox, IsObstacle}
-use Rattle.lf_cells.specs.Openings.{initial_cell}
+use Rattle.lf_cells.specs.Initial.{initial_cell}
 use Rattle.lf_floor_model.specs.Teams.{team_number}
 use Rattle.lf_floor_model.proofs.Openings.{pairs_map}
 use Rattle.lf_laws_slices.specs.Alike.{AreSameRects, AreFramesAlike, AreCellsAlike, AreDesignsAlike}
@@ -61,7 +61,7 @@ module _ (f : Frame) (more : List Macro) (obstacles soft : List Rect) (in_lef : 
     pitch_whole = f.pitch_whole;
     has_row = f.has_row;
     few_rows = f.few_rows;
-    rows_heeded = f.rows_heeded;
+    rows_are_core = f.rows_are_core;
     rows_apart = f.rows_apart;
     few_fences = f.few_fences;
     fences_whole = f.fences_whole;
@@ -88,13 +88,13 @@ module _ (f : Frame) (more : List Macro) (obstacles soft : List Rect) (in_lef : 
 
 -- ---- numbers of macros after others
 
-behind : {X : Type 0} (more xs : List X) (n : ℕ) → slice_get (more ++ xs) (length more + n) ≡ slice_get xs n
-behind [] xs n =
+after_it : {X : Type 0} (more xs : List X) (n : ℕ) → slice_get (more ++ xs) (length more + n) ≡ slice_get xs n
+after_it [] xs n =
     let at : zero + n ≡ n = omega arith in
     ap (λ (k : ℕ). slice_get xs k) at
-behind (x ∷ more) xs n =
+after_it (x ∷ more) xs n =
     let at : suc (length more) + n ≡ suc (length more + n) = omega arith in
-    ap (λ (k : ℕ). slice_get (x ∷ (more ++ xs)) k) at ∙ behind more xs n
+    ap (λ (k : ℕ). slice_get (x ∷ (more ++ xs)) k) at ∙ after_it more xs n
 
 -- ---- the cells of the team
 
@@ -110,7 +110,7 @@ module _ (whole : Loaded) (number : ℕ) (more : List Macro) (g : Frame) (alike 
   cells_after = map renumbered (filter is_own whole.cells)
 
   macro_there : (n : ℕ) → slice_get g.macros (length more + n) ≡ slice_get whole.frame.macros n
-  macro_there n = ap (λ (ms : List Macro). slice_get ms (length more + n)) macros_are ∙ behind more whole.frame.macros n
+  macro_there n = ap (λ (ms : List Macro). slice_get ms (length more + n)) macros_are ∙ after_it more whole.frame.macros n
 
   macro_same : (n : ℕ) → macro_of whole.frame n ≡ macro_of g (length more + n)
   macro_same n = ap (λ (o : Option Macro). unwrap_or o no_macro) (sym (macro_there n))

@@ -15,7 +15,7 @@ use Rattle.lf_laws_slices.specs.Alike.{AreFramesAlike}
 use Rattle.lf_laws_slices.specs.Laws.{query_on}
 use Rattle.lf_laws_slices.proofs.Zips.{OptionZip, zip_length, zip_get, zip_set}
 use Rattle.lf_laws_slices.proofs.Places.{verdict_same, best_same, anchor_same}
-use Rattle.lf_laws_slices.proofs.Members.{AreMembersAlike, lifted_same}
+use Rattle.lf_laws_slices.proofs.Members.{AreMembersAlike, query_same}
 
 -- two states of tidying: both continue with cells that are alike, or the same cell is stuck
 abbrev pub AreTidiedAlike : Frame → Frame → Tidied → Tidied → Type 0
@@ -61,7 +61,7 @@ module _ (verdict_one : VerdictIsUnique) (choice_one : BestPlaceIsUnique) (l l' 
       target_same c refl there.sized a m.place ∙ ap (λ (place : Option SpotPlace). target_of l' (query_on g c) place) there.place in
       let known = subst (λ (o : Option Point). AreTidiedAlike f g (tidied_to (target_of l c m.place) l c ms moved own m.mac) (tidied_to o l' (query_on g c) ns moved own n.mac)) targets aimed in
       subst (λ (d : PlacementQuery). AreTidiedAlike f g (tidied_to (target_of l c m.place) l c ms moved own m.mac) (tidied_to (target_of l' d n.place) l' d ns moved own n.mac))
-      (lifted_same f g a team padding ms ns own m.mac n.mac z there.same_macro) known
+      (query_same f g a team padding ms ns own m.mac n.mac z there.same_macro) known
 
   cell_same : (t u : Tidied) (own : ℕ) → AreTidiedAlike f g t u → AreTidiedAlike f g (tidy_cell l f team padding t own) (tidy_cell l' g team padding u own)
   cell_same (Going ms moved) (Going ns moved') own z =

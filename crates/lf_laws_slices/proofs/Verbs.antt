@@ -32,7 +32,7 @@ use Rattle.lf_floor_model.specs.States.{TeamState}
 use Rattle.lf_floor_model.specs.Teams.{TeamRules, team_rules, broken_at}
 use Rattle.lf_floor_model.specs.Outcomes.{Outcome, refused, changed, with_entry, recorded, with_reply}
 use Rattle.lf_floor_model.specs.Sessions.{seen_at, opened, opened_at, closed, synced}
-use Rattle.lf_floor_model.specs.Looks.{place_of_spot, checked, written, located, located_own, located_at, best_at, found, found_own, found_at}
+use Rattle.lf_floor_model.specs.Queries.{place_of_spot, checked, written, located, located_own, located_at, best_at, found, found_own, found_at}
 use Rattle.lf_floor_model.specs.Changes.{placed, placed_own, placed_unless, unplaced, unplaced_own, unplaced_from, legalized, legalized_own, legalized_at, restored, places_in, tidied_by, tidied_team, broken_where, exchanged, swapped_unless, swapped_to, swapped_from, swapped_own, swapped, back_to_committed, reverted, undone_by, undone, padded, first_unplaced, broken_cells, committed_unless, committed, outcome_of_change}
 use Rattle.lf_floor_model.specs.Verbs.{unless_spent, unless_stale, outcome_within, outcome_by_slot, outcome_of}
 use Rattle.lf_laws_slices.specs.Alike.{AreFramesAlike}
@@ -226,9 +226,9 @@ module _ (verdict_one : VerdictIsUnique) (choice_one : BestPlaceIsUnique) (l l' 
             let new' = restored (places_in ms) ds in
             let there = said f g (TidyDone (s.revision + 1) moved) (recorded t session new s) (recorded u session new' s')
             (kept session new new' (restored_alike f g (places_in ms) s.cells ds z)) in
-            let told = subst (λ (k : ℕ). Matches f g (tidied_by (Going ms moved) t session s) (with_reply (TidyDone (s.revision + 1) k) (recorded u session new' s'))) alike.1 there in
+            let reported = subst (λ (k : ℕ). Matches f g (tidied_by (Going ms moved) t session s) (with_reply (TidyDone (s.revision + 1) k) (recorded u session new' s'))) alike.1 there in
             subst (λ (places : List (Option Place)). Matches f g (tidied_by (Going ms moved) t session s) (with_reply (TidyDone (s.revision + 1) moved') (recorded u session (restored places ds) s')))
-            (places_in_same ms ns alike.0) told
+            (places_in_same ms ns alike.0) reported
         by (Going ms moved) (Stuck own) alike = absurd alike
         by (Stuck own) (Going ns moved) alike = absurd alike
         by (Stuck own) (Stuck own') alike = subst (λ (k : ℕ). Matches f g (refused (NoPlace own) s) (refused (NoPlace k) s')) alike (refuse (NoPlace own))

@@ -15,11 +15,11 @@ use Rattle.lf_lef.specs.declared.sites.SiteParts.{SiteParts}
 use Rattle.lf_lef.specs.declared.pins.Reach.{Reach}
 use Rattle.lf_lef.specs.declared.pins.Pin.{Pin}
 use Rattle.lf_lef.specs.declared.macros.MacroParts.{MacroParts}
-use Rattle.lf_lef.specs.Lengths.{micros_of, micros, point_from, point, size, origin}
+use Rattle.lf_lef.specs.Lengths.{micros_of, micros, point_from, lef_point, size, origin}
 use Rattle.lf_lef.specs.Sites.{one_word, symmetry_word, no_symmetry, symmetry, site_statement_from, site_statement}
-use Rattle.lf_lef.specs.Pins.{past_mask, past_iterate, reach_of, rect, port_statement_from, port_statement, use_named, pin_statement_from, pin_statement}
+use Rattle.lf_lef.specs.Pins.{past_mask, past_iterate, reach_of, lef_rectangle, port_statement_from, port_statement, use_named, pin_statement_from, pin_statement}
 use Rattle.lf_lef.specs.Pins.{no_pin, pin}
-use Rattle.lf_lef.specs.Macros.{passed_statement, passed_group, passed_from, macro_statement_from, macro_statement}
+use Rattle.lf_lef.specs.Macros.{passed_statement, passed_group, skip_lef_from, macro_statement_from, macro_statement}
 use Rattle.lf_units.proofs.Same.{same_point}
 
 abbrev pub point_at : ℤ → ℤ → Point
@@ -45,8 +45,8 @@ point_from_follows t t' e =
     (λ x. bind same same micros micros _ _ micros_follows (λ y y' ey.
     pure same (point_at x y) (point_at x y') (same_point (point_at x y') (point_at x y) refl ey))))
 
-pub point_follows : Follows same point point
-unfolding point
+pub point_follows : Follows same lef_point lef_point
+unfolding lef_point
 point_follows = bind plain same token token _ _ token_follows (λ t t' e. point_from_follows t t' e)
 
 pub size_follows : Follows same size size
@@ -60,7 +60,7 @@ size_follows =
 
 pub origin_follows : Follows same origin origin
 unfolding origin
-origin_follows = bind same same point point _ _ point_follows
+origin_follows = bind same same lef_point lef_point _ _ point_follows
     (λ p p' e. bind same same (keyword (codes ";")) (keyword (codes ";")) _ _ (keyword_follows (codes ";")) (λ s s' es. pure same p p' e))
 
 -- Sites.
@@ -145,13 +145,13 @@ past_iterate_follows t t' e = choose plain (is (codes "ITERATE") t) (is (codes "
 reach_alike : (p p' q q' : Point) → p' ≡ p → q' ≡ q → reach_of p'.y q'.y ≡ reach_of p.y q.y
 reach_alike p p' q q' e f = rw (e, f) refl
 
-pub rect_follows : Follows same rect rect
-unfolding rect
+pub rect_follows : Follows same lef_rectangle lef_rectangle
+unfolding lef_rectangle
 rect_follows =
     bind plain same token token _ _ token_follows (λ t t' e. bind plain same (past_mask t) (past_mask t') _ _ (past_mask_follows t t' e) (λ u u' eu.
     bind plain same (past_iterate u) (past_iterate u') _ _ (past_iterate_follows u u' eu)
     (λ v v' ev. bind same same (point_from v) (point_from v') _ _ (point_from_follows v v' ev) (λ p p' ep.
-    bind same same point point _ _ point_follows (λ q q' eq. bind same same to_semicolon to_semicolon _ _ to_semicolon_follows
+    bind same same lef_point lef_point _ _ point_follows (λ q q' eq. bind same same to_semicolon to_semicolon _ _ to_semicolon_follows
     (λ s s' es. pure same (reach_of p.y q.y) (reach_of p'.y q'.y) (reach_alike p p' q q' ep eq)))))))
 
 pub port_statement_from_follows : (s : List Reach) (t t' : Lexeme) → plain t' ≡ plain t → Follows same (port_statement_from s t) (port_statement_from s t')
@@ -159,7 +159,7 @@ unfolding port_statement_from
 port_statement_from_follows s t t' e =
     (choose same (is (codes "END") t) (is (codes "END") t') _ _ _ _ (is_alike (codes "END") t t' e) (pure same _ _ refl)
     (choose same (is (codes "RECT") t) (is (codes "RECT") t') _ _ _ _ (is_alike (codes "RECT") t t' e)
-    (bind same same rect rect _ _ rect_follows (λ x x' ex. pure same (turn (s ++ x ∷ []) true) (turn (s ++ x' ∷ []) true)
+    (bind same same lef_rectangle lef_rectangle _ _ rect_follows (λ x x' ex. pure same (turn (s ++ x ∷ []) true) (turn (s ++ x' ∷ []) true)
     (ap (λ (z : Reach). turn (s ++ z ∷ []) true) ex)))
     (choose same (is (codes ";") t) (is (codes ";") t') _ _ _ _ (is_alike (codes ";") t t' e) (pure same _ _ refl)
     (bind same same to_semicolon to_semicolon _ _ to_semicolon_follows (λ x x' ex. pure same (turn s true) (turn s true) refl)))))
@@ -235,8 +235,8 @@ passed_group_follows = block_follows same passed_statement (alike_states passed_
 either_alike : (b b' c c' : Bool) → b' ≡ b → c' ≡ c → (b' || c') ≡ (b || c)
 either_alike b b' c c' e f = rw (e, f) refl
 
-passed_from_follows : (t t' : Lexeme) → plain t' ≡ plain t → Follows same (passed_from t) (passed_from t')
-unfolding passed_from
+passed_from_follows : (t t' : Lexeme) → plain t' ≡ plain t → Follows same (skip_lef_from t) (skip_lef_from t')
+unfolding skip_lef_from
 passed_from_follows t t' e =
     choose same (is (codes "OBS") t || is (codes "DENSITY") t) (is (codes "OBS") t' || is (codes "DENSITY") t') _ _ _ _
     (either_alike (is (codes "OBS") t) (is (codes "OBS") t') (is (codes "DENSITY") t) (is (codes "DENSITY") t') (is_alike (codes "OBS") t t' e)
@@ -264,7 +264,7 @@ macro_statement_from_follows name s t t' e =
     (choose same (is (codes "PIN") t) (is (codes "PIN") t') _ _ _ _ (is_alike (codes "PIN") t t' e)
     (bind same same pin pin _ _ pin_follows (λ x x' ex. pure same (turn (record s { pins = s.pins ++ x ∷ [] }) true)
     (turn (record s { pins = s.pins ++ x' ∷ [] }) true) (ap (λ (z : Pin). turn (record s { pins = s.pins ++ z ∷ [] }) true) ex)))
-    (bind same same (passed_from t) (passed_from t') _ _ (passed_from_follows t t' e) (λ x x' ex. pure same (turn s true) (turn s true) refl)))))))
+    (bind same same (skip_lef_from t) (skip_lef_from t') _ _ (passed_from_follows t t' e) (λ x x' ex. pure same (turn s true) (turn s true) refl)))))))
 
 pub macro_statement_follows : (name : List ℕ) (s : MacroParts) → Follows same (macro_statement name s) (macro_statement name s)
 unfolding macro_statement

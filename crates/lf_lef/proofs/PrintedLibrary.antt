@@ -11,7 +11,7 @@ use Rattle.lf_names.specs.Names.{position_of}
 use Rattle.lf_lex.specs.declared.tokens.TokenKind.TheVariants.{Word}
 use Rattle.lf_lex.specs.declared.fault.ReadFault.{ReadFault}
 use Rattle.lf_lex.specs.Tokens.{Lexed, Lexeme, PlainToken, plain, with_tokens}
-use Rattle.lf_lex.specs.Splices.{word_of}
+use Rattle.lf_lex.specs.Splices.{plain_word}
 use Rattle.lf_lex.specs.Passing.{OccurNowhere}
 use Rattle.lf_lex.specs.Reading.{◌>>=◌, Reader, ReadValue, Turn, Statement, taken, turn, continues, name, to_end, to_word, statements}
 use Rattle.lf_lex.proofs.Runs.{Goes, same, with_both}
@@ -23,14 +23,14 @@ use Rattle.lf_lef.specs.declared.sites.SiteParts.{SiteParts}
 use Rattle.lf_lef.specs.declared.macros.MacroParts.{MacroParts}
 use Rattle.lf_lef.specs.Contents.{Contents, site_names, macro_names}
 use Rattle.lf_lef.specs.Sites.{site_parts, site_of, no_symmetry, no_site_parts}
-use Rattle.lf_lef.specs.Macros.{no_macro_parts, macro_parts, macro_of}
-use Rattle.lf_lef.specs.Library.{with_site, with_macro, to_named_end, passed_from, statement_from, statement, library}
+use Rattle.lf_lef.specs.Macros.{no_macro_parts, macro_parts, macro_from_parts}
+use Rattle.lf_lef.specs.Library.{with_site, with_macro, to_named_end, skip_lef_from, lef_statement_from, lef_statement, library}
 use Rattle.lf_lef.specs.Printed.{Spells, IsPrintable, end_words, macro_words, pin_words, NamedGroup, layer, via, via_rule, rule, array, SkipsStatements}
 use Rattle.lf_lef.specs.Printed.{site_words}
 use Rattle.lf_lef.specs.Printed.{ReadsSite, ReadsMacro}
-use Rattle.lf_lef.specs.Printed.{Group, group_word, units, property_definitions, spacing, ir_drop, noise_table, correction_table, Skipped, plain_statement}
-use Rattle.lf_lef.specs.Printed.{named, grouped, extension, skipped_tokens}
-use Rattle.lf_lef.specs.Printed.{with_semicolon, IsSkipped, other_statements, IsWhole, tokens_behind}
+use Rattle.lf_lef.specs.Printed.{SkippedGroup, group_word, units, property_definitions, spacing, ir_drop, noise_table, correction_table, SkippedStatement, plain_statement}
+use Rattle.lf_lef.specs.Printed.{named, grouped, extension, skipped_statement_tokens}
+use Rattle.lf_lef.specs.Printed.{with_semicolon, IsSkippedToSemicolon, other_statements, IsWhole, tokens_after}
 use Rattle.lf_lef.specs.PrintedMacros.{PrintedLength, PrintedPoint, IsPrintedPoint, PrintedRect, IsPrintedRect, port_rect, pin_use, pin_port, MacroStatement}
 use Rattle.lf_lef.specs.PrintedMacros.{macro_origin, macro_size, macro_symmetry, macro_pin}
 use Rattle.lf_lef.specs.PrintedMacros.{IsPortStatement, IsPinStatement, IsMacroStatement, macro_body_tokens, macro_tokens, with_statements, described_macro}
@@ -48,10 +48,10 @@ has_room n lt = grind (arith, nat_tests)
 
 -- Skipped statements.
 
-plain_due : (c : Contents) (ts : List PlainToken) → IsSkipped other_statements ts → BackAt same (due_statement c) (with_semicolon ts) (turn c true)
-unfolding due_statement statement_from passed_from
+plain_due : (c : Contents) (ts : List PlainToken) → IsSkippedToSemicolon other_statements ts → BackAt same (due_statement c) (with_semicolon ts) (turn c true)
+unfolding due_statement lef_statement_from skip_lef_from
 plain_due c ts h =
-    passed_back (statement_from c) c other_statements ts h (λ t l. refl) (λ u d o t l.
+    passed_back (lef_statement_from c) c other_statements ts h (λ t l. refl) (λ u d o t l.
     let w = recursion_from_All (λ w. u.text ≢ w) other_statements d in
     let sections = w.1.1.1.1.1.1.1.1 in
     rw (
@@ -74,46 +74,46 @@ plain_due c ts h =
     ) refl)
 
 abbrev ToEndOf : List ℕ → List PlainToken → Type 0
-ToEndOf name between = OccurNowhere (codes "END" ∷ name ∷ []) (between ++ word_of (codes "END") ∷ [])
+ToEndOf name between = OccurNowhere (codes "END" ∷ name ∷ []) (between ++ plain_word (codes "END") ∷ [])
 
 named_back : (n : List ℕ) (between : List PlainToken) → IsPrintable n → ToEndOf n between
-    → BackAt same to_named_end (word_of n ∷ (between ++ map word_of (end_words n))) tt
+    → BackAt same to_named_end (plain_word n ∷ (between ++ map plain_word (end_words n))) tt
 unfolding to_named_end
 named_back n between p h =
-    at_bind plain same name _ (word_of n ∷ []) (between ++ map word_of (end_words n)) (token_with n) tt (short_name_back n p.word p.short) (λ t e.
+    at_bind plain same name _ (plain_word n ∷ []) (between ++ map plain_word (end_words n)) (token_with n) tt (short_name_back n p.word p.short) (λ t e.
     rw (text_is n t e) (to_end_before n (same_bytes n) between h))
 
 -- A keyword after which tokens are skipped.
 keyword_due : (c : Contents) (w : List ℕ) (r : Reader (Unit {0})) (vs : List PlainToken)
-    → ((t : Lexeme) (l : Lexed) → statement_from c (record t { text = w; kind = Word }) l ≡ (r l >>= λ stop. continues c stop.rest)) → BackAt same r vs tt
-    → BackAt same (due_statement c) (word_of w ∷ vs) (turn c true)
+    → ((t : Lexeme) (l : Lexed) → lef_statement_from c (record t { text = w; kind = Word }) l ≡ (r l >>= λ stop. continues c stop.rest)) → BackAt same r vs tt
+    → BackAt same (due_statement c) (plain_word w ∷ vs) (turn c true)
 unfolding due_statement
 keyword_due c w r vs is_read back =
-    at_known same (statement_from c) (λ l. r l >>= λ stop. continues c stop.rest) (word_of w) vs (turn c true) is_read
+    at_known same (lef_statement_from c) (λ l. r l >>= λ stop. continues c stop.rest) (plain_word w) vs (turn c true) is_read
     (at_map same same r (λ (z : Unit {0}). turn c true) vs tt (turn c true) back (λ z e. refl))
 
 named_due : (c : Contents) (keyword : NamedGroup) (n : List ℕ) (between : List PlainToken) → IsPrintable n → ToEndOf n between
-    → BackAt same (due_statement c) (skipped_tokens (named keyword n between)) (turn c true)
-unfolding statement_from passed_from
-named_due c layer n between p h = keyword_due c (codes "LAYER") to_named_end (word_of n ∷ (between ++ map word_of (end_words n))) (λ t l. refl)
+    → BackAt same (due_statement c) (skipped_statement_tokens (named keyword n between)) (turn c true)
+unfolding lef_statement_from skip_lef_from
+named_due c layer n between p h = keyword_due c (codes "LAYER") to_named_end (plain_word n ∷ (between ++ map plain_word (end_words n))) (λ t l. refl)
     (named_back n between p h)
-named_due c via n between p h = keyword_due c (codes "VIA") to_named_end (word_of n ∷ (between ++ map word_of (end_words n))) (λ t l. refl)
+named_due c via n between p h = keyword_due c (codes "VIA") to_named_end (plain_word n ∷ (between ++ map plain_word (end_words n))) (λ t l. refl)
     (named_back n between p h)
-named_due c via_rule n between p h = keyword_due c (codes "VIARULE") to_named_end (word_of n ∷ (between ++ map word_of (end_words n))) (λ t l. refl)
+named_due c via_rule n between p h = keyword_due c (codes "VIARULE") to_named_end (plain_word n ∷ (between ++ map plain_word (end_words n))) (λ t l. refl)
     (named_back n between p h)
-named_due c rule n between p h = keyword_due c (codes "NONDEFAULTRULE") to_named_end (word_of n ∷ (between ++ map word_of (end_words n))) (λ t l. refl)
+named_due c rule n between p h = keyword_due c (codes "NONDEFAULTRULE") to_named_end (plain_word n ∷ (between ++ map plain_word (end_words n))) (λ t l. refl)
     (named_back n between p h)
-named_due c array n between p h = keyword_due c (codes "ARRAY") to_named_end (word_of n ∷ (between ++ map word_of (end_words n))) (λ t l. refl)
+named_due c array n between p h = keyword_due c (codes "ARRAY") to_named_end (plain_word n ∷ (between ++ map plain_word (end_words n))) (λ t l. refl)
     (named_back n between p h)
 
 group_by : (c : Contents) (w : List ℕ) (between : List PlainToken) → bytes_eq (codes "END") w ≡ false → OccurNowhere (codes "END" ∷ w ∷ []) between
-    → ((t : Lexeme) (l : Lexed) → statement_from c (record t { text = w; kind = Word }) l ≡ (to_end w l >>= λ stop. continues c stop.rest))
-    → BackAt same (due_statement c) (word_of w ∷ (between ++ map word_of (end_words w))) (turn c true)
-group_by c w between other h is_read = keyword_due c w (to_end w) (between ++ map word_of (end_words w)) is_read (to_end_at w (same_bytes w) other between h)
+    → ((t : Lexeme) (l : Lexed) → lef_statement_from c (record t { text = w; kind = Word }) l ≡ (to_end w l >>= λ stop. continues c stop.rest))
+    → BackAt same (due_statement c) (plain_word w ∷ (between ++ map plain_word (end_words w))) (turn c true)
+group_by c w between other h is_read = keyword_due c w (to_end w) (between ++ map plain_word (end_words w)) is_read (to_end_at w (same_bytes w) other between h)
 
-group_due : (c : Contents) (keyword : Group) (between : List PlainToken) → OccurNowhere (codes "END" ∷ group_word keyword ∷ []) between
-    → BackAt same (due_statement c) (skipped_tokens (grouped keyword between)) (turn c true)
-unfolding statement_from passed_from
+group_due : (c : Contents) (keyword : SkippedGroup) (between : List PlainToken) → OccurNowhere (codes "END" ∷ group_word keyword ∷ []) between
+    → BackAt same (due_statement c) (skipped_statement_tokens (grouped keyword between)) (turn c true)
+unfolding lef_statement_from skip_lef_from
 group_due c units between h = group_by c (codes "UNITS") between refl h (λ t l. refl)
 group_due c property_definitions between h = group_by c (codes "PROPERTYDEFINITIONS") between refl h (λ t l. refl)
 group_due c spacing between h = group_by c (codes "SPACING") between refl h (λ t l. refl)
@@ -122,13 +122,13 @@ group_due c noise_table between h = group_by c (codes "NOISETABLE") between refl
 group_due c correction_table between h = group_by c (codes "CORRECTIONTABLE") between refl h (λ t l. refl)
 
 extension_due : (c : Contents) (between : List PlainToken) → OccurNowhere (codes "ENDEXT" ∷ []) between
-    → BackAt same (due_statement c) (skipped_tokens (extension between)) (turn c true)
-unfolding statement_from passed_from
+    → BackAt same (due_statement c) (skipped_statement_tokens (extension between)) (turn c true)
+unfolding lef_statement_from skip_lef_from
 extension_due c between h =
-    keyword_due c (codes "BEGINEXT") (to_word (codes "ENDEXT")) (between ++ word_of (codes "ENDEXT") ∷ []) (λ t l. refl)
+    keyword_due c (codes "BEGINEXT") (to_word (codes "ENDEXT")) (between ++ plain_word (codes "ENDEXT") ∷ []) (λ t l. refl)
     (to_word_at (codes "ENDEXT") refl between h)
 
-whole_due : (c : Contents) (p : Skipped) → IsWhole p → BackAt same (due_statement c) (skipped_tokens p) (turn c true)
+whole_due : (c : Contents) (p : SkippedStatement) → IsWhole p → BackAt same (due_statement c) (skipped_statement_tokens p) (turn c true)
 whole_due c (plain_statement tokens) h = plain_due c tokens h
 whole_due c (named keyword n between) h = named_due c keyword n between h.0 h.1
 whole_due c (grouped keyword between) h = group_due c keyword between h
@@ -136,7 +136,7 @@ whole_due c (extension between) h = extension_due c between h
 
 -- Whole texts.
 
-when_due : (c : Contents) (l m : Lexed) (x : Turn Contents) (ts : List Lexeme) → l.tokens ≡ ts → due_statement c l ≡ taken x m → statement c l ≡ taken x m
+when_due : (c : Contents) (l m : Lexed) (x : Turn Contents) (ts : List Lexeme) → l.tokens ≡ ts → due_statement c l ≡ taken x m → lef_statement c l ≡ taken x m
 when_due c l m x [] e h = absurd (due_token c l m x e h)
 when_due c l m x (t ∷ ts) e h = with_token_left c l t ts e ∙ h
 
@@ -164,11 +164,11 @@ same_turns one goes zero n' s l lt lt' = absurd (omega arith)
 same_turns one goes (suc n) zero s l lt lt' = absurd (omega arith)
 same_turns one goes (suc n) (suc n') s l lt lt' = same_from one goes n n' s l lt lt' (λ s k. same_turns one goes n n' s k) (one s l) refl
 
-library_turn : (c c' : Contents) (l k : Lexed) → statement c l ≡ taken (turn c' true) k → library c l ≡ library c' k
+library_turn : (c c' : Contents) (l k : Lexed) → lef_statement c l ≡ taken (turn c' true) k → library c l ≡ library c' k
 unfolding statements
 library_turn c c' l k h =
     let shorter = statement_goes c c' l k h in
-    rw h (same_turns statement statement_goes (length l.tokens) (suc (length k.tokens)) c' k shorter (omega arith))
+    rw h (same_turns lef_statement statement_goes (length l.tokens) (suc (length k.tokens)) c' k shorter (omega arith))
 
 -- A statement with these tokens is read, whatever follows.
 library_step : (c c' : Contents) (ts : List PlainToken) (p : List Lexeme) (k : Lexed) → BackAt same (due_statement c) ts (turn c' true) → Spells p ts
@@ -178,14 +178,14 @@ library_step c c' ts p k back e =
     library_turn c c' (with_tokens p k) k (when_due c (with_tokens p k) k (turn c' true) (with_tokens p k).tokens refl
     (a.takes k ∙ ap (λ (z : Turn Contents). taken z k) a.alike))
 
-pass_all : (ps : List Skipped) (c : Contents) (ts : List PlainToken) (p : List Lexeme) (k : Lexed) (r : Result (ReadValue Contents) ReadFault) → All IsWhole ps
-    → Spells p (tokens_behind ps ts)
+pass_all : (ps : List SkippedStatement) (c : Contents) (ts : List PlainToken) (p : List Lexeme) (k : Lexed) (r : Result (ReadValue Contents) ReadFault) → All IsWhole ps
+    → Spells p (tokens_after ps ts)
     → ((q : List Lexeme) → Spells q ts → library c (with_tokens q k) ≡ r) → library c (with_tokens p k) ≡ r
 pass_all [] c ts p k r h e final = final p e
 pass_all (first ∷ ps) c ts p k r h e final =
-    let cut = halves p (skipped_tokens first) (tokens_behind ps ts) e in
+    let cut = halves p (skipped_statement_tokens first) (tokens_after ps ts) e in
     ap (λ (z : List Lexeme). library c (with_tokens z k)) cut.whole ∙ ap (λ (z : Lexed). library c z) (with_both cut.front cut.back k)
-    ∙ library_step c c (skipped_tokens first) cut.front (with_tokens cut.back k) (whole_due c first (All-head IsWhole first ps h)) cut.front_is
+    ∙ library_step c c (skipped_statement_tokens first) cut.front (with_tokens cut.back k) (whole_due c first (All-head IsWhole first ps h)) cut.front_is
     ∙ pass_all ps c ts cut.back k r (All-tail IsWhole first ps h) cut.back_is final
 
 nothing_spelled : (q : List Lexeme) (k : Lexed) → Spells q [] → with_tokens q k ≡ k
@@ -212,11 +212,11 @@ with_one c s = record c { sites = c.sites ++ s ∷ [] }
 
 with_site_back : (c : Contents) (n : List ℕ) (xs : List SiteStatement) → IsPrintable n → All IsSiteStatement xs → position_of (site_names c.sites) n ≡ None
     → length c.sites < 1000000
-    → BackAt same (with_site c) (word_of n ∷ site_body_tokens n xs) (with_one c (described_site n xs))
+    → BackAt same (with_site c) (plain_word n ∷ site_body_tokens n xs) (with_one c (described_site n xs))
 unfolding with_site
 with_site_back c n xs h hs fresh room =
     let v = with_one c (described_site n xs) in
-    at_bind plain same name _ (word_of n ∷ []) (site_body_tokens n xs) (token_with n) v (short_name_back n h.word h.short) (λ t e.
+    at_bind plain same name _ (plain_word n ∷ []) (site_body_tokens n xs) (token_with n) v (short_name_back n h.word h.short) (λ t e.
     rw (text_is n t e, fresh, has_room (length c.sites) room)
     (at_map same same (site_parts n) (λ (z : SiteParts). with_one c (site_of n z)) (site_body_tokens n xs) (with_site_statements no_site_parts xs) v
     (site_parts_back n xs hs)
@@ -225,12 +225,12 @@ with_site_back c n xs h hs fresh room =
 site_due : (c : Contents) (n : List ℕ) (xs : List SiteStatement) → IsPrintable n → All IsSiteStatement xs → position_of (site_names c.sites) n ≡ None
     → length c.sites < 1000000
     → BackAt same (due_statement c) (site_tokens n xs) (turn (with_one c (described_site n xs)) true)
-unfolding due_statement statement_from
+unfolding due_statement lef_statement_from
 site_due c n xs h hs fresh room =
     let v = with_one c (described_site n xs) in
-    let behind = word_of n ∷ site_body_tokens n xs in
-    at_known same (statement_from c) (λ l. with_site c l >>= λ new. continues new.value new.rest) (word_of (codes "SITE")) behind (turn v true) (λ t l. refl)
-    (at_map same same (with_site c) (λ (z : Contents). turn z true) behind v (turn v true) (with_site_back c n xs h hs fresh room)
+    let after_it = plain_word n ∷ site_body_tokens n xs in
+    at_known same (lef_statement_from c) (λ l. with_site c l >>= λ new. continues new.value new.rest) (plain_word (codes "SITE")) after_it (turn v true) (λ t l. refl)
+    (at_map same same (with_site c) (λ (z : Contents). turn z true) after_it v (turn v true) (with_site_back c n xs h hs fresh room)
     (λ z e. ap (λ (x : Contents). turn x true) e))
 
 -- A site that is printed by any statements is read back.
@@ -246,7 +246,7 @@ abbrev one_site : List ℕ → Symmetry → PrintedLength → PrintedLength → 
 one_site class y w h = site_class class ∷ site_symmetry (said_words y) ∷ site_size w h ∷ []
 
 site_words_are : (n class w h : List ℕ) (sx sy : ℤ) (a b : Bool)
-    → map word_of (site_words n class (record { x = a; y = b }) w h)
+    → map plain_word (site_words n class (record { x = a; y = b }) w h)
     ≡ site_tokens n (one_site class (record { x = a; y = b }) (record { word = w; length = sx }) (record { word = h; length = sy }))
 site_words_are n class w h sx sy true true = refl
 site_words_are n class w h sx sy true false = refl
@@ -263,7 +263,7 @@ reads_site c s ps class w h p k hp hn hc core hw hh fresh room e =
     let xs = one_site class s.symmetry width height in
     let all : All IsSiteStatement xs = All-from_recursion IsSiteStatement xs (hc, (tt, ((hw, hh), tt))) in
     reads_site_of c s xs ps p k hp hn all (site_is s _ _ core (words_say s.symmetry.x s.symmetry.y)) fresh room
-    (e ∙ ap (λ (z : List PlainToken). tokens_behind ps z) (site_words_are s.name class w h s.size.x s.size.y s.symmetry.x s.symmetry.y))
+    (e ∙ ap (λ (z : List PlainToken). tokens_after ps z) (site_words_are s.name class w h s.size.x s.size.y s.symmetry.x s.symmetry.y))
 
 -- Macros.
 
@@ -272,25 +272,25 @@ with_said c m = record c { macros = c.macros ++ m ∷ [] }
 
 with_macro_back : (c : Contents) (n : List ℕ) (xs : List MacroStatement) → IsPrintable n → All IsMacroStatement xs → position_of (macro_names c.macros) n ≡ None
     → length c.macros < 1000000
-    → BackAt same (with_macro c) (word_of n ∷ macro_body_tokens n xs) (with_said c (described_macro n xs))
+    → BackAt same (with_macro c) (plain_word n ∷ macro_body_tokens n xs) (with_said c (described_macro n xs))
 unfolding with_macro
 with_macro_back c n xs h hs fresh room =
     let v = with_said c (described_macro n xs) in
-    at_bind plain same name _ (word_of n ∷ []) (macro_body_tokens n xs) (token_with n) v (short_name_back n h.word h.short) (λ t e.
+    at_bind plain same name _ (plain_word n ∷ []) (macro_body_tokens n xs) (token_with n) v (short_name_back n h.word h.short) (λ t e.
     rw (text_is n t e, fresh, has_room (length c.macros) room)
-    (at_map same same (macro_parts n) (λ (z : MacroParts). with_said c (macro_of n z)) (macro_body_tokens n xs) (with_statements no_macro_parts xs) v
+    (at_map same same (macro_parts n) (λ (z : MacroParts). with_said c (macro_from_parts n z)) (macro_body_tokens n xs) (with_statements no_macro_parts xs) v
     (macro_parts_back n xs hs)
-    (λ z e. ap (λ (y : MacroParts). with_said c (macro_of n y)) e)))
+    (λ z e. ap (λ (y : MacroParts). with_said c (macro_from_parts n y)) e)))
 
 macro_due : (c : Contents) (n : List ℕ) (xs : List MacroStatement) → IsPrintable n → All IsMacroStatement xs → position_of (macro_names c.macros) n ≡ None
     → length c.macros < 1000000
     → BackAt same (due_statement c) (macro_tokens n xs) (turn (with_said c (described_macro n xs)) true)
-unfolding due_statement statement_from
+unfolding due_statement lef_statement_from
 macro_due c n xs h hs fresh room =
     let v = with_said c (described_macro n xs) in
-    at_known same (statement_from c) (λ l. with_macro c l >>= λ new. continues new.value new.rest) (word_of (codes "MACRO")) (word_of n ∷ macro_body_tokens n xs)
+    at_known same (lef_statement_from c) (λ l. with_macro c l >>= λ new. continues new.value new.rest) (plain_word (codes "MACRO")) (plain_word n ∷ macro_body_tokens n xs)
     (turn v true) (λ t l. refl)
-    (at_map same same (with_macro c) (λ (z : Contents). turn z true) (word_of n ∷ macro_body_tokens n xs) v (turn v true)
+    (at_map same same (with_macro c) (λ (z : Contents). turn z true) (plain_word n ∷ macro_body_tokens n xs) v (turn v true)
     (with_macro_back c n xs h hs fresh room)
     (λ z e. ap (λ (y : Contents). turn y true) e))
 
@@ -316,7 +316,7 @@ abbrev one_macro : PrintedPoint → PrintedLength → PrintedLength → Symmetry
 one_macro o w h s pin = macro_origin o ∷ macro_size w h ∷ macro_symmetry (said_words s) ∷ pin ∷ []
 
 same_words : (n x y w h v u x1 y1 x2 y2 : List ℕ) (ox oy sx sy left low right high : ℤ) (a b : Bool)
-    → map word_of (macro_words n x y w h (record { x = a; y = b }) (pin_words v u x1 y1 x2 y2))
+    → map plain_word (macro_words n x y w h (record { x = a; y = b }) (pin_words v u x1 y1 x2 y2))
     ≡ macro_tokens n (one_macro (bare_point x y ox oy) (record { word = w; length = sx }) (record { word = h; length = sy }) (record { x = a; y = b })
     (one_pin v u (one_rect (bare_point x1 y1 left low) (bare_point x2 y2 right high))))
 same_words n x y w h v u x1 y1 x2 y2 ox oy sx sy left low right high true true = refl
@@ -351,5 +351,5 @@ reads_macro c m ps x y w h v u x1 y1 x2 y2 low high left right p k hp hn hv hu h
     let pin_is : All IsPinStatement pin = All-from_recursion IsPinStatement pin (hu, (port_is, tt)) in
     let all : All IsMacroStatement xs = All-from_recursion IsMacroStatement xs (origin, ((hw, hh), (tt, ((hv, pin_is), tt)))) in
     reads_macro_of c m xs ps p k hp hn all (macro_is m _ _ rail (words_say m.symmetry.x m.symmetry.y)) fresh room
-    (e ∙ ap (λ (z : List PlainToken). tokens_behind ps z)
+    (e ∙ ap (λ (z : List PlainToken). tokens_after ps z)
     (same_words m.name x y w h v u x1 y1 x2 y2 m.origin.x m.origin.y m.size.x m.size.y left low right high m.symmetry.x m.symmetry.y))

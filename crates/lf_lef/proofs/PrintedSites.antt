@@ -5,7 +5,7 @@ use Rattle.std.specs.Str.{bytes_eq}
 use Rattle.std.proofs.lemmas.List.Elements.{All-head, All-tail, recursion_from_All}
 use Rattle.lf_units.specs.declared.geometry.Point.{Point}
 use Rattle.lf_orient.specs.declared.Symmetry.{Symmetry}
-use Rattle.lf_lex.specs.Splices.{word_of}
+use Rattle.lf_lex.specs.Splices.{plain_word}
 use Rattle.lf_lex.specs.Reading.{◌>>=◌, Turn, taken, turn, finishes, end_name, first_counts}
 use Rattle.lf_lex.proofs.Runs.{same}
 use Rattle.lf_lex.proofs.Back.{BackAt, TurnsAt, at_map, at_known, at_last, at_more, at_block}
@@ -24,21 +24,21 @@ site_statement_back : (n : List ℕ) (s : SiteParts) (x : SiteStatement) → IsS
 unfolding site_statement site_statement_from
 site_statement_back n s (site_class class) h =
     let made : List ℕ → Turn SiteParts = λ z. turn (record s { core = first_counts s.core (bytes_eq z (codes "CORE")) }) true in
-    let behind = word_of class ∷ word_of (codes ";") ∷ [] in
-    at_known same (site_statement_from n s) (λ l. one_word l >>= λ z. taken (made z.value) z.rest) (word_of (codes "CLASS")) behind (made class) (λ t l. refl)
-    (at_map same same one_word made behind class (made class) (one_word_back class h) (λ z e. ap made e))
+    let after_it = plain_word class ∷ plain_word (codes ";") ∷ [] in
+    at_known same (site_statement_from n s) (λ l. one_word l >>= λ z. taken (made z.value) z.rest) (plain_word (codes "CLASS")) after_it (made class) (λ t l. refl)
+    (at_map same same one_word made after_it class (made class) (one_word_back class h) (λ z e. ap made e))
 site_statement_back n s (site_symmetry ws) h =
     let made : Symmetry → Turn SiteParts = λ z. turn (record s { symmetry = first_counts s.symmetry z }) true in
     let v = with_symmetries no_symmetry ws in
-    at_known same (site_statement_from n s) (λ l. symmetry l >>= λ z. taken (made z.value) z.rest) (word_of (codes "SYMMETRY")) (symmetry_tokens ws) (made v)
+    at_known same (site_statement_from n s) (λ l. symmetry l >>= λ z. taken (made z.value) z.rest) (plain_word (codes "SYMMETRY")) (symmetry_tokens ws) (made v)
     (λ t l. refl)
     (at_map same same symmetry made (symmetry_tokens ws) v (made v) (symmetries_back ws) (λ z e. ap made e))
 site_statement_back n s (site_size w hh) h =
     let made : Point → Turn SiteParts = λ z. turn (record s { size = first_counts s.size z }) true in
     let v = point_at w.length hh.length in
-    let behind = word_of w.word ∷ word_of (codes "BY") ∷ word_of hh.word ∷ word_of (codes ";") ∷ [] in
-    at_known same (site_statement_from n s) (λ l. size l >>= λ z. taken (made z.value) z.rest) (word_of (codes "SIZE")) behind (made v) (λ t l. refl)
-    (at_map same same size made behind v (made v) (size_back w hh h.0 h.1) (λ z e. ap made e))
+    let after_it = plain_word w.word ∷ plain_word (codes "BY") ∷ plain_word hh.word ∷ plain_word (codes ";") ∷ [] in
+    at_known same (site_statement_from n s) (λ l. size l >>= λ z. taken (made z.value) z.rest) (plain_word (codes "SIZE")) after_it (made v) (λ t l. refl)
+    (at_map same same size made after_it v (made v) (size_back w hh h.0 h.1) (λ z e. ap made e))
 site_statement_back n s (site_passed ts) h =
     let keywords = codes "END" ∷ codes "CLASS" ∷ codes "SYMMETRY" ∷ codes "SIZE" ∷ [] in
     passed_back (site_statement_from n s) s keywords ts h (λ t l. refl) (λ u d o t l.
@@ -61,10 +61,10 @@ site_turns : (n : List ℕ) (s : SiteParts) (xs : List SiteStatement) → All Is
     → TurnsAt same (site_statement n) s (site_body_tokens n xs) (with_site_statements s xs)
 unfolding site_statement site_statement_from
 site_turns n s [] h =
-    at_last same (site_statement n) s s (word_of (codes "END") ∷ word_of n ∷ [])
-    (at_known same (site_statement_from n s) (λ l. end_name n l >>= λ stop. finishes s stop.rest) (word_of (codes "END")) (word_of n ∷ []) (turn s false)
+    at_last same (site_statement n) s s (plain_word (codes "END") ∷ plain_word n ∷ [])
+    (at_known same (site_statement_from n s) (λ l. end_name n l >>= λ stop. finishes s stop.rest) (plain_word (codes "END")) (plain_word n ∷ []) (turn s false)
     (λ t l. refl)
-    (at_map same same (end_name n) (λ (z : Unit {0}). turn s false) (word_of n ∷ []) tt (turn s false) (end_back n (same_bytes n)) (λ z e. refl)))
+    (at_map same same (end_name n) (λ (z : Unit {0}). turn s false) (plain_word n ∷ []) tt (turn s false) (end_back n (same_bytes n)) (λ z e. refl)))
 site_turns n s (x ∷ xs) h =
     at_more same (site_statement n) s (with_site_statement s x) (with_site_statements s (x ∷ xs)) (site_statement_tokens x) (site_body_tokens n xs)
     (some_statement x)

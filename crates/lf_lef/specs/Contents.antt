@@ -38,6 +38,6 @@ pub record AreMacros (macros : List Macro) : Type 0 where
   pub few : length macros ≤ 1000000
 
 -- Holds if the new library begins with the old one.
-pub record BeginsWith (old new : Contents) : Type 0 where
+pub record ExtendsLibrary (old new : Contents) : Type 0 where
   pub sites : take (length old.sites) new.sites ≡ old.sites
   pub macros : take (length old.macros) new.macros ≡ old.macros

@@ -1,7 +1,7 @@
 -- Laws on reading LEF, whatever is read.
 use Rattle.std.specs.Prelude.{◌≡◌, ℕ, List, ◌∷◌, ◌++◌, length, take, Option, Some, Ok}
 use Rattle.lf_lex.specs.Tokens.{Lexeme, tokens_of}
-use Rattle.lf_lex.specs.Reading.{taken, behind}
+use Rattle.lf_lex.specs.Reading.{taken, lexed_after}
 use Rattle.lf_lef.specs.declared.sites.SiteParts.{SiteParts}
 use Rattle.lf_lef.specs.declared.pins.Pin.{Pin}
 use Rattle.lf_lef.specs.declared.macros.MacroParts.{MacroParts}
@@ -10,9 +10,9 @@ use Rattle.lf_lef.specs.Library.{library, library_after}
 
 -- Holds if any bytes may replace those from the first unread token on, when reading the text leaves
 -- tokens unread.
-abbrev pub EndsBefore : Contents → Contents → List ℕ → Type 0
-EndsBefore old new text = (read : List Lexeme) (t : Lexeme) (unread : List Lexeme) → (tokens_of text).tokens ≡ read ++ t ∷ unread
-    → library old (tokens_of text) ≡ taken new (behind (t ∷ unread) (tokens_of text)) → (bytes : List ℕ) → library_after old (take t.start text ++ bytes) ≡ Ok new
+abbrev pub UnreadLefBytesDoNotMatter : Contents → Contents → List ℕ → Type 0
+UnreadLefBytesDoNotMatter old new text = (read : List Lexeme) (t : Lexeme) (unread : List Lexeme) → (tokens_of text).tokens ≡ read ++ t ∷ unread
+    → library old (tokens_of text) ≡ taken new (lexed_after (t ∷ unread) (tokens_of text)) → (bytes : List ℕ) → library_after old (take t.start text ++ bytes) ≡ Ok new
 
 -- Holds if the value of the first statement of a kind is kept.
 abbrev pub IsKept : {A : Type 0} → Option A → Option A → Type 0

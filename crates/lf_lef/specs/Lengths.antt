@@ -7,14 +7,14 @@ use Rattle.lf_lex.specs.Tokens.{Lexeme}
 use Rattle.lf_lex.specs.Reading.{◌>>=◌, Reader, taken, token, is, keyword, or_bad_number}
 
 -- Holds if the length lies between -1,000,000 and 1,000,000 microns.
-pub record IsInRange (length : ℤ) : Type 0 where
+pub record IsLengthInRange (length : ℤ) : Type 0 where
   pub low : negsuc 999999999999 ≤ℤ length
   pub high : length ≤ℤ pos (10 ^ 12)
 
 -- Holds if both lengths of a point or a size are in that range.
 pub record HasRange (p : Point) : Type 0 where
-  pub x : IsInRange p.x
-  pub y : IsInRange p.y
+  pub x : IsLengthInRange p.x
+  pub y : IsLengthInRange p.y
 
 -- The length of a token, with six decimals of a micron.
 abbrev pub micros_of : Lexeme → Result ℤ ReadFault
@@ -35,8 +35,8 @@ point_from t l =
     else (micros_of t >>= λ x. micros l >>= λ y. taken (record { x = x; y = y.value }) y.rest)
 
 -- A point.
-unfoldable pub point : Reader Point
-point l = do
+unfoldable pub lef_point : Reader Point
+lef_point l = do
   t ← token l
   point_from t.value t.rest
 
@@ -52,6 +52,6 @@ size l = do
 -- ORIGIN x y ; after its keyword (LEF MACRO).
 unfoldable pub origin : Reader Point
 origin l = do
-  p ← point l
+  p ← lef_point l
   stop ← keyword (codes ";") p.rest
   taken p.value stop.rest

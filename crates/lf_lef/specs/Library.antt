@@ -12,7 +12,7 @@ use Rattle.lf_lex.specs.Reading.{◌>>=◌, Reader, Statement, Turn, taken, cont
 use Rattle.lf_lex.specs.Reading.{value_of}
 use Rattle.lf_lef.specs.Contents.{Contents, site_names, macro_names}
 use Rattle.lf_lef.specs.Sites.{site_parts, site_of}
-use Rattle.lf_lef.specs.Macros.{macro_parts, macro_of}
+use Rattle.lf_lef.specs.Macros.{macro_parts, macro_from_parts}
 
 -- Checks that there is room for one more entry if the name is new.
 abbrev pub room_for : Option ℕ → ℕ → Lexeme → Result (Unit {0}) ReadFault
@@ -39,7 +39,7 @@ with_macro c l = do
   n ← name l
   room ← room_for (position_of (macro_names c.macros) n.value.text) (length c.macros) n.value
   parts ← macro_parts n.value.text n.rest
-  taken (record c { macros = with_first (position_of (macro_names c.macros) n.value.text) c.macros (macro_of n.value.text parts.value) }) parts.rest
+  taken (record c { macros = with_first (position_of (macro_names c.macros) n.value.text) c.macros (macro_from_parts n.value.text parts.value) }) parts.rest
 
 -- True for what is skipped up to END and the name that follows the keyword (LEF LAYER, VIA,
 -- VIARULE, NONDEFAULTRULE, ARRAY).
@@ -59,8 +59,8 @@ to_named_end l = do
   to_end n.value.text n.rest
 
 -- Skips a statement other than SITE and MACRO, after its first token.
-unfoldable pub passed_from : Lexeme → Reader (Unit {0})
-passed_from t l =
+unfoldable pub skip_lef_from : Lexeme → Reader (Unit {0})
+skip_lef_from t l =
     if is_named t then to_named_end l
     else if is_group t then to_end t.text l
     else if is (codes "BEGINEXT") t then to_word (codes "ENDEXT") l
@@ -69,31 +69,31 @@ passed_from t l =
 
 -- A statement of the text, after its first token. SITE and MACRO count. Other statements are
 -- skipped.
-unfoldable pub statement_from : Contents → Lexeme → Reader (Turn Contents)
-statement_from c t l =
+unfoldable pub lef_statement_from : Contents → Lexeme → Reader (Turn Contents)
+lef_statement_from c t l =
     if is (codes "END") t then (end_name (codes "LIBRARY") l >>= λ stop. finishes c stop.rest)
     else if is (codes "SITE") t then (with_site c l >>= λ new. continues new.value new.rest)
     else if is (codes "MACRO") t then (with_macro c l >>= λ new. continues new.value new.rest)
-    else (passed_from t l >>= λ stop. continues c stop.rest)
+    else (skip_lef_from t l >>= λ stop. continues c stop.rest)
 
 -- A statement, or the end of the text, which ends the library too.
 abbrev pub statement_or_end : Contents → Option Lexeme → Reader (Turn Contents)
 statement_or_end c None l = finishes c l
-statement_or_end c (Some t) l = statement_from c t l
+statement_or_end c (Some t) l = lef_statement_from c t l
 
-unfoldable pub statement : Statement Contents
-statement c l = do
+unfoldable pub lef_statement : Statement Contents
+lef_statement c l = do
   t ← next l
   statement_or_end c t.value t.rest
 
 -- The contents of a library after a text, and what is left after END LIBRARY.
 abbrev pub library : Contents → Reader Contents
-library c l = block statement c l
+library c l = block lef_statement c l
 
 -- The contents of a library after a text was read into it, or the text's first fault.
 abbrev pub library_after : Contents → List ℕ → Result Contents ReadFault
 library_after c text = value_of (library c (tokens_of text))
 
 -- Holds if the fault is that of the text, with its line, or a failed allocation.
-abbrev pub Refuses : LoadFault → Result Contents ReadFault → Type 0
-Refuses fault reading = (fault ≡ load_fault_of Memory) ⊎ ((first : ReadFault) × (reading ≡ Err first) × (fault ≡ load_fault_of (Fault first)))
+abbrev pub RefusesLef : LoadFault → Result Contents ReadFault → Type 0
+RefusesLef fault reading = (fault ≡ load_fault_of Memory) ⊎ ((first : ReadFault) × (reading ≡ Err first) × (fault ≡ load_fault_of (Fault first)))

@@ -23,8 +23,8 @@ abbrev pub passed_group : Reader (Unit {0})
 passed_group l = block passed_statement tt l
 
 -- Skips a statement of a macro, after its first token.
-unfoldable pub passed_from : Lexeme → Reader (Unit {0})
-passed_from t l =
+unfoldable pub skip_lef_from : Lexeme → Reader (Unit {0})
+skip_lef_from t l =
     if is (codes "OBS") t || is (codes "DENSITY") t then passed_group l
     else if is (codes "TIMING") t then to_end (codes "TIMING") l
     else if is (codes ";") t then taken tt l
@@ -39,7 +39,7 @@ macro_statement_from name parts t l =
     else if is (codes "SIZE") t then (size l >>= λ s. continues (record parts { size = first_counts parts.size s.value }) s.rest)
     else if is (codes "SYMMETRY") t then (symmetry l >>= λ s. continues (record parts { symmetry = first_counts parts.symmetry s.value }) s.rest)
     else if is (codes "PIN") t then (pin l >>= λ p. continues (record parts { pins = parts.pins ++ p.value ∷ [] }) p.rest)
-    else (passed_from t l >>= λ stop. continues parts stop.rest)
+    else (skip_lef_from t l >>= λ stop. continues parts stop.rest)
 
 unfoldable pub macro_statement : List ℕ → Statement MacroParts
 macro_statement name parts l = do
@@ -57,6 +57,6 @@ abbrev pub origin_of : MacroParts → Point
 origin_of parts = unwrap_or parts.origin no_point
 
 -- The macro that the statements describe.
-abbrev pub macro_of : List ℕ → MacroParts → Macro
-macro_of name parts =
+abbrev pub macro_from_parts : List ℕ → MacroParts → Macro
+macro_from_parts name parts =
     record { name = name; size = unwrap_or parts.size no_point; origin = origin_of parts; symmetry = unwrap_or parts.symmetry no_symmetry; rail = rail_of (origin_of parts).y parts.pins }

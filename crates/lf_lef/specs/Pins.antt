@@ -11,7 +11,7 @@ use Rattle.lf_lef.specs.declared.pins.PinUse.{PinUse}
 use Rattle.lf_lef.specs.declared.pins.PinUse.TheVariants.{Power, Ground, Other}
 use Rattle.lf_lef.specs.declared.pins.Reach.{Reach}
 use Rattle.lf_lef.specs.declared.pins.Pin.{Pin}
-use Rattle.lf_lef.specs.Lengths.{micros, point_from, point}
+use Rattle.lf_lef.specs.Lengths.{micros, point_from, lef_point}
 use Rattle.lf_lef.specs.Sites.{one_word}
 
 -- MASK n, if present.
@@ -28,13 +28,13 @@ reach_of a b = record { low = int_min a b; high = int_max a b }
 
 -- RECT [MASK n] [ITERATE] pt pt .. ; after its keyword. Only the first rectangle of an ITERATE
 -- counts.
-unfoldable pub rect : Reader Reach
-rect l = do
+unfoldable pub lef_rectangle : Reader Reach
+lef_rectangle l = do
   t ← token l
   past ← past_mask t.value t.rest
   first ← past_iterate past.value past.rest
   corner ← point_from first.value first.rest
-  opposite ← point corner.rest
+  opposite ← lef_point corner.rest
   stop ← to_semicolon opposite.rest
   taken (reach_of corner.value.y opposite.value.y) stop.rest
 
@@ -43,7 +43,7 @@ rect l = do
 unfoldable pub port_statement_from : List Reach → Lexeme → Reader (Turn (List Reach))
 port_statement_from reaches t l =
     if is (codes "END") t then finishes reaches l
-    else if is (codes "RECT") t then (rect l >>= λ r. continues (reaches ++ r.value ∷ []) r.rest)
+    else if is (codes "RECT") t then (lef_rectangle l >>= λ r. continues (reaches ++ r.value ∷ []) r.rest)
     else if is (codes ";") t then continues reaches l
     else (to_semicolon l >>= λ stop. continues reaches stop.rest)
 

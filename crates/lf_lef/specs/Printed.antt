@@ -5,7 +5,7 @@ use Rattle.lf_units.specs.Number.{fixed_of}
 use Rattle.lf_orient.specs.declared.Symmetry.{Symmetry}
 use Rattle.lf_names.specs.Names.{position_of}
 use Rattle.lf_lex.specs.Tokens.{Lexed, Lexeme, PlainToken, plain, with_tokens}
-use Rattle.lf_lex.specs.Splices.{word_of}
+use Rattle.lf_lex.specs.Splices.{plain_word}
 use Rattle.lf_lex.specs.Passing.{OccurNowhere}
 use Rattle.lf_floorplan.specs.declared.sites.Site.{Site}
 use Rattle.lf_floorplan.specs.declared.macros.Macro.{Macro}
@@ -86,15 +86,15 @@ named_word rule = codes "NONDEFAULTRULE"
 named_word array = codes "ARRAY"
 
 -- Statements that are skipped up to END and the keyword.
-pub data Group : Type 0 where
-  units : Group
-  property_definitions : Group
-  spacing : Group
-  ir_drop : Group
-  noise_table : Group
-  correction_table : Group
+pub data SkippedGroup : Type 0 where
+  units : SkippedGroup
+  property_definitions : SkippedGroup
+  spacing : SkippedGroup
+  ir_drop : SkippedGroup
+  noise_table : SkippedGroup
+  correction_table : SkippedGroup
 
-abbrev pub group_word : Group → List ℕ
+abbrev pub group_word : SkippedGroup → List ℕ
 group_word units = codes "UNITS"
 group_word property_definitions = codes "PROPERTYDEFINITIONS"
 group_word spacing = codes "SPACING"
@@ -104,30 +104,30 @@ group_word correction_table = codes "CORRECTIONTABLE"
 
 -- Words and quoted texts, followed by a semicolon.
 abbrev pub with_semicolon : List PlainToken → List PlainToken
-with_semicolon tokens = tokens ++ word_of (codes ";") ∷ []
+with_semicolon tokens = tokens ++ plain_word (codes ";") ∷ []
 
 -- Holds if the statement is skipped up to its semicolon. It has no other semicolon, and begins with
 -- no word of a statement that is read in another manner. A semicolon alone is such a statement too.
-abbrev pub IsSkipped : List (List ℕ) → List PlainToken → Type 0
-IsSkipped others [] = Unit {0}
-IsSkipped others (t ∷ ts) = All (λ word. t.text ≢ word) others × OccurNowhere (codes ";" ∷ []) (t ∷ ts)
+abbrev pub IsSkippedToSemicolon : List (List ℕ) → List PlainToken → Type 0
+IsSkippedToSemicolon others [] = Unit {0}
+IsSkippedToSemicolon others (t ∷ ts) = All (λ word. t.text ≢ word) others × OccurNowhere (codes ";" ∷ []) (t ∷ ts)
 
 -- A statement other than SITE and MACRO, with any words and quoted texts.
-pub data Skipped : Type 0 where
+pub data SkippedStatement : Type 0 where
   -- All tokens up to a semicolon.
-  plain_statement : List PlainToken → Skipped
+  plain_statement : List PlainToken → SkippedStatement
   -- A keyword and a name, the tokens between, END and the name.
-  named : NamedGroup → List ℕ → List PlainToken → Skipped
+  named : NamedGroup → List ℕ → List PlainToken → SkippedStatement
   -- A keyword, the tokens between, END and the keyword.
-  grouped : Group → List PlainToken → Skipped
+  grouped : SkippedGroup → List PlainToken → SkippedStatement
   -- BEGINEXT, the tokens between, ENDEXT.
-  extension : List PlainToken → Skipped
+  extension : List PlainToken → SkippedStatement
 
-abbrev pub skipped_tokens : Skipped → List PlainToken
-skipped_tokens (plain_statement tokens) = with_semicolon tokens
-skipped_tokens (named keyword name between) = word_of (named_word keyword) ∷ word_of name ∷ (between ++ map word_of (end_words name))
-skipped_tokens (grouped keyword between) = word_of (group_word keyword) ∷ (between ++ map word_of (end_words (group_word keyword)))
-skipped_tokens (extension between) = word_of (codes "BEGINEXT") ∷ (between ++ word_of (codes "ENDEXT") ∷ [])
+abbrev pub skipped_statement_tokens : SkippedStatement → List PlainToken
+skipped_statement_tokens (plain_statement tokens) = with_semicolon tokens
+skipped_statement_tokens (named keyword name between) = plain_word (named_word keyword) ∷ plain_word name ∷ (between ++ map plain_word (end_words name))
+skipped_statement_tokens (grouped keyword between) = plain_word (group_word keyword) ∷ (between ++ map plain_word (end_words (group_word keyword)))
+skipped_statement_tokens (extension between) = plain_word (codes "BEGINEXT") ∷ (between ++ plain_word (codes "ENDEXT") ∷ [])
 
 -- The words that begin a statement that is not skipped up to a semicolon.
 abbrev pub other_statements : List (List ℕ)
@@ -137,41 +137,41 @@ other_statements =
 
 -- Holds if the statement ends with its last word and not earlier: nowhere earlier does the name
 -- directly follow END.
-abbrev pub IsWhole : Skipped → Type 0
-IsWhole (plain_statement tokens) = IsSkipped other_statements tokens
-IsWhole (named keyword name between) = IsPrintable name × OccurNowhere (codes "END" ∷ name ∷ []) (between ++ word_of (codes "END") ∷ [])
+abbrev pub IsWhole : SkippedStatement → Type 0
+IsWhole (plain_statement tokens) = IsSkippedToSemicolon other_statements tokens
+IsWhole (named keyword name between) = IsPrintable name × OccurNowhere (codes "END" ∷ name ∷ []) (between ++ plain_word (codes "END") ∷ [])
 IsWhole (grouped keyword between) = OccurNowhere (codes "END" ∷ group_word keyword ∷ []) between
 IsWhole (extension between) = OccurNowhere (codes "ENDEXT" ∷ []) between
 
 -- The statements in order, and then these tokens.
-abbrev pub tokens_behind : List Skipped → List PlainToken → List PlainToken
-tokens_behind [] tokens = tokens
-tokens_behind (p ∷ ps) tokens = skipped_tokens p ++ tokens_behind ps tokens
+abbrev pub tokens_after : List SkippedStatement → List PlainToken → List PlainToken
+tokens_after [] tokens = tokens
+tokens_after (p ∷ ps) tokens = skipped_statement_tokens p ++ tokens_after ps tokens
 
 -- What reading returns.
 
 -- Holds if skipped statements have no effect, whatever follows.
 abbrev pub SkipsStatements : Contents → Type 0
-SkipsStatements c = (passed : List Skipped) (tokens : List Lexeme) (behind : Lexed) → All IsWhole passed → Spells tokens (tokens_behind passed [])
-    → library c (with_tokens tokens behind) ≡ library c behind
+SkipsStatements c = (passed : List SkippedStatement) (tokens : List Lexeme) (after_it : Lexed) → All IsWhole passed → Spells tokens (tokens_after passed [])
+    → library c (with_tokens tokens after_it) ≡ library c after_it
 
 -- Holds if a printed site with a new name reads back, after skipped statements and with anything
 -- after it.
 abbrev pub ReadsSite : Contents → Site → Type 0
-ReadsSite c s = (passed : List Skipped) (class w h : List ℕ) (tokens : List Lexeme) (behind : Lexed)
+ReadsSite c s = (passed : List SkippedStatement) (class w h : List ℕ) (tokens : List Lexeme) (after_it : Lexed)
     → All IsWhole passed → IsPrintable s.name → class ≢ codes ";" → bytes_eq class (codes "CORE") ≡ s.core → Writes w s.size.x → Writes h s.size.y
     → position_of (site_names c.sites) s.name ≡ None → length c.sites < 1000000
-    → Spells tokens (tokens_behind passed (map word_of (site_words s.name class s.symmetry w h)))
-    → library c (with_tokens tokens behind) ≡ library (record c { sites = c.sites ++ s ∷ [] }) behind
+    → Spells tokens (tokens_after passed (map plain_word (site_words s.name class s.symmetry w h)))
+    → library c (with_tokens tokens after_it) ≡ library (record c { sites = c.sites ++ s ∷ [] }) after_it
 
 -- Holds if a printed macro with a new name reads back with the rail of its pin, after skipped
 -- statements and with anything after it.
 abbrev pub ReadsMacro : Contents → Macro → Type 0
-ReadsMacro c m = (passed : List Skipped) (x y w h pin use_word x1 y1 x2 y2 : List ℕ) (low high left right : ℤ) (tokens : List Lexeme) (behind : Lexed)
+ReadsMacro c m = (passed : List SkippedStatement) (x y w h pin use_word x1 y1 x2 y2 : List ℕ) (low high left right : ℤ) (tokens : List Lexeme) (after_it : Lexed)
     → All IsWhole passed → IsPrintable m.name → IsPrintable pin → use_word ≢ codes ";" → Writes x m.origin.x → Writes y m.origin.y → Writes w m.size.x
     → Writes h m.size.y
     → Writes x1 left → Writes y1 low → Writes x2 right → Writes y2 high
     → m.rail ≡ rail_of m.origin.y (record { supply = Some (use_named use_word); reaches = reach_of low high ∷ [] } ∷ [])
     → position_of (macro_names c.macros) m.name ≡ None → length c.macros < 1000000
-    → Spells tokens (tokens_behind passed (map word_of (macro_words m.name x y w h m.symmetry (pin_words pin use_word x1 y1 x2 y2))))
-    → library c (with_tokens tokens behind) ≡ library (record c { macros = c.macros ++ m ∷ [] }) behind
+    → Spells tokens (tokens_after passed (map plain_word (macro_words m.name x y w h m.symmetry (pin_words pin use_word x1 y1 x2 y2))))
+    → library c (with_tokens tokens after_it) ≡ library (record c { macros = c.macros ++ m ∷ [] }) after_it

@@ -6,7 +6,7 @@ use Rattle.lf_orient.specs.declared.Symmetry.{Symmetry}
 use Rattle.lf_names.specs.Names.{position_of}
 use Rattle.lf_lex.specs.Tokens.{Lexed, Lexeme, PlainToken, with_tokens}
 use Rattle.lf_lex.specs.Reading.{first_counts}
-use Rattle.lf_lex.specs.Splices.{word_of}
+use Rattle.lf_lex.specs.Splices.{plain_word}
 use Rattle.lf_lex.specs.Passing.{OccurNowhere}
 use Rattle.lf_floorplan.specs.declared.macros.Macro.{Macro}
 use Rattle.lf_lef.specs.declared.pins.Reach.{Reach}
@@ -14,10 +14,10 @@ use Rattle.lf_lef.specs.declared.pins.Pin.{Pin}
 use Rattle.lf_lef.specs.declared.macros.MacroParts.{MacroParts}
 use Rattle.lf_lef.specs.Contents.{Contents, macro_names}
 use Rattle.lf_lef.specs.Pins.{reach_of, use_named, no_pin}
-use Rattle.lf_lef.specs.Macros.{no_macro_parts, macro_of}
+use Rattle.lf_lef.specs.Macros.{no_macro_parts, macro_from_parts}
 use Rattle.lf_lef.specs.Library.{library}
-use Rattle.lf_lef.specs.Printed.{Spells, Writes, IsPrintable, end_words, use_words, with_semicolon, IsSkipped, Skipped, IsWhole}
-use Rattle.lf_lef.specs.Printed.{tokens_behind}
+use Rattle.lf_lef.specs.Printed.{Spells, Writes, IsPrintable, end_words, use_words, with_semicolon, IsSkippedToSemicolon, SkippedStatement, IsWhole}
+use Rattle.lf_lef.specs.Printed.{tokens_after}
 use Rattle.lf_lef.specs.Sites.{no_symmetry}
 
 -- Lengths and points.
@@ -43,8 +43,8 @@ pub record IsPrintedPoint (p : PrintedPoint) : Type 0 where
   pub x : IsPrintedLength p.x
   pub y : IsPrintedLength p.y
 
-abbrev pub point_of : PrintedPoint → Point
-point_of p = record { x = p.x.length; y = p.y.length }
+abbrev pub printed_point : PrintedPoint → Point
+printed_point p = record { x = p.x.length; y = p.y.length }
 
 -- Ports (LEF MACRO PIN PORT).
 
@@ -73,8 +73,8 @@ iterate_words iterate = if iterate then codes "ITERATE" ∷ [] else []
 -- RECT [MASK n] [ITERATE] pt pt .. ;
 abbrev pub rect_tokens : PrintedRect → List PlainToken
 rect_tokens r =
-    word_of (codes "RECT") ∷ (map word_of (mask_words r.mask) ++
-    (map word_of (iterate_words r.iterate) ++ (map word_of (point_words r.corner) ++ (map word_of (point_words r.opposite) ++ with_semicolon r.more))))
+    plain_word (codes "RECT") ∷ (map plain_word (mask_words r.mask) ++
+    (map plain_word (iterate_words r.iterate) ++ (map plain_word (point_words r.corner) ++ (map plain_word (point_words r.opposite) ++ with_semicolon r.more))))
 
 -- A statement of a PORT.
 pub data PortStatement : Type 0 where
@@ -87,21 +87,21 @@ port_statement_tokens (port_passed tokens) = with_semicolon tokens
 
 abbrev pub IsPortStatement : PortStatement → Type 0
 IsPortStatement (port_rect r) = IsPrintedRect r
-IsPortStatement (port_passed tokens) = IsSkipped (codes "END" ∷ codes "RECT" ∷ []) tokens
+IsPortStatement (port_passed tokens) = IsSkippedToSemicolon (codes "END" ∷ codes "RECT" ∷ []) tokens
 
 -- The statements in order, and END.
 abbrev pub port_tokens : List PortStatement → List PlainToken
-port_tokens [] = word_of (codes "END") ∷ []
+port_tokens [] = plain_word (codes "END") ∷ []
 port_tokens (s ∷ ss) = port_statement_tokens s ++ port_tokens ss
 
 -- Every RECT counts.
-abbrev pub with_rect : List Reach → PortStatement → List Reach
-with_rect reaches (port_rect r) = reaches ++ reach_of r.corner.y.length r.opposite.y.length ∷ []
-with_rect reaches (port_passed tokens) = reaches
+abbrev pub reaches_with_rect : List Reach → PortStatement → List Reach
+reaches_with_rect reaches (port_rect r) = reaches ++ reach_of r.corner.y.length r.opposite.y.length ∷ []
+reaches_with_rect reaches (port_passed tokens) = reaches
 
 abbrev pub with_rects : List Reach → List PortStatement → List Reach
 with_rects reaches [] = reaches
-with_rects reaches (s ∷ ss) = with_rects (with_rect reaches s) ss
+with_rects reaches (s ∷ ss) = with_rects (reaches_with_rect reaches s) ss
 
 -- Pins (LEF MACRO PIN).
 
@@ -112,18 +112,18 @@ pub data PinStatement : Type 0 where
   pin_passed : List PlainToken → PinStatement
 
 abbrev pub pin_statement_tokens : PinStatement → List PlainToken
-pin_statement_tokens (pin_use use_word) = map word_of (use_words use_word)
-pin_statement_tokens (pin_port statements) = word_of (codes "PORT") ∷ port_tokens statements
+pin_statement_tokens (pin_use use_word) = map plain_word (use_words use_word)
+pin_statement_tokens (pin_port statements) = plain_word (codes "PORT") ∷ port_tokens statements
 pin_statement_tokens (pin_passed tokens) = with_semicolon tokens
 
 abbrev pub IsPinStatement : PinStatement → Type 0
 IsPinStatement (pin_use use_word) = use_word ≢ codes ";"
 IsPinStatement (pin_port statements) = All IsPortStatement statements
-IsPinStatement (pin_passed tokens) = IsSkipped (codes "END" ∷ codes "USE" ∷ codes "PORT" ∷ []) tokens
+IsPinStatement (pin_passed tokens) = IsSkippedToSemicolon (codes "END" ∷ codes "USE" ∷ codes "PORT" ∷ []) tokens
 
 -- The statements in order, and END name.
 abbrev pub pin_body_tokens : List ℕ → List PinStatement → List PlainToken
-pin_body_tokens name [] = map word_of (end_words name)
+pin_body_tokens name [] = map plain_word (end_words name)
 pin_body_tokens name (s ∷ ss) = pin_statement_tokens s ++ pin_body_tokens name ss
 
 -- The first USE counts, and every PORT.
@@ -148,7 +148,7 @@ layers_word obstructions = codes "OBS"
 layers_word density = codes "DENSITY"
 
 abbrev pub layers_tokens : List (List PlainToken) → List PlainToken
-layers_tokens [] = word_of (codes "END") ∷ []
+layers_tokens [] = plain_word (codes "END") ∷ []
 layers_tokens (s ∷ ss) = with_semicolon s ++ layers_tokens ss
 
 -- A word of SYMMETRY.
@@ -164,8 +164,8 @@ spelled_symmetry turned = codes "R90"
 
 -- The words, and a semicolon.
 abbrev pub symmetry_tokens : List SymmetryWord → List PlainToken
-symmetry_tokens [] = word_of (codes ";") ∷ []
-symmetry_tokens (w ∷ ws) = word_of (spelled_symmetry w) ∷ symmetry_tokens ws
+symmetry_tokens [] = plain_word (codes ";") ∷ []
+symmetry_tokens (w ∷ ws) = plain_word (spelled_symmetry w) ∷ symmetry_tokens ws
 
 -- R90 is ignored.
 abbrev pub with_symmetry : Symmetry → SymmetryWord → Symmetry
@@ -195,12 +195,12 @@ pub data MacroStatement : Type 0 where
   macro_passed : List PlainToken → MacroStatement
 
 abbrev pub macro_statement_tokens : MacroStatement → List PlainToken
-macro_statement_tokens (macro_origin p) = word_of (codes "ORIGIN") ∷ (map word_of (point_words p) ++ word_of (codes ";") ∷ [])
-macro_statement_tokens (macro_size w h) = map word_of (codes "SIZE" ∷ w.word ∷ codes "BY" ∷ h.word ∷ codes ";" ∷ [])
-macro_statement_tokens (macro_symmetry words) = word_of (codes "SYMMETRY") ∷ symmetry_tokens words
-macro_statement_tokens (macro_pin name statements) = word_of (codes "PIN") ∷ word_of name ∷ pin_body_tokens name statements
-macro_statement_tokens (macro_layers keyword statements) = word_of (layers_word keyword) ∷ layers_tokens statements
-macro_statement_tokens (macro_timing between) = word_of (codes "TIMING") ∷ (between ++ map word_of (end_words (codes "TIMING")))
+macro_statement_tokens (macro_origin p) = plain_word (codes "ORIGIN") ∷ (map plain_word (point_words p) ++ plain_word (codes ";") ∷ [])
+macro_statement_tokens (macro_size w h) = map plain_word (codes "SIZE" ∷ w.word ∷ codes "BY" ∷ h.word ∷ codes ";" ∷ [])
+macro_statement_tokens (macro_symmetry words) = plain_word (codes "SYMMETRY") ∷ symmetry_tokens words
+macro_statement_tokens (macro_pin name statements) = plain_word (codes "PIN") ∷ plain_word name ∷ pin_body_tokens name statements
+macro_statement_tokens (macro_layers keyword statements) = plain_word (layers_word keyword) ∷ layers_tokens statements
+macro_statement_tokens (macro_timing between) = plain_word (codes "TIMING") ∷ (between ++ map plain_word (end_words (codes "TIMING")))
 macro_statement_tokens (macro_passed tokens) = with_semicolon tokens
 
 abbrev pub IsMacroStatement : MacroStatement → Type 0
@@ -208,23 +208,23 @@ IsMacroStatement (macro_origin p) = IsPrintedPoint p
 IsMacroStatement (macro_size w h) = IsPrintedLength w × IsPrintedLength h
 IsMacroStatement (macro_symmetry words) = Unit {0}
 IsMacroStatement (macro_pin name statements) = IsPrintable name × All IsPinStatement statements
-IsMacroStatement (macro_layers keyword statements) = All (IsSkipped (codes "END" ∷ [])) statements
+IsMacroStatement (macro_layers keyword statements) = All (IsSkippedToSemicolon (codes "END" ∷ [])) statements
 IsMacroStatement (macro_timing between) = OccurNowhere (codes "END" ∷ codes "TIMING" ∷ []) between
 IsMacroStatement (macro_passed tokens) =
-    IsSkipped (codes "END" ∷ codes "ORIGIN" ∷ codes "SIZE" ∷ codes "SYMMETRY" ∷ codes "PIN" ∷ codes "OBS" ∷ codes "DENSITY" ∷ codes "TIMING" ∷ []) tokens
+    IsSkippedToSemicolon (codes "END" ∷ codes "ORIGIN" ∷ codes "SIZE" ∷ codes "SYMMETRY" ∷ codes "PIN" ∷ codes "OBS" ∷ codes "DENSITY" ∷ codes "TIMING" ∷ []) tokens
 
 -- The statements in order, and END name.
 abbrev pub macro_body_tokens : List ℕ → List MacroStatement → List PlainToken
-macro_body_tokens name [] = map word_of (end_words name)
+macro_body_tokens name [] = map plain_word (end_words name)
 macro_body_tokens name (s ∷ ss) = macro_statement_tokens s ++ macro_body_tokens name ss
 
 -- MACRO name, its statements, END name.
 abbrev pub macro_tokens : List ℕ → List MacroStatement → List PlainToken
-macro_tokens name statements = word_of (codes "MACRO") ∷ word_of name ∷ macro_body_tokens name statements
+macro_tokens name statements = plain_word (codes "MACRO") ∷ plain_word name ∷ macro_body_tokens name statements
 
 -- The first ORIGIN, SIZE and SYMMETRY count, and every PIN. Skipped statements are ignored.
 abbrev pub with_statement : MacroParts → MacroStatement → MacroParts
-with_statement parts (macro_origin p) = record parts { origin = first_counts parts.origin (point_of p) }
+with_statement parts (macro_origin p) = record parts { origin = first_counts parts.origin (printed_point p) }
 with_statement parts (macro_size w h) = record parts { size = first_counts parts.size (record { x = w.length; y = h.length }) }
 with_statement parts (macro_symmetry words) = record parts { symmetry = first_counts parts.symmetry (with_symmetries no_symmetry words) }
 with_statement parts (macro_pin name statements) = record parts { pins = parts.pins ++ with_pin_statements no_pin statements ∷ [] }
@@ -238,13 +238,13 @@ with_statements parts (s ∷ ss) = with_statements (with_statement parts s) ss
 
 -- The macro that the statements describe.
 abbrev pub described_macro : List ℕ → List MacroStatement → Macro
-described_macro name statements = macro_of name (with_statements no_macro_parts statements)
+described_macro name statements = macro_from_parts name (with_statements no_macro_parts statements)
 
 -- Holds if a macro with a new name, printed by any such statements, reads back, after skipped
 -- statements and with anything after it.
 abbrev pub ReadsMacroOf : Contents → Macro → List MacroStatement → Type 0
-ReadsMacroOf c m statements = (passed : List Skipped) (tokens : List Lexeme) (behind : Lexed)
+ReadsMacroOf c m statements = (passed : List SkippedStatement) (tokens : List Lexeme) (after_it : Lexed)
     → All IsWhole passed → IsPrintable m.name → All IsMacroStatement statements → described_macro m.name statements ≡ m
     → position_of (macro_names c.macros) m.name ≡ None → length c.macros < 1000000
-    → Spells tokens (tokens_behind passed (macro_tokens m.name statements))
-    → library c (with_tokens tokens behind) ≡ library (record c { macros = c.macros ++ m ∷ [] }) behind
+    → Spells tokens (tokens_after passed (macro_tokens m.name statements))
+    → library c (with_tokens tokens after_it) ≡ library (record c { macros = c.macros ++ m ∷ [] }) after_it

@@ -4,13 +4,13 @@ use Rattle.std.specs.Str.{bytes_eq}
 use Rattle.lf_names.specs.Names.{position_of}
 use Rattle.lf_lex.specs.Tokens.{Lexed, Lexeme, PlainToken, with_tokens}
 use Rattle.lf_lex.specs.Reading.{first_counts}
-use Rattle.lf_lex.specs.Splices.{word_of}
+use Rattle.lf_lex.specs.Splices.{plain_word}
 use Rattle.lf_floorplan.specs.declared.sites.Site.{Site}
 use Rattle.lf_lef.specs.declared.sites.SiteParts.{SiteParts}
 use Rattle.lf_lef.specs.Contents.{Contents, site_names}
 use Rattle.lf_lef.specs.Sites.{no_symmetry, no_site_parts, site_of}
 use Rattle.lf_lef.specs.Library.{library}
-use Rattle.lf_lef.specs.Printed.{Spells, IsPrintable, class_words, end_words, with_semicolon, IsSkipped, Skipped, IsWhole, tokens_behind}
+use Rattle.lf_lef.specs.Printed.{Spells, IsPrintable, class_words, end_words, with_semicolon, IsSkippedToSemicolon, SkippedStatement, IsWhole, tokens_after}
 use Rattle.lf_lef.specs.PrintedMacros.{PrintedLength, IsPrintedLength, SymmetryWord, symmetry_tokens, with_symmetries}
 
 -- A statement of a SITE.
@@ -25,25 +25,25 @@ pub data SiteStatement : Type 0 where
   site_passed : List PlainToken → SiteStatement
 
 abbrev pub site_statement_tokens : SiteStatement → List PlainToken
-site_statement_tokens (site_class class) = map word_of (class_words class)
-site_statement_tokens (site_symmetry words) = word_of (codes "SYMMETRY") ∷ symmetry_tokens words
-site_statement_tokens (site_size w h) = map word_of (codes "SIZE" ∷ w.word ∷ codes "BY" ∷ h.word ∷ codes ";" ∷ [])
+site_statement_tokens (site_class class) = map plain_word (class_words class)
+site_statement_tokens (site_symmetry words) = plain_word (codes "SYMMETRY") ∷ symmetry_tokens words
+site_statement_tokens (site_size w h) = map plain_word (codes "SIZE" ∷ w.word ∷ codes "BY" ∷ h.word ∷ codes ";" ∷ [])
 site_statement_tokens (site_passed tokens) = with_semicolon tokens
 
 abbrev pub IsSiteStatement : SiteStatement → Type 0
 IsSiteStatement (site_class class) = class ≢ codes ";"
 IsSiteStatement (site_symmetry words) = Unit {0}
 IsSiteStatement (site_size w h) = IsPrintedLength w × IsPrintedLength h
-IsSiteStatement (site_passed tokens) = IsSkipped (codes "END" ∷ codes "CLASS" ∷ codes "SYMMETRY" ∷ codes "SIZE" ∷ []) tokens
+IsSiteStatement (site_passed tokens) = IsSkippedToSemicolon (codes "END" ∷ codes "CLASS" ∷ codes "SYMMETRY" ∷ codes "SIZE" ∷ []) tokens
 
 -- The statements in order, and END name.
 abbrev pub site_body_tokens : List ℕ → List SiteStatement → List PlainToken
-site_body_tokens name [] = map word_of (end_words name)
+site_body_tokens name [] = map plain_word (end_words name)
 site_body_tokens name (s ∷ ss) = site_statement_tokens s ++ site_body_tokens name ss
 
 -- SITE name, its statements, END name.
 abbrev pub site_tokens : List ℕ → List SiteStatement → List PlainToken
-site_tokens name statements = word_of (codes "SITE") ∷ word_of name ∷ site_body_tokens name statements
+site_tokens name statements = plain_word (codes "SITE") ∷ plain_word name ∷ site_body_tokens name statements
 
 -- The first CLASS, SYMMETRY and SIZE count. Skipped statements are ignored.
 abbrev pub with_site_statement : SiteParts → SiteStatement → SiteParts
@@ -63,8 +63,8 @@ described_site name statements = site_of name (with_site_statements no_site_part
 -- Holds if a site with a new name, printed by any such statements, reads back, after skipped
 -- statements and with anything after it.
 abbrev pub ReadsSiteOf : Contents → Site → List SiteStatement → Type 0
-ReadsSiteOf c s statements = (passed : List Skipped) (tokens : List Lexeme) (behind : Lexed)
+ReadsSiteOf c s statements = (passed : List SkippedStatement) (tokens : List Lexeme) (after_it : Lexed)
     → All IsWhole passed → IsPrintable s.name → All IsSiteStatement statements → described_site s.name statements ≡ s
     → position_of (site_names c.sites) s.name ≡ None → length c.sites < 1000000
-    → Spells tokens (tokens_behind passed (site_tokens s.name statements))
-    → library c (with_tokens tokens behind) ≡ library (record c { sites = c.sites ++ s ∷ [] }) behind
+    → Spells tokens (tokens_after passed (site_tokens s.name statements))
+    → library c (with_tokens tokens after_it) ≡ library (record c { sites = c.sites ++ s ∷ [] }) after_it

@@ -9,9 +9,9 @@ ghost use Rattle.lf_lef.specs.declared.macros.MacroParts.{MacroParts};
 ghost use Rattle.lf_lex.specs.Laws.{TakesTokens, ReadsAlike};
 ghost use Rattle.lf_lef.specs.Sites.{symmetry_word, site_statement, site_parts};
 ghost use Rattle.lf_lef.specs.Pins.{port_statement, pin_statement};
-ghost use Rattle.lf_lef.specs.Contents.{Contents, BeginsWith};
-ghost use Rattle.lf_lef.specs.Laws.{EndsBefore, FirstSiteStatementsCount, FirstPinUseCounts, FirstMacroStatementsCount};
-ghost use Rattle.lf_lef.specs.Library.{statement, library};
+ghost use Rattle.lf_lef.specs.Contents.{Contents, ExtendsLibrary};
+ghost use Rattle.lf_lef.specs.Laws.{UnreadLefBytesDoNotMatter, FirstSiteStatementsCount, FirstPinUseCounts, FirstMacroStatementsCount};
+ghost use Rattle.lf_lef.specs.Library.{lef_statement, library};
 ghost use Rattle.lf_floorplan.specs.declared.sites.Site.{Site};
 ghost use Rattle.lf_floorplan.specs.declared.macros.Macro.{Macro};
 ghost use Rattle.lf_lef.specs.Printed.{SkipsStatements, ReadsSite, ReadsMacro};
@@ -20,32 +20,32 @@ ghost use Rattle.lf_lef.specs.PrintedSites.{SiteStatement, ReadsSiteOf};
 ghost use Rattle.lf_lef.specs.Macros.{passed_statement, macro_statement, macro_parts};
 
 /// Each statement after which more follow takes a token, so every block reaches its END or a fault.
-pub fn statements_take_tokens()
+pub fn lef_statements_take_tokens()
     ensures symmetry { TakesTokens symmetry_word }
     ensures site { (name : List ℕ) → TakesTokens (site_statement name) }
     ensures port { TakesTokens port_statement }
     ensures pin { (name : List ℕ) → TakesTokens (pin_statement name) }
     ensures passed { TakesTokens passed_statement }
     ensures cell { (name : List ℕ) → TakesTokens (macro_statement name) }
-    ensures text { TakesTokens statement }
+    ensures text { TakesTokens lef_statement }
 {}
 
 /// White space, comments and what follows do not affect how the statements of a site or a macro are
 /// read.
-pub fn statements_read_alike()
+pub fn lef_statements_read_alike()
     ensures site { (name : List ℕ) → ReadsAlike (site_parts name) }
     ensures cell { (name : List ℕ) → ReadsAlike (macro_parts name) }
 {}
 
 /// Nothing after END LIBRARY counts. If reading a text leaves tokens unread, any bytes may replace
 /// those from the first unread token on.
-pub fn nothing_behind_end_library_counts()
-    ensures { (before after : Contents) (text : List ℕ) → EndsBefore before after text }
+pub fn nothing_after_end_library_counts()
+    ensures { (before after : Contents) (text : List ℕ) → UnreadLefBytesDoNotMatter before after text }
 {}
 
 /// The first of several statements of one kind counts, and every PIN and RECT counts. The first of
 /// several sites or macros with one name counts, in one text or several.
-pub fn first_of_each_kind_stands()
+pub fn first_of_each_kind_counts()
     ensures site { (name : List ℕ) (old new : SiteParts) (l m : Lexed)
         → block (site_statement name) old l ≡ taken new m → FirstSiteStatementsCount old new }
     ensures pin { (name : List ℕ) (old new : Pin) (l m : Lexed)
@@ -53,7 +53,7 @@ pub fn first_of_each_kind_stands()
     ensures cell { (name : List ℕ) (old new : MacroParts) (l m : Lexed)
         → block (macro_statement name) old l ≡ taken new m → FirstMacroStatementsCount old new }
     ensures text { (old new : Contents) (l m : Lexed)
-        → library old l ≡ taken new m → BeginsWith old new }
+        → library old l ≡ taken new m → ExtendsLibrary old new }
 {}
 
 /// Statements that are skipped have no effect, however many there are.

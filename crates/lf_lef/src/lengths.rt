@@ -4,7 +4,7 @@ ghost use Rattle.std.specs.Prelude.{◌≡◌, Ok, IfOk, IfSome, IfErr, MatchRes
 ghost use Rattle.lf_lex.specs.Tokens.{lexeme};
 ghost use Rattle.lf_lex.specs.Reading.{Reads, Fails, first_counts};
 ghost use Rattle.lf_lef.specs.Lengths as grammar;
-ghost use Rattle.lf_lef.specs.Lengths.{IsInRange, HasRange};
+ghost use Rattle.lf_lef.specs.Lengths.{IsLengthInRange, HasRange};
 
 use lf_lex::{FaultNumber, Lexer, ReadError, Token, fault_at, is_token, keyword, token};
 use lf_units::{Point, read_fixed};
@@ -14,7 +14,7 @@ use lf_units::{Point, read_fixed};
 fn micros_of(token: &Token) -> Result<i64, ReadError>
     ensures read { MatchResult result (λ x. grammar.micros_of (lexeme token.now) ≡ Ok x)
         (λ e. Fails e (grammar.micros_of (lexeme token.now))) }
-    ensures range { IfOk result (λ x. IsInRange x) }
+    ensures range { IfOk result (λ x. IsLengthInRange x) }
 {
     match read_fixed(token.text, 6, 1_000_000_000_000) {
         Ok(value) => Ok(value),
@@ -26,7 +26,7 @@ fn micros_of(token: &Token) -> Result<i64, ReadError>
 #[tactic(auto, unfolding(crate::specs::Lengths::micros))]
 pub(crate) fn micros(lexer: &mut Lexer) -> Result<i64, ReadError>
     ensures read { Reads (λ x. x) result grammar.micros lexer.old lexer.new }
-    ensures range { IfOk result (λ x. IsInRange x) }
+    ensures range { IfOk result (λ x. IsLengthInRange x) }
 {
     let token = token(lexer)?;
     micros_of(&token)
@@ -52,9 +52,9 @@ pub(crate) fn point_from(lexer: &mut Lexer, token: &Token) -> Result<Point, Read
 }
 
 /// Reads a point.
-#[tactic(auto, unfolding(crate::specs::Lengths::point))]
+#[tactic(auto, unfolding(crate::specs::Lengths::lef_point))]
 pub(crate) fn point(lexer: &mut Lexer) -> Result<Point, ReadError>
-    ensures read { Reads (λ p. p) result grammar.point lexer.old lexer.new }
+    ensures read { Reads (λ p. p) result grammar.lef_point lexer.old lexer.new }
     ensures range { IfOk result (λ p. HasRange p) }
 {
     let token = token(lexer)?;

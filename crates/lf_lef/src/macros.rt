@@ -51,9 +51,9 @@ impl Block for PassedStatements {
 }
 
 /// Skips a statement of a macro, after its first token.
-#[tactic(auto, unfolding(crate::specs::Macros::passed_from))]
+#[tactic(auto, unfolding(crate::specs::Macros::skip_lef_from))]
 fn skip_from(lexer: &mut Lexer, token: &Token) -> Result<(), ReadError>
-    ensures { ReadsOn (λ x. x) result (grammar.passed_from (lexeme token.now)) lexer.old lexer.new }
+    ensures { ReadsOn (λ x. x) result (grammar.skip_lef_from (lexeme token.now)) lexer.old lexer.new }
 {
     if is_token(b"OBS", token) || is_token(b"DENSITY", token) {
         read_block(lexer, &PassedStatements, &mut ())
@@ -152,7 +152,7 @@ pub(crate) fn macro_parts(
 /// Returns the macro that the statements describe.
 pub(crate) fn macro_of(name: Name, parts: &MacroParts) -> Macro
     requires range { HasRanges parts.now.size parts.now.origin }
-    ensures macro_is { result ≡ grammar.macro_of name parts.now }
+    ensures macro_is { result ≡ grammar.macro_from_parts name parts.now }
     ensures size { HasRange result.size }
     ensures origin { HasRange result.origin }
 {

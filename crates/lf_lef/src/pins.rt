@@ -70,9 +70,9 @@ fn reach_of(a: i64, b: i64) -> Reach
 }
 
 /// Reads `RECT [MASK n] [ITERATE] pt pt .. ;`, after its keyword.
-#[tactic(auto, unfolding(crate::specs::Pins::rect))]
+#[tactic(auto, unfolding(crate::specs::Pins::lef_rectangle))]
 fn rect(lexer: &mut Lexer) -> Result<Reach, ReadError>
-    ensures { Reads (λ r. r) result grammar.rect lexer.old lexer.new }
+    ensures { Reads (λ r. r) result grammar.lef_rectangle lexer.old lexer.new }
 {
     let first = token(lexer)?;
     let first = past_mask(lexer, first)?;

@@ -5,7 +5,7 @@ ghost use Rattle.std.specs.Option.{option_map};
 ghost use Rattle.lf_names.specs.Names.{position_of};
 ghost use Rattle.lf_lex.specs.Tokens.{lexeme};
 ghost use Rattle.lf_lex.specs.Reading.{Reads, ReadsOn, ReadsTurn, Fails, turn};
-ghost use Rattle.lf_lef.specs.Contents.{site_names, macro_names, BeginsWith};
+ghost use Rattle.lf_lef.specs.Contents.{site_names, macro_names, ExtendsLibrary};
 ghost use Rattle.lf_lef.specs.Library as grammar;
 
 use crate::library::Library;
@@ -34,7 +34,7 @@ fn room_for(known: Option<usize>, count: usize, name: &Token) -> Result<(), Read
 fn site(library: &mut Library, lexer: &mut Lexer) -> Result<(), ReadError>
     ensures read { Reads (λ _. library.new) result
         (grammar.with_site library.old) lexer.old lexer.new }
-    ensures kept { BeginsWith library.old library.new }
+    ensures kept { ExtendsLibrary library.old library.new }
 {
     let name = name(lexer)?;
     let known_site = library.find_site(name.text);
@@ -52,7 +52,7 @@ fn site(library: &mut Library, lexer: &mut Lexer) -> Result<(), ReadError>
 fn cell(library: &mut Library, lexer: &mut Lexer) -> Result<(), ReadError>
     ensures read { Reads (λ _. library.new) result
         (grammar.with_macro library.old) lexer.old lexer.new }
-    ensures kept { BeginsWith library.old library.new }
+    ensures kept { ExtendsLibrary library.old library.new }
 {
     let name = name(lexer)?;
     let known_macro = library.find_macro(name.text);
@@ -98,9 +98,9 @@ fn to_named_end(lexer: &mut Lexer) -> Result<(), ReadError>
 }
 
 /// Skips a statement other than SITE and MACRO, after its first token.
-#[tactic(auto, unfolding(crate::specs::Library::passed_from))]
+#[tactic(auto, unfolding(crate::specs::Library::skip_lef_from))]
 fn skip_from(lexer: &mut Lexer, token: &Token) -> Result<(), ReadError>
-    ensures { ReadsOn (λ x. x) result (grammar.passed_from (lexeme token.now)) lexer.old lexer.new }
+    ensures { ReadsOn (λ x. x) result (grammar.skip_lef_from (lexeme token.now)) lexer.old lexer.new }
 {
     if is_named(token) {
         to_named_end(lexer)
@@ -116,15 +116,15 @@ fn skip_from(lexer: &mut Lexer, token: &Token) -> Result<(), ReadError>
 }
 
 /// Reads a statement of the text, after its first token. Returns whether more statements follow.
-#[tactic(auto, unfolding(crate::specs::Library::statement_from))]
+#[tactic(auto, unfolding(crate::specs::Library::lef_statement_from))]
 fn statement_from(
     library: &mut Library,
     lexer: &mut Lexer,
     token: &Token,
 ) -> Result<bool, ReadError>
     ensures read { ReadsOn (turn library.new) result
-        (grammar.statement_from library.old (lexeme token.now)) lexer.old lexer.new }
-    ensures kept { BeginsWith library.old library.new }
+        (grammar.lef_statement_from library.old (lexeme token.now)) lexer.old lexer.new }
+    ensures kept { ExtendsLibrary library.old library.new }
 {
     if is_token(b"END", token) {
         end_name(lexer, b"LIBRARY")?;
@@ -140,11 +140,11 @@ fn statement_from(
     Ok(true)
 }
 
-#[tactic(auto, unfolding(crate::specs::Library::statement))]
+#[tactic(auto, unfolding(crate::specs::Library::lef_statement))]
 fn statement(library: &mut Library, lexer: &mut Lexer) -> Result<bool, ReadError>
     ensures read { ReadsTurn (turn library.new) result
-        (grammar.statement library.old) lexer.old lexer.new }
-    ensures kept { BeginsWith library.old library.new }
+        (grammar.lef_statement library.old) lexer.old lexer.new }
+    ensures kept { ExtendsLibrary library.old library.new }
 {
     match next(lexer)? {
         Some(token) => statement_from(library, lexer, &token),
@@ -156,7 +156,7 @@ fn statement(library: &mut Library, lexer: &mut Lexer) -> Result<bool, ReadError
 fn read_statements(library: &mut Library, text: &[u8]) -> Result<(), ReadError>
     ensures ok { OnOk result (grammar.library_after library.old text.now ≡ Ok library.new) }
     ensures fault { IfErr result (λ e. Fails e (grammar.library_after library.old text.now)) }
-    ensures kept { BeginsWith library.old library.new }
+    ensures kept { ExtendsLibrary library.old library.new }
 {
     let mut lexer = Lexer::new(text);
     while statement(library, &mut lexer)? {}
@@ -176,7 +176,7 @@ fn read_statements(library: &mut Library, text: &[u8]) -> Result<(), ReadError>
 pub fn read_lef<'a>(library: &mut Library, text: &'a [u8]) -> Result<(), LoadFault<'a>>
     ensures ok { OnOk result (grammar.library_after library.old text.now ≡ Ok library.new) }
     ensures fault { IfErr result
-        (λ fault. grammar.Refuses fault (grammar.library_after library.old text.now)) }
+        (λ fault. grammar.RefusesLef fault (grammar.library_after library.old text.now)) }
     ensures err { OnErr result (library.new ≡ library.old) }
 {
     let sites = library.sites().len();

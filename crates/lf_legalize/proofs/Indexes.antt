@@ -17,7 +17,7 @@ use Rattle.lf_rules.specs.declared.rule.Rule.TheVariants.{Height, Row as RowRule
 use Rattle.lf_rules.specs.Legality.{Holds}
 use Rattle.lf_rules.specs.Choice.{SpotPlace, PlacementQuery, IsLegalAt, IsAllowedPlace, IsChoice, Precedes, distance, candidate_at}
 use Rattle.lf_rules.proofs.SiteLemmas.{legal_upright}
-use Rattle.lf_segments.specs.Grounds.{IsInside, IsExtentOf}
+use Rattle.lf_segments.specs.Indexes.{IsInside, IsExtentOf}
 use Rattle.lf_legalize.specs.Extents.{IsNearestPoint, IsNearDefPoint, IsWithin}
 use Rattle.lf_legalize.specs.Indexes.{IsHeightOf}
 use Rattle.lf_legalize.proofs.Rounds.{upright_size}
@@ -46,9 +46,9 @@ lies_in cell extent p sized of legal =
     let held : Holds (candidate_at cell p) RowRule = legal RowRule in
     let bottom = held.1 in
     let small : IsSmall (turned (size_of cell.frame cell.mac) p.orient) = turned_small _ _ (small_pitch _ _ _ (sized_pitch _ _ sized)) in
-    let inside : IsInside (row_area cell.frame.pitch (get_or cell.frame.rows bottom.heeded.0 held.0)) extent = of.rows bottom.heeded.0 held.0 bottom.heeded.1 in
+    let inside : IsInside (row_area cell.frame.pitch (get_or cell.frame.rows bottom.core_ones.0 held.0)) extent = of.rows bottom.core_ones.0 held.0 bottom.core_ones.1 in
     row_inside cell.frame (turned (size_of cell.frame cell.mac) p.orient) extent p held.0 small cell.frame.pitch_whole.high bottom
-    (subst (λ (r : Row). IsInside (row_area cell.frame.pitch r) extent) bottom.heeded.2 inside)
+    (subst (λ (r : Row). IsInside (row_area cell.frame.pitch r) extent) bottom.core_ones.2 inside)
 
 -- the distance of two numbers of a range
 abs_under : (v w : ℤ) → (pos 0 -ℤ w) ≤ℤ v → v ≤ℤ w → unsigned_abs v ≤ unsigned_abs w

@@ -10,23 +10,23 @@ use Rattle.std.proofs.lemmas.List.Kept.{AllPairs-cons}
 use Rattle.lf_units.proofs.Any.{any_mapped}
 use Rattle.lf_orient.specs.Orientation.{rail_below}
 use Rattle.lf_spans.specs.declared.span.Span.{Span}
-use Rattle.lf_spans.specs.Spans.{Holds, IsFilled, IsRising, LiesIn, LiesInOneOf}
+use Rattle.lf_spans.specs.Spans.{HoldsNumber, IsFilled, IsRising, LiesIn, LiesInOneOf}
 use Rattle.lf_spans.proofs.Anys.{any_nil, any_head, any_tail, any_left, any_split, any_weaker}
 use Rattle.lf_spans.proofs.Edges.{rising_nil, rising_tail, rising_after}
 use Rattle.lf_floorplan.specs.declared.frame.Frame.{Frame}
 use Rattle.lf_floorplan.specs.declared.parts.Row.{Row}
 use Rattle.lf_floorplan.specs.Rows.{row_area}
-use Rattle.lf_floorplan.specs.Standing.{changed}
+use Rattle.lf_floorplan.specs.Standing.{rail_alternated}
 use Rattle.lf_segments.specs.declared.segment.Segment.{Segment}
 use Rattle.lf_segments.specs.Segments.{IsCut, IsOf, IsOpen, IsSegment, LiesInSegment}
 use Rattle.lf_cells.specs.declared.cell.CellId.{CellId}
 use Rattle.lf_segments.specs.declared.strip.Strip.{Strip}
-use Rattle.lf_occupancy.specs.Occupied.{Occupied, IsFreeOver, IsStripOf}
-use Rattle.lf_segments.specs.Grounds.{IsIndexOf}
+use Rattle.lf_occupancy.specs.Views.{Occupied, IsFreeOver, IsStripOf}
+use Rattle.lf_segments.specs.Indexes.{IsIndexOf}
 use Rattle.lf_segments.specs.Strips.{strip_of}
 use Rattle.lf_legalize.specs.declared.row_search.RowSearch.{RowSearch}
 use Rattle.lf_legalize.specs.RowSearches.{padding_in}
-use Rattle.lf_legalize.specs.Levels.{AddsRow, AreFreeOn, AreLevels, HasBareLevel, IsFreeOnOne, IsFreeOnRow, IsLevel, IsLevelRow, AreOpenInRow, IsRailed}
+use Rattle.lf_legalize.specs.Levels.{AddsLevel, AreFreeOn, AreLevels, HasBareLevel, IsFreeOnOne, IsFreeOnRow, IsLevel, IsLevelRow, AreOpenInRow, IsRailed}
 
 -- ---- lists of spans
 
@@ -59,8 +59,8 @@ own_one (x ∷ xs) (suc k) d within = any_tail (λ t. LiesIn (get_or xs k d) t) 
 -- the team may use the row of this number over the span
 pub record IsOpenOver (f : Frame) (team n : ℕ) (s : Span) : Type 0 where
   pub row : Row
-  pub stands : slice_get f.rows n ≡ Some row
-  pub is_open : (x : ℤ) → Holds s x → IsOpen f f.obstacles row team x
+  pub is_in_place : slice_get f.rows n ≡ Some row
+  pub is_open : (x : ℤ) → HoldsNumber s x → IsOpen f f.obstacles row team x
 
 row_there : (rows : List Row) (n : ℕ) → n < length rows → (r : Row) × (slice_get rows n ≡ Some r)
 row_there [] n within = absurd (omega (arith, within))
@@ -92,12 +92,12 @@ pub open_over : (f : Frame) (o : Occupied) (id : CellId) (window : Span) (paddin
 open_over f o id window padding n s h filled free =
     let lies = lies_in_segment f o id window padding n s h free in
     let there = row_there f.rows n (number_known f o.index.segments n id.team s h.segments lies) in
-    record { row = there.0; stands = there.1; is_open = (h.segments.exact n there.0 id.team s there.1 filled).0 lies }
+    record { row = there.0; is_in_place = there.1; is_open = (h.segments.exact n there.0 id.team s there.1 filled).0 lies }
 
 -- a free span lies within its row
 pub record IsOverRow (f : Frame) (n : ℕ) (s : Span) : Type 0 where
   pub row : Row
-  pub stands : slice_get f.rows n ≡ Some row
+  pub is_in_place : slice_get f.rows n ≡ Some row
   pub left : row.x ≤ℤ s.lo
   pub right : s.hi ≤ℤ (row_area f.pitch row).x2
 
@@ -108,7 +108,7 @@ over_row f o id window padding n s h filled free =
     let first = there.is_open s.lo record { low = omega (arith, ints); high = filled } in
     let last = there.is_open (s.hi -ℤ pos 1) record { low = omega (arith, ints); high = omega (arith, ints) } in
     let most = last.clear.right in
-    record { row = there.row; stands = there.stands; left = first.clear.left; right = omega (arith, ints, most) }
+    record { row = there.row; is_in_place = there.is_in_place; left = first.clear.left; right = omega (arith, ints, most) }
 
 -- ---- what is free on more rows
 
@@ -140,7 +140,7 @@ spans_left First Second f o id window padding xs ys h left first second i d belo
     let two = (second.exact y (second.rising.filled j e under)).0 (own_one ys j e under) in
     let a = over_row f o id window padding one.number x h (first.rising.filled i d below) one.free in
     let b = over_row f o id window padding two.number y h (second.rising.filled j e under) two.free in
-    let between = left one.number two.number a.row b.row one.among two.among a.stands b.stands in
+    let between = left one.number two.number a.row b.row one.among two.among a.is_in_place b.is_in_place in
     let from = a.right in
     let to = b.left in
     omega (arith, ints, between, from, to)
@@ -190,23 +190,23 @@ pub of_row : (f : Frame) (n : ℕ) (a b : Row) (P : Row → Type 0) → slice_ge
 of_row f n a b P p q so = subst P (same_row f n a b p q) so
 
 pub adds_none : (s : RowSearch) (bottom : Row) (j n : ℕ) (window : Span) (old : List Span) (r : Row) → slice_get s.frame.now.rows n ≡ Some r →
-    (rail_below r.orient ≡ option_map (changed j) (rail_below bottom.orient) → ⊥) → AddsRow s bottom j n window old old
-adds_none s bottom j n window old r stands not = record {
+    (rail_below r.orient ≡ option_map (rail_alternated j) (rail_below bottom.orient) → ⊥) → AddsLevel s bottom j n window old old
+adds_none s bottom j n window old r is_in_place not = record {
   added = [];
   is = sym (append-nil old);
   free = free_none (λ m. (m ≡ n) × IsRailed s.frame.now bottom j n) s.occupancy.now s.id window (padding_in s) (λ m p.
       let q : IsRailed s.frame.now bottom j n = p.1 in
-      not (ap (λ (t : Row). rail_below t.orient) (same_row s.frame.now n r q.row stands q.stands) ∙ q.rail));
+      not (ap (λ (t : Row). rail_below t.orient) (same_row s.frame.now n r q.row is_in_place q.is_in_place) ∙ q.rail));
 }
 
 pub adds_row : (s : RowSearch) (bottom : Row) (j n : ℕ) (window : Span) (old new xs : List Span) (r : Row) → slice_get s.frame.now.rows n ≡ Some r →
-    rail_below r.orient ≡ option_map (changed j) (rail_below bottom.orient) → AreOpenInRow s.occupancy.now n s.id window (padding_in s) xs → new ≡ old ++ xs →
-    AddsRow s bottom j n window old new
-adds_row s bottom j n window old new xs r stands rail free is = record {
+    rail_below r.orient ≡ option_map (rail_alternated j) (rail_below bottom.orient) → AreOpenInRow s.occupancy.now n s.id window (padding_in s) xs → new ≡ old ++ xs →
+    AddsLevel s bottom j n window old new
+adds_row s bottom j n window old new xs r is_in_place rail free is = record {
   added = xs;
   is = is;
   free = free_row (λ m. (m ≡ n) × IsRailed s.frame.now bottom j n) s.occupancy.now s.id window (padding_in s) n xs
-      (refl, record { row = r; stands = stands; rail = rail }) (λ m p. p.0) free;
+      (refl, record { row = r; is_in_place = is_in_place; rail = rail }) (λ m p. p.0) free;
 }
 
 -- ---- all levels

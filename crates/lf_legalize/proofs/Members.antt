@@ -18,7 +18,7 @@ use Rattle.lf_legalize.specs.Members.{IsSizedCell, member_of, best_of}
 pub best_is : (l : Legalizer) (f : Frame) (team padding own : ℕ) (cells : List Cell) (target : Point) (s : CellPlacement) (found : Option SpotPlace) →
     All (IsSizedCell f) cells → option_map placement_of (slice_get cells own) ≡ Some s →
     IsChoice (query_from f team padding (map member_of cells) own s.mac) target found → found ≡ best_of l f team padding cells own target
-best_is l f team padding own cells target s found all stands choice = go (slice_get cells own) refl stands
+best_is l f team padding own cells target s found all is_in_place choice = go (slice_get cells own) refl is_in_place
   where
     sized : (x : Cell) → slice_get cells own ≡ Some x → IsSizedCell f x
     sized x is = rw (get_or_from_slice_get cells own x x is) at (all own x (slice_get_within cells own x is))

@@ -13,12 +13,12 @@ use Rattle.lf_floorplan.specs.Sizes.{box_at}
 use Rattle.lf_floorplan.specs.Standing.{IsBottomRow}
 use Rattle.lf_floorplan.proofs.SizeBounds.{IsSmall, small_pitch, sized_pitch}
 use Rattle.lf_rules.specs.Choice.{SpotPlace, PlacementQuery, IsAllowedPlace, Precedes, distance}
-use Rattle.lf_rules.specs.Looking.{ScansPlaces, IsAsGood}
+use Rattle.lf_rules.specs.Scanning.{ScansPlaces, IsAsGood}
 use Rattle.lf_rules.proofs.Looking.{taken_first, taken, left}
 use Rattle.lf_rules.proofs.Order.{through}
 use Rattle.lf_segments.specs.declared.rows_by_y.RowEntry.{RowEntry}
 use Rattle.lf_segments.specs.RowsByY.{IsEntryOf}
-use Rattle.lf_legalize.specs.Extents.{IsWithin, IsOnRow, IsBetter, ScansPlacesWithin, limit}
+use Rattle.lf_legalize.specs.Extents.{IsWithin, IsOnRow, IsBetter, ScansPlacesWithin, search_limit}
 use Rattle.lf_legalize.specs.RowSearches.{IsOnRowIn, IsBestAmong, IsChoiceAmong}
 use Rattle.lf_legalize.specs.declared.row_search.RowSearch.{RowSearch}
 
@@ -32,13 +32,13 @@ far_is_worse : (target : Point) (p b : SpotPlace) → distance target b < distan
 far_is_worse target p b far (inl a) = omega arith
 far_is_worse target p b far (inr a) = omega arith
 
-pub limit_below : (target : Point) (reach : ℕ) (best : Option SpotPlace) → limit target reach best ≤ reach
+pub limit_below : (target : Point) (reach : ℕ) (best : Option SpotPlace) → search_limit target reach best ≤ reach
 limit_below target reach None = omega arith
 limit_below target reach (Some b) = omega arith
 
 -- a place beyond the limit is not better than the best so far
 beyond : (target : Point) (reach : ℕ) (best : Option SpotPlace) (p : SpotPlace) → IsWithin target reach p →
-    limit target reach best < distance target p → IsAsGood target best p
+    search_limit target reach best < distance target p → IsAsGood target best p
 beyond target reach None p within far = absurd (omega arith)
 beyond target reach (Some b) p within far = far_is_worse target p b (omega arith)
 
@@ -55,7 +55,7 @@ row_level f size r p bottom = let level = bottom.at_bottom.at_level in omega (ar
 
 -- a row too far away along y is skipped
 pub row_passed : (f : Frame) (size : Point) (cell : PlacementQuery) (target : Point) (reach : ℕ) (best : Option SpotPlace) (e : RowEntry) → IsEntryOf f e →
-    limit target reach best < unsigned_abs (e.y -ℤ target.y) → ScansPlacesWithin (IsOnRow f size e.row) cell target reach best best
+    search_limit target reach best < unsigned_abs (e.y -ℤ target.y) → ScansPlacesWithin (IsOnRow f size e.row) cell target reach best best
 row_passed f size cell target reach best e known far = record {
   looked = record {
     may_go = λ h. h;
@@ -65,12 +65,12 @@ row_passed f size cell target reach best e known far = record {
   near = λ h. h;
 }
   where
-    high : (p : SpotPlace) → IsOnRow f size e.row p → limit target reach best < distance target p
+    high : (p : SpotPlace) → IsOnRow f size e.row p → search_limit target reach best < distance target p
     high p on =
-        let same : on.row ≡ known.row = same_row f.rows e.row on.row known.row on.there known.stands in
+        let same : on.row ≡ known.row = same_row f.rows e.row on.row known.row on.there known.is_in_place in
         let level : p.y ≡ on.row.y = row_level f size on.row p on.bottom in
         let at : p.y ≡ e.y = level ∙ ap (λ (r : Row). r.y) same ∙ sym (ap (λ (x : RowEntry). x.y) known.is) in
-        let d : limit target reach best < unsigned_abs (p.y -ℤ target.y) = rw at far in
+        let d : search_limit target reach best < unsigned_abs (p.y -ℤ target.y) = rw at far in
         omega (arith, d)
 
 pub abs_above : (v : ℤ) (n : ℕ) → unsigned_abs v ≤ n → v ≤ℤ pos n
@@ -127,24 +127,24 @@ better_looks cell target (Some b) new s may (inr keep) = rw keep.0 (left cell ta
 
 -- what lies on a row and is within the reach lies in the window, or is beyond the limit
 split_row : (f : Frame) (size target : Point) (reach rise : ℕ) (best : Option SpotPlace) (e : RowEntry) (known : IsEntryOf f e) (w : Span) →
-    rise ≡ unsigned_abs (e.y -ℤ target.y) → rise ≤ limit target reach best →
-    w.lo ≡ target.x -ℤ pos (limit target reach best - rise) → w.hi ≡ (target.x +ℤ pos (limit target reach best - rise)) +ℤ size.x →
+    rise ≡ unsigned_abs (e.y -ℤ target.y) → rise ≤ search_limit target reach best →
+    w.lo ≡ target.x -ℤ pos (search_limit target reach best - rise) → w.hi ≡ (target.x +ℤ pos (search_limit target reach best - rise)) +ℤ size.x →
     (p : SpotPlace) → IsWithin target reach p → IsOnRow f size e.row p → IsOnRowIn f size known.row w p ⊎ IsAsGood target best p
 split_row f size target reach rise best e known w is less lo hi p within on =
-    let same : on.row ≡ known.row = same_row f.rows e.row on.row known.row on.there known.stands in
+    let same : on.row ≡ known.row = same_row f.rows e.row on.row known.row on.there known.is_in_place in
     let bottom : IsBottomRow f (box_at size p.x p.y) known.row = subst (λ (r : Row). IsBottomRow f (box_at size p.x p.y) r) same on.bottom in
     let at : p.y ≡ e.y = row_level f size known.row p bottom ∙ sym (ap (λ (x : RowEntry). x.y) known.is) in
-    let order : (distance target p ≤ limit target reach best) ⊎ (limit target reach best < distance target p) = grind arith in
+    let order : (distance target p ≤ search_limit target reach best) ⊎ (search_limit target reach best < distance target p) = grind arith in
     elim order [
-      | inl close ↦ inl (in_window f size target (limit target reach best) rise e.y w known.row p at is less lo hi close bottom)
+      | inl close ↦ inl (in_window f size target (search_limit target reach best) rise e.y w known.row p at is less lo hi close bottom)
       | inr far ↦ inr (beyond target reach best p within far)
     ]
 
 -- a row was searched, and nothing was found
 pub row_empty : (f : Frame) (size : Point) (cell : PlacementQuery) (target : Point) (reach rise : ℕ) (best : Option SpotPlace)
     (e : RowEntry) (known : IsEntryOf f e) (w : Span) →
-    rise ≡ unsigned_abs (e.y -ℤ target.y) → rise ≤ limit target reach best →
-    w.lo ≡ target.x -ℤ pos (limit target reach best - rise) → w.hi ≡ (target.x +ℤ pos (limit target reach best - rise)) +ℤ size.x →
+    rise ≡ unsigned_abs (e.y -ℤ target.y) → rise ≤ search_limit target reach best →
+    w.lo ≡ target.x -ℤ pos (search_limit target reach best - rise) → w.hi ≡ (target.x +ℤ pos (search_limit target reach best - rise)) +ℤ size.x →
     IsChoiceAmong (IsOnRowIn f size known.row w) cell target None → ScansPlacesWithin (IsOnRow f size e.row) cell target reach best best
 row_empty f size cell target reach rise best e known w is less lo hi none = record {
   looked = record {
@@ -170,8 +170,8 @@ better_near target reach best new s within (inr keep) near = rw keep.0 near
 -- a row was searched, and its best place was compared with the best so far
 pub row_found : (f : Frame) (size : Point) (cell : PlacementQuery) (target : Point) (reach rise : ℕ) (best new : Option SpotPlace)
     (e : RowEntry) (known : IsEntryOf f e) (w : Span) (s : SpotPlace) →
-    rise ≡ unsigned_abs (e.y -ℤ target.y) → rise ≤ limit target reach best →
-    w.lo ≡ target.x -ℤ pos (limit target reach best - rise) → w.hi ≡ (target.x +ℤ pos (limit target reach best - rise)) +ℤ size.x →
+    rise ≡ unsigned_abs (e.y -ℤ target.y) → rise ≤ search_limit target reach best →
+    w.lo ≡ target.x -ℤ pos (search_limit target reach best - rise) → w.hi ≡ (target.x +ℤ pos (search_limit target reach best - rise)) +ℤ size.x →
     IsBestAmong (IsOnRowIn f size known.row w) cell target s → IsBetter target best s new → ScansPlacesWithin (IsOnRow f size e.row) cell target reach best new
 row_found f size cell target reach rise best new e known w s is less lo hi found better = record {
   looked = record {
@@ -194,8 +194,8 @@ row_found f size cell target reach rise best new e known w s is less lo hi found
     close : IsWithin target reach s
     close =
         let lim = limit_below target reach best in
-        let within : distance target s ≤ limit target reach best =
-        in_reach f size target (limit target reach best) rise e.y w known.row s level is less lo hi found.seen in
+        let within : distance target s ≤ search_limit target reach best =
+        in_reach f size target (search_limit target reach best) rise e.y w known.row s level is less lo hi found.seen in
         omega (arith, lim, within)
 
 -- a row left or right of the window has no place over it

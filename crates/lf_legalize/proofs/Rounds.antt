@@ -19,7 +19,7 @@ use Rattle.lf_rules.specs.Legality.{Holds}
 use Rattle.lf_rules.specs.Choice.{SpotPlace, PlacementQuery, IsLegalAt, IsAllowedPlace, IsChoice, IsBest, distance, spot_of, candidate_at}
 use Rattle.lf_rules.proofs.Looking.{onward}
 use Rattle.lf_rules.proofs.Order.{compared}
-use Rattle.lf_rules.proofs.SiteLemmas.{OneOfFour, legal_upright, rank_tells}
+use Rattle.lf_rules.proofs.SiteLemmas.{OneOfFour, legal_upright, rank_decides}
 use Rattle.lf_segments.specs.declared.rows_by_y.RowEntry.{RowEntry}
 use Rattle.lf_segments.specs.RowsByY.{IsRowsByY, IsRunBetween, RunBetweenHasRows}
 use Rattle.lf_legalize.specs.Extents.{IsWithin, IsOnRow, ScansPlacesWithin}
@@ -69,12 +69,12 @@ next_entry f size run n e cell target reach a b c there first second = record {
         ]
 
 -- what holds for all entries holds for those of a run
-pub run_holds : (P : RowEntry → Type 0) (entries before run behind : List RowEntry) → entries ≡ before ++ (run ++ behind) → All P entries →
+pub run_holds : (P : RowEntry → Type 0) (entries before run after_it : List RowEntry) → entries ≡ before ++ (run ++ after_it) → All P entries →
     (k : ℕ) (d : RowEntry) → k < length run → P (get_or run k d)
-run_holds P entries before run behind parts all k d less =
-    let whole : All P (before ++ (run ++ behind)) = subst (λ (xs : List RowEntry). All P xs) parts all in
-    let within : length before + k < length (before ++ (run ++ behind)) = rw (length-append before (run ++ behind), length-append run behind) (omega arith) in
-    subst P (get_or-append-add before (run ++ behind) k d ∙ get_or-append run behind d k less) (whole (length before + k) d within)
+run_holds P entries before run after_it parts all k d less =
+    let whole : All P (before ++ (run ++ after_it)) = subst (λ (xs : List RowEntry). All P xs) parts all in
+    let within : length before + k < length (before ++ (run ++ after_it)) = rw (length-append before (run ++ after_it), length-append run after_it) (omega arith) in
+    subst P (get_or-append-add before (run ++ after_it) k d ∙ get_or-append run after_it d k less) (whole (length before + k) d within)
 
 -- an upright box is as wide and as high as its macro
 pub upright_size : (size : Point) (o : Orient) → OneOfFour o → turned size o ≡ size
@@ -84,17 +84,17 @@ upright_size size o (inr (inr (inl fn))) = rw fn refl
 upright_size size o (inr (inr (inr fs))) = rw fs refl
 
 -- a legal place has a row of the frame as its bottom row
-pub stands_on_row : (s : RowSearch) (p : SpotPlace) → IsLegalAt (query_of_search s) p → (n : ℕ) × IsOnRow s.frame.now s.size n p
-stands_on_row s p legal =
+pub is_placed_on_row : (s : RowSearch) (p : SpotPlace) → IsLegalAt (query_of_search s) p → (n : ℕ) × IsOnRow s.frame.now s.size n p
+is_placed_on_row s p legal =
     let held : Holds (candidate_at (query_of_search s) p) RowRule = legal RowRule in
     let size : turned (size_of s.frame.now (macro_of s.frame.now s.mac)) p.orient ≡ s.size =
     upright_size _ p.orient (legal_upright (query_of_search s) p legal) ∙ sym s.size_is in
     let bottom : IsBottomRow s.frame.now (box_at s.size p.x p.y) held.0 =
     subst (λ (z : Point). IsBottomRow s.frame.now (box_at z p.x p.y) held.0) size held.1 in (
-      bottom.heeded.0,
+      bottom.core_ones.0,
       record {
         row = held.0;
-        there = slice_get_read s.frame.now.rows (length s.frame.now.rows) bottom.heeded.0 held.0 refl bottom.heeded.1 (sym bottom.heeded.2);
+        there = slice_get_read s.frame.now.rows (length s.frame.now.rows) bottom.core_ones.0 held.0 refl bottom.core_ones.1 (sym bottom.core_ones.2);
         bottom = bottom;
       },
     )
@@ -115,15 +115,15 @@ pub all_seen : (s : RowSearch) (run : List RowEntry) (reach : ℕ) (from to : �
     IsRunBetween s.occupancy.now.index.rows from to run → from ≤ℤ (s.target.now.y -ℤ pos reach) → (s.target.now.y +ℤ pos reach) <ℤ to →
     (p : SpotPlace) → IsLegalAt (query_of_search s) p → IsWithin s.target.now reach p → IsOnEntries s.frame.now s.size run (length run) p
 all_seen s run reach from to law rows between low high p legal within =
-    let stands = stands_on_row s p legal in
-    let on = stands.1 in
+    let is_in_place = is_placed_on_row s p legal in
+    let on = is_in_place.1 in
     let level : p.y ≡ on.row.y = row_level s.frame.now s.size on.row p on.bottom in
     let near : unsigned_abs (p.y -ℤ s.target.now.y) ≤ reach = omega (arith, within) in
     let above = abs_above (p.y -ℤ s.target.now.y) reach near in
     let below = abs_below (p.y -ℤ s.target.now.y) reach near in
-    let both = law s.frame.now s.occupancy.now.index.rows run from to stands.0 on.row rows between on.there in
+    let both = law s.frame.now s.occupancy.now.index.rows run from to is_in_place.0 on.row rows between on.there in
     let any = both.1 (omega (arith, ints, level, above, below, low, high), omega (arith, ints, level, above, below, low, high)) in
-    on_any s.frame.now s.size run stands.0 p any on
+    on_any s.frame.now s.size run is_in_place.0 p any on
 
 -- a search over all allowed places within the reach finds the best of them
 pub chosen_near : (Seen : SpotPlace → Type 0) (cell : PlacementQuery) (target : Point) (reach : ℕ) (found : Option SpotPlace) →
@@ -135,7 +135,7 @@ chosen_near Seen cell target reach (Some b) all looks =
     record {
       seen = looks.near tt;
       may_go = may;
-      least = λ p within there. elim (compared target p b (rank_tells p.orient b.orient (legal_upright cell p there.legal) (legal_upright cell b may.legal))) [
+      least = λ p within there. elim (compared target p b (rank_decides p.orient b.orient (legal_upright cell p there.legal) (legal_upright cell b may.legal))) [
         | inl same ↦ inl same
         | inr rest ↦ elim rest [ inl less ↦ absurd (looks.looked.seen p (within, all p there within) there less) | inr more ↦ inr more ]
       ];

@@ -20,13 +20,13 @@ use Rattle.lf_floorplan.proofs.SizeBounds.{sized_pitch}
 use Rattle.lf_gaps.specs.Gaps.{FitsRows}
 use Rattle.lf_rules.specs.Choice.{SpotPlace, IsAllowedPlace, Precedes, distance, rank}
 use Rattle.lf_rules.proofs.Order.{same_spot}
-use Rattle.lf_rules.proofs.SiteLemmas.{one_of_four, rank_tells}
+use Rattle.lf_rules.proofs.SiteLemmas.{one_of_four, rank_decides}
 use Rattle.lf_occupancy.specs.Floorplans.{IsOccupancyOf}
 use Rattle.lf_legalize.specs.declared.row_search.RowSearch.{RowSearch}
 use Rattle.lf_legalize.specs.RowSearches.{IsBestAmong, IsOnRowIn, query_of_search, padding_in}
 use Rattle.lf_legalize.specs.Levels.{AreLevels, HasBareLevel, IsFirstOrient, IsLevel, IsEquivalentTarget, FitsRow}
 use Rattle.lf_legalize.proofs.LevelLemmas.{own_one, over_row}
-use Rattle.lf_legalize.proofs.RunLemmas.{heeded_at}
+use Rattle.lf_legalize.proofs.RunLemmas.{core_at}
 use Rattle.lf_legalize.proofs.RowLegal.{filled, may_go_is_free, legal_may, legal_y, reach, wide}
 use Rattle.lf_legalize.proofs.RowFree.{bottom_left, bottom_right, free_may_go, free_is_on_row, free_place, spot_on}
 
@@ -47,7 +47,7 @@ level_of_list s own bottom window lists k d levels within =
 bounded_row : (s : RowSearch) (n : ℕ) (r : Row) (t : Span) → slice_get s.frame.now.rows n ≡ Some r → t.lo <ℤ t.hi → r.x ≤ℤ t.lo →
     t.hi ≤ℤ (row_area s.frame.now.pitch r).x2 → IsBoundedSpan t
 bounded_row s n r t there some left right =
-    let h = heeded_at s.frame.now n r there in
+    let h = core_at s.frame.now n r there in
     let low = h.x_in_def.above in
     let high = h.ends in
     record {
@@ -62,11 +62,11 @@ level_bounded s own bottom window j spans occupied level k d within =
     let some = level.rising.filled k d within in
     let one = (level.exact t some).0 (own_one spans k d within) in
     let at = over_row s.frame.now s.occupancy.now s.id window (padding_in s) one.number t occupied.index some one.free in
-    bounded_row s one.number at.row t at.stands some at.left at.right
+    bounded_row s one.number at.row t at.is_in_place some at.left at.right
 
 pub grid_is : (s : RowSearch) (own : ℕ) (bottom : Row) → slice_get s.frame.now.rows own ≡ Some bottom → IsGrid (grid_of bottom.x s.frame.now.pitch.x)
 grid_is s own bottom there =
-    let h = heeded_at s.frame.now own bottom there in
+    let h = core_at s.frame.now own bottom there in
     let low = h.x_in_def.above in
     let high = h.x_in_def.most in
     let small = s.frame.now.pitch_whole.x_small in
@@ -87,7 +87,7 @@ pub fit_in_def : (s : RowSearch) (own : ℕ) (bottom : Row) (window : Span) (lis
     IsOccupancyOf s.frame.now s.cells.now s.occupancy.now → AreLevels s own bottom window s.height lists → IsFit s bottom lists x → IsDefNumber x
 fit_in_def s own bottom window lists x there occupied levels fits =
     let free = free_place s own bottom window lists x there occupied levels fits in
-    let h = heeded_at s.frame.now own bottom there in
+    let h = core_at s.frame.now own bottom there in
     let left = bottom_left s own bottom window x free in
     let right = bottom_right s own bottom window x free in
     let low = h.x_in_def.above in
@@ -148,14 +148,14 @@ none_bare s own bottom window p there occupied bare on may =
 -- lesser rank
 first_of : (target : Point) (a b : SpotPlace) → a.y ≡ b.y → IsNoFarther target.x a.x b.x → (rank a.orient ≡ rank b.orient → a.orient ≡ b.orient) →
     rank a.orient ≤ rank b.orient → (b ≡ a) ⊎ Precedes target a b
-first_of target a b level (inl near) tells less =
+first_of target a b level (inl near) decides less =
     let same : unsigned_abs (a.y -ℤ target.y) ≡ unsigned_abs (b.y -ℤ target.y) = ap (λ (y : ℤ). unsigned_abs (y -ℤ target.y)) level in
     inr (inl (omega (arith, near, same)))
-first_of target a b level (inr (as_near, left)) tells less = elim order [
+first_of target a b level (inr (as_near, left)) decides less = elim order [
   | inl before ↦ inr (inr (far, inr (level, inl before)))
   | inr here ↦ elim ranks [
     | inl lower ↦ inr (inr (far, inr (level, inr (here, lower))))
-    | inr one ↦ inl (same_spot b a (sym here) (sym level) (sym (tells one)))
+    | inr one ↦ inl (same_spot b a (sym here) (sym level) (sym (decides one)))
   ]
 ]
   where
@@ -185,6 +185,6 @@ best_there s own bottom window lists o x there occupied levels first nearest =
           let symmetry = (macro_of s.frame.now s.mac).symmetry in
           first_of s.target.now (spot_on bottom x o) p (sym (legal_y s bottom window p on))
           (nearest.least p.x (may_go_fits s own bottom window lists p there occupied levels on there_may))
-          (rank_tells o p.orient (one_of_four symmetry o first.may.allowed) (one_of_four symmetry p.orient may.allowed))
+          (rank_decides o p.orient (one_of_four symmetry o first.may.allowed) (one_of_four symmetry p.orient may.allowed))
           (first.least p.orient may);
     }

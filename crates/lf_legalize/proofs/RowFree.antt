@@ -12,15 +12,15 @@ use Rattle.lf_units.specs.Area.{Covers, SharesPoint}
 use Rattle.lf_orient.specs.declared.Orient.{Orient}
 use Rattle.lf_orient.specs.Orientation.{rail_below, is_allowed, EqualUnder}
 use Rattle.lf_spans.specs.declared.span.Span.{Span}
-use Rattle.lf_spans.specs.Spans.{Holds, LiesIn, LiesInOneOf}
+use Rattle.lf_spans.specs.Spans.{HoldsNumber, LiesIn, LiesInOneOf}
 use Rattle.lf_spans.specs.Grids.{IsOnGrid, LiesInSpanFrom, grid_of}
 use Rattle.lf_spans.proofs.Anys.{any_weaker}
 use Rattle.lf_floorplan.specs.declared.frame.Frame.{Frame}
 use Rattle.lf_floorplan.specs.declared.parts.Row.{Row}
 use Rattle.lf_floorplan.specs.Rows.{row_area}
 use Rattle.lf_floorplan.specs.Boxes.{macro_of}
-use Rattle.lf_floorplan.specs.Ground.{StaysInGround, IsClear, MeetsSoft}
-use Rattle.lf_floorplan.specs.Standing.{Supports, IsBottomRow, IsSupported, IsSitesHigh, RestsOnRows, changed}
+use Rattle.lf_floorplan.specs.Ground.{StaysInGround, IsClear, OverlapsSoft}
+use Rattle.lf_floorplan.specs.Standing.{Supports, IsBottomRow, IsSupported, IsSitesHigh, RestsOnRows, rail_alternated}
 use Rattle.lf_floorplan.proofs.StandingLemmas.{height_one, bottom_one}
 use Rattle.lf_segments.specs.declared.segment.Segment.{Segment}
 use Rattle.lf_segments.specs.Segments.{IsOpen}
@@ -34,7 +34,7 @@ use Rattle.lf_rules.proofs.LegalParts.{frame_kept, legal_by_parts}
 use Rattle.lf_rules.proofs.SiteLemmas.{one_of_four}
 use Rattle.lf_cells.specs.Cells.{cells_of}
 use Rattle.lf_segments.specs.declared.strip.Strip.{Strip}
-use Rattle.lf_occupancy.specs.Occupied.{IsFreeOver, IsOther, IsStripOf}
+use Rattle.lf_occupancy.specs.Views.{IsFreeOver, IsOther, IsStripOf}
 use Rattle.lf_segments.specs.Strips.{IsNear, row_y, strip_of}
 use Rattle.lf_occupancy.specs.Floorplans.{IsOccupancyOf}
 use Rattle.lf_legalize.specs.declared.row_search.RowSearch.{RowSearch}
@@ -51,10 +51,10 @@ use Rattle.lf_legalize.proofs.RowLegal.{upright_box, reach, filled, sites_high, 
 pub record IsHeldAt (s : RowSearch) (own : ℕ) (bottom : Row) (window : Span) (x : ℤ) (j : ℕ) : Type 0 where
   pub number : ℕ
   pub row : Row
-  pub stands : slice_get s.frame.now.rows number ≡ Some row
+  pub is_in_place : slice_get s.frame.now.rows number ≡ Some row
   pub own_is : j ≡ 0 → row ≡ bottom
   pub at_level : row.y ≡ bottom.y +ℤ (pos j *ℤ s.frame.now.pitch.y)
-  pub rail : rail_below row.orient ≡ option_map (changed j) (rail_below bottom.orient)
+  pub rail : rail_below row.orient ≡ option_map (rail_alternated j) (rail_below bottom.orient)
   pub free : IsFreeOnRow s.occupancy.now s.id window (padding_in s) number (reach s x)
 
 held_one : (s : RowSearch) (own : ℕ) (bottom : Row) (window : Span) (x : ℤ) (j : ℕ) → slice_get s.frame.now.rows own ≡ Some bottom →
@@ -65,7 +65,7 @@ held_one s own bottom window x zero there one =
     record {
       number = one.number;
       row = bottom;
-      stands = rw number there;
+      is_in_place = rw number there;
       own_is = λ e. refl;
       at_level = omega (arith, ints, none);
       rail = same_rail (rail_below bottom.orient);
@@ -76,7 +76,7 @@ held_one s own bottom window x (suc j) there one =
     record {
       number = one.number;
       row = level.row;
-      stands = level.stands;
+      is_in_place = level.is_in_place;
       own_is = λ e. absurd (omega (arith, e));
       at_level = level.at_level;
       rail = level.rail;
@@ -100,10 +100,10 @@ held_at s own bottom window lists x there levels fits j less =
 
 -- the team may use the row of the level over the reach
 pub open_at : (s : RowSearch) (own : ℕ) (bottom : Row) (window : Span) (x : ℤ) (j : ℕ) → IsOccupancyOf s.frame.now s.cells.now s.occupancy.now →
-    (h : IsHeldAt s own bottom window x j) → (v : ℤ) → Holds (reach s x) v → IsOpen s.frame.now s.frame.now.obstacles h.row s.id.team v
+    (h : IsHeldAt s own bottom window x j) → (v : ℤ) → HoldsNumber (reach s x) v → IsOpen s.frame.now s.frame.now.obstacles h.row s.id.team v
 open_at s own bottom window x j held h v holds =
     let o = open_over s.frame.now s.occupancy.now s.id window (padding_in s) h.number (reach s x) held.index (filled s x) h.free in
-    subst (λ (r : Row). IsOpen s.frame.now s.frame.now.obstacles r s.id.team v) (same_row s.frame.now h.number o.row h.row o.stands h.stands) (o.is_open v holds)
+    subst (λ (r : Row). IsOpen s.frame.now s.frame.now.obstacles r s.id.team v) (same_row s.frame.now h.number o.row h.row o.is_in_place h.is_in_place) (o.is_open v holds)
 
 pub left_at : (s : RowSearch) (own : ℕ) (bottom : Row) (window : Span) (x : ℤ) (j : ℕ) → IsOccupancyOf s.frame.now s.cells.now s.occupancy.now →
     (h : IsHeldAt s own bottom window x j) → h.row.x ≤ℤ x
@@ -177,7 +177,7 @@ bottom_row s own bottom window x o free =
     let none = none_high s.frame.now.pitch.y s.frame.now.pitch_whole.high in
     let at = site_at s.frame.now.pitch.x x bottom.x free.on_grid.left free.on_grid.right s.frame.now.pitch_whole.wide free.on_grid.level left in
     record {
-      heeded = row_known s.frame.now own bottom free.there;
+      core_ones = row_known s.frame.now own bottom free.there;
       at_bottom = record { at_level = omega (arith, ints, none); left = left; right = bottom_right s own bottom window x free };
       site = at.0;
       on_grid = at.1;
@@ -202,7 +202,7 @@ carries_at s own bottom window x o free j less =
     let h = free.held j less in (
       h.row,
       record {
-        heeded = row_known s.frame.now h.number h.row h.stands;
+        core_ones = row_known s.frame.now h.number h.row h.is_in_place;
         at_row = record {
           at_level = h.at_level;
           left = left_at s own bottom window x j free.occupied h;
@@ -246,7 +246,7 @@ point_of : (s : RowSearch) (own : ℕ) (bottom : Row) (window : Span) (x : ℤ) 
 point_of s own bottom window x o px py free covers = point_at s own bottom window x px py free covers.bottom covers.top
 
 open_point : (s : RowSearch) (own : ℕ) (bottom : Row) (window : Span) (x : ℤ) (px py : ℤ) → IsOccupancyOf s.frame.now s.cells.now s.occupancy.now →
-    (p : IsPointOf s own bottom window x px py) → Holds (reach s x) px →
+    (p : IsPointOf s own bottom window x px py) → HoldsNumber (reach s x) px →
     IsOpen s.frame.now s.frame.now.obstacles p.held.row s.id.team px × Covers (row_area s.frame.now.pitch p.held.row) px py
 open_point s own bottom window x px py occupied p holds =
     let o = open_at s own bottom window x p.j occupied p.held px holds in
@@ -267,10 +267,10 @@ is_clear s own bottom window x o free m d within shares =
     at.0.clear.clear shares.y at.1 m d within shares.in_second
 
 -- the rectangle of another cell is at no level nearer to the box than the padding
-met_at : (s : RowSearch) (own : ℕ) (bottom : Row) (window : Span) (x px py : ℤ) (k : ℕ) (rect : Rect) → IsOccupancyOf s.frame.now s.cells.now s.occupancy.now →
+overlapped_at : (s : RowSearch) (own : ℕ) (bottom : Row) (window : Span) (x px py : ℤ) (k : ℕ) (rect : Rect) → IsOccupancyOf s.frame.now s.cells.now s.occupancy.now →
     (p : IsPointOf s own bottom window x px py) → (x -ℤ padding_in s) ≤ℤ px → px <ℤ ((x +ℤ s.size.x) +ℤ padding_in s) →
     IsOther s.occupancy.now s.id k rect → Covers rect px py → ⊥
-met_at s own bottom window x px py k rect occupied p left right other covers =
+overlapped_at s own bottom window x px py k rect occupied p left right other covers =
     by (any_mapped (strip_of f) Free s.occupancy.now.index.segments (subst (Any Free) occupied.index.strips p.held.free.in_strip))
   where
     f : Frame
@@ -282,7 +282,7 @@ met_at s own bottom window x px py k rect occupied p left right other covers =
     by : Any (λ (g : Segment). Free (strip_of f g)) s.occupancy.now.index.segments → ⊥
     by (i, g, below, is, free) =
         let number : g.row ≡ p.held.number = free.0.in_row in
-        let at : row_y f g.row ≡ p.held.row.y = ap (row_y f) number ∙ row_y_is f p.held.number p.held.row p.held.stands in
+        let at : row_y f g.row ≡ p.held.row.y = ap (row_y f) number ∙ row_y_is f p.held.number p.held.row p.held.is_in_place in
         let from = p.from in
         let to = p.to in
         free.1.clear k rect other record {
@@ -299,13 +299,13 @@ is_apart s own bottom window x o free =
     beside_hold (λ rect. SharesPoint (wider (padding_in s) (upright_box s (spot_on bottom x o))) rect → ⊥)
     s.frame.now (map member_of (cells_of s.cells.now s.id.team)) s.id.own
     (λ k m q differ there placed shares.
-    met_at s own bottom window x shares.x shares.y k (box_in s.frame.now m.mac q) free.occupied
+    overlapped_at s own bottom window x shares.x shares.y k (box_in s.frame.now m.mac q) free.occupied
     (point_at s own bottom window x shares.x shares.y free shares.in_first.bottom shares.in_first.top) shares.in_first.left shares.in_first.right
     (is_other s.frame.now s.cells.now s.occupancy.now s.id k m q free.occupied.boxes differ there placed) shares.in_second)
 
 -- no soft blockage is over the box
 soft_at : (s : RowSearch) (own : ℕ) (bottom : Row) (window : Span) (x px py : ℤ) → IsOccupancyOf s.frame.now s.cells.now s.occupancy.now →
-    (p : IsPointOf s own bottom window x px py) → Holds (reach s x) px → Any (λ r. Covers r px py) s.frame.now.soft → ⊥
+    (p : IsPointOf s own bottom window x px py) → HoldsNumber (reach s x) px → Any (λ r. Covers r px py) s.frame.now.soft → ⊥
 soft_at s own bottom window x px py occupied p holds soft = by p.held.free.in_strip
   where
     f : Frame
@@ -321,7 +321,7 @@ soft_at s own bottom window x px py occupied p holds soft = by p.held.free.in_st
         let right = inside.high in
         let low = looked.low in
         let high = looked.high in
-        let at : row_y f g.row ≡ p.held.row.y = ap (row_y f) free.0.in_row ∙ row_y_is f p.held.number p.held.row p.held.stands in
+        let at : row_y f g.row ≡ p.held.row.y = ap (row_y f) free.0.in_row ∙ row_y_is f p.held.number p.held.row p.held.is_in_place in
         let first = spans.bottom in
         let last = spans.top in
         let from = p.from in
@@ -335,7 +335,7 @@ soft_at s own bottom window x px py occupied p holds soft = by p.held.free.in_st
         }
 
 off_soft : (s : RowSearch) (own : ℕ) (bottom : Row) (window : Span) (x : ℤ) (o : Orient) → IsFreePlace s own bottom window x →
-    MeetsSoft s.frame.now (upright_box s (spot_on bottom x o)) → ⊥
+    OverlapsSoft s.frame.now (upright_box s (spot_on bottom x o)) → ⊥
 off_soft s own bottom window x o free (m, r, below, is, shares) =
     soft_at s own bottom window x shares.x shares.y free.occupied (point_of s own bottom window x o shares.x shares.y free shares.in_first)
     record { low = shares.in_first.left; high = shares.in_first.right } (m, r, below, is, shares.in_second)
@@ -344,7 +344,7 @@ off_soft s own bottom window x o free (m, r, below, is, shares) =
 
 -- the rules, of a box
 record KeepsAll (s : RowSearch) (o : Orient) (box : Rect) : Type 0 where
-  stands : RestsOnRows s.frame.now box
+  is_in_place : RestsOnRows s.frame.now box
   equal : (k : ℕ) (r : Row) → IsSitesHigh s.frame.now box k → IsBottomRow s.frame.now box r → k % 2 ≡ 1 → EqualUnder s.frame.now.site.symmetry o r.orient
   rail : (k : ℕ) (r : Row) → IsSitesHigh s.frame.now box k → IsBottomRow s.frame.now box r → k % 2 ≡ 0 →
       rail_below r.orient ≡ Some (macro_of s.frame.now s.mac).rail
@@ -355,10 +355,10 @@ record KeepsAll (s : RowSearch) (o : Orient) (box : Rect) : Type 0 where
 keeps_all : (s : RowSearch) (own : ℕ) (bottom : Row) (window : Span) (x : ℤ) (o : Orient) → FitsRow s bottom o → IsFreePlace s own bottom window x →
     KeepsAll s o (upright_box s (spot_on bottom x o))
 keeps_all s own bottom window x o may free = record {
-  stands = record {
+  is_in_place = record {
     height = (s.height, sites_high s (spot_on bottom x o));
     row = (bottom, bottom_row s own bottom window x o free);
-    stand = carried s own bottom window x o free;
+    are_placed = carried s own bottom window x o free;
   };
   equal = λ k r high at odd.
       subst (λ (b : Row). EqualUnder s.frame.now.site.symmetry o b.orient) (sym (same r at)) (may.equal (let t = tall k high in rw (← t) odd));
@@ -383,7 +383,7 @@ legal_of : (s : RowSearch) (p : SpotPlace) → IsTrue (is_allowed (macro_of s.fr
 legal_of s p allowed keeps =
     (legal_by_parts (candidate_at (query_of_search s) p)).1 (
       frame_kept (candidate_at (query_of_search s) p) record {
-        stands = keeps.stands;
+        is_in_place = keeps.is_in_place;
         oriented = (allowed, keeps.equal);
         on_rail = keeps.rail;
         ground = keeps.ground;
@@ -417,6 +417,6 @@ pub free_may_go : (s : RowSearch) (own : ℕ) (bottom : Row) (window : Span) (x 
     IsAllowedPlace (query_of_search s) (spot_on bottom x o)
 free_may_go s own bottom window x o may free = record {
   legal = free_is_legal s own bottom window x o may free;
-  off_soft = subst (λ (box : Rect). MeetsSoft s.frame.now box → ⊥) (sym (box_is s (spot_on bottom x o) (one_of_four (macro_of s.frame.now s.mac).symmetry o may.allowed)))
+  off_soft = subst (λ (box : Rect). OverlapsSoft s.frame.now box → ⊥) (sym (box_is s (spot_on bottom x o) (one_of_four (macro_of s.frame.now s.mac).symmetry o may.allowed)))
       (off_soft s own bottom window x o free);
 }

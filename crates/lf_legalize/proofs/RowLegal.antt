@@ -14,15 +14,15 @@ use Rattle.lf_orient.specs.declared.Orient.{Orient}
 use Rattle.lf_orient.specs.declared.Rail.{Rail}
 use Rattle.lf_orient.specs.Orientation.{rail_below}
 use Rattle.lf_spans.specs.declared.span.Span.{Span}
-use Rattle.lf_spans.specs.Spans.{Holds, IsApart, IsFilled, LiesIn, LiesInOneOf}
+use Rattle.lf_spans.specs.Spans.{HoldsNumber, IsDisjointFrom, IsFilled, LiesIn, LiesInOneOf}
 use Rattle.lf_spans.proofs.Anys.{any_weaker}
 use Rattle.lf_floorplan.specs.declared.frame.Frame.{Frame}
 use Rattle.lf_floorplan.specs.declared.parts.Row.{Row}
 use Rattle.lf_floorplan.specs.declared.place.Place.{Place}
 use Rattle.lf_floorplan.specs.Boxes.{macro_of, size_of}
 use Rattle.lf_floorplan.specs.Sizes.{box_at as box_sized, turned}
-use Rattle.lf_floorplan.specs.Ground.{StaysInGround, IsClear, MeetsSoft}
-use Rattle.lf_floorplan.specs.Standing.{Supports, IsBottomRow, IsSitesHigh, RestsOnRows, changed}
+use Rattle.lf_floorplan.specs.Ground.{StaysInGround, IsClear, OverlapsSoft}
+use Rattle.lf_floorplan.specs.Standing.{Supports, IsBottomRow, IsSitesHigh, RestsOnRows, rail_alternated}
 use Rattle.lf_segments.specs.declared.segment.Segment.{Segment}
 use Rattle.lf_segments.specs.Segments.{IsOf, LiesInSegment}
 use Rattle.lf_segments.proofs.LawLemmas.{segments_hold}
@@ -38,9 +38,9 @@ use Rattle.lf_cells.specs.declared.cell.Cell.{Cell}
 use Rattle.lf_cells.specs.declared.cell.CellId.{CellId}
 use Rattle.lf_cells.specs.Cells.{Cells, cells_of}
 use Rattle.lf_segments.specs.declared.strip.Strip.{Strip}
-use Rattle.lf_occupancy.specs.Occupied.{Occupied, IsFreeOver, IsOther, IsStripOf, boxes_of, part_over}
+use Rattle.lf_occupancy.specs.Views.{Occupied, IsFreeOver, IsOther, IsStripOf, boxes_of, part_over}
 use Rattle.lf_segments.specs.Strips.{IsNear, row_y, strip_of}
-use Rattle.lf_occupancy.specs.Floorplans.{HoldsCells, IsOccupancyOf, box_of}
+use Rattle.lf_occupancy.specs.Floorplans.{HoldsCells, IsOccupancyOf, working_box_of}
 use Rattle.lf_legalize.specs.declared.row_search.RowSearch.{RowSearch}
 use Rattle.lf_legalize.specs.Members.{member_of}
 use Rattle.lf_legalize.specs.RowSearches.{IsOnRowIn, query_of_search, padding_in}
@@ -132,16 +132,16 @@ record IsPlaced (f : Frame) (cells : List Cell) (own : ℕ) (box : Rect) : Type 
   cell : Cell
   place : Place
   there : slice_get cells own ≡ Some cell
-  stands : cell.working ≡ Some place
+  is_in_place : cell.working ≡ Some place
   is : box_in f cell.mac (spot_of place) ≡ box
 
 box_of_cell : (f : Frame) (cells : List Cell) (own : ℕ) (box : Rect) (c : Cell) → slice_get cells own ≡ Some c → (w : Option Place) → c.working ≡ w →
     option_map (λ p. box_in f c.mac (spot_of p)) w ≡ Some box → IsPlaced f cells own box
-box_of_cell f cells own box c there None stands is = absurd cc
-box_of_cell f cells own box c there (Some p) stands is = record { cell = c; place = p; there = there; stands = stands; is = cc }
+box_of_cell f cells own box c there None is_in_place is = absurd cc
+box_of_cell f cells own box c there (Some p) is_in_place is = record { cell = c; place = p; there = there; is_in_place = is_in_place; is = cc }
 
 placed_at : (f : Frame) (cells : List Cell) (own : ℕ) (box : Rect) (found : Option Cell) → slice_get cells own ≡ found →
-    option_and_then (λ b. b) (option_map (box_of f) found) ≡ Some box → IsPlaced f cells own box
+    option_and_then (λ b. b) (option_map (working_box_of f) found) ≡ Some box → IsPlaced f cells own box
 placed_at f cells own box None there is = absurd cc
 placed_at f cells own box (Some c) there is = box_of_cell f cells own box c there c.working refl is
 
@@ -149,14 +149,14 @@ other_placed : (f : Frame) (table : Cells) (o : Occupied) (id : CellId) (own : �
     IsPlaced f (cells_of table id.team) own box
 other_placed f table o id own box held other =
     let cells = cells_of table id.team in
-    let boxes : slice_get (boxes_of o id.team) own ≡ option_map (box_of f) (slice_get cells own) =
-    ap (λ (bs : List (Option Rect)). slice_get bs own) (held id.team) ∙ slice_get-map (box_of f) cells own in
+    let boxes : slice_get (boxes_of o id.team) own ≡ option_map (working_box_of f) (slice_get cells own) =
+    ap (λ (bs : List (Option Rect)). slice_get bs own) (held id.team) ∙ slice_get-map (working_box_of f) cells own in
     placed_at f cells own box (slice_get cells own) refl
-    (sym (ap (λ (b : Option (Option Rect)). option_and_then (λ c. c) b) boxes) ∙ other.stands)
+    (sym (ap (λ (b : Option (Option Rect)). option_and_then (λ c. c) b) boxes) ∙ other.is_in_place)
 
 -- the same from the rules' side: a member is another cell of the occupancy
 member_there : (f : Frame) (cells : List Cell) (k : ℕ) (m : Member) (p : SpotPlace) (found : Option Cell) → slice_get cells k ≡ found →
-    option_map member_of found ≡ Some m → m.place ≡ Some p → option_and_then (λ b. b) (option_map (box_of f) found) ≡ Some (box_in f m.mac p)
+    option_map member_of found ≡ Some m → m.place ≡ Some p → option_and_then (λ b. b) (option_map (working_box_of f) found) ≡ Some (box_in f m.mac p)
 member_there f cells k m p None there is placed = absurd cc
 member_there f cells k m p (Some c) there is placed = by c.working refl
   where
@@ -176,11 +176,11 @@ pub is_other : (f : Frame) (table : Cells) (o : Occupied) (id : CellId) (k : ℕ
     slice_get (map member_of (cells_of table id.team)) k ≡ Some m → m.place ≡ Some p → IsOther o id k (box_in f m.mac p)
 is_other f table o id k m p held differ there placed =
     let cells = cells_of table id.team in
-    let boxes : slice_get (boxes_of o id.team) k ≡ option_map (box_of f) (slice_get cells k) =
-    ap (λ (bs : List (Option Rect)). slice_get bs k) (held id.team) ∙ slice_get-map (box_of f) cells k in
+    let boxes : slice_get (boxes_of o id.team) k ≡ option_map (working_box_of f) (slice_get cells k) =
+    ap (λ (bs : List (Option Rect)). slice_get bs k) (held id.team) ∙ slice_get-map (working_box_of f) cells k in
     record {
       other = differ;
-      stands = ap (λ (b : Option (Option Rect)). option_and_then (λ c. c) b) boxes
+      is_in_place = ap (λ (b : Option (Option Rect)). option_and_then (λ c. c) b) boxes
           ∙ member_there f cells k m p (slice_get cells k) refl (sym (slice_get-map member_of cells k) ∙ there) placed;
     }
 
@@ -188,18 +188,18 @@ is_other f table o id k m p held differ there placed =
 
 -- what is known of the box of an allowed place
 record IsGoodBox (s : RowSearch) (box : Rect) : Type 0 where
-  stands : RestsOnRows s.frame.now box
+  is_in_place : RestsOnRows s.frame.now box
   ground : StaysInGround s.frame.now s.id.team box
   clear : IsClear s.frame.now box
   apart : All (λ b. SharesPoint (wider (padding_in s) box) b.rect → ⊥) (boxes_beside s.frame.now (map member_of (cells_of s.cells.now s.id.team)) s.id.own)
-  off_soft : MeetsSoft s.frame.now box → ⊥
+  off_soft : OverlapsSoft s.frame.now box → ⊥
 
 good_box : (s : RowSearch) (p : SpotPlace) → IsAllowedPlace (query_of_search s) p → IsGoodBox s (upright_box s p)
 good_box s p may =
     let parts = (legal_by_parts (candidate_at (query_of_search s) p)).0 may.legal in
     let frame = frame_meant (candidate_at (query_of_search s) p) parts.0 in
     subst (IsGoodBox s) (box_is s p (legal_upright (query_of_search s) p may.legal))
-    record { stands = frame.stands; ground = frame.ground; clear = frame.clear; apart = parts.1; off_soft = may.off_soft }
+    record { is_in_place = frame.is_in_place; ground = frame.ground; clear = frame.clear; apart = parts.1; off_soft = may.off_soft }
 
 pub row_y_is : (f : Frame) (n : ℕ) (r : Row) → slice_get f.rows n ≡ Some r → row_y f n ≡ r.y
 row_y_is f n r there = rw there refl
@@ -226,7 +226,7 @@ free_on_carrier s bottom window p j n r held on legal less there carries = recor
     Free g = IsStripOf n s.id.team g × IsFreeOver s.occupancy.now s.id (padding_in s) g (reach s p.x)
 
     lies : LiesInSegment s.occupancy.now.index.segments n s.id.team (reach s p.x)
-    lies = segments_hold f f.obstacles s.occupancy.now.index.segments s.id.team (upright_box s p) held.index.segments legal.stands (filled s p.x) legal.ground legal.clear
+    lies = segments_hold f f.obstacles s.occupancy.now.index.segments s.id.team (upright_box s p) held.index.segments legal.is_in_place (filled s p.x) legal.ground legal.clear
         s.height bottom j n r (sites_high s p) on.bottom less there carries
 
     q : ℤ
@@ -241,7 +241,7 @@ free_on_carrier s bottom window p j n r held on legal less there carries = recor
         let size : s.size.y ≡ pos s.height *ℤ q = s.high in
         (omega (arith, ints, low, level, from), omega (arith, ints, top, level, size, to))
 
-    in_row : (x y : ℤ) → Holds (reach s p.x) x → r.y ≤ℤ y → y <ℤ (r.y +ℤ q) → Covers (upright_box s p) x y
+    in_row : (x y : ℤ) → HoldsNumber (reach s p.x) x → r.y ≤ℤ y → y <ℤ (r.y +ℤ q) → Covers (upright_box s p) x y
     in_row x y holds from to =
         let at = between y from to in
         record { left = holds.low; right = holds.high; bottom = at.0; top = at.1 }
@@ -259,7 +259,7 @@ free_on_carrier s bottom window p j n r held on legal less there carries = recor
         record { left = covers.left; right = covers.right; bottom = inside.0; top = inside.1 }
 
     apart_at : (k : ℕ) (g : Strip) → slice_get s.occupancy.now.index.strips k ≡ Some g → IsNear n s.id.team window.lo window.hi g →
-        IsApart (get_or s.occupancy.now.index.soft k []) (reach s p.x)
+        IsDisjointFrom (get_or s.occupancy.now.index.soft k []) (reach s p.x)
     apart_at k g here near i d below x in_reach in_soft =
         let soft : List Span = get_or s.occupancy.now.index.soft k [] in
         let spans = soft_over f s.occupancy.now.index k g held.index here in
@@ -285,13 +285,13 @@ free_on_carrier s bottom window p j n r held on legal less there carries = recor
             let cells = cells_of s.cells.now s.id.team in
             let apart = beside_each (λ rect. SharesPoint (wider by (upright_box s p)) rect → ⊥) f (map member_of cells) s.id.own legal.apart own
             (member_of cell.cell) (spot_of cell.place) other.other
-            (slice_get-map member_of cells own ∙ ap (option_map member_of) cell.there) (ap (option_map spot_of) cell.stands) in
+            (slice_get-map member_of cells own ∙ ap (option_map member_of) cell.there) (ap (option_map spot_of) cell.is_in_place) in
             apart (subst (SharesPoint (wider by (upright_box s p))) (sym cell.is)
             record { x = shares.x; y = shares.y; in_first = point g by shares.x shares.y both.0.in_row shares.in_first; in_second = shares.in_second });
       },
     )
 
-pub same_rail : (o : Option Rail) → o ≡ option_map (changed 0) o
+pub same_rail : (o : Option Rail) → o ≡ option_map (rail_alternated 0) o
 same_rail None = refl
 same_rail (Some r) = refl
 
@@ -307,20 +307,20 @@ free_at_level s own bottom window p zero free there held on legal less level =
       number = own;
       among = refl;
       free = free_on_carrier s bottom window p zero own bottom held on legal less there
-          record { heeded = on.bottom.heeded; at_row = on.bottom.at_bottom; rail = same_rail (rail_below bottom.orient) };
+          record { core_ones = on.bottom.core_ones; at_row = on.bottom.at_bottom; rail = same_rail (rail_below bottom.orient) };
     }
 free_at_level s own bottom window p (suc j) free there held on legal less level =
     let f = s.frame.now in
-    let carried = legal.stands.stand s.height bottom (sites_high s p) on.bottom (suc j) less in
+    let carried = legal.is_in_place.are_placed s.height bottom (sites_high s p) on.bottom (suc j) less in
     let r : Row = carried.0 in
     let carries : Supports f (upright_box s p) bottom (suc j) r = carried.1 in
-    let at = row_at f r carries.heeded in
+    let at = row_at f r carries.core_ones in
     let base : bottom.y ≡ p.y +ℤ (pos 0 *ℤ f.pitch.y) = on.bottom.at_bottom.at_level in
     let none = none_high f.pitch.y f.pitch_whole.high in
     let level_is : r.y ≡ p.y +ℤ (pos (suc j) *ℤ f.pitch.y) = carries.at_row.at_level in
     (level.exact (reach s p.x) (filled s p.x)).1 record {
       number = at.0;
-      among = record { row = r; stands = at.1; at_level = omega (arith, ints, base, none, level_is); rail = carries.rail };
+      among = record { row = r; is_in_place = at.1; at_level = omega (arith, ints, base, none, level_is); rail = carries.rail };
       free = free_on_carrier s bottom window p (suc j) at.0 r held on legal less at.1 carries;
     }
 

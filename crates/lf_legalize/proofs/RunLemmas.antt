@@ -15,10 +15,10 @@ use Rattle.lf_floorplan.specs.Rows.{IsCoreRow, row_area}
 use Rattle.lf_segments.specs.declared.rows_by_y.RowEntry.{RowEntry}
 use Rattle.lf_segments.specs.RowsByY.{entry, IsEntryOf, IsRowsByY, IsRunAt, PrecedesByY}
 use Rattle.lf_segments.proofs.HeightLemmas.{run_in_range, range_in_run, lower_is_not, higher_is_not}
-use Rattle.lf_segments.specs.Grounds.{IsIndexOf}
+use Rattle.lf_segments.specs.Indexes.{IsIndexOf}
 use Rattle.lf_legalize.specs.declared.row_search.RowSearch.{RowSearch}
 use Rattle.lf_legalize.specs.RowSearches.{padding_in}
-use Rattle.lf_legalize.specs.Levels.{AddsRow, AreFreeOn, IsLevelRow, IsRailed}
+use Rattle.lf_legalize.specs.Levels.{AddsLevel, AreFreeOn, IsLevelRow, IsRailed}
 use Rattle.lf_legalize.proofs.LevelLemmas.{LieLeft, any_right, free_append, free_as, same_row}
 
 -- ---- rows by their positions
@@ -44,8 +44,8 @@ rows_differ f m n a b differ p q meet = elim order [
         let second : get_or f.rows j r ≡ s = get_or_from_slice_get f.rows j s r u in
         f.rows_apart i j r less (slice_get_within f.rows j s u) (rw (first, second) shares)
 
-pub heeded_at : (f : Frame) (n : ℕ) (r : Row) → slice_get f.rows n ≡ Some r → IsCoreRow f.pitch r
-heeded_at f n r p = subst (IsCoreRow f.pitch) (get_or_from_slice_get f.rows n r r p) (f.rows_heeded n r (slice_get_within f.rows n r p))
+pub core_at : (f : Frame) (n : ℕ) (r : Row) → slice_get f.rows n ≡ Some r → IsCoreRow f.pitch r
+core_at f n r p = subst (IsCoreRow f.pitch) (get_or_from_slice_get f.rows n r r p) (f.rows_are_core n r (slice_get_within f.rows n r p))
 
 some_sites : (sites : ℕ) (p : ℤ) → 1 ≤ sites → pos 0 <ℤ p → pos 0 <ℤ (pos sites *ℤ p)
 some_sites sites (pos n) least wide =
@@ -64,7 +64,7 @@ ends_before f m n a b differ p q level left = elim order [ inl done ↦ done | i
     shares : b.x <ℤ (row_area f.pitch a).x2 → SharesPoint (row_area f.pitch a) (row_area f.pitch b)
     shares over =
         let high : pos 0 <ℤ f.pitch.y = f.pitch_whole.high in
-        let long : pos 0 <ℤ (pos b.sites *ℤ f.pitch.x) = some_sites b.sites f.pitch.x (heeded_at f n b q).has_site f.pitch_whole.wide in
+        let long : pos 0 <ℤ (pos b.sites *ℤ f.pitch.x) = some_sites b.sites f.pitch.x (core_at f n b q).has_site f.pitch_whole.wide in
         record {
           x = b.x;
           y = b.y;
@@ -77,14 +77,14 @@ ends_before f m n a b differ p q level left = elim order [ inl done ↦ done | i
 at_run : (es run : List RowEntry) (y : ℤ) (p : IsRunAt es y run) (i : ℕ) (d : RowEntry) → i < length run →
     get_or es (length p.before + i) d ≡ get_or run i d
 at_run es run y p i d within =
-    ap (λ (xs : List RowEntry). get_or xs (length p.before + i) d) p.parts ∙ get_or-append-add p.before (run ++ p.behind) i d
-    ∙ get_or_append_left run p.behind d i within
+    ap (λ (xs : List RowEntry). get_or xs (length p.before + i) d) p.parts ∙ get_or-append-add p.before (run ++ p.after_it) i d
+    ∙ get_or_append_left run p.after_it d i within
 
 inside : (es run : List RowEntry) (y : ℤ) (p : IsRunAt es y run) (i : ℕ) → i < length run → length p.before + i < length es
 inside es run y p i within =
-    let whole : length es ≡ length (p.before ++ (run ++ p.behind)) = ap (λ (xs : List RowEntry). length xs) p.parts in
-    let first : length (p.before ++ (run ++ p.behind)) ≡ length p.before + length (run ++ p.behind) = length-append p.before (run ++ p.behind) in
-    let second : length (run ++ p.behind) ≡ length run + length p.behind = length-append run p.behind in
+    let whole : length es ≡ length (p.before ++ (run ++ p.after_it)) = ap (λ (xs : List RowEntry). length xs) p.parts in
+    let first : length (p.before ++ (run ++ p.after_it)) ≡ length p.before + length (run ++ p.after_it) = length-append p.before (run ++ p.after_it) in
+    let second : length (run ++ p.after_it) ≡ length run + length p.after_it = length-append run p.after_it in
     omega (arith, whole, first, second, within)
 
 pub entry_known : (f : Frame) (es run : List RowEntry) (y : ℤ) → IsRowsByY f es → IsRunAt es y run → (i : ℕ) (d : RowEntry) → i < length run →
@@ -96,10 +96,10 @@ pub entry_within : (f : Frame) (es run : List RowEntry) (y : ℤ) → IsRowsByY 
     (get_or run i d).row < length f.rows
 entry_within f es run y rows p i d within =
     let known = entry_known f es run y rows p i d within in
-    slice_get_within f.rows (get_or run i d).row known.row known.stands
+    slice_get_within f.rows (get_or run i d).row known.row known.is_in_place
 
 entry_row : (f : Frame) (e : RowEntry) (r : Row) → IsEntryOf f e → slice_get f.rows e.row ≡ Some r → e ≡ entry e.row r
-entry_row f e r known stands = known.is ∙ ap (λ (q : Row). entry e.row q) (same_row f e.row known.row r known.stands stands)
+entry_row f e r known is_in_place = known.is ∙ ap (λ (q : Row). entry e.row q) (same_row f e.row known.row r known.is_in_place is_in_place)
 
 goes_left : (a b : RowEntry) → PrecedesByY a b → a.y ≡ b.y → a.x ≤ℤ b.x
 goes_left a b (inl less) same = absurd (omega (arith, ints, less, same))
@@ -169,7 +169,7 @@ more_rows f bottom j run k d within n = (
 
 pub free_next : (s : RowSearch) (es run : List RowEntry) (y : ℤ) (bottom : Row) (j : ℕ) (window : Span) (k : ℕ) (d : RowEntry) (old new : List Span) →
     IsIndexOf s.frame.now s.occupancy.now.index → IsRowsByY s.frame.now es → IsRunAt es y run → k < length run → FreeSoFar s bottom j window run k old →
-    AddsRow s bottom j (get_or run k d).row window old new → FreeSoFar s bottom j window run (k + 1) new
+    AddsLevel s bottom j (get_or run k d).row window old new → FreeSoFar s bottom j window run (k + 1) new
 free_next s es run y bottom j window k d old new strips rows p within free adds =
     let f = s.frame.now in
     let First = IsPassed f bottom j run k in
@@ -185,12 +185,12 @@ level_rows f es run y bottom j k rows p all level n = (
   λ passed.
       let in_run : Any (λ (e : RowEntry). e.row ≡ n) run = rw (← take_all k run all) passed.0 in
       let r : Row = passed.1.row in
-      let at : r.y ≡ y = run_in_range (λ v. v <ℤ y) (λ v. v ≡ y) (λ v. y <ℤ v) f es run n r rows p passed.1.stands in_run in
-      record { row = r; stands = passed.1.stands; at_level = at ∙ level; rail = passed.1.rail },
+      let at : r.y ≡ y = run_in_range (λ v. v <ℤ y) (λ v. v ≡ y) (λ v. y <ℤ v) f es run n r rows p passed.1.is_in_place in_run in
+      record { row = r; is_in_place = passed.1.is_in_place; at_level = at ∙ level; rail = passed.1.rail },
   λ l. (
-    rw (take_all k run all) (range_in_run (λ v. v <ℤ y) (λ v. v ≡ y) (λ v. y <ℤ v) f es run n l.row (lower_is_not y) (higher_is_not y) rows p l.stands
+    rw (take_all k run all) (range_in_run (λ v. v <ℤ y) (λ v. v ≡ y) (λ v. y <ℤ v) f es run n l.row (lower_is_not y) (higher_is_not y) rows p l.is_in_place
         (l.at_level ∙ sym level)),
-    record { row = l.row; stands = l.stands; rail = l.rail },
+    record { row = l.row; is_in_place = l.is_in_place; rail = l.rail },
   ),
 )
 

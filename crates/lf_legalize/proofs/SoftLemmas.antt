@@ -6,16 +6,16 @@ use Rattle.std.proofs.lemmas.Int.{ints}
 use Rattle.std.proofs.lemmas.List.Elements.{All-nil}
 use Rattle.std.proofs.lemmas.Option.{slice_get-get_or, slice_get-map, slice_get_within, get_or_from_slice_get}
 use Rattle.lf_spans.specs.declared.span.Span.{Span}
-use Rattle.lf_spans.specs.Spans.{AreApart, Holds, IsApart, IsFilled, IsMinus, IsRising, LiesIn, LiesInOneOf}
+use Rattle.lf_spans.specs.Spans.{AreDisjoint, HoldsNumber, IsDisjointFrom, IsFilled, IsMinus, IsRising, LiesIn, LiesInOneOf}
 use Rattle.lf_spans.proofs.Edges.{rising_nil}
 use Rattle.lf_floorplan.specs.declared.frame.Frame.{Frame}
 use Rattle.lf_segments.specs.declared.segment.Segment.{Segment}
 use Rattle.lf_segments.specs.declared.strip.Strip.{Strip}
-use Rattle.lf_segments.specs.Grounds.{IsIndexOf, FrameIndexView}
+use Rattle.lf_segments.specs.Indexes.{IsIndexOf, FrameIndexView}
 use Rattle.lf_segments.specs.Soft.{IsSoftAt}
 use Rattle.lf_segments.specs.Strips.{AreNear, IsNear, row_y, strip_of}
 use Rattle.lf_cells.specs.declared.cell.CellId.{CellId}
-use Rattle.lf_occupancy.specs.Occupied.{Occupied, IsFreeInRow, x_extent}
+use Rattle.lf_occupancy.specs.Views.{Occupied, IsFreeInRow, strip_extent}
 use Rattle.lf_legalize.specs.Levels.{AreWithoutSoft, AreOpenInRow}
 
 -- ---- the soft spans of a strip
@@ -23,7 +23,7 @@ use Rattle.lf_legalize.specs.Levels.{AreWithoutSoft, AreOpenInRow}
 -- what is known of a strip and its soft spans
 pub record AreSoftOver (f : Frame) (g : Strip) (spans : List Span) : Type 0 where
   pub rising : IsRising spans
-  pub exact : (s : Span) → IsFilled s → (LiesInOneOf spans s ↔ (LiesIn s (x_extent g) × ((x : ℤ) → Holds s x → IsSoftAt f g.area x)))
+  pub exact : (s : Span) → IsFilled s → (LiesInOneOf spans s ↔ (LiesIn s (strip_extent g) × ((x : ℤ) → HoldsNumber s x → IsSoftAt f g.area x)))
   pub bottom : g.area.y1 ≡ row_y f g.row
   pub top : g.area.y2 ≡ row_y f g.row +ℤ f.pitch.y
 
@@ -53,7 +53,7 @@ soft_rising f index is k = each_rising index.segments index.soft k is.soft.many 
 
 -- a span that shares no number with the soft ones of its strip holds no number at which the strip
 -- is soft
-pub point_soft : (f : Frame) (g : Strip) (spans : List Span) (s : Span) (x : ℤ) → AreSoftOver f g spans → Holds (x_extent g) x → IsApart spans s → Holds s x →
+pub point_soft : (f : Frame) (g : Strip) (spans : List Span) (s : Span) (x : ℤ) → AreSoftOver f g spans → HoldsNumber (strip_extent g) x → IsDisjointFrom spans s → HoldsNumber s x →
     IsSoftAt f g.area x → ⊥
 point_soft f g spans s x soft inside apart holds at = by ((soft.exact one filled).1 (in_strip, at_each))
   where
@@ -63,21 +63,21 @@ point_soft f g spans s x soft inside apart holds at = by ((soft.exact one filled
     filled : IsFilled one
     filled = omega (arith, ints)
 
-    same : (v : ℤ) → Holds one v → x ≡ v
+    same : (v : ℤ) → HoldsNumber one v → x ≡ v
     same v h = let low = h.low in let high = h.high in omega (arith, ints, low, high)
 
-    in_strip : LiesIn one (x_extent g)
-    in_strip v h = subst (Holds (x_extent g)) (same v h) inside
+    in_strip : LiesIn one (strip_extent g)
+    in_strip v h = subst (HoldsNumber (strip_extent g)) (same v h) inside
 
-    at_each : (v : ℤ) → Holds one v → IsSoftAt f g.area v
+    at_each : (v : ℤ) → HoldsNumber one v → IsSoftAt f g.area v
     at_each v h = subst (IsSoftAt f g.area) (same v h) at
 
-    own : Holds one x
+    own : HoldsNumber one x
     own = record { low = omega (arith, ints); high = omega (arith, ints) }
 
     by : LiesInOneOf spans one → ⊥
     by (i, t, below, is, lies) =
-        let away : AreApart s t = subst (AreApart s) is (apart i t below) in
+        let away : AreDisjoint s t = subst (AreDisjoint s) is (apart i t below) in
         away x holds (lies x own)
 
 -- ---- removing them
@@ -85,7 +85,7 @@ point_soft f g spans s x soft inside apart holds at = by ((soft.exact one filled
 pub minus_none : (spans soft : List Span) → length soft ≡ 0 → IsRising spans → IsMinus spans soft spans
 minus_none spans [] none rising = record {
   rising = rising;
-  exact = λ s filled. (λ lies. (lies, All-nil (λ t. AreApart s t)), λ both. both.0);
+  exact = λ s filled. (λ lies. (lies, All-nil (λ t. AreDisjoint s t)), λ both. both.0);
 }
 minus_none spans (t ∷ soft) none rising = absurd (omega (arith, none))
 
@@ -93,7 +93,7 @@ minus_none spans (t ∷ soft) none rising = absurd (omega (arith, none))
 pub record AreWithoutFirst (soft : List (List Span)) (start n end : ℕ) (free left : List Span) : Type 0 where
   pub rising : IsRising left
   pub exact : (s : Span) → IsFilled s →
-      (LiesInOneOf left s ↔ (LiesInOneOf free s × ((k : ℕ) → start ≤ k → k < n → k < end → IsApart (get_or soft k []) s)))
+      (LiesInOneOf left s ↔ (LiesInOneOf free s × ((k : ℕ) → start ≤ k → k < n → k < end → IsDisjointFrom (get_or soft k []) s)))
 
 pub first_none : (soft : List (List Span)) (start end : ℕ) (free : List Span) → IsRising free → AreWithoutFirst soft start start end free free
 first_none soft start end free rising = record {
@@ -116,11 +116,11 @@ first_next soft start n end free left new begun within before minus = record {
   );
 }
   where
-    each : (s : Span) → IsApart (get_or soft n []) s → ((k : ℕ) → start ≤ k → k < n → k < end → IsApart (get_or soft k []) s) →
-        (k : ℕ) → start ≤ k → k < n + 1 → k < end → IsApart (get_or soft k []) s
+    each : (s : Span) → IsDisjointFrom (get_or soft n []) s → ((k : ℕ) → start ≤ k → k < n → k < end → IsDisjointFrom (get_or soft k []) s) →
+        (k : ℕ) → start ≤ k → k < n + 1 → k < end → IsDisjointFrom (get_or soft k []) s
     each s last earlier k from less below = elim order [
       | inl lower ↦ earlier k from lower below
-      | inr same ↦ subst (λ (j : ℕ). IsApart (get_or soft j []) s) (sym same) last
+      | inr same ↦ subst (λ (j : ℕ). IsDisjointFrom (get_or soft j []) s) (sym same) last
     ]
       where
         order : (k < n) ⊎ (k ≡ n)
@@ -185,7 +185,7 @@ open_bare o row id window padding free none is = record {
         record {
           within = found.0;
           in_strip = found.1;
-          off_soft = λ k g there close. subst (λ (soft : List Span). IsApart soft s) (sym (none k)) (All-nil (λ t. AreApart s t));
+          off_soft = λ k g there close. subst (λ (soft : List Span). IsDisjointFrom soft s) (sym (none k)) (All-nil (λ t. AreDisjoint s t));
         },
     λ one. (is.exact s filled).1 (one.within, one.in_strip),
   );

@@ -9,7 +9,7 @@ use Rattle.lf_floorplan.specs.declared.parts.Row.{Row}
 use Rattle.lf_floorplan.specs.Sizes.{box_at}
 use Rattle.lf_floorplan.specs.Standing.{IsBottomRow}
 use Rattle.lf_rules.specs.Choice.{SpotPlace, PlacementQuery, Precedes, distance}
-use Rattle.lf_rules.specs.Looking.{ScansPlaces, IsAsGood}
+use Rattle.lf_rules.specs.Scanning.{ScansPlaces, IsAsGood}
 
 -- the value of a range that is nearest to another value: the distance of each value of the range
 -- from the other value is its distance from the nearest one plus that of the nearest one
@@ -39,8 +39,8 @@ IsWithin target reach p = distance target p ≤ reach
 
 -- the greatest distance from the target of a place that is as good as the best one so far, or
 -- better
-abbrev pub limit : Point → ℕ → Option SpotPlace → ℕ
-limit target reach best = option_map_or (λ b. min (distance target b) reach) best reach
+abbrev pub search_limit : Point → ℕ → Option SpotPlace → ℕ
+search_limit target reach best = option_map_or (λ b. min (distance target b) reach) best reach
 
 -- at this place a box of this size has the row of this number as its bottom row
 pub record IsOnRow (f : Frame) (size : Point) (number : ℕ) (p : SpotPlace) : Type 0 where

@@ -4,7 +4,7 @@ use Rattle.std.specs.Prelude.{◌≡◌, ◌↔◌, ℕ, zero, suc, ℤ, pos, �
 use Rattle.std.specs.Prelude.{length, slice_get, slice_index_or}
 use Rattle.std.specs.Option.{option_map}
 use Rattle.lf_spans.specs.declared.span.Span.{Span}
-use Rattle.lf_spans.specs.Spans.{IsApart, IsFilled, IsRising, LiesIn, LiesInOneOf}
+use Rattle.lf_spans.specs.Spans.{IsDisjointFrom, IsFilled, IsRising, LiesIn, LiesInOneOf}
 use Rattle.lf_spans.specs.Grids.{IsNoFarther, IsBounded}
 use Rattle.lf_orient.specs.declared.Orient.{Orient}
 use Rattle.lf_orient.specs.Orientation.{is_allowed, EqualUnder, rail_below}
@@ -12,28 +12,28 @@ use Rattle.lf_floorplan.specs.declared.frame.Frame.{Frame}
 use Rattle.lf_floorplan.specs.declared.parts.Row.{Row}
 use Rattle.lf_floorplan.specs.Bounds.{IsDefNumber}
 use Rattle.lf_floorplan.specs.Boxes.{macro_of}
-use Rattle.lf_floorplan.specs.Standing.{changed}
+use Rattle.lf_floorplan.specs.Standing.{rail_alternated}
 use Rattle.lf_segments.specs.declared.strip.Strip.{Strip}
 use Rattle.lf_segments.specs.Strips.{IsNear}
 use Rattle.lf_rules.specs.Choice.{rank}
 use Rattle.lf_cells.specs.declared.cell.CellId.{CellId}
-use Rattle.lf_occupancy.specs.Occupied.{Occupied, IsFreeOver, IsStripOf}
+use Rattle.lf_occupancy.specs.Views.{Occupied, IsFreeOver, IsStripOf}
 use Rattle.lf_legalize.specs.declared.row_search.RowSearch.{RowSearch}
 use Rattle.lf_legalize.specs.RowSearches.{padding_in}
 
 -- the rail of the row of this number is the bottom row's, changed j times
 pub record IsRailed (f : Frame) (bottom : Row) (j n : ℕ) : Type 0 where
   pub row : Row
-  pub stands : slice_get f.rows n ≡ Some row
-  pub rail : rail_below row.orient ≡ option_map (changed j) (rail_below bottom.orient)
+  pub is_in_place : slice_get f.rows n ≡ Some row
+  pub rail : rail_below row.orient ≡ option_map (rail_alternated j) (rail_below bottom.orient)
 
 -- the row of this number lies j site heights above the bottom row, and its rail is the bottom
 -- row's, changed j times
 pub record IsLevelRow (f : Frame) (bottom : Row) (j n : ℕ) : Type 0 where
   pub row : Row
-  pub stands : slice_get f.rows n ≡ Some row
+  pub is_in_place : slice_get f.rows n ≡ Some row
   pub at_level : row.y ≡ bottom.y +ℤ (pos j *ℤ f.pitch.y)
-  pub rail : rail_below row.orient ≡ option_map (changed j) (rail_below bottom.orient)
+  pub rail : rail_below row.orient ≡ option_map (rail_alternated j) (rail_below bottom.orient)
 
 -- a row that can support a cell at level j over the bottom row, which has the number `own`: at
 -- level 0 only that row itself
@@ -46,7 +46,7 @@ IsRowOfLevel f own bottom (suc j) n = IsLevelRow f bottom (suc j) n
 pub record IsFreeOnRow (o : Occupied) (id : CellId) (window : Span) (padding : ℤ) (n : ℕ) (s : Span) : Type 0 where
   pub within : LiesIn s window
   pub in_strip : Any (λ g. IsStripOf n id.team g × IsFreeOver o id padding g s) o.index.strips
-  pub off_soft : (k : ℕ) (g : Strip) → slice_get o.index.strips k ≡ Some g → IsNear n id.team window.lo window.hi g → IsApart (slice_index_or o.index.soft k []) s
+  pub off_soft : (k : ℕ) (g : Strip) → slice_get o.index.strips k ≡ Some g → IsNear n id.team window.lo window.hi g → IsDisjointFrom (slice_index_or o.index.soft k []) s
 
 -- the spans of a row that are free in this sense: a span that holds a number lies in one of them if
 -- and only if it is free
@@ -58,7 +58,7 @@ pub record AreOpenInRow (o : Occupied) (row : ℕ) (id : CellId) (window : Span)
 pub record AreWithoutSoft (soft : List (List Span)) (start end : ℕ) (free left : List Span) : Type 0 where
   pub rising : IsRising left
   pub exact : (s : Span) → IsFilled s →
-      (LiesInOneOf left s ↔ (LiesInOneOf free s × ((k : ℕ) → start ≤ k → k < end → IsApart (slice_index_or soft k []) s)))
+      (LiesInOneOf left s ↔ (LiesInOneOf free s × ((k : ℕ) → start ≤ k → k < end → IsDisjointFrom (slice_index_or soft k []) s)))
 
 -- the span is free, in the same sense, on one of the rows
 pub record IsFreeOnOne (Rows : ℕ → Type 0) (o : Occupied) (id : CellId) (window : Span) (padding : ℤ) (s : Span) : Type 0 where
@@ -74,7 +74,7 @@ pub record AreFreeOn (Rows : ℕ → Type 0) (o : Occupied) (id : CellId) (windo
 
 -- the free spans of the row of this number are appended to the other spans, if its rail is the
 -- bottom row's, changed j times
-pub record AddsRow (s : RowSearch) (bottom : Row) (j n : ℕ) (window : Span) (old new : List Span) : Type 0 where
+pub record AddsLevel (s : RowSearch) (bottom : Row) (j n : ℕ) (window : Span) (old new : List Span) : Type 0 where
   pub added : List Span
   pub is : new ≡ old ++ added
   pub free : AreFreeOn (λ m. (m ≡ n) × IsRailed s.frame.now bottom j n) s.occupancy.now s.id window (padding_in s) added

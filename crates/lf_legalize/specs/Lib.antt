@@ -1,4 +1,4 @@
-pub mod Lifting
+pub mod Queries
 pub mod Members
 pub mod Others
 pub mod Searches

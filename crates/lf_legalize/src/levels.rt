@@ -4,10 +4,10 @@ ghost use Rattle.std.specs.Prelude.{◌≡◌, ◌↔◌, ◌<◌, ◌≤◌, �
 ghost use Rattle.std.specs.Option.{option_map};
 ghost use Rattle.lf_orient.specs.Orientation.{rail_below};
 ghost use Rattle.lf_floorplan.specs.Rows.{IsCoreRow};
-ghost use Rattle.lf_floorplan.specs.Standing.{changed};
+ghost use Rattle.lf_floorplan.specs.Standing.{rail_alternated};
 ghost use Rattle.lf_segments.specs.RowsByY.{IsRunAt};
 ghost use Rattle.lf_occupancy.specs.Floorplans.{IsOccupancyOf};
-ghost use Rattle.lf_legalize.specs.Levels.{AddsRow, AreFreeOn, AreLevels, HasBareLevel, IsLevel, IsLevelRow};
+ghost use Rattle.lf_legalize.specs.Levels.{AddsLevel, AreFreeOn, AreLevels, HasBareLevel, IsLevel, IsLevelRow};
 ghost use Rattle.lf_legalize.specs.RowSearches.{padding_in};
 
 use crate::open_spans::open_in_row;
@@ -30,7 +30,7 @@ pub(crate) struct BottomRow<'a> {
 
 /// The rail of a row `level` levels above the bottom row.
 fn rail_at(bottom: &Row, level: u32) -> Option<Rail>
-    ensures { result ≡ option_map (changed level) (rail_below bottom.now.orient) }
+    ensures { result ≡ option_map (rail_alternated level) (rail_below bottom.now.orient) }
 {
     let mut rail = row_rail(bottom.orient);
     for _ in 0..level {
@@ -59,7 +59,7 @@ fn rows_above<'a>(search: &RowSearch<'a>, bottom: &Row, level: u32) -> &'a [RowE
 
 /// Whether the row has the rail of a row `level` levels above the bottom row.
 fn is_railed(bottom: &Row, level: u32, row: &Row) -> bool
-    ensures { IsTrue result ↔ (rail_below row.now.orient ≡ option_map (changed level) (rail_below bottom.now.orient)) }
+    ensures { IsTrue result ↔ (rail_below row.now.orient ≡ option_map (rail_alternated level) (rail_below bottom.now.orient)) }
 {
     row_rail(row.orient) == rail_at(bottom, level)
 }
@@ -77,7 +77,7 @@ fn push_row(
     requires held { IsOccupancyOf search.now.frame.now search.now.cells.now search.now.occupancy.now }
     requires within { number < length search.now.frame.now.rows }
     requires low { negsuc 4611686018427387903 ≤ℤ bottom.now.window.now.lo }
-    ensures { OnOk result (AddsRow search.now bottom.now.row.now level number bottom.now.window.now spans.old.items spans.new.items) }
+    ensures { OnOk result (AddsLevel search.now bottom.now.row.now level number bottom.now.window.now spans.old.items spans.new.items) }
 {
     let row = &search.frame.rows.as_slice()[number];
     if !is_railed(bottom.row, level, row) {

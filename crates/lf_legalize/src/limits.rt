@@ -2,7 +2,7 @@
 
 ghost use Rattle.std.specs.Prelude.{◌≡◌, ◌≤◌, ◌<◌, ◌+ℤ◌, ◌-ℤ◌, pos, min, option_map, ◌⊎◌};
 ghost use Rattle.lf_rules.specs.Choice.{spot_of};
-ghost use Rattle.lf_legalize.specs.Extents.{IsNearDefPoint, limit as limit_of, IsBetter};
+ghost use Rattle.lf_legalize.specs.Extents.{IsNearDefPoint, search_limit as limit_of, IsBetter};
 
 use crate::key::{distance, has_lesser_key};
 use crate::row_search::RowSearch;

@@ -20,7 +20,7 @@ use std::alloc::{AllocError, Global};
 
 /// Whether the row lies left or right of the window.
 fn is_beside(pitch: &Point, row: &Row, window: &Span) -> bool
-    requires heeded { IsCoreRow pitch.now row.now }
+    requires core_ones { IsCoreRow pitch.now row.now }
     requires wide { pos 0 <ℤ pitch.now.x }
     ensures { IsTrue result ↔ (((row_area pitch.now row.now).x2 ≤ℤ window.now.lo) ⊎ (window.now.hi ≤ℤ row.now.x)) }
 {

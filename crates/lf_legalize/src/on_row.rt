@@ -74,7 +74,7 @@ fn grid_on(bottom: &Row, pitch: &Point) -> SiteGrid
 
 /// A replacement for the target, near the coordinates of a DEF text: the coordinates nearest to one
 /// of the two are nearest to the other.
-fn stand_in(target: &i64) -> i64
+fn equivalent_target(target: &i64) -> i64
     ensures { IsEquivalentTarget target.now result }
 {
     if *target < -8_589_934_592 {
@@ -116,13 +116,13 @@ fn nearest_x(
     lists: &[Vec<Span>],
 ) -> Result<Option<i64>, AllocError>
     requires held { IsOccupancyOf search.now.frame.now search.now.cells.now search.now.occupancy.now }
-    requires stands { slice_get search.now.frame.now.rows bottom.now.number ≡ Some bottom.now.row.now }
+    requires is_in_place { slice_get search.now.frame.now.rows bottom.now.number ≡ Some bottom.now.row.now }
     requires levels { AreLevels search.now bottom.now.number bottom.now.row.now bottom.now.window.now search.now.height (map (λ list. list.items) lists.now) }
     ensures { IfOk result (λ found. let rows = map (λ list. list.items) lists.now in
         FindsNearest (λ x. FitsRows rows (grid_of bottom.now.row.now.x search.now.frame.now.pitch.x) search.now.size.x x) search.now.target.now.x found) }
 {
     let grid = grid_on(bottom.row, &search.frame.pitch);
-    let target = stand_in(&search.target.x);
+    let target = equivalent_target(&search.target.x);
     nearest_fit(alloc, lists, &grid, &search.size.x, &target)
 }
 
@@ -145,7 +145,7 @@ fn best_at(
     lists: &[Vec<Span>],
 ) -> Result<Option<Place>, AllocError>
     requires held { IsOccupancyOf search.now.frame.now search.now.cells.now search.now.occupancy.now }
-    requires stands { slice_get search.now.frame.now.rows bottom.now.number ≡ Some bottom.now.row.now }
+    requires is_in_place { slice_get search.now.frame.now.rows bottom.now.number ≡ Some bottom.now.row.now }
     requires first { IsFirstOrient search.now bottom.now.row.now orient }
     requires levels { AreLevels search.now bottom.now.number bottom.now.row.now bottom.now.window.now search.now.height (map (λ list. list.items) lists.now) }
     ensures { IfOk result (λ found.
@@ -166,7 +166,7 @@ fn best_of_one(
     orient: Orient,
 ) -> Result<Option<Place>, AllocError>
     requires held { IsOccupancyOf search.now.frame.now search.now.cells.now search.now.occupancy.now }
-    requires stands { slice_get search.now.frame.now.rows bottom.now.number ≡ Some bottom.now.row.now }
+    requires is_in_place { slice_get search.now.frame.now.rows bottom.now.number ≡ Some bottom.now.row.now }
     requires first { IsFirstOrient search.now bottom.now.row.now orient }
     requires low { negsuc 4611686018427387903 ≤ℤ bottom.now.window.now.lo }
     requires one { search.now.height ≡ 1 }

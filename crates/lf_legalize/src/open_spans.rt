@@ -3,7 +3,7 @@
 ghost use Rattle.std.specs.Prelude.{◌≡◌, ◌≤ℤ◌, ℕ, IfOk, [], negsuc, slice_index_or};
 ghost use Rattle.lf_spans.specs.Spans.{IsMinus, IsRising};
 ghost use Rattle.lf_occupancy.specs.Floorplans.{IsOccupancyOf};
-ghost use Rattle.lf_occupancy.specs.Occupied.{IsPaddingOf};
+ghost use Rattle.lf_occupancy.specs.Views.{IsPaddingOf};
 ghost use Rattle.lf_legalize.specs.Levels.{AreWithoutSoft, AreOpenInRow};
 ghost use Rattle.lf_legalize.specs.RowSearches.{padding_in};
 

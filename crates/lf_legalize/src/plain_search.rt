@@ -6,9 +6,9 @@ ghost use Rattle.lf_floorplan.specs.Boxes.{IsSized};
 ghost use Rattle.lf_floorplan.specs.Rows.{IsCoreRow};
 ghost use Rattle.lf_rules.specs.Choice.{spot_of, IsChoice, IsLegalAt, IsAllowedPlace};
 ghost use Rattle.lf_rules.specs.Legalizer.{Legalizer};
-ghost use Rattle.lf_rules.specs.Looking.{IsAtSite, IsOnSites, spot_at};
-ghost use Rattle.lf_legalize.specs.Lifting.{query_without};
-ghost use Rattle.lf_legalize.specs.Searches.{cell_of, ScansPlaces};
+ghost use Rattle.lf_rules.specs.Scanning.{IsAtSite, IsOnSites, spot_at};
+ghost use Rattle.lf_legalize.specs.Queries.{query_without};
+ghost use Rattle.lf_legalize.specs.Searches.{searched_cell, SearchScansPlaces};
 
 use crate::limits::better;
 use crate::search::Search;
@@ -19,7 +19,7 @@ use lf_units::Point;
 
 /// Whether the place is legal for the cell.
 fn is_legal(search: &Search<'_>, place: &Place) -> bool
-    ensures { IsTrue result ↔ IsLegalAt (cell_of search.now) (spot_of place.now) }
+    ensures { IsTrue result ↔ IsLegalAt (searched_cell search.now) (spot_of place.now) }
 {
     first_broken(
         search.frame,
@@ -35,7 +35,7 @@ fn is_legal(search: &Search<'_>, place: &Place) -> bool
 /// Whether the cell is allowed at the place: it is legal, and the cell's box there shares no point
 /// with a soft blockage.
 fn is_allowed(search: &Search<'_>, place: &Place) -> bool
-    ensures { IsTrue result ↔ IsAllowedPlace (cell_of search.now) (spot_of place.now) }
+    ensures { IsTrue result ↔ IsAllowedPlace (searched_cell search.now) (spot_of place.now) }
 {
     let rect = box_of(search.frame, search.mac, place);
     if overlaps_soft(search.frame, &rect) {
@@ -46,7 +46,7 @@ fn is_allowed(search: &Search<'_>, place: &Place) -> bool
 
 /// The best place so far, compared with this one.
 fn with_place(search: &Search<'_>, best: Option<Place>, place: Place) -> Option<Place>
-    ensures { ScansPlaces (λ p. p ≡ spot_of place) search.now best result }
+    ensures { SearchScansPlaces (λ p. p ≡ spot_of place) search.now best result }
 {
     if !is_allowed(search, &place) {
         return best;
@@ -56,7 +56,7 @@ fn with_place(search: &Search<'_>, best: Option<Place>, place: Place) -> Option<
 
 /// The distance of the site from the row's left end.
 fn offset(row: &Row, pitch: &Point, site: u32) -> i64
-    requires heeded { IsCoreRow pitch.now row.now }
+    requires core_ones { IsCoreRow pitch.now row.now }
     requires wide { pos 0 <ℤ pitch.now.x }
     requires within { site < row.now.sites }
     ensures value { result ≡ pos site *ℤ pitch.now.x }
@@ -68,7 +68,7 @@ fn offset(row: &Row, pitch: &Point, site: u32) -> i64
 
 /// The place on this site of the row, in this orientation.
 fn place_at(row: &Row, pitch: &Point, site: u32, orient: Orient) -> Place
-    requires heeded { IsCoreRow pitch.now row.now }
+    requires core_ones { IsCoreRow pitch.now row.now }
     requires wide { pos 0 <ℤ pitch.now.x }
     requires within { site < row.now.sites }
     ensures { spot_of result ≡ spot_at pitch.now row.now site orient }
@@ -79,9 +79,9 @@ fn place_at(row: &Row, pitch: &Point, site: u32, orient: Orient) -> Place
 
 /// The best place so far, compared with those on this site of the row.
 fn with_site(search: &Search<'_>, best: Option<Place>, row: &Row, site: u32) -> Option<Place>
-    requires heeded { IsCoreRow search.now.frame.now.pitch row.now }
+    requires core_ones { IsCoreRow search.now.frame.now.pitch row.now }
     requires within { site < row.now.sites }
-    ensures { ScansPlaces (IsAtSite search.now.frame.now.pitch row.now site) search.now best result }
+    ensures { SearchScansPlaces (IsAtSite search.now.frame.now.pitch row.now site) search.now best result }
 {
     let pitch = &search.frame.pitch;
     let north = with_place(search, best, place_at(row, pitch, site, Orient::N));
@@ -93,7 +93,7 @@ fn with_site(search: &Search<'_>, best: Option<Place>, row: &Row, site: u32) -> 
 /// The best place so far, compared with those of this row.
 fn with_row(search: &Search<'_>, best: Option<Place>, row: &Row) -> Option<Place>
     requires { IsCoreRow search.now.frame.now.pitch row.now }
-    ensures { ScansPlaces (IsOnSites search.now.frame.now.pitch row.now row.now.sites) search.now best result }
+    ensures { SearchScansPlaces (IsOnSites search.now.frame.now.pitch row.now row.now.sites) search.now best result }
 {
     let mut best = best;
     for site in 0..row.sites {

@@ -4,7 +4,7 @@ use Rattle.std.proofs.Common.{◌≡◌, ℕ, suc, ◌<◌, Bool, true, false, c
 use Rattle.std.proofs.lemmas.List.{map-append}
 use Rattle.lf_lex.specs.declared.fault.ReadFault.{ReadFault}
 use Rattle.lf_lex.specs.Tokens.{Lexed, Lexeme, PlainToken, plain, with_tokens}
-use Rattle.lf_lex.specs.Splices.{word_of}
+use Rattle.lf_lex.specs.Splices.{plain_word}
 use Rattle.lf_lex.specs.Reading.{◌>>=◌, Reader, ReadValue, Turn, Statement, taken, turn, token, block}
 use Rattle.lf_lex.proofs.Runs.{Again, TurnsAgain, turn_bare, left, nil_plain, plain_head, takes_both, length_both, last_takes, more_takes}
 
@@ -13,7 +13,7 @@ BackAt bare reader ps x = (p : List Lexeme) → map plain p ≡ ps → Again bar
 
 -- The same from words.
 abbrev pub Back : {A B : Type 0} → (A → B) → Reader A → List (List ℕ) → A → Type 0
-Back bare reader ws x = BackAt bare reader (map word_of ws) x
+Back bare reader ws x = BackAt bare reader (map plain_word ws) x
 
 pub back_pure : {A B : Type 0} (bare : A → B) (x x' : A) → bare x' ≡ bare x → Back bare (λ l. taken x' l) [] x
 back_pure bare x x' e p q = record { value = x'; alike = e; takes = λ l. ap (λ (z : List Lexeme). taken x' (with_tokens z l)) (nil_plain p q) }
@@ -24,7 +24,7 @@ token_of u = record { text = u.text; kind = u.kind; start = 0; stop = 0; line = 
 
 -- A token with the bytes of a word.
 abbrev pub token_with : List ℕ → Lexeme
-token_with w = token_of (word_of w)
+token_with w = token_of (plain_word w)
 
 pub at_token : (u : PlainToken) → BackAt plain token (u ∷ []) (token_of u)
 at_token u [] e = absurd cc
@@ -33,7 +33,7 @@ at_token u (t ∷ p) e =
     record { value = t; alike = h.0; takes = λ l. ap (λ (z : List Lexeme). token (with_tokens (t ∷ z) l)) (nil_plain p h.1) }
 
 pub back_token : (w : List ℕ) → Back plain token (w ∷ []) (token_with w)
-back_token w = at_token (word_of w)
+back_token w = at_token (plain_word w)
 
 -- Tokens with the bytes of two runs of words are two runs.
 pub record Halves (p : List Lexeme) (us vs : List PlainToken) : Type 0 where
@@ -74,7 +74,7 @@ at_bind bareA bareB r k us vs x y f next p e =
 pub back_bind : {A B C D : Type 0} (bareA : A → C) (bareB : B → D) (r : Reader A) (k : ReadValue A → Result (ReadValue B) ReadFault) (ws vs : List (List ℕ)) (x : A)
     (y : B)
     → Back bareA r ws x → ((x' : A) → bareA x' ≡ bareA x → Back bareB (λ l. k (left x' l)) vs y) → Back bareB (λ l. r l >>= k) (ws ++ vs) y
-back_bind bareA bareB r k ws vs x y f next p e = at_bind bareA bareB r k (map word_of ws) (map word_of vs) x y f next p (e ∙ map-append word_of ws vs)
+back_bind bareA bareB r k ws vs x y f next p e = at_bind bareA bareB r k (map plain_word ws) (map plain_word vs) x y f next p (e ∙ map-append plain_word ws vs)
 
 -- The image of a value that is read.
 pub at_map : {A B C D : Type 0} (bareA : A → C) (bareB : B → D) (r : Reader A) (f : A → B) (ps : List PlainToken) (x : A) (y : B)
@@ -95,7 +95,7 @@ at_first bareB k u vs y next (t ∷ p) e =
 
 -- A first token, and what is read after it.
 pub back_first : {B D : Type 0} (bareB : B → D) (k : ReadValue Lexeme → Result (ReadValue B) ReadFault) (w : List ℕ) (vs : List (List ℕ)) (y : B)
-    → ((t : Lexeme) → plain t ≡ word_of w → Back bareB (λ l. k (left t l)) vs y) → Back bareB (λ l. token l >>= k) (w ∷ vs) y
+    → ((t : Lexeme) → plain t ≡ plain_word w → Back bareB (λ l. k (left t l)) vs y) → Back bareB (λ l. token l >>= k) (w ∷ vs) y
 back_first bareB k w vs y next = back_bind plain bareB token k (w ∷ []) vs (token_with w) y (back_token w) next
 
 pub at_yes : {A B : Type 0} (bare : A → B) (c : Bool) (r s : Reader A) (ps : List PlainToken) (x : A) → c ≡ true → BackAt bare r ps x
@@ -110,11 +110,11 @@ at_no bare false r s ps x e f = f
 
 pub back_yes : {A B : Type 0} (bare : A → B) (c : Bool) (r s : Reader A) (ws : List (List ℕ)) (x : A) → c ≡ true → Back bare r ws x
     → Back bare (λ l. cond c (r l) (s l)) ws x
-back_yes bare c r s ws x e f = at_yes bare c r s (map word_of ws) x e f
+back_yes bare c r s ws x e f = at_yes bare c r s (map plain_word ws) x e f
 
 pub back_no : {A B : Type 0} (bare : A → B) (c : Bool) (r s : Reader A) (ws : List (List ℕ)) (x : A) → c ≡ false → Back bare s ws x
     → Back bare (λ l. cond c (r l) (s l)) ws x
-back_no bare c r s ws x e f = at_no bare c r s (map word_of ws) x e f
+back_no bare c r s ws x e f = at_no bare c r s (map plain_word ws) x e f
 
 pub at_given : {A B D : Type 0} (bare : B → D) (o : Result A ReadFault) (k : A → Reader B) (v : A) (ps : List PlainToken) (x : B)
     → o ≡ Ok v → BackAt bare (k v) ps x → BackAt bare (λ l. o >>= λ v. k v l) ps x
@@ -126,7 +126,7 @@ at_given {A = A} bare (Ok u) k v ps x e f = let h : v ≡ u = same_ok e in rw h 
 
 pub back_given : {A B D : Type 0} (bare : B → D) (o : Result A ReadFault) (k : A → Reader B) (v : A) (ws : List (List ℕ)) (x : B)
     → o ≡ Ok v → Back bare (k v) ws x → Back bare (λ l. o >>= λ v. k v l) ws x
-back_given bare o k v ws x e f = at_given bare o k v (map word_of ws) x e f
+back_given bare o k v ws x e f = at_given bare o k v (map plain_word ws) x e f
 
 -- A reader that begins with a token of these bytes continues with the reader of what follows.
 pub at_known : {B D : Type 0} (bareB : B → D) (f : Lexeme → Reader B) (r : Reader B) (u : PlainToken) (vs : List PlainToken) (y : B)
@@ -142,7 +142,7 @@ abbrev pub TurnsAt : {S D : Type 0} → (S → D) → Statement S → S → List
 TurnsAt bare statement s ps y = (p : List Lexeme) → map plain p ≡ ps → TurnsAgain bare statement s p y
 
 abbrev pub TurnsBack : {S D : Type 0} → (S → D) → Statement S → S → List (List ℕ) → S → Type 0
-TurnsBack bare statement s ws y = TurnsAt bare statement s (map word_of ws) y
+TurnsBack bare statement s ws y = TurnsAt bare statement s (map plain_word ws) y
 
 pub at_last : {S D : Type 0} (bare : S → D) (statement : Statement S) (s y : S) (ps : List PlainToken) → BackAt (turn_bare bare) (statement s) ps (turn y false)
     → TurnsAt bare statement s ps y
@@ -181,14 +181,14 @@ at_block bare statement s y ps f p e =
 
 pub turns_last : {S D : Type 0} (bare : S → D) (statement : Statement S) (s y : S) (ws : List (List ℕ)) → Back (turn_bare bare) (statement s) ws (turn y false)
     → TurnsBack bare statement s ws y
-turns_last bare statement s y ws f = at_last bare statement s y (map word_of ws) f
+turns_last bare statement s y ws f = at_last bare statement s y (map plain_word ws) f
 
 pub turns_more : {S D : Type 0} (bare : S → D) (statement : Statement S) (s s1 y : S) (w : List ℕ) (ws vs : List (List ℕ))
     → Back (turn_bare bare) (statement s) (w ∷ ws) (turn s1 true)
     → ((s1' : S) → bare s1' ≡ bare s1 → TurnsBack bare statement s1' vs y) → TurnsBack bare statement s (w ∷ (ws ++ vs)) y
-turns_more bare statement s s1 y w ws vs f next p e = at_more bare statement s s1 y (map word_of (w ∷ ws)) (map word_of vs) (omega arith) f next p
-    (e ∙ map-append word_of (w ∷ ws) vs)
+turns_more bare statement s s1 y w ws vs f next p e = at_more bare statement s s1 y (map plain_word (w ∷ ws)) (map plain_word vs) (omega arith) f next p
+    (e ∙ map-append plain_word (w ∷ ws) vs)
 
 pub block_back : {S D : Type 0} (bare : S → D) (statement : Statement S) (s y : S) (ws : List (List ℕ)) → TurnsBack bare statement s ws y
     → Back bare (block statement s) ws y
-block_back bare statement s y ws f = at_block bare statement s y (map word_of ws) f
+block_back bare statement s y ws f = at_block bare statement s y (map plain_word ws) f

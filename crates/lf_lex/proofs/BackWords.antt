@@ -6,8 +6,8 @@ use Rattle.std.specs.Str.{bytes_eq}
 use Rattle.std.proofs.lemmas.Bool.Decides.{nat_tests}
 use Rattle.std.proofs.lemmas.Slice.Eq.{bytes_eq-Decides}
 use Rattle.lf_lex.specs.Tokens.{Lexeme, PlainToken, plain}
-use Rattle.lf_lex.specs.Splices.{word_of}
-use Rattle.lf_lex.specs.Passing.{text_of, OccurNowhere}
+use Rattle.lf_lex.specs.Splices.{plain_word}
+use Rattle.lf_lex.specs.Passing.{token_text, OccurNowhere}
 use Rattle.lf_lex.specs.Reading.{Reader, turn, is, is_word, kind_is_word, keyword, word, name, end_name, passed_token, to_semicolon, passed_to_end, to_end}
 use Rattle.lf_lex.specs.Reading.{passed_to_word, to_word}
 use Rattle.lf_lex.proofs.Runs.{same}
@@ -18,7 +18,7 @@ pub no_more : {A B : Type 0} (bare : A → B) (q : Reader A) (y : A) (ws : List 
 no_more bare q y ws f = rw (append-nil ws) at f
 
 -- Comparing a token that has the bytes of a word compares the word.
-pub is_at : (due w : List ℕ) (t : Lexeme) → plain t ≡ word_of w → is due t ≡ bytes_eq w due
+pub is_at : (due w : List ℕ) (t : Lexeme) → plain t ≡ plain_word w → is due t ≡ bytes_eq w due
 is_at due w t e = ap (λ (p : PlainToken). bytes_eq p.text due) e
 
 pub not_eq : (a b : List ℕ) → a ≢ b → bytes_eq a b ≡ false
@@ -59,7 +59,7 @@ end_back due own =
     (back_yes same (is due t) _ _ [] tt (is_at due due t e ∙ own) (back_pure same tt tt refl)))
 
 -- The bytes of a token of a word.
-pub text_is : (w : List ℕ) (t : Lexeme) → plain t ≡ word_of w → t.text ≡ w
+pub text_is : (w : List ℕ) (t : Lexeme) → plain t ≡ plain_word w → t.text ≡ w
 text_is w t e = ap (λ (p : PlainToken). p.text) e
 
 -- Comparing a token that has these bytes compares the bytes.
@@ -74,31 +74,31 @@ same_bytes a = (bytes_eq-Decides a a).1 refl
 
 -- Words that occur nowhere among tokens occur nowhere among the tokens after the first.
 pub later : (words : List (List ℕ)) (u : PlainToken) (ps : List PlainToken) → OccurNowhere words (u ∷ ps) → OccurNowhere words ps
-later words u ps h before after e = h (text_of u ∷ before) after (ap (λ (z : List (List ℕ)). text_of u ∷ z) e)
+later words u ps h before after e = h (token_text u ∷ before) after (ap (λ (z : List (List ℕ)). token_text u ∷ z) e)
 
 pub not_first : (due : List ℕ) (u : PlainToken) (ps : List PlainToken) → OccurNowhere (due ∷ []) (u ∷ ps) → u.text ≢ due
-not_first due u ps h e = h [] (map text_of ps) (ap (λ (z : List ℕ). z ∷ map text_of ps) e)
+not_first due u ps h e = h [] (map token_text ps) (ap (λ (z : List ℕ). z ∷ map token_text ps) e)
 
 -- Up to a word.
 
 word_turns : (due : List ℕ) → bytes_eq due due ≡ true → (ps : List PlainToken) → OccurNowhere (due ∷ []) ps
-    → TurnsAt same (passed_to_word due) tt (ps ++ word_of due ∷ []) tt
+    → TurnsAt same (passed_to_word due) tt (ps ++ plain_word due ∷ []) tt
 unfolding passed_to_word
 word_turns due own [] h =
-    at_last same (passed_to_word due) tt tt (word_of due ∷ []) (at_first same _ (word_of due) [] (turn tt false) (λ t e.
-    back_yes same (is due t) _ _ [] (turn tt false) (is_of due (word_of due) t e ∙ own) (back_pure same (turn tt false) (turn tt false) refl)))
+    at_last same (passed_to_word due) tt tt (plain_word due ∷ []) (at_first same _ (plain_word due) [] (turn tt false) (λ t e.
+    back_yes same (is due t) _ _ [] (turn tt false) (is_of due (plain_word due) t e ∙ own) (back_pure same (turn tt false) (turn tt false) refl)))
 word_turns due own (u ∷ ps) h =
-    at_more same (passed_to_word due) tt tt tt (u ∷ []) (ps ++ word_of due ∷ []) (omega arith) (at_first same _ u [] (turn tt true) (λ t e.
+    at_more same (passed_to_word due) tt tt tt (u ∷ []) (ps ++ plain_word due ∷ []) (omega arith) (at_first same _ u [] (turn tt true) (λ t e.
     back_no same (is due t) _ _ [] (turn tt true) (is_of due u t e ∙ not_eq u.text due (not_first due u ps h))
     (back_pure same (turn tt true) (turn tt true) refl))) (λ s e.
     word_turns due own ps (later (due ∷ []) u ps h))
 
 pub to_word_at : (due : List ℕ) → bytes_eq due due ≡ true → (ps : List PlainToken) → OccurNowhere (due ∷ []) ps
-    → BackAt same (to_word due) (ps ++ word_of due ∷ []) tt
-to_word_at due own ps h = at_block same (passed_to_word due) tt tt (ps ++ word_of due ∷ []) (word_turns due own ps h)
+    → BackAt same (to_word due) (ps ++ plain_word due ∷ []) tt
+to_word_at due own ps h = at_block same (passed_to_word due) tt tt (ps ++ plain_word due ∷ []) (word_turns due own ps h)
 
 -- A semicolon is such a word.
-pub to_semicolon_at : (ps : List PlainToken) → OccurNowhere (codes ";" ∷ []) ps → BackAt same to_semicolon (ps ++ word_of (codes ";") ∷ []) tt
+pub to_semicolon_at : (ps : List PlainToken) → OccurNowhere (codes ";" ∷ []) ps → BackAt same to_semicolon (ps ++ plain_word (codes ";") ∷ []) tt
 unfolding passed_token passed_to_word
 to_semicolon_at ps h = to_word_at (codes ";") refl ps h
 
@@ -110,51 +110,51 @@ not_both true false h = refl
 not_both false b h = refl
 
 -- The word does not directly follow END.
-not_end : (due q : List ℕ) (u : PlainToken) (ps : List PlainToken) → OccurNowhere (codes "END" ∷ due ∷ []) (word_of q ∷ u ∷ ps)
+not_end : (due q : List ℕ) (u : PlainToken) (ps : List PlainToken) → OccurNowhere (codes "END" ∷ due ∷ []) (plain_word q ∷ u ∷ ps)
     → (bytes_eq q (codes "END") && bytes_eq u.text due) ≡ false
 not_end due q u ps h =
-    not_both (bytes_eq q (codes "END")) (bytes_eq u.text due) (λ a b. h [] (map text_of ps)
-    (ap (λ (z : List ℕ). z ∷ u.text ∷ map text_of ps) (bytes_same q (codes "END") a)
-    ∙ ap (λ (z : List ℕ). codes "END" ∷ z ∷ map text_of ps) (bytes_same u.text due b)))
+    not_both (bytes_eq q (codes "END")) (bytes_eq u.text due) (λ a b. h [] (map token_text ps)
+    (ap (λ (z : List ℕ). z ∷ u.text ∷ map token_text ps) (bytes_same q (codes "END") a)
+    ∙ ap (λ (z : List ℕ). codes "END" ∷ z ∷ map token_text ps) (bytes_same u.text due b)))
 
 end_turns : (due : List ℕ) → bytes_eq due due ≡ true → (q : List ℕ) (ps : List PlainToken)
-    → OccurNowhere (codes "END" ∷ due ∷ []) (word_of q ∷ (ps ++ word_of (codes "END") ∷ []))
-    → (state : Bool) → state ≡ bytes_eq q (codes "END") → TurnsAt same (passed_to_end due) state (ps ++ word_of (codes "END") ∷ word_of due ∷ []) true
+    → OccurNowhere (codes "END" ∷ due ∷ []) (plain_word q ∷ (ps ++ plain_word (codes "END") ∷ []))
+    → (state : Bool) → state ≡ bytes_eq q (codes "END") → TurnsAt same (passed_to_end due) state (ps ++ plain_word (codes "END") ∷ plain_word due ∷ []) true
 unfolding passed_to_end
 end_turns due own q [] h state at =
-    at_more same (passed_to_end due) state true true (word_of (codes "END") ∷ []) (word_of due ∷ []) (omega arith)
-    (at_first same _ (word_of (codes "END")) [] (turn true true) (λ t e.
-    back_no same (state && is due t) _ _ [] (turn true true) (rw (at, is_of due (word_of (codes "END")) t e) (not_end due q (word_of (codes "END")) [] h))
-    (back_pure same (turn true true) (turn (is (codes "END") t) true) (ap (λ (z : Bool). turn z true) (is_of (codes "END") (word_of (codes "END")) t e)))))
+    at_more same (passed_to_end due) state true true (plain_word (codes "END") ∷ []) (plain_word due ∷ []) (omega arith)
+    (at_first same _ (plain_word (codes "END")) [] (turn true true) (λ t e.
+    back_no same (state && is due t) _ _ [] (turn true true) (rw (at, is_of due (plain_word (codes "END")) t e) (not_end due q (plain_word (codes "END")) [] h))
+    (back_pure same (turn true true) (turn (is (codes "END") t) true) (ap (λ (z : Bool). turn z true) (is_of (codes "END") (plain_word (codes "END")) t e)))))
     (λ s es.
-    at_last same (passed_to_end due) s true (word_of due ∷ []) (at_first same _ (word_of due) [] (turn true false) (λ t e.
-    back_yes same (s && is due t) _ _ [] (turn true false) (rw es (is_of due (word_of due) t e ∙ own))
+    at_last same (passed_to_end due) s true (plain_word due ∷ []) (at_first same _ (plain_word due) [] (turn true false) (λ t e.
+    back_yes same (s && is due t) _ _ [] (turn true false) (rw es (is_of due (plain_word due) t e ∙ own))
     (back_pure same (turn true false) (turn s false) (ap (λ (z : Bool). turn z false) es)))))
 end_turns due own q (u ∷ ps) h state at =
     let is_end = bytes_eq u.text (codes "END") in
-    at_more same (passed_to_end due) state is_end true (u ∷ []) (ps ++ word_of (codes "END") ∷ word_of due ∷ []) (omega arith)
+    at_more same (passed_to_end due) state is_end true (u ∷ []) (ps ++ plain_word (codes "END") ∷ plain_word due ∷ []) (omega arith)
     (at_first same _ u [] (turn is_end true) (λ t e.
-    back_no same (state && is due t) _ _ [] (turn is_end true) (rw (at, is_of due u t e) (not_end due q u (ps ++ word_of (codes "END") ∷ []) h))
+    back_no same (state && is due t) _ _ [] (turn is_end true) (rw (at, is_of due u t e) (not_end due q u (ps ++ plain_word (codes "END") ∷ []) h))
     (back_pure same (turn is_end true) (turn (is (codes "END") t) true) (ap (λ (z : Bool). turn z true) (is_of (codes "END") u t e))))) (λ s es.
-    end_turns due own u.text ps (λ before after e. later (codes "END" ∷ due ∷ []) (word_of q) (u ∷ (ps ++ word_of (codes "END") ∷ [])) h before after e) s es)
+    end_turns due own u.text ps (λ before after e. later (codes "END" ∷ due ∷ []) (plain_word q) (u ∷ (ps ++ plain_word (codes "END") ∷ [])) h before after e) s es)
 
 -- No END is in front of the first of them.
-none_before : (due : List ℕ) (ps : List PlainToken) → OccurNowhere (codes "END" ∷ due ∷ []) ps → OccurNowhere (codes "END" ∷ due ∷ []) (word_of [] ∷ ps)
+none_before : (due : List ℕ) (ps : List PlainToken) → OccurNowhere (codes "END" ∷ due ∷ []) ps → OccurNowhere (codes "END" ∷ due ∷ []) (plain_word [] ∷ ps)
 none_before due ps h [] after e = absurd cc
 none_before due ps h (w ∷ before) after e = h before after cc
 
 -- Up to the first END that the word directly follows.
-pub to_end_before : (due : List ℕ) → bytes_eq due due ≡ true → (ps : List PlainToken) → OccurNowhere (codes "END" ∷ due ∷ []) (ps ++ word_of (codes "END") ∷ [])
-    → BackAt same (to_end due) (ps ++ word_of (codes "END") ∷ word_of due ∷ []) tt
+pub to_end_before : (due : List ℕ) → bytes_eq due due ≡ true → (ps : List PlainToken) → OccurNowhere (codes "END" ∷ due ∷ []) (ps ++ plain_word (codes "END") ∷ [])
+    → BackAt same (to_end due) (ps ++ plain_word (codes "END") ∷ plain_word due ∷ []) tt
 unfolding to_end
 to_end_before due own ps h =
-    let all = ps ++ word_of (codes "END") ∷ word_of due ∷ [] in
+    let all = ps ++ plain_word (codes "END") ∷ plain_word due ∷ [] in
     at_map same same _ (λ (z : Bool). tt) all true tt
-    (at_block same (passed_to_end due) false true all (end_turns due own [] ps (none_before due (ps ++ word_of (codes "END") ∷ []) h) false refl)) (λ x e. refl)
+    (at_block same (passed_to_end due) false true all (end_turns due own [] ps (none_before due (ps ++ plain_word (codes "END") ∷ []) h) false refl)) (λ x e. refl)
 
 -- An END in front changes nothing if the word is not END.
 end_apart : (due : List ℕ) → codes "END" ≢ due → (ps : List PlainToken) → OccurNowhere (codes "END" ∷ due ∷ []) ps
-    → OccurNowhere (codes "END" ∷ due ∷ []) (ps ++ word_of (codes "END") ∷ [])
+    → OccurNowhere (codes "END" ∷ due ∷ []) (ps ++ plain_word (codes "END") ∷ [])
 end_apart due other [] h [] after e = absurd cc
 end_apart due other [] h (w ∷ []) after e = absurd cc
 end_apart due other [] h (w ∷ (v ∷ before)) after e = absurd cc
@@ -162,7 +162,7 @@ end_apart due other (u ∷ []) h [] after e = other cc
 end_apart due other (u ∷ (v ∷ ps)) h [] after e =
     let a : u.text ≡ codes "END" = cc in
     let b : v.text ≡ due = cc in
-    h [] (map text_of ps) (rw (a, b) refl)
+    h [] (map token_text ps) (rw (a, b) refl)
 end_apart due other (u ∷ ps) h (w ∷ before) after e = end_apart due other ps (later (codes "END" ∷ due ∷ []) u ps h) before after cc
 
 differ : (due : List ℕ) → bytes_eq (codes "END") due ≡ false → codes "END" ≢ due
@@ -172,5 +172,5 @@ differ due other e = not_true (sym ((bytes_eq-Decides (codes "END") due).1 e) �
     not_true e = cc
 
 pub to_end_at : (due : List ℕ) → bytes_eq due due ≡ true → bytes_eq (codes "END") due ≡ false → (ps : List PlainToken) → OccurNowhere (codes "END" ∷ due ∷ []) ps
-    → BackAt same (to_end due) (ps ++ word_of (codes "END") ∷ word_of due ∷ []) tt
+    → BackAt same (to_end due) (ps ++ plain_word (codes "END") ∷ plain_word due ∷ []) tt
 to_end_at due own other ps h = to_end_before due own ps (end_apart due (differ due other) ps h)

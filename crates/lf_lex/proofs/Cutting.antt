@@ -13,7 +13,7 @@ use Rattle.lf_lex.specs.Tokens.{Lexed, Lexeme, is_white, is_line_feed, is_word_b
 use Rattle.lf_lex.specs.Tokens.{token_at, stopped, tokens_from, AreSlices, CutsAtTokens}
 use Rattle.lf_lex.proofs.Scanning.{no_line_feed, one_more, white_step, word_read, word_stops_at}
 use Rattle.lf_lex.proofs.Slices.{slices_from}
-use Rattle.lf_lex.specs.Reading.{behind}
+use Rattle.lf_lex.specs.Reading.{lexed_after}
 
 -- The first bytes of a list with others after them.
 front_of : (n k : ℕ) (bytes new : List ℕ) → n ≤ k → n ≤ length bytes → take n (take k bytes ++ new) ≡ take n bytes
@@ -89,9 +89,9 @@ pub starts_from : (n at line : ℕ) (bytes : List ℕ) (before after : List Lexe
     → at + n ≤ t.start
 starts_from n at line bytes before after t e =
     let text = replicate at 0 ++ bytes in
-    let behind : drop at (replicate at 0 ++ bytes) ≡ bytes = drop_replicate_seam at bytes in
+    let lexed_after : drop at (replicate at 0 ++ bytes) ≡ bytes = drop_replicate_seam at bytes in
     in_slices (replicate at 0 ++ bytes) (at + n) before after t
-    (subst (AreSlices (replicate at 0 ++ bytes) (at + n)) e (slices_from (replicate at 0 ++ bytes) (at + n) n at line bytes behind (omega arith)))
+    (subst (AreSlices (replicate at 0 ++ bytes) (at + n)) e (slices_from (replicate at 0 ++ bytes) (at + n) n at line bytes lexed_after (omega arith)))
   where
     drop_replicate_seam : (at : ℕ) (bytes : List ℕ) → drop at (replicate at 0 ++ bytes) ≡ bytes
     drop_replicate_seam zero bytes = refl
@@ -160,11 +160,11 @@ over_byte : (new : List ℕ) (n m at line line' b : ℕ) (bytes : List ℕ) → 
     → ((before after : List Lexeme) (t : Lexeme) → (tokens_from m (at + 1) line' bytes).tokens ≡ before ++ t ∷ after
     → tokens_from n at line (b ∷ (take (t.start - (at + 1)) bytes ++ new)) ≡ tokens_from m (at + 1) line' (take (t.start - (at + 1)) bytes ++ new))
     → Cuts new m (at + 1) line' bytes → Cuts new n at line (b ∷ bytes)
-over_byte new n m at line line' b bytes same anew each before after t e =
+over_byte new n m at line line' b bytes same once_more each before after t e =
     let e' : (tokens_from m (at + 1) line' bytes).tokens ≡ before ++ t ∷ after = sym (ap (λ (x : Lexed). x.tokens) same) ∙ e in
     let ge = starts_from m (at + 1) line' bytes before after t e' in
     let n-is : t.start - at ≡ suc (t.start - (at + 1)) = omega (arith, ge) in
-    rw n-is (anew before after t e' ∙ each before after t e')
+    rw n-is (once_more before after t e' ∙ each before after t e')
 
 over_token : (new : List ℕ) (kind : TokenKind) (at line b more : ℕ) (bytes : List ℕ) → more ≤ length bytes
     → tokens_from 0 at line (b ∷ bytes) ≡ with_token (token_at kind at line b bytes more) (tokens_from more (at + 1) line bytes)
@@ -173,14 +173,14 @@ over_token : (new : List ℕ) (kind : TokenKind) (at line b more : ℕ) (bytes :
     ≡ with_token (token_at kind at line b (take (t.start - (at + 1)) bytes ++ new) more)
     (tokens_from more (at + 1) line (take (t.start - (at + 1)) bytes ++ new)))
     → Cuts new more (at + 1) line bytes → Cuts new 0 at line (b ∷ bytes)
-over_token new kind at line b more bytes within same anew each [] after t e =
+over_token new kind at line b more bytes within same once_more each [] after t e =
     let e' : token_at kind at line b bytes more ∷ (tokens_from more (at + 1) line bytes).tokens ≡ t ∷ after = sym (ap (λ (x : Lexed). x.tokens) same) ∙ e in
     let is = head_is (token_at kind at line b bytes more) t _ _ e' in
     let start-is : t.start ≡ at = sym (ap (λ (x : Lexeme). x.start) is) in
     let line-is : t.line ≡ line = sym (ap (λ (x : Lexeme). x.line) is) in
     let none : at - at ≡ 0 = omega arith in
     rw (start-is, line-is, none) refl
-over_token new kind at line b more bytes within same anew each (u ∷ before) after t e =
+over_token new kind at line b more bytes within same once_more each (u ∷ before) after t e =
     let e' : token_at kind at line b bytes more ∷ (tokens_from more (at + 1) line bytes).tokens ≡ u ∷ (before ++ t ∷ after) =
     sym (ap (λ (x : Lexed). x.tokens) same) ∙ e in
     let is = head_is (token_at kind at line b bytes more) u _ _ e' in
@@ -190,7 +190,7 @@ over_token new kind at line b more bytes within same anew each (u ∷ before) af
     let bytes-is : take more (take (t.start - (at + 1)) bytes ++ new) ≡ take more bytes =
     front_of more (t.start - (at + 1)) bytes new (omega (arith, ge)) within in
     let token-is : token_at kind at line b (take (t.start - (at + 1)) bytes ++ new) more ≡ u = rw bytes-is is in
-    rw n-is (anew before after t rest ∙ ap (λ (x : Lexeme). with_token x (tokens_from more (at + 1) line (take (t.start - (at + 1)) bytes ++ new))) token-is
+    rw n-is (once_more before after t rest ∙ ap (λ (x : Lexeme). with_token x (tokens_from more (at + 1) line (take (t.start - (at + 1)) bytes ++ new))) token-is
     ∙ ap (λ (x : Lexed). with_token u x) (each before after t rest))
 
 over_stop : (new : List ℕ) (at line b : ℕ) (bytes : List ℕ) (rest : Lexed) → tokens_from 0 at line (b ∷ bytes) ≡ rest → rest.tokens ≡ []
@@ -209,12 +209,12 @@ over_quote new at line b bytes (Some more) w h q e each =
     (closing_in_front false more (t.start - (at + 1)) bytes new e (omega (arith, ge))).0)
     (each more line)
 
-word_anew : (new : List ℕ) (at line b : ℕ) (bytes : List ℕ) (k : ℕ) → is_white b ≡ false → (b == 35) ≡ false → (b == 34) ≡ false
+word_again : (new : List ℕ) (at line b : ℕ) (bytes : List ℕ) (k : ℕ) → is_white b ≡ false → (b == 35) ≡ false → (b == 34) ≡ false
     → list_all is_word_byte (b ∷ take (word_len bytes) bytes) ≡ true
     → word_len bytes < k → word_len bytes < length bytes
     → tokens_from 0 at line (b ∷ (take k bytes ++ new)) ≡ with_token (token_at Word at line b (take k bytes ++ new) (word_len bytes))
     (tokens_from (word_len bytes) (at + 1) line (take k bytes ++ new))
-word_anew new at line b bytes k w h q l lt within =
+word_again new at line b bytes k w h q l lt within =
     let len-is : word_len (take k bytes ++ new) ≡ word_len bytes = first_in_front is_white k bytes new lt within in
     let bytes-is : take (word_len bytes) (take k bytes ++ new) ≡ take (word_len bytes) bytes =
     front_of (word_len bytes) k bytes new (omega arith) (omega arith) in
@@ -228,7 +228,7 @@ over_word new at line b bytes false w h q l each = over_stop new at line b bytes
 over_word new at line b bytes true w h q l each =
     over_token new Word at line b (word_len bytes) bytes (prefix_len-le-length _ bytes) (word_read at line b bytes (w, h) q l)
     (λ before after t f. let r = passed is_white (λ x p. p) (at + 1) line bytes before after t f in
-    word_anew new at line b bytes (t.start - (at + 1)) w h q l (omega (arith, r.0)) r.1)
+    word_again new at line b bytes (t.start - (at + 1)) w h q l (omega (arith, r.0)) r.1)
     (each (word_len bytes) line)
 
 feed_is_white : (b : ℕ) → is_line_feed b ≡ true → is_white b ≡ true
@@ -262,5 +262,5 @@ cut new zero at line (b ∷ bytes) before after t e =
 pub cut_tokens : (text : List ℕ) → CutsAtTokens text
 cut_tokens text new before t after e = let whole : t.start - 0 ≡ t.start = omega arith in rw whole at (cut new 0 0 1 text before after t e)
 
-pub split_tokens : (l : Lexed) (read rest : List Lexeme) → l.tokens ≡ read ++ rest → l ≡ with_tokens read (behind rest l)
-split_tokens l read rest e = ap (λ (z : List Lexeme). behind z l) e
+pub split_tokens : (l : Lexed) (read rest : List Lexeme) → l.tokens ≡ read ++ rest → l ≡ with_tokens read (lexed_after rest l)
+split_tokens l read rest e = ap (λ (z : List Lexeme). lexed_after z l) e

@@ -6,7 +6,7 @@ use Rattle.std.proofs.lemmas.List.{append_assoc, append_cancel_right, append-nil
 use Rattle.lf_lex.specs.Tokens.{Lexed, Lexeme, PlainToken, plain, with_tokens}
 use Rattle.lf_lex.specs.declared.fault.ReadFault.{ReadFault}
 use Rattle.lf_lex.specs.Laws.{TakesTokens, ReadsAlike}
-use Rattle.lf_lex.specs.Reading.{◌>>=◌, Reader, ReadValue, Turn, Statement, taken, turn, token, first_of, behind, statements, block}
+use Rattle.lf_lex.specs.Reading.{◌>>=◌, Reader, ReadValue, Turn, Statement, taken, turn, token, first_token, lexed_after, statements, block}
 
 -- The value read from such tokens, equal up to places.
 pub record Again {A B : Type 0} (bare : A → B) (reader : Reader A) (p : List Lexeme) (x : A) : Type 0 where
@@ -134,14 +134,14 @@ one_plain [] t e = absurd cc
 one_plain (u ∷ p) t e = let h = plain_head _ _ _ _ e in (u, ap (λ (z : List Lexeme). u ∷ z) (nil_plain p h.1), h.0)
 
 whole_is : (t : Lexeme) (ts : List Lexeme) (l m : Lexed) → l ≡ with_tokens (t ∷ ts) (record { tokens = []; fault = l.fault; end_line = l.end_line })
-    → behind ts l ≡ m → l ≡ with_tokens (t ∷ []) m
-whole_is t ts l m w e = w ∙ ap (λ (z : List Lexeme). behind (t ∷ z) l) (append-nil ts) ∙ ap (λ (z : Lexed). with_tokens (t ∷ []) z) e
+    → lexed_after ts l ≡ m → l ≡ with_tokens (t ∷ []) m
+whole_is t ts l m w e = w ∙ ap (λ (z : List Lexeme). lexed_after (t ∷ z) l) (append-nil ts) ∙ ap (λ (z : Lexed). with_tokens (t ∷ []) z) e
 
 whole_nil : (l : Lexed) → l ≡ with_tokens l.tokens (record { tokens = []; fault = l.fault; end_line = l.end_line })
-whole_nil l = ap (λ (z : List Lexeme). behind z l) (sym (append-nil l.tokens))
+whole_nil l = ap (λ (z : List Lexeme). lexed_after z l) (sym (append-nil l.tokens))
 
 first_follows : (ts : List Lexeme) (l m : Lexed) (x : Lexeme) → l ≡ with_tokens ts (record { tokens = []; fault = l.fault; end_line = l.end_line })
-    → first_of ts l ≡ taken x m → Run plain token l m x
+    → first_token ts l ≡ taken x m → Run plain token l m x
 first_follows [] l m x w e = absurd cc
 first_follows (t ∷ ts) l m x w e =
     let r = ok_is t _ x m e in
@@ -306,11 +306,11 @@ leaves bare r' l m x f = omega (arith, ap (λ (z : Lexed). length z.tokens) f.wh
 
 first_taken : {A B : Type 0} (bare : A → B) (k : ReadValue Lexeme → Result (ReadValue A) ReadFault) (r' : Lexeme → Reader A) (l m : Lexed) (x : A)
     → ((t : Lexeme) → Follows bare (λ l. k (left t l)) (r' t))
-    → (ts : List Lexeme) → l.tokens ≡ ts → (first_of ts l >>= k) ≡ taken x m → length m.tokens < length l.tokens
+    → (ts : List Lexeme) → l.tokens ≡ ts → (first_token ts l >>= k) ≡ taken x m → length m.tokens < length l.tokens
 first_taken bare k r' l m x next [] h e = absurd cc
 first_taken bare k r' l m x next (t ∷ ts) h e =
-    let f = next t (behind ts l) m x e in
-    omega (arith, leaves bare (r' t) (behind ts l) m x f, ap (λ (z : List Lexeme). length z) h)
+    let f = next t (lexed_after ts l) m x e in
+    omega (arith, leaves bare (r' t) (lexed_after ts l) m x f, ap (λ (z : List Lexeme). length z) h)
 
 -- A reader that begins with a token takes one.
 pub takes_one : {A B : Type 0} (bare : A → B) (k : ReadValue Lexeme → Result (ReadValue A) ReadFault) (r' : Lexeme → Reader A) (l m : Lexed) (x : A)

@@ -7,7 +7,7 @@ use Rattle.std.proofs.lemmas.List.Elements.{All-nil, All-cons}
 use Rattle.lf_lex.specs.declared.tokens.TokenKind.TheVariants.{Word, Quoted}
 use Rattle.lf_lex.specs.declared.tokens.LexFault.TheVariants.{BadToken, UnexpectedEnd}
 use Rattle.lf_lex.specs.Tokens.{Lexed, is_white, is_line_feed, is_word_byte, line_feeds, comment_len, word_len, quoted_len, with_token, token_at, stopped}
-use Rattle.lf_lex.specs.Tokens.{tokens_from, kind_of, IsSpelled}
+use Rattle.lf_lex.specs.Tokens.{tokens_from, token_kind, IsSpelled}
 use Rattle.lf_lex.proofs.Scanning.{first_and_rest, not_equal}
 use Rattle.lf_lex.proofs.Slices.{option_of}
 
@@ -20,7 +20,7 @@ first_of_slice text word at stop lt le e =
     let n : stop - at ≡ suc (stop - (at + 1)) = omega arith in
     first_bytes text word at (stop - (at + 1)) lt (rw n at e)
 
-kind_of_first : (word rest : List ℕ) (b : ℕ) (test : Bool) → word ≡ b ∷ rest → (b == 34) ≡ test → kind_of word ≡ cond test Quoted Word
+kind_of_first : (word rest : List ℕ) (b : ℕ) (test : Bool) → word ≡ b ∷ rest → (b == 34) ≡ test → token_kind word ≡ cond test Quoted Word
 kind_of_first word rest b test e h = rw (e, h) refl
 
 pub quoted_spelled : (text word : List ℕ) (at stop line : ℕ) → at < length text → at < stop → get_or text at 0 ≡ 34 → word ≡ take (stop - at) (drop at text)

@@ -12,7 +12,7 @@ use Rattle.lf_lex.specs.declared.tokens.TokenKind.TheVariants.{Word, Quoted}
 use Rattle.lf_lex.specs.declared.tokens.LexFault.TheVariants.{BadToken, UnexpectedEnd}
 use Rattle.lf_lex.specs.Tokens.{Lexed, Lexeme, PlainToken, plain, is_white, is_line_feed, is_word_byte, line_feeds, comment_len, word_len, quoted_len, with_token}
 use Rattle.lf_lex.specs.Tokens.{token_at, stopped, tokens_from}
-use Rattle.lf_lex.specs.Splices.{Splice, spliced, joined, spaced, is_word_text, word_of, LastIs, ReplacesTokens, AreEdited}
+use Rattle.lf_lex.specs.Splices.{Splice, spliced, joined_words, spaced, is_word_text, plain_word, LastIs, ReplacesTokens, AreEdited}
 use Rattle.lf_lex.proofs.Scanning.{after_front, word_read, word_stops_at}
 use Rattle.std.proofs.lemmas.Bool.Decides.{nat_tests}
 use Rattle.lf_lex.proofs.Cutting.{cut, closing_in_front, starts_from, head_is, tail_is, no_token, blank_step, hash_step, quote_step}
@@ -91,7 +91,7 @@ word_len_front (b ∷ bytes) rest h w =
     (rw (word_byte_not_white b h'.0) e, ap (λ (x : List ℕ). b ∷ x) r.1, r.2)
 
 pub word_front : (at line : ℕ) (w rest : List ℕ) → is_word_text w ≡ true → BeginsWhite rest
-    → plains (tokens_from 0 at line (w ++ rest)) ≡ word_of w ∷ plains (tokens_from 0 at line rest)
+    → plains (tokens_from 0 at line (w ++ rest)) ≡ plain_word w ∷ plains (tokens_from 0 at line rest)
 word_front at line [] rest h white = absurd cc
 word_front at line (b ∷ bytes) rest h white =
     let x = and_true (not (b == 35) && not (b == 34)) (list_all is_word_byte (b ∷ bytes)) h in
@@ -101,10 +101,10 @@ word_front at line (b ∷ bytes) rest h white =
     let all : list_all is_word_byte (b ∷ take (word_len (bytes ++ rest)) (bytes ++ rest)) ≡ true = rw (f.0, f.1) x.1 in
     let read = word_read at line b (bytes ++ rest) (word_byte_not_white b z.0, not_true _ y.0) (not_true _ y.1) all in
     let within : length bytes ≤ length (bytes ++ rest) = length-append bytes rest in
-    let behind = after_front (length bytes) (at + 1) line (bytes ++ rest) within in
+    let after_it = after_front (length bytes) (at + 1) line (bytes ++ rest) within in
     let rest-is : plains (tokens_from (word_len (bytes ++ rest)) (at + 1) line (bytes ++ rest)) ≡ plains (tokens_from 0 at line rest) =
-    rw (f.0, behind, f.2) (moved 0 _ at _ line rest) in
-    let first-is : plain (token_at Word at line b (bytes ++ rest) (word_len (bytes ++ rest))) ≡ word_of (b ∷ bytes) = rw (f.0, f.1) refl in
+    rw (f.0, after_it, f.2) (moved 0 _ at _ line rest) in
+    let first-is : plain (token_at Word at line b (bytes ++ rest) (word_len (bytes ++ rest))) ≡ plain_word (b ∷ bytes) = rw (f.0, f.1) refl in
     ap plains read ∙ ap (λ (x : List PlainToken). plain (token_at Word at line b (bytes ++ rest) (word_len (bytes ++ rest))) ∷ x) rest-is
     ∙ ap (λ (x : PlainToken). x ∷ plains (tokens_from 0 at line rest)) first-is
   where
@@ -121,42 +121,42 @@ spaced_white [] rest w = w
 spaced_white (v ∷ ws) rest w = refl
 
 spaced_front : (at line : ℕ) (ws : List (List ℕ)) (rest : List ℕ) → list_all is_word_text ws ≡ true → BeginsWhite rest
-    → plains (tokens_from 0 at line (spaced ws ++ rest)) ≡ map word_of ws ++ plains (tokens_from 0 at line rest)
+    → plains (tokens_from 0 at line (spaced ws ++ rest)) ≡ map plain_word ws ++ plains (tokens_from 0 at line rest)
 spaced_front at line [] rest h white = refl
 spaced_front at line (w ∷ ws) rest h white =
     let x = and_true (is_word_text w) (list_all is_word_text ws) h in
     space_front at line ((w ++ spaced ws) ++ rest)
     ∙ ap (λ (y : List ℕ). plains (tokens_from 0 at line y)) (append_assoc w (spaced ws) rest)
     ∙ word_front at line w (spaced ws ++ rest) x.0 (spaced_white ws rest white)
-    ∙ ap (λ (y : List PlainToken). word_of w ∷ y) (spaced_front at line ws rest x.1 white)
+    ∙ ap (λ (y : List PlainToken). plain_word w ∷ y) (spaced_front at line ws rest x.1 white)
 
 pub joined_front : (at line : ℕ) (ws : List (List ℕ)) (rest : List ℕ) → list_all is_word_text ws ≡ true → BeginsWhite rest
-    → plains (tokens_from 0 at line (joined ws ++ rest)) ≡ map word_of ws ++ plains (tokens_from 0 at line rest)
+    → plains (tokens_from 0 at line (joined_words ws ++ rest)) ≡ map plain_word ws ++ plains (tokens_from 0 at line rest)
 joined_front at line [] rest h white = refl
 joined_front at line (w ∷ ws) rest h white =
     let x = and_true (is_word_text w) (list_all is_word_text ws) h in
     ap (λ (y : List ℕ). plains (tokens_from 0 at line y)) (append_assoc w (spaced ws) rest)
     ∙ word_front at line w (spaced ws ++ rest) x.0 (spaced_white ws rest white)
-    ∙ ap (λ (y : List PlainToken). word_of w ∷ y) (spaced_front at line ws rest x.1 white)
+    ∙ ap (λ (y : List PlainToken). plain_word w ∷ y) (spaced_front at line ws rest x.1 white)
 
 -- The bytes after a token.
 
-word_behind : (bytes : List ℕ) → BeginsWhite (drop (word_len bytes) bytes)
-word_behind [] = tt
-word_behind (b ∷ bytes) = by_test (is_white b) refl (word_behind bytes)
+word_after : (bytes : List ℕ) → BeginsWhite (drop (word_len bytes) bytes)
+word_after [] = tt
+word_after (b ∷ bytes) = by_test (is_white b) refl (word_after bytes)
   where
     by_test : (test : Bool) → is_white b ≡ test → BeginsWhite (drop (word_len bytes) bytes) → BeginsWhite (drop (word_len (b ∷ bytes)) (b ∷ bytes))
     by_test true h r = rw h h
     by_test false h r = let e : 1 + word_len bytes ≡ suc (word_len bytes) = omega arith in rw (h, e) r
 
 -- The tokens after an offset that skipping reaches.
-pub record Behind (at stop : ℕ) (bytes : List ℕ) (us : List Lexeme) : Type 0 where
+pub record FollowsBytes (at stop : ℕ) (bytes : List ℕ) (us : List Lexeme) : Type 0 where
   pub line : ℕ
   pub past : at ≤ stop
   pub rest : (tokens_from 0 stop line (drop (stop - at) bytes)).tokens ≡ us
 
 abbrev pub Next : ℕ → List ℕ → Lexeme → List Lexeme → Type 0
-Next at bytes u us = Behind at u.stop bytes us × (is_word_text u.text ≡ true → BeginsWhite (drop (u.stop - at) bytes))
+Next at bytes u us = FollowsBytes at u.stop bytes us × (is_word_text u.text ≡ true → BeginsWhite (drop (u.stop - at) bytes))
 
 next_taken : (kind : TokenKind) (at line b more : ℕ) (bytes : List ℕ) (u : Lexeme) (us : List Lexeme) → more ≤ length bytes
     → tokens_from 0 at line (b ∷ bytes) ≡ with_token (token_at kind at line b bytes more) (tokens_from more (at + 1) line bytes)
@@ -195,7 +195,7 @@ next_word : (at line b : ℕ) (bytes : List ℕ) (u : Lexeme) (us : List Lexeme)
     → (tokens_from 0 at line (b ∷ bytes)).tokens ≡ u ∷ us → Next at (b ∷ bytes) u us
 next_word at line b bytes u us false w h q l e = absurd (no_token [] us u (sym (ap (λ (x : Lexed). x.tokens) (word_stops_at at line b bytes (w, h) q l)) ∙ e))
 next_word at line b bytes u us true w h q l e =
-    next_taken Word at line b (word_len bytes) bytes u us (prefix_len-le-length _ bytes) (word_read at line b bytes (w, h) q l) (λ k. word_behind bytes) e
+    next_taken Word at line b (word_len bytes) bytes u us (prefix_len-le-length _ bytes) (word_read at line b bytes (w, h) q l) (λ k. word_after bytes) e
 
 next_any : (at line b : ℕ) (bytes : List ℕ) (u : Lexeme) (us : List Lexeme) (white hash quote : Bool) → is_white b ≡ white → (b == 35) ≡ hash
     → (b == 34) ≡ quote
@@ -235,7 +235,7 @@ skip_plains at line bytes new before after t e = ap plains (cut new 0 at line by
 
 walk : (at line : ℕ) (bytes : List ℕ) (us after : List Lexeme) (u : Lexeme) (stop : ℕ) → (tokens_from 0 at line bytes).tokens ≡ u ∷ (us ++ after) → u.start ≡ at
     → LastIs stop u us
-    → Behind at stop bytes after × BeginsWhite (drop (stop - at) bytes)
+    → FollowsBytes at stop bytes after × BeginsWhite (drop (stop - at) bytes)
 walk at line bytes [] after u stop e s last =
     let n = next_at at line bytes u after e s in
     (rw last.0 at n.0, rw last.0 at (n.1 last.1))
@@ -286,15 +286,15 @@ made : (s : Splice) (ss : List Splice) (at line : ℕ) (bytes : List ℕ) (befor
     → (tokens_from 0 at line bytes).tokens ≡ before ++ (middle ++ after) → ReplacesTokens s words middle after → list_all is_word_text words ≡ true
     → AreEdited ss after later → Lexes ss
     → plains (tokens_from 0 at line (take (s.start - at) bytes ++ (s.new ++ spliced s.stop ss (drop (s.stop - at) bytes)))) ≡ map plain before ++
-    (map word_of words ++ later)
+    (map plain_word words ++ later)
 made s ss at line bytes before [] [] words later e m spelled edits next = absurd m
 made s ss at line bytes before [] (t ∷ after) words later e m spelled edits next =
     let rest = spliced t.start ss (drop (t.start - at) bytes) in
-    let new-is : joined words ++ 32 ∷ [] ++ spliced t.start ss (drop (t.start - at) bytes) ≡ joined words ++
-    (32 ∷ spliced t.start ss (drop (t.start - at) bytes)) = append_assoc (joined words) (32 ∷ []) rest in
-    let inner : plains (tokens_from 0 t.start t.line (joined words ++ 32 ∷ [] ++ spliced t.start ss (drop (t.start - at) bytes))) ≡ map word_of words ++ later =
+    let new-is : joined_words words ++ 32 ∷ [] ++ spliced t.start ss (drop (t.start - at) bytes) ≡ joined_words words ++
+    (32 ∷ spliced t.start ss (drop (t.start - at) bytes)) = append_assoc (joined_words words) (32 ∷ []) rest in
+    let inner : plains (tokens_from 0 t.start t.line (joined_words words ++ 32 ∷ [] ++ spliced t.start ss (drop (t.start - at) bytes))) ≡ map plain_word words ++ later =
     rw new-is (joined_front t.start t.line words (32 ∷ rest) spelled refl
-    ∙ ap (λ (x : List PlainToken). map word_of words ++ x) (space_front t.start t.line rest
+    ∙ ap (λ (x : List PlainToken). map plain_word words ++ x) (space_front t.start t.line rest
     ∙ next t.start t.line (drop (t.start - at) bytes) (t ∷ after) later (skip_to at line bytes before after t e) edits t.start t.line)) in
     rw (m.0, m.1, m.2) (skip_plains at line bytes _ before after t e ∙ ap (λ (x : List PlainToken). map plain before ++ x) inner)
 made s ss at line bytes before (t ∷ middle) after words later e m spelled edits next =
@@ -306,9 +306,9 @@ made s ss at line bytes before (t ∷ middle) after words later e m spelled edit
     ∙ rw sum refl in
     let rest-is = rw there at w.0.rest in
     let white = spliced_white ss s.stop w.0.line (drop (s.stop - at) bytes) after later rest-is edits (rw there at w.1) in
-    let inner : plains (tokens_from 0 t.start t.line (joined words ++ spliced s.stop ss (drop (s.stop - at) bytes))) ≡ map word_of words ++ later =
+    let inner : plains (tokens_from 0 t.start t.line (joined_words words ++ spliced s.stop ss (drop (s.stop - at) bytes))) ≡ map plain_word words ++ later =
     joined_front t.start t.line words (spliced s.stop ss (drop (s.stop - at) bytes)) spelled white
-    ∙ ap (λ (x : List PlainToken). map word_of words ++ x) (next s.stop w.0.line (drop (s.stop - at) bytes) after later rest-is edits t.start t.line) in
+    ∙ ap (λ (x : List PlainToken). map plain_word words ++ x) (next s.stop w.0.line (drop (s.stop - at) bytes) after later rest-is edits t.start t.line) in
     rw (m.0, m.2) (skip_plains at line bytes _ before (middle ++ after) t e ∙ ap (λ (x : List PlainToken). map plain before ++ x) inner)
 
 pub edited_tokens : (ss : List Splice) → Lexes ss

@@ -12,4 +12,4 @@ TakesTokens statement = (before after : _) (l m : Lexed) → statement before l 
 -- wherever they are and whatever follows.
 abbrev pub ReadsAlike : {A : Type 0} → Reader A → Type 0
 ReadsAlike reader = (l m : Lexed) (x : _) → reader l ≡ taken x m
-    → (run : List Lexeme) × (l ≡ with_tokens run m) × ((same : List Lexeme) → map plain same ≡ map plain run → (behind : Lexed) → reader (with_tokens same behind) ≡ taken x behind)
+    → (run : List Lexeme) × (l ≡ with_tokens run m) × ((same : List Lexeme) → map plain same ≡ map plain run → (after_it : Lexed) → reader (with_tokens same after_it) ≡ taken x after_it)

@@ -2,10 +2,10 @@
 use Rattle.std.specs.Prelude.{◌≢◌, ℕ, List, ◌++◌, map}
 use Rattle.lf_lex.specs.Tokens.{PlainToken}
 
-abbrev pub text_of : PlainToken → List ℕ
-text_of t = t.text
+abbrev pub token_text : PlainToken → List ℕ
+token_text t = t.text
 
 -- Holds if these words occur in this order nowhere among these tokens, each directly after the one
 -- in front of it.
 abbrev pub OccurNowhere : List (List ℕ) → List PlainToken → Type 0
-OccurNowhere words tokens = (before after : List (List ℕ)) → map text_of tokens ≢ before ++ (words ++ after)
+OccurNowhere words tokens = (before after : List (List ℕ)) → map token_text tokens ≢ before ++ (words ++ after)

@@ -63,27 +63,27 @@ fault_of None end_line = record { number = UnexpectedEnd; line = end_line }
 fault_of (Some (lex.BadToken line)) end_line = record { number = BadToken; line = line }
 fault_of (Some (lex.UnexpectedEnd line)) end_line = record { number = UnexpectedEnd; line = line }
 
-abbrev pub fault_behind : Lexed → ReadFault
-fault_behind l = fault_of l.fault l.end_line
+abbrev pub fault_after : Lexed → ReadFault
+fault_after l = fault_of l.fault l.end_line
 
-abbrev pub behind : List Lexeme → Lexed → Lexed
-behind tokens l = record { tokens = tokens; fault = l.fault; end_line = l.end_line }
+abbrev pub lexed_after : List Lexeme → Lexed → Lexed
+lexed_after tokens l = record { tokens = tokens; fault = l.fault; end_line = l.end_line }
 
-abbrev pub first_of : List Lexeme → Lexed → Result (ReadValue Lexeme) ReadFault
-first_of [] l = Err (fault_behind l)
-first_of (t ∷ ts) l = taken t (behind ts l)
+abbrev pub first_token : List Lexeme → Lexed → Result (ReadValue Lexeme) ReadFault
+first_token [] l = Err (fault_after l)
+first_token (t ∷ ts) l = taken t (lexed_after ts l)
 
 -- Any token.
 abbrev pub token : Reader Lexeme
-token l = first_of l.tokens l
+token l = first_token l.tokens l
 
 abbrev pub end_or_fault : Option LexFault → Lexed → Result (ReadValue (Option Lexeme)) ReadFault
 end_or_fault None l = taken None l
-end_or_fault (Some f) l = Err (fault_behind l)
+end_or_fault (Some f) l = Err (fault_after l)
 
 abbrev pub next_of : List Lexeme → Lexed → Result (ReadValue (Option Lexeme)) ReadFault
 next_of [] l = end_or_fault l.fault l
-next_of (t ∷ ts) l = taken (Some t) (behind ts l)
+next_of (t ∷ ts) l = taken (Some t) (lexed_after ts l)
 
 -- Any token, or `None` at the end of the text.
 abbrev pub next : Reader (Option Lexeme)
@@ -150,7 +150,7 @@ finishes s l = taken (record { more = false; state = s }) l
 
 -- Reads statements up to the last, at most this many.
 unfoldable pub statements : {S : Type 0} → Statement S → ℕ → S → Reader S
-statements statement zero s l = Err (fault_behind l)
+statements statement zero s l = Err (fault_after l)
 statements statement (suc n) s l = do
   t ← statement s l
   if t.value.more then statements statement n t.value.state t.rest else taken t.value.state t.rest
@@ -179,9 +179,9 @@ to_semicolon l = block passed_token tt l
 -- Skips a token, given whether the one in front of it is END. The name that is due directly after
 -- END is the last.
 unfoldable pub passed_to_end : List ℕ → Statement Bool
-passed_to_end due behind_end l = do
+passed_to_end due after_end l = do
   t ← token l
-  if behind_end && is due t.value then finishes behind_end t.rest else continues (is (codes "END") t.value) t.rest
+  if after_end && is due t.value then finishes after_end t.rest else continues (is (codes "END") t.value) t.rest
 
 -- Skips up to the next END directly followed by the name, including both.
 unfoldable pub to_end : List ℕ → Reader (Unit {0})

@@ -26,17 +26,17 @@ spaced [] = []
 spaced (w ∷ ws) = 32 ∷ w ++ spaced ws
 
 -- Words with one space between them.
-abbrev pub joined : List (List ℕ) → List ℕ
-joined [] = []
-joined (w ∷ ws) = w ++ spaced ws
+abbrev pub joined_words : List (List ℕ) → List ℕ
+joined_words [] = []
+joined_words (w ∷ ws) = w ++ spaced ws
 
 -- True if the bytes are one word when white space follows.
 abbrev pub is_word_text : List ℕ → Bool
 is_word_text [] = false
 is_word_text (b ∷ bytes) = not (b == 35) && not (b == 34) && list_all is_word_byte (b ∷ bytes)
 
-abbrev pub word_of : List ℕ → PlainToken
-word_of w = record { text = w; kind = Word }
+abbrev pub plain_word : List ℕ → PlainToken
+plain_word w = record { text = w; kind = Word }
 
 -- Holds if the last token of a run is a word and ends at this offset.
 abbrev pub LastIs : ℕ → Lexeme → List Lexeme → Type 0
@@ -46,8 +46,8 @@ LastIs stop t (u ∷ us) = LastIs stop u us
 -- Holds if the splice replaces a run of tokens by words, or inserts words in front of a token.
 abbrev pub ReplacesTokens : Splice → List (List ℕ) → List Lexeme → List Lexeme → Type 0
 ReplacesTokens s ws [] [] = ⊥
-ReplacesTokens s ws [] (t ∷ after) = (s.start ≡ t.start) × (s.stop ≡ t.start) × (s.new ≡ joined ws ++ 32 ∷ [])
-ReplacesTokens s ws (t ∷ middle) after = (s.start ≡ t.start) × LastIs s.stop t middle × (s.new ≡ joined ws)
+ReplacesTokens s ws [] (t ∷ after) = (s.start ≡ t.start) × (s.stop ≡ t.start) × (s.new ≡ joined_words ws ++ 32 ∷ [])
+ReplacesTokens s ws (t ∷ middle) after = (s.start ≡ t.start) × LastIs s.stop t middle × (s.new ≡ joined_words ws)
 
 pub record SpliceStep (s : Splice) (p : List Lexeme) (q : List PlainToken) (Then : List Lexeme → List PlainToken → Type 0) : Type 0 where
   pub before : List Lexeme
@@ -58,7 +58,7 @@ pub record SpliceStep (s : Splice) (p : List Lexeme) (q : List PlainToken) (Then
   pub tokens : p ≡ before ++ (middle ++ after)
   pub makes : ReplacesTokens s words middle after
   pub spelled : list_all is_word_text words ≡ true
-  pub new : q ≡ map plain before ++ (map word_of words ++ later)
+  pub new : q ≡ map plain before ++ (map plain_word words ++ later)
   pub next : Then after later
 
 -- Holds if the splices turn the first run of tokens into the second.

@@ -131,12 +131,12 @@ CutsAtTokens text = (new : List ℕ) (before : List Lexeme) (t : Lexeme) (after 
     → tokens_of (take t.start text ++ new) ≡ with_tokens before (tokens_from 0 t.start t.line new)
 
 -- The kind of a token with these bytes. A quotation mark begins a quoted text.
-abbrev pub kind_of : List ℕ → TokenKind
-kind_of [] = Word
-kind_of (b ∷ bytes) = if b == 34 then Quoted else Word
+abbrev pub token_kind : List ℕ → TokenKind
+token_kind [] = Word
+token_kind (b ∷ bytes) = if b == 34 then Quoted else Word
 
 -- Holds if the first byte determines the kind of the token, and each byte of a word is from 33 to
 -- 126.
 pub record IsSpelled (t : Lexeme) : Type 0 where
-  pub kind : t.kind ≡ kind_of t.text
+  pub kind : t.kind ≡ token_kind t.text
   pub bytes : t.kind ≡ Word → list_all is_word_byte t.text ≡ true

@@ -196,12 +196,12 @@ impl<'d> Block for ToEnd<'d> {
     ghost fails = { IsFault };
 
     #[tactic(auto, unfolding(crate::specs::Reading::passed_to_end))]
-    fn turn(&self, lexer: &mut Lexer, behind_end: &mut bool) -> Result<bool, ReadError> {
+    fn turn(&self, lexer: &mut Lexer, after_end: &mut bool) -> Result<bool, ReadError> {
         let token = token(lexer)?;
-        if *behind_end && is_token(self.due, &token) {
+        if *after_end && is_token(self.due, &token) {
             return Ok(false);
         }
-        *behind_end = is_token(b"END", &token);
+        *after_end = is_token(b"END", &token);
         Ok(true)
     }
 }
@@ -213,8 +213,8 @@ pub fn skip_to_end(lexer: &mut Lexer, due: &[u8]) -> Result<(), ReadError>
     ensures read { Reads (λ x. x) result (reading.to_end due.now) lexer.old lexer.new }
     ensures fault { IfErr result IsFault }
 {
-    let mut behind_end = false;
-    read_block(lexer, &ToEnd { due }, &mut behind_end)
+    let mut after_end = false;
+    read_block(lexer, &ToEnd { due }, &mut after_end)
 }
 
 /// Skips the tokens up to the word that is due.

@@ -35,9 +35,9 @@ position-out test keys none =
     ap (λ t. cond t (Some (position_or_len test keys)) None) (le-ltb (position_or_len test keys) (length keys) (omega arith))
 
 -- A key is new if and only if the set does not have it.
-stands : (new known : Bool) → new ≡ not known → new ≡ false → known ≡ true
-stands new true is old = refl
-stands new false is old = absurd (false≢true (sym old ∙ is))
+is_in_place : (new known : Bool) → new ≡ not known → new ≡ false → known ≡ true
+is_in_place new true is old = refl
+is_in_place new false is old = absurd (false≢true (sym old ∙ is))
 
 fresh : (new known : Bool) → new ≡ not known → new ≡ true → known ≡ false
 fresh new true is added = absurd (false≢true (sym is ∙ added))
@@ -48,7 +48,7 @@ module _ {K : Type 0} (bytes : K → List ℕ) where
   pub present-there : (keys : List K) (names : List (List ℕ)) (name : List ℕ) (at : ℕ) (new : Bool) → map bytes keys ≡ names → new ≡ not (list_any (λ k. bytes_eq name (bytes k)) keys) → new ≡ false
       → at ≡ position_or_len (λ k. bytes_eq name (bytes k)) keys → position_of names name ≡ Some at
   present-there keys names name at new view is old place =
-      sym (position-keys bytes keys names name view) ∙ position-known (λ k. bytes_eq name (bytes k)) keys (stands new _ is old) ∙ ap Some (sym place)
+      sym (position-keys bytes keys names name view) ∙ position-known (λ k. bytes_eq name (bytes k)) keys (is_in_place new _ is old) ∙ ap Some (sym place)
 
   pub absent-there : (keys : List K) (names : List (List ℕ)) (name : List ℕ) → map bytes keys ≡ names → list_any (λ k. bytes_eq name (bytes k)) keys ≡ false → position_of names name ≡ None
   absent-there keys names name view none = sym (position-keys bytes keys names name view) ∙ position-out (λ k. bytes_eq name (bytes k)) keys none
@@ -70,4 +70,4 @@ module _ {K : Type 0} (bytes : K → List ℕ) where
   pub names-same : (keys after : List K) (key : K) (names : List (List ℕ)) (new : Bool) → map bytes keys ≡ names → new ≡ not (list_any (λ k. bytes_eq (bytes key) (bytes k)) keys) → new ≡ false
       → after ≡ (if list_any (λ k. bytes_eq (bytes key) (bytes k)) keys then keys else keys ++ key ∷ []) → map bytes after ≡ names
   names-same keys after key names new view is old made =
-      ap (map bytes) (made ∙ ap (λ t. cond t keys (keys ++ key ∷ [])) (stands new _ is old)) ∙ view
+      ap (map bytes) (made ∙ ap (λ t. cond t keys (keys ++ key ∷ [])) (is_in_place new _ is old)) ∙ view

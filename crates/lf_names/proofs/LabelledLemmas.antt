@@ -10,11 +10,11 @@ use Rattle.std.specs.Option.{option_to_list}
 use Rattle.std.specs.Prelude.{None, Some}
 use Rattle.lf_names.specs.Names.{position_of}
 use Rattle.lf_names.specs.Labels.{Labelled, Differ, match_of, matches_of}
-use Rattle.lf_names.specs.NameParts.{StoresNames, joined, entry_of}
+use Rattle.lf_names.specs.NameParts.{StoresNames, stored_bytes, entry_of}
 use Rattle.lf_names.specs.declared.entries.Entry.{Entry}
 use Rattle.lf_names.specs.declared.partitioned.Match.{Match}
 use Rattle.lf_names.specs.declared.partitioned.LabelledNames.{LabelledNames}
-use Rattle.lf_names.proofs.Positions.{stands_nowhere, stands_there}
+use Rattle.lf_names.proofs.Positions.{has_no_place, is_found_there}
 
 no_name : Labelled
 no_name = record { label = 0; name = [] }
@@ -49,18 +49,18 @@ read store names i e keeps within is =
     }
 
 -- The bytes of the name, and those after it.
-pub cut_front : (names : List Labelled) (i : ℕ) (e : Entry) (r : IsRead names i e) (bytes : List ℕ) → bytes ≡ joined (drop i names) → take e.len bytes ≡ r.one.name
+pub cut_front : (names : List Labelled) (i : ℕ) (e : Entry) (r : IsRead names i e) (bytes : List ℕ) → bytes ≡ stored_bytes (drop i names) → take e.len bytes ≡ r.one.name
 cut_front names i e r bytes is =
-    ap (λ (f : Entry). take f.len bytes) r.entry ∙ ap (take (length r.one.name)) (is ∙ ap joined r.left) ∙ take-append_seam r.one.name (joined (drop (i + 1) names))
+    ap (λ (f : Entry). take f.len bytes) r.entry ∙ ap (take (length r.one.name)) (is ∙ ap stored_bytes r.left) ∙ take-append_seam r.one.name (stored_bytes (drop (i + 1) names))
 
-pub cut_back : (names : List Labelled) (i : ℕ) (e : Entry) (r : IsRead names i e) (bytes : List ℕ) → bytes ≡ joined (drop i names) → drop e.len bytes ≡ joined (drop (i + 1) names)
+pub cut_back : (names : List Labelled) (i : ℕ) (e : Entry) (r : IsRead names i e) (bytes : List ℕ) → bytes ≡ stored_bytes (drop i names) → drop e.len bytes ≡ stored_bytes (drop (i + 1) names)
 cut_back names i e r bytes is =
-    ap (λ (f : Entry). drop f.len bytes) r.entry ∙ ap (drop (length r.one.name)) (is ∙ ap joined r.left) ∙ drop-append_seam r.one.name (joined (drop (i + 1) names))
+    ap (λ (f : Entry). drop f.len bytes) r.entry ∙ ap (drop (length r.one.name)) (is ∙ ap stored_bytes r.left) ∙ drop-append_seam r.one.name (stored_bytes (drop (i + 1) names))
 
 -- A name without a position may follow names that differ.
 pub differ_more : (names : List (List ℕ)) (name : List ℕ) → position_of names name ≡ None → AllPairs (λ earlier later. earlier ≢ later) names → AllPairs (λ earlier later. earlier ≢ later) (names ++ name ∷ [])
 differ_more names name new differ =
-    all_pairs_push (λ earlier later. earlier ≢ later) names name differ (λ k d within same. stands_nowhere names name new (k, within, get_or_default names k name d within ∙ same))
+    all_pairs_push (λ earlier later. earlier ≢ later) names name differ (λ k d within same. has_no_place names name new (k, within, get_or_default names k name d within ∙ same))
 
 -- Labelled names differ if their names do.
 pub differ_labelled : (names : List Labelled) → AllPairs (λ earlier later. earlier ≢ later) (map (λ n. n.name) names) → Differ names
@@ -77,9 +77,9 @@ differ_names names differ i j d less within same =
     differ i j no_name less late (sym (get_or-map (λ n. n.name) names i no_name d early) ∙ same ∙ get_or-map (λ n. n.name) names j no_name d late)
 
 -- A name with a position among the earlier names is in the list twice.
-pub stands_twice : (names : List Labelled) (i : ℕ) (e : Entry) (r : IsRead names i e) (at : ℕ) → position_of (map (λ n. n.name) (take i names)) r.one.name ≡ Some at → Differ names → ⊥
-stands_twice names i e r at known differ =
-    let there : slice_get (map (λ n. n.name) (take i names)) at ≡ Some r.one.name = stands_there (map (λ n. n.name) (take i names)) r.one.name at known in
+pub occurs_twice : (names : List Labelled) (i : ℕ) (e : Entry) (r : IsRead names i e) (at : ℕ) → position_of (map (λ n. n.name) (take i names)) r.one.name ≡ Some at → Differ names → ⊥
+occurs_twice names i e r at known differ =
+    let there : slice_get (map (λ n. n.name) (take i names)) at ≡ Some r.one.name = is_found_there (map (λ n. n.name) (take i names)) r.one.name at known in
     let before : at < length (map (λ (n : Labelled). n.name) (take i names)) = slice_get_within (map (λ n. n.name) (take i names)) at r.one.name there in
     let many : length (map (λ (n : Labelled). n.name) (take i names)) ≡ length (take i names) = length-map (take i names) (λ n. n.name) in
     let long : length (take i names) ≡ i = length-take-le i names (omega (arith, r.within)) in

@@ -17,7 +17,7 @@ use Rattle.lf_names.specs.declared.partitioned.Match.{Match}
 use Rattle.lf_names.specs.declared.partitioned.LabelledNames.{LabelledNames}
 use Rattle.lf_names.proofs.Gathered.{gathered, all_gathered, filter_map_same}
 use Rattle.lf_names.proofs.LabelledLemmas.{differ_names}
-use Rattle.lf_names.proofs.Positions.{stands_there, found_there}
+use Rattle.lf_names.proofs.Positions.{is_found_there, found_there}
 
 -- A part is one of the parts.
 pub part_within : (name : List ℕ) → part_of name < part_count
@@ -33,15 +33,15 @@ module _ {X : Type 0} (p : X → Bool) where
   kept : (xs : List X) (x : X) → p x ≡ true → Contains xs x → Contains (filter p xs) x
   kept [] x passes there = let none : there.0 < 0 = there.1 in absurd (omega arith)
   kept (y ∷ xs) x passes (zero, within, is) = subst (λ t. Contains (cond t (y ∷ filter p xs) (filter p xs)) x) (sym (ap p is ∙ passes)) (0, omega arith, is)
-  kept (y ∷ xs) x passes (suc k, within, is) = behind (p y) (kept xs x passes (k, omega arith, is))
+  kept (y ∷ xs) x passes (suc k, within, is) = after_it (p y) (kept xs x passes (k, omega arith, is))
     where
-      behind : (t : Bool) → Contains (filter p xs) x → Contains (cond t (y ∷ filter p xs) (filter p xs)) x
-      behind true there = Contains-append_right (y ∷ []) (filter p xs) x there
-      behind false there = there
+      after_it : (t : Bool) → Contains (filter p xs) x → Contains (cond t (y ∷ filter p xs) (filter p xs)) x
+      after_it true there = Contains-append_right (y ∷ []) (filter p xs) x there
+      after_it false there = there
 
-  stood : (xs : List X) (x : X) → Contains (filter p xs) x → Contains xs x
-  stood [] x there = there
-  stood (y ∷ xs) x there = by (p y) there (stood xs x)
+  original_place : (xs : List X) (x : X) → Contains (filter p xs) x → Contains xs x
+  original_place [] x there = there
+  original_place (y ∷ xs) x there = by (p y) there (original_place xs x)
     where
       by : (t : Bool) → Contains (cond t (y ∷ filter p xs) (filter p xs)) x → (Contains (filter p xs) x → Contains xs x) → Contains (y ∷ xs) x
       by true there more = elim (Contains-append_cases (y ∷ []) (filter p xs) x there) [
@@ -66,11 +66,11 @@ module _ {X Y : Type 0} (f : X → Option Y) (y : Y) where
   gives : (xs : List X) (x : X) → Contains xs x → f x ≡ Some y → Contains (filter_map f xs) y
   gives [] x there e = let none : there.0 < 0 = there.1 in absurd (omega arith)
   gives (w ∷ xs) x (zero, within, is) e = subst (λ o. Contains (cons_option o (filter_map f xs)) y) (sym (ap f is ∙ e)) (0, omega arith, refl)
-  gives (w ∷ xs) x (suc k, within, is) e = behind (f w) (gives xs x (k, omega arith, is) e)
+  gives (w ∷ xs) x (suc k, within, is) e = after_it (f w) (gives xs x (k, omega arith, is) e)
     where
-      behind : (o : Option Y) → Contains (filter_map f xs) y → Contains (cons_option o (filter_map f xs)) y
-      behind None there = there
-      behind (Some z) there = Contains-append_right (z ∷ []) (filter_map f xs) y there
+      after_it : (o : Option Y) → Contains (filter_map f xs) y → Contains (cons_option o (filter_map f xs)) y
+      after_it None there = there
+      after_it (Some z) there = Contains-append_right (z ∷ []) (filter_map f xs) y there
 
 -- Names that differ have one label each.
 named : (o : Option Labelled) (name : List ℕ) → option_map (λ n. n.name) o ≡ Some name → (n : Labelled) × (o ≡ Some n) × (n.name ≡ name)
@@ -91,7 +91,7 @@ has_label names name label e = by (position_of (map (λ n. n.name) names) name) 
         let none : None ≡ Some label = sym (ap (option_and_then (λ at. option_map (λ (n : Labelled). n.label) (slice_get names at))) known) ∙ e in
         absurd (cc)
     by (Some i) known =
-        let there = named (slice_get names i) name (sym (slice_get-map (λ n. n.name) names i) ∙ stands_there (map (λ n. n.name) names) name i known) in
+        let there = named (slice_get names i) name (sym (slice_get-map (λ n. n.name) names i) ∙ is_found_there (map (λ n. n.name) names) name i known) in
         let same : there.0.label ≡ label = label_there there.0 i known there.1 in
         let is : ◌≡◌ {A = Labelled} there.0 (record { label = label; name = name }) = ap (λ l. record { label = l; name = there.0.name }) same ∙ ap (λ m. record { label = label; name = m }) there.2 in
         subst (Contains names) is (i, slice_get_within names i there.0 there.1, get_or_from_slice_get names i there.0 there.0 there.1)
@@ -104,33 +104,33 @@ label_is names differ n there =
     ap (option_and_then (λ i. option_map (λ (m : Labelled). m.label) (slice_get names i))) known ∙ ap (option_map (λ (m : Labelled). m.label)) at
 
 -- The matches of one part whose names differ.
-matched : (names asked : List Labelled) → Differ names → (m : Match) → Contains (matches_of names asked) m ↔ IsMatch names asked m
-matched names asked differ m = (forth, back)
+matched : (names requested : List Labelled) → Differ names → (m : Match) → Contains (matches_of names requested) m ↔ IsMatch names requested m
+matched names requested differ m = (forth, back)
   where
-    forth : Contains (matches_of names asked) m → IsMatch names asked m
-    forth there = let q = given (match_of names) m asked there in by q.0 q.1 (label_in names q.0.name) refl q.2
+    forth : Contains (matches_of names requested) m → IsMatch names requested m
+    forth there = let q = given (match_of names) m requested there in by q.0 q.1 (label_in names q.0.name) refl q.2
       where
-        by : (q : Labelled) → Contains asked q → (o : Option ℕ) → label_in names q.name ≡ o → match_of names q ≡ Some m → IsMatch names asked m
-        by q stands None e is = let none : None ≡ Some m = sym (ap (option_map (labels_of q.label)) e) ∙ is in absurd (cc)
-        by q stands (Some own) e is =
+        by : (q : Labelled) → Contains requested q → (o : Option ℕ) → label_in names q.name ≡ o → match_of names q ≡ Some m → IsMatch names requested m
+        by q is_in_place None e is = let none : None ≡ Some m = sym (ap (option_map (labels_of q.label)) e) ∙ is in absurd (cc)
+        by q is_in_place (Some own) e is =
             let some : Some (labels_of q.label own) ≡ Some m = sym (ap (option_map (labels_of q.label)) e) ∙ is in
             let same : labels_of q.label own ≡ m = cc in
             record {
               name = q.name;
               is_own = has_label names q.name m.own (e ∙ ap (λ (l : Match). Some l.own) same);
-              is_asked = subst (λ l. Contains asked (record { label = l; name = q.name })) (ap (λ (l : Match). l.asked) same) stands;
+              is_requested = subst (λ l. Contains requested (record { label = l; name = q.name })) (ap (λ (l : Match). l.requested) same) is_in_place;
             }
 
-    back : IsMatch names asked m → Contains (matches_of names asked) m
-    back is = gives (match_of names) m asked (record { label = m.asked; name = is.name }) is.is_asked (ap (option_map (labels_of m.asked)) (label_is names differ (record { label = m.own; name = is.name }) is.is_own))
+    back : IsMatch names requested m → Contains (matches_of names requested) m
+    back is = gives (match_of names) m requested (record { label = m.requested; name = is.name }) is.is_requested (ap (option_map (labels_of m.requested)) (label_is names differ (record { label = m.own; name = is.name }) is.is_own))
 
 -- Names differ if and only if they differ in each part.
 pub differ_in_part : (names : List Labelled) (part : ℕ) → Differ names → Differ (names_of_part part names)
 differ_in_part names part differ = AllPairs-filter (λ n later. n.name ≢ later.name) (λ n. part_of n.name == part) names differ
 
-behind_differ : (n : Labelled) (names : List Labelled) (t : Bool) → Differ (cond t (n ∷ names) names) → Differ names
-behind_differ n names true differ = λ i j d less within. differ (suc i) (suc j) d (omega arith) (omega arith)
-behind_differ n names false differ = differ
+after_differ : (n : Labelled) (names : List Labelled) (t : Bool) → Differ (cond t (n ∷ names) names) → Differ names
+after_differ n names true differ = λ i j d less within. differ (suc i) (suc j) d (omega arith) (omega arith)
+after_differ n names false differ = differ
 
 -- A name that differs from the later names of its part differs from all later names.
 differs_from : (n : Labelled) (names : List Labelled) (part : ℕ) → part_of n.name ≡ part → Differ (names_of_part part (n ∷ names)) → All (λ later. n.name ≢ later.name) names
@@ -146,7 +146,7 @@ all_differ [] parts = λ i j d less within. absurd (omega arith)
 all_differ (n ∷ names) parts =
     AllPairs-cons (λ m later. m.name ≢ later.name) n names
     (differs_from n names (part_of n.name) refl (parts (part_of n.name) (part_within n.name)))
-    (all_differ names (λ k below. behind_differ n (names_of_part k names) (part_of n.name == k) (parts k below)))
+    (all_differ names (λ k below. after_differ n (names_of_part k names) (part_of n.name == k) (parts k below)))
 
 -- If names differ, a name has the label that it has in its part.
 label_in_part : (names : List Labelled) → Differ names → (name : List ℕ) → label_in (names_of_part (part_of name) names) name ≡ label_in names name
@@ -160,29 +160,29 @@ label_in_part names differ name = by (label_in names name) refl (label_in (names
     by None e None inside = inside ∙ sym e
     by None e (Some label) inside =
         let n : Labelled = record { label = label; name = name } in
-        let there : Contains names n = stood (λ m. part_of m.name == part_of name) names n (has_label (names_of_part (part_of name) names) name label inside) in
+        let there : Contains names n = original_place (λ m. part_of m.name == part_of name) names n (has_label (names_of_part (part_of name) names) name label inside) in
         let known : label_in names name ≡ Some label = label_is names differ n there in
         absurd (cc)
 
 -- The matches of the parts below this one, part by part.
 abbrev pub matches_below : List Labelled → List Labelled → ℕ → List Match
-matches_below names asked part = gathered (λ q. part_of q.name) (λ k. match_of (names_of_part k names)) part asked
+matches_below names requested part = gathered (λ q. part_of q.name) (λ k. match_of (names_of_part k names)) part requested
 
 -- All parts together have the matches of the requested names.
-pub all_matched : (names asked : List Labelled) (matches : List Match) (part : ℕ) → part ≡ part_count → ((k : ℕ) → k < part → Differ (names_of_part k names)) → matches ≡ matches_below names asked part → IsPermutation (matches_of names asked) matches
-all_matched names asked matches part many parts are =
+pub all_matched : (names requested : List Labelled) (matches : List Match) (part : ℕ) → part ≡ part_count → ((k : ℕ) → k < part → Differ (names_of_part k names)) → matches ≡ matches_below names requested part → IsPermutation (matches_of names requested) matches
+all_matched names requested matches part many parts are =
     let differ : Differ names = all_differ names (subst (λ n. (k : ℕ) → k < n → Differ (names_of_part k names)) many parts) in
-    let all : matches ≡ matches_below names asked part_count = are ∙ ap (matches_below names asked) many in
+    let all : matches ≡ matches_below names requested part_count = are ∙ ap (matches_below names requested) many in
     let inside : Labelled → Option Match = λ q. match_of (names_of_part (part_of q.name) names) q in
-    let same : filter_map inside asked ≡ matches_of names asked = filter_map_same inside (match_of names) asked (λ q. ap (option_map (labels_of q.label)) (label_in_part names differ q.name)) in
-    let found : IsPermutation (matches_below names asked part_count) (filter_map inside asked) = all_gathered (λ q. part_of q.name) (λ k. match_of (names_of_part k names)) part_count asked (λ q. part_within q.name) in
-    IsPermutation-sym matches (matches_of names asked) (subst (λ ms. IsPermutation ms (matches_of names asked)) (sym all) (subst (IsPermutation (matches_below names asked part_count)) same found))
+    let same : filter_map inside requested ≡ matches_of names requested = filter_map_same inside (match_of names) requested (λ q. ap (option_map (labels_of q.label)) (label_in_part names differ q.name)) in
+    let found : IsPermutation (matches_below names requested part_count) (filter_map inside requested) = all_gathered (λ q. part_of q.name) (λ k. match_of (names_of_part k names)) part_count requested (λ q. part_within q.name) in
+    IsPermutation-sym matches (matches_of names requested) (subst (λ ms. IsPermutation ms (matches_of names requested)) (sym all) (subst (IsPermutation (matches_below names requested part_count)) same found))
 
 -- A list that has the matches of the requested names has no others.
-pub are_matches : (names asked : List Labelled) (matches : List Match) → Differ names → IsPermutation (matches_of names asked) matches → AreMatches names asked matches
-are_matches names asked matches differ same m = (
-  λ there. (matched names asked differ m).0 (Contains-permutation matches (matches_of names asked) m (IsPermutation-sym (matches_of names asked) matches same) there),
-  λ is. Contains-permutation (matches_of names asked) matches m same ((matched names asked differ m).1 is),
+pub are_matches : (names requested : List Labelled) (matches : List Match) → Differ names → IsPermutation (matches_of names requested) matches → AreMatches names requested matches
+are_matches names requested matches differ same m = (
+  λ there. (matched names requested differ m).0 (Contains-permutation matches (matches_of names requested) m (IsPermutation-sym (matches_of names requested) matches same) there),
+  λ is. Contains-permutation (matches_of names requested) matches m same ((matched names requested differ m).1 is),
 )
 
 -- One more name, in its part.

@@ -10,22 +10,22 @@ use Rattle.std.specs.List.{filter, filter_map, flat_map}
 use Rattle.std.specs.List.Sorted.{IsPermutation}
 use Rattle.std.specs.Prelude.{◌==◌}
 use Rattle.lf_names.specs.Labels.{Labelled}
-use Rattle.lf_names.specs.NameParts.{StoresNames, ArePartsOf, AreParted, part_of, part_count, joined, entry_of, cut_names, names_of_part, names_of_parts}
+use Rattle.lf_names.specs.NameParts.{StoresNames, ArePartsOf, AreParted, part_of, part_count, stored_bytes, entry_of, cut_names, names_of_part, names_of_parts}
 use Rattle.lf_names.specs.declared.partitioned.LabelledNames.{LabelledNames}
 use Rattle.lf_names.proofs.Gathered.{gathered, all_gathered}
 use Rattle.lf_names.proofs.PartLemmas.{part_within}
 
 -- The entries cut the joined bytes of names into these names.
-cut_joined : (names : List Labelled) → cut_names (map entry_of names) (joined names) ≡ names
+cut_joined : (names : List Labelled) → cut_names (map entry_of names) (stored_bytes names) ≡ names
 cut_joined [] = refl
 cut_joined (n ∷ names) =
-    ap (λ bytes. record { label = n.label; name = bytes } ∷ cut_names (map entry_of names) (drop (length n.name) (joined (n ∷ names))))
-    (take-append_seam n.name (joined names))
-    ∙ ap (λ bytes. n ∷ cut_names (map entry_of names) bytes) (drop-append_seam n.name (joined names))
+    ap (λ bytes. record { label = n.label; name = bytes } ∷ cut_names (map entry_of names) (drop (length n.name) (stored_bytes (n ∷ names))))
+    (take-append_seam n.name (stored_bytes names))
+    ∙ ap (λ bytes. n ∷ cut_names (map entry_of names) bytes) (drop-append_seam n.name (stored_bytes names))
     ∙ ap (λ ns. n ∷ ns) (cut_joined names)
 
 cut_kept : (store : LabelledNames) (names : List Labelled) → StoresNames store names → cut_names store.entries store.bytes.items ≡ names
-cut_kept store names keeps = ap (λ bytes. cut_names store.entries bytes) keeps.bytes ∙ ap (λ entries. cut_names entries (joined names)) keeps.entries ∙
+cut_kept store names keeps = ap (λ bytes. cut_names store.entries bytes) keeps.bytes ∙ ap (λ entries. cut_names entries (stored_bytes names)) keeps.entries ∙
     cut_joined names
 
 -- The names of the parts below this one, part by part.
@@ -148,6 +148,6 @@ view_kept names parts are = record {
 }
 
 -- Borrowed parts have the names that are seen.
-pub view_lent : (names : List Labelled) (parts lent : List LabelledNames) → names_of_parts parts ≡ names → lent ≡ parts → AreParted parts →
-    ArePartsOf names lent
-view_lent names parts lent seen same are = subst (ArePartsOf names) (sym same) (subst (λ ns. ArePartsOf ns parts) seen are)
+pub view_borrowed : (names : List Labelled) (parts borrowed_view : List LabelledNames) → names_of_parts parts ≡ names → borrowed_view ≡ parts → AreParted parts →
+    ArePartsOf names borrowed_view
+view_borrowed names parts borrowed_view seen same are = subst (ArePartsOf names) (sym same) (subst (λ ns. ArePartsOf ns parts) seen are)

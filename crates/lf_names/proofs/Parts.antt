@@ -5,8 +5,8 @@ use Rattle.std.proofs.lemmas.Bool.{false≢true}
 use Rattle.std.proofs.lemmas.Bool.Decides.{Decides-eqb}
 use Rattle.std.proofs.lemmas.Slice.Eq.{ends_is}
 use Rattle.std.specs.List.{ends_with}
-use Rattle.lf_names.specs.Pattern.{Part, byte, star, parts_of, bytes_before_star, bytes_behind_star, Becomes, IsLiteral}
-use Rattle.lf_names.specs.Places.{IsBehindFirst}
+use Rattle.lf_names.specs.Pattern.{Part, byte, star, parts_of, bytes_before_star, bytes_after_star, Becomes, IsLiteral}
+use Rattle.lf_names.specs.Places.{IsAfterFirst}
 
 -- Bytes become themselves.
 pub bytes_front : (piece : List ℕ) (parts : List Part) (name : List ℕ) → Becomes (map byte piece ++ parts) name → (rest : List ℕ) × (name ≡ piece ++ rest) × Becomes parts rest
@@ -54,7 +54,7 @@ module _ (parts more : List Part) (piece : List ℕ) (is : parts ≡ map byte pi
   not_at_front name apart h = let o = opened name h in apart o.0 o.1
 
   -- Between two stars the first occurrence of the piece serves as well as any.
-  pub at_first : (name rest : List ℕ) → IsBehindFirst name piece rest → Becomes (star ∷ parts) name ↔ Becomes (star ∷ more) rest
+  pub at_first : (name rest : List ℕ) → IsAfterFirst name piece rest → Becomes (star ∷ parts) name ↔ Becomes (star ∷ more) rest
   at_first name rest place = (
     λ h.
         let o = opened h.1 h.3 in
@@ -111,29 +111,29 @@ begins_before_star (byte c ∷ parts) name h =
 begins_before_star (star ∷ parts) name h = (name, refl)
 
 -- The bytes after the last star are found in the parts after any star.
-pub behind_star : (seen piece : List ℕ) (more : List Part) → bytes_behind_star seen (map byte piece ++ star ∷ more) ≡ bytes_behind_star [] more
-behind_star seen [] more = refl
-behind_star seen (c ∷ piece) more = behind_star (seen ++ c ∷ []) piece more
+pub after_star : (seen piece : List ℕ) (more : List Part) → bytes_after_star seen (map byte piece ++ star ∷ more) ≡ bytes_after_star [] more
+after_star seen [] more = refl
+after_star seen (c ∷ piece) more = after_star (seen ++ c ∷ []) piece more
 
-pub behind_no_star : (seen piece : List ℕ) → bytes_behind_star seen (map byte piece) ≡ seen ++ piece
-behind_no_star seen [] = sym (append-nil seen)
-behind_no_star seen (c ∷ piece) = behind_no_star (seen ++ c ∷ []) piece ∙ append_assoc seen (c ∷ []) piece
+pub after_no_star : (seen piece : List ℕ) → bytes_after_star seen (map byte piece) ≡ seen ++ piece
+after_no_star seen [] = sym (append-nil seen)
+after_no_star seen (c ∷ piece) = after_no_star (seen ++ c ∷ []) piece ∙ append_assoc seen (c ∷ []) piece
 
 -- Whatever the parts become, with the bytes seen in front of it, ends with the bytes after their
 -- last star.
-seen_ends_behind_star : (parts : List Part) (seen name : List ℕ) → Becomes parts name → (run : List ℕ) × (seen ++ name ≡ run ++ bytes_behind_star seen parts)
-seen_ends_behind_star [] seen name h = ([], ap (λ l. seen ++ l) h ∙ append-nil seen)
-seen_ends_behind_star (byte c ∷ parts) seen name h =
-    let more = seen_ends_behind_star parts (seen ++ c ∷ []) h.0 h.2 in
+seen_ends_after_star : (parts : List Part) (seen name : List ℕ) → Becomes parts name → (run : List ℕ) × (seen ++ name ≡ run ++ bytes_after_star seen parts)
+seen_ends_after_star [] seen name h = ([], ap (λ l. seen ++ l) h ∙ append-nil seen)
+seen_ends_after_star (byte c ∷ parts) seen name h =
+    let more = seen_ends_after_star parts (seen ++ c ∷ []) h.0 h.2 in
     (more.0, ap (λ l. seen ++ l) h.1 ∙ sym (append_assoc seen (c ∷ []) h.0) ∙ more.1)
-seen_ends_behind_star (star ∷ parts) seen name h =
-    let more = seen_ends_behind_star parts [] h.1 h.3 in
-    let ends : List ℕ = bytes_behind_star [] parts in (
+seen_ends_after_star (star ∷ parts) seen name h =
+    let more = seen_ends_after_star parts [] h.1 h.3 in
+    let ends : List ℕ = bytes_after_star [] parts in (
       seen ++ (h.0 ++ more.0),
       ap (λ l. seen ++ l) (h.2 ∙ ap (λ l. h.0 ++ l) more.1 ∙ sym (append_assoc h.0 more.0 ends)) ∙ sym (append_assoc seen (h.0 ++ more.0) ends),
     )
 
 -- Whatever the parts become ends with the bytes after their last star. A caller's proof may cite
 -- this.
-pub ends_behind_star : (parts : List Part) (name : List ℕ) → Becomes parts name → (run : List ℕ) × (name ≡ run ++ bytes_behind_star [] parts)
-ends_behind_star parts name h = seen_ends_behind_star parts [] name h
+pub ends_after_star : (parts : List Part) (name : List ℕ) → Becomes parts name → (run : List ℕ) × (name ≡ run ++ bytes_after_star [] parts)
+ends_after_star parts name h = seen_ends_after_star parts [] name h

@@ -2,7 +2,7 @@
 use Rattle.std.proofs.Common.{◌≡◌, ℕ, ◌≤◌, List, [], ◌∷◌, ◌++◌, length, drop, sym, ap, ◌∙◌, append_assoc, arith, length-append}
 use Rattle.std.proofs.Math.Seq.{drop-append_seam}
 use Rattle.std.proofs.lemmas.List.{drop-append-le}
-use Rattle.lf_names.specs.Places.{IsBehindFirst}
+use Rattle.lf_names.specs.Places.{IsAfterFirst}
 
 -- An end of the name in which every occurrence of the piece lies.
 pub record IsEndWithAll (name piece end : List ℕ) : Type 0 where
@@ -32,16 +32,16 @@ no_place name piece end h empty apart before rest e = let at = h.all before rest
     ahead (d ∷ front) is = cc
 
 -- The bytes after a later occurrence of the piece are an end of those after an earlier one.
-behind : (piece rest ahead later : List ℕ) → piece ++ rest ≡ ahead ++ (piece ++ later) → (more : List ℕ) × (rest ≡ more ++ later)
-behind piece rest ahead later e =
+after_it : (piece rest ahead later : List ℕ) → piece ++ rest ≡ ahead ++ (piece ++ later) → (more : List ℕ) × (rest ≡ more ++ later)
+after_it piece rest ahead later e =
     let fits : length piece ≤ length (ahead ++ piece) = simp length-append (omega arith) in (
       drop (length piece) (ahead ++ piece),
       sym (drop-append_seam piece rest) ∙ ap (drop (length piece)) (e ∙ sym (append_assoc ahead piece later)) ∙ drop-append-le (length piece) (ahead ++ piece) later fits,
     )
 
 -- The bytes after the piece at the front of an end.
-pub first_place : (name piece end rest : List ℕ) → IsEndWithAll name piece end → end ≡ piece ++ rest → IsBehindFirst name piece rest
+pub first_place : (name piece end rest : List ℕ) → IsEndWithAll name piece end → end ≡ piece ++ rest → IsAfterFirst name piece rest
 first_place name piece end rest h at = record {
   found = (h.before, h.is ∙ ap (λ l. h.before ++ l) at);
-  first = λ before later e. let other = h.all before later e in behind piece rest other.0 later (sym at ∙ other.1);
+  first = λ before later e. let other = h.all before later e in after_it piece rest other.0 later (sym at ∙ other.1);
 }

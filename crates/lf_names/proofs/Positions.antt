@@ -10,8 +10,8 @@ use Rattle.std.specs.Str.{bytes_eq}
 use Rattle.lf_names.specs.Names.{position_of}
 
 -- The name is at its position.
-pub stands_there : (names : List (List ℕ)) (name : List ℕ) (at : ℕ) → position_of names name ≡ Some at → slice_get names at ≡ Some name
-stands_there names name at e =
+pub is_found_there : (names : List (List ℕ)) (name : List ℕ) (at : ℕ) → position_of names name ≡ Some at → slice_get names at ≡ Some name
+is_found_there names name at e =
     let found = position-Some (bytes_eq name) names at [] e in
     let same : name ≡ get_or names at [] = (bytes_eq-Decides name (get_or names at [])).0 found.1 in
     slice_get-get_or names at [] found.0 ∙ ap Some (sym same)
@@ -27,8 +27,8 @@ place_within test (name ∷ names) k d within passes = by (test name) refl k wit
     by false e (suc k) w p rest = let below : position_or_len test names < length names = rest k (omega arith) p in rw e (omega arith)
 
 -- A name without a position is not in the list.
-pub stands_nowhere : (names : List (List ℕ)) (name : List ℕ) → position_of names name ≡ None → Contains names name → ⊥
-stands_nowhere names name e there =
+pub has_no_place : (names : List (List ℕ)) (name : List ℕ) → position_of names name ≡ None → Contains names name → ⊥
+has_no_place names name e there =
     let passes : bytes_eq name (get_or names there.0 name) ≡ true = (bytes_eq-Decides name (get_or names there.0 name)).1 (sym there.2) in
     let within : position_or_len (bytes_eq name) names < length names = place_within (bytes_eq name) names there.0 name there.1 passes in
     let test : nat_lt (position_or_len (bytes_eq name) names) (length names) ≡ true = lt-ltb _ _ within in
@@ -52,9 +52,9 @@ found_there names name at distinct e =
 
 -- The result of a lookup, as plain facts.
 pub found : (names : List (List ℕ)) (name : List ℕ) (answer : Option ℕ) → answer ≡ position_of names name → IfSome answer (λ at. slice_get names at ≡ Some name)
-found names name (Some at) e = stands_there names name at (sym e)
+found names name (Some at) e = is_found_there names name at (sym e)
 found names name None e = tt
 
 pub absent : (names : List (List ℕ)) (name : List ℕ) (answer : Option ℕ) → answer ≡ position_of names name → IfNone answer (¬ Contains names name)
 absent names name (Some at) e = tt
-absent names name None e = stands_nowhere names name (sym e)
+absent names name None e = has_no_place names name (sym e)

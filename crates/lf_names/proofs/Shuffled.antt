@@ -29,10 +29,10 @@ differ_shuffled names shuffled same differ =
     (IsDistinct-from_AllPairs bytes_eq-Decides (map (λ n. n.name) names) (differ_names names differ))))
 
 -- The matches of names are those of the names in any order.
-pub matches_shuffled : (names shuffled asked : List Labelled) (matches : List Match) → IsPermutation names shuffled → AreMatches shuffled asked matches →
-    AreMatches names asked matches
-matches_shuffled names shuffled asked matches same are m = (
-  λ there. let one : IsMatch shuffled asked m = (are m).0 there in record
-      { name = one.name; is_own = Contains-permutation shuffled names _ (IsPermutation-sym names shuffled same) one.is_own; is_asked = one.is_asked },
-  λ one. (are m).1 (record { name = one.name; is_own = Contains-permutation names shuffled _ same one.is_own; is_asked = one.is_asked }),
+pub matches_shuffled : (names shuffled requested : List Labelled) (matches : List Match) → IsPermutation names shuffled → AreMatches shuffled requested matches →
+    AreMatches names requested matches
+matches_shuffled names shuffled requested matches same are m = (
+  λ there. let one : IsMatch shuffled requested m = (are m).0 there in record
+      { name = one.name; is_own = Contains-permutation shuffled names _ (IsPermutation-sym names shuffled same) one.is_own; is_requested = one.is_requested },
+  λ one. (are m).1 (record { name = one.name; is_own = Contains-permutation names shuffled _ same one.is_own; is_requested = one.is_requested }),
 )

@@ -15,14 +15,14 @@ abbrev pub Differ : List Labelled → Type 0
 Differ names = AllPairs (λ n later. n.name ≢ later.name) names
 
 -- Holds if one name is in both lists, with these labels.
-pub record IsMatch (names asked : List Labelled) (m : Match) : Type 0 where
+pub record IsMatch (names requested : List Labelled) (m : Match) : Type 0 where
   pub name : List ℕ
   pub is_own : Contains names (record { label = m.own; name = name })
-  pub is_asked : Contains asked (record { label = m.asked; name = name })
+  pub is_requested : Contains requested (record { label = m.requested; name = name })
 
 -- Holds if these are the matches of two lists, in any order.
 abbrev pub AreMatches : List Labelled → List Labelled → List Match → Type 0
-AreMatches names asked matches = (m : Match) → Contains matches m ↔ IsMatch names asked m
+AreMatches names requested matches = (m : Match) → Contains matches m ↔ IsMatch names requested m
 
 -- The label that a name has in this list, if it is in the list. The first label if the name is in
 -- the list twice.
@@ -31,7 +31,7 @@ label_in names name = option_and_then (λ at. option_map (λ n. n.label) (slice_
 
 -- The label of a name in the list, with its label among the requested names.
 abbrev pub labels_of : ℕ → ℕ → Match
-labels_of asked own = record { own = own; asked = asked }
+labels_of requested own = record { own = own; requested = requested }
 
 -- The match of a requested name, if the list has it.
 abbrev pub match_of : List Labelled → Labelled → Option Match
@@ -39,4 +39,4 @@ match_of names q = option_map (labels_of q.label) (label_in names q.name)
 
 -- The matches of the requested names that the list has, in the order of the requested names.
 abbrev pub matches_of : List Labelled → List Labelled → List Match
-matches_of names asked = filter_map (match_of names) asked
+matches_of names requested = filter_map (match_of names) requested

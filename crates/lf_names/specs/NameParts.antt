@@ -20,8 +20,8 @@ unfoldable pub part_of : List ℕ → ℕ
 part_of name = fold hash_step 0 name * factor % 2 ^ 32 / 2 ^ 24
 
 -- The bytes of these names, in order.
-abbrev pub joined : List Labelled → List ℕ
-joined names = flat_map (λ n. n.name) names
+abbrev pub stored_bytes : List Labelled → List ℕ
+stored_bytes names = flat_map (λ n. n.name) names
 
 -- The label and length of a name.
 abbrev pub entry_of : Labelled → Entry
@@ -29,7 +29,7 @@ entry_of n = record { label = n.label; len = length n.name }
 
 -- Holds if the store has these names with their labels, in this order.
 pub record StoresNames (store : LabelledNames) (names : List Labelled) : Type 0 where
-  pub bytes : store.bytes.items ≡ joined names
+  pub bytes : store.bytes.items ≡ stored_bytes names
   pub entries : store.entries ≡ map entry_of names
 
 -- The names that belong to the part, in their order.

@@ -52,11 +52,11 @@ abbrev pub prefix_of : List ℕ → List ℕ
 prefix_of pattern = bytes_before_star (parts_of pattern)
 
 -- The bytes after the last star. If there is no star, `seen` and then all bytes.
-abbrev pub bytes_behind_star : List ℕ → List Part → List ℕ
-bytes_behind_star seen [] = seen
-bytes_behind_star seen (byte c ∷ parts) = bytes_behind_star (seen ++ c ∷ []) parts
-bytes_behind_star seen (star ∷ parts) = bytes_behind_star [] parts
+abbrev pub bytes_after_star : List ℕ → List Part → List ℕ
+bytes_after_star seen [] = seen
+bytes_after_star seen (byte c ∷ parts) = bytes_after_star (seen ++ c ∷ []) parts
+bytes_after_star seen (star ∷ parts) = bytes_after_star [] parts
 
 -- The bytes of a pattern after its last star, or all bytes if there is no star.
 abbrev pub suffix_of : List ℕ → List ℕ
-suffix_of pattern = bytes_behind_star [] (parts_of pattern)
+suffix_of pattern = bytes_after_star [] (parts_of pattern)

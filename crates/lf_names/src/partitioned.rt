@@ -31,7 +31,7 @@ pub struct LabelledNames {
 #[derive(Clone, Copy)]
 pub struct Match {
     pub own: usize,
-    pub asked: usize,
+    pub requested: usize,
 }
 
 /// A list of labelled names in parts. It copies the names. Equal names are in one part, so names
@@ -112,8 +112,8 @@ fn table_of(alloc: Global, names: &LabelledNames) -> Result<Option<BorrowedNames
     let mut table = BorrowedNames::with_capacity(alloc, names.entries.len())?;
     let mut remaining = names.bytes.as_slice();
     for position in 0..names.entries.len() {
-        let (name, behind) = cut(remaining, names.entries.at(position).len);
-        remaining = behind;
+        let (name, after_it) = cut(remaining, names.entries.at(position).len);
+        remaining = after_it;
         match table.add(name)? {
             Added::New(_) => (),
             Added::Present(_) => return Ok(None),
@@ -132,11 +132,15 @@ fn label_of(names: &LabelledNames, table: &BorrowedNames, name: &[u8]) -> Option
 }
 
 /// Appends a match if the requested name has a label. `Err` if an allocation fails.
-fn add_match(matches: &mut Vec<Match>, own: Option<usize>, asked: usize) -> Result<(), AllocError>
-    ensures { OnOk result (matches.new.items ≡ matches.old.items ++ option_to_list (option_map (labels_of asked) own)) }
+fn add_match(
+    matches: &mut Vec<Match>,
+    own: Option<usize>,
+    requested: usize,
+) -> Result<(), AllocError>
+    ensures { OnOk result (matches.new.items ≡ matches.old.items ++ option_to_list (option_map (labels_of requested) own)) }
 {
     if let Some(own) = own {
-        matches.push(Match { own, asked })?;
+        matches.push(Match { own, requested })?;
     }
     Ok(())
 }
@@ -145,16 +149,16 @@ fn add_match(matches: &mut Vec<Match>, own: Option<usize>, asked: usize) -> Resu
 fn match_names(
     names: &LabelledNames,
     table: &BorrowedNames,
-    asked: &LabelledNames,
+    requested: &LabelledNames,
     matches: &mut Vec<Match>,
 ) -> Result<(), AllocError>
-    ensures { (own questions : List Labelled) → StoresNames names.now own → table.now ≡ map (λ n. n.name) own → StoresNames asked.now questions → OnOk result (matches.new.items ≡ matches.old.items ++ matches_of own questions) }
+    ensures { (own questions : List Labelled) → StoresNames names.now own → table.now ≡ map (λ n. n.name) own → StoresNames requested.now questions → OnOk result (matches.new.items ≡ matches.old.items ++ matches_of own questions) }
 {
-    let mut remaining = asked.bytes.as_slice();
-    for position in 0..asked.entries.len() {
-        let entry = asked.entries.at(position);
-        let (name, behind) = cut(remaining, entry.len);
-        remaining = behind;
+    let mut remaining = requested.bytes.as_slice();
+    for position in 0..requested.entries.len() {
+        let entry = requested.entries.at(position);
+        let (name, after_it) = cut(remaining, entry.len);
+        remaining = after_it;
         add_match(matches, label_of(names, table, name), entry.label)?;
     }
     Ok(())
@@ -165,16 +169,16 @@ fn match_names(
 fn match_part(
     alloc: Global,
     names: &LabelledNames,
-    asked: &LabelledNames,
+    requested: &LabelledNames,
     matches: &mut Vec<Match>,
 ) -> Result<bool, AllocError>
     ensures differ { (own : List Labelled) → StoresNames names.now own → IfOk result (λ differ. IsTrue differ ↔ Differ own) }
-    ensures matches { (own questions : List Labelled) → StoresNames names.now own → StoresNames asked.now questions → IfOk result (λ differ. IsTrue differ → matches.new.items ≡ matches.old.items ++ matches_of own questions) }
+    ensures matches { (own questions : List Labelled) → StoresNames names.now own → StoresNames requested.now questions → IfOk result (λ differ. IsTrue differ → matches.new.items ≡ matches.old.items ++ matches_of own questions) }
 {
     let Some(table) = table_of(alloc, names)? else {
         return Ok(false);
     };
-    match_names(names, &table, asked, matches)?;
+    match_names(names, &table, requested, matches)?;
     Ok(true)
 }
 
@@ -206,16 +210,16 @@ fn push_in_part(parts: &mut Vec<LabelledNames>, label: usize, name: &[u8]) -> Re
 fn match_parts(
     alloc: Global,
     own: &[LabelledNames],
-    asked: &[LabelledNames],
+    requested: &[LabelledNames],
 ) -> Result<Option<Vec<Match>>, AllocError>
-    ensures differ { (names questions : List Labelled) → ArePartsOf names own.now → ArePartsOf questions asked.now → IfOk result (λ answer. IfSome answer (λ matches. Differ names)) }
-    ensures matches { (names questions : List Labelled) → ArePartsOf names own.now → ArePartsOf questions asked.now → IfOk result (λ answer. IfSome answer (λ matches. AreMatches names questions matches.items)) }
-    ensures many { (names questions : List Labelled) → ArePartsOf names own.now → ArePartsOf questions asked.now → IfOk result (λ answer. IfSome answer (λ matches. IsPermutation (matches_of names questions) matches.items)) }
-    ensures none { (names questions : List Labelled) → ArePartsOf names own.now → ArePartsOf questions asked.now → IfOk result (λ answer. IfNone answer (Differ names → ⊥)) }
+    ensures differ { (names questions : List Labelled) → ArePartsOf names own.now → ArePartsOf questions requested.now → IfOk result (λ answer. IfSome answer (λ matches. Differ names)) }
+    ensures matches { (names questions : List Labelled) → ArePartsOf names own.now → ArePartsOf questions requested.now → IfOk result (λ answer. IfSome answer (λ matches. AreMatches names questions matches.items)) }
+    ensures many { (names questions : List Labelled) → ArePartsOf names own.now → ArePartsOf questions requested.now → IfOk result (λ answer. IfSome answer (λ matches. IsPermutation (matches_of names questions) matches.items)) }
+    ensures none { (names questions : List Labelled) → ArePartsOf names own.now → ArePartsOf questions requested.now → IfOk result (λ answer. IfNone answer (Differ names → ⊥)) }
 {
     let mut matches = Vec::new(alloc);
     for (part, names) in own.iter().enumerate() {
-        let Some(questions) = asked.get(part) else {
+        let Some(questions) = requested.get(part) else {
             return Ok(None);
         };
         if !match_part(alloc, names, questions, &mut matches)? {
@@ -251,13 +255,13 @@ impl PartitionedNames {
     pub fn matches(
         &self,
         alloc: Global,
-        asked: &PartitionedNames,
+        requested: &PartitionedNames,
     ) -> Result<Option<Vec<Match>>, AllocError>
         ensures differ { IfOk result (λ answer. IfSome answer (λ matches. Differ self.now)) }
-        ensures matches { IfOk result (λ answer. IfSome answer (λ matches. AreMatches self.now asked.now matches.items)) }
-        ensures many { IfOk result (λ answer. IfSome answer (λ matches. IsPermutation (matches_of self.now asked.now) matches.items)) }
+        ensures matches { IfOk result (λ answer. IfSome answer (λ matches. AreMatches self.now requested.now matches.items)) }
+        ensures many { IfOk result (λ answer. IfSome answer (λ matches. IsPermutation (matches_of self.now requested.now) matches.items)) }
         ensures none { IfOk result (λ answer. IfNone answer (Differ self.now → ⊥)) }
     {
-        match_parts(alloc, &self.parts, &asked.parts)
+        match_parts(alloc, &self.parts, &requested.parts)
     }
 }

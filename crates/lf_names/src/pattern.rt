@@ -2,7 +2,7 @@
 
 ghost use Rattle.std.specs.Prelude.{◌≡◌, ◌≢◌, ◌<◌, ◌↔◌, ℕ, List, ◌∷◌, ◌++◌, length, map, IsTrue, IfSome, MatchOption};
 ghost use Rattle.lf_names.specs.Pattern.{byte, star, parts_of, prefix_of, suffix_of, Becomes, Matches, IsLiteral};
-ghost use Rattle.lf_names.specs.Places.{IsBehindFirst};
+ghost use Rattle.lf_names.specs.Places.{IsAfterFirst};
 
 use std::marker::Model;
 
@@ -56,7 +56,7 @@ impl<'a> Pattern<'a> {
         ensures suffix { result.now ≡ suffix_of self.now }
         ensures ends { (name : List ℕ) → Matches self.now name → (run : List ℕ) × (name ≡ run ++ result.now) }
     {
-        behind_last_star(self.bytes)
+        after_last_star(self.bytes)
     }
 
     /// True if the pattern becomes the name when each of its stars is replaced by a run of bytes,
@@ -65,35 +65,35 @@ impl<'a> Pattern<'a> {
     pub fn matches(&self, name: &[u8]) -> bool
         ensures { IsTrue result ↔ Matches self.now name.now }
     {
-        stands_for(self.bytes, name)
+        denotes(self.bytes, name)
     }
 }
 
 /// Implements `Pattern::matches`. Up to the first star the name must agree byte for byte.
-fn stands_for(pattern: &[u8], name: &[u8]) -> bool
+fn denotes(pattern: &[u8], name: &[u8]) -> bool
     ensures { IsTrue result ↔ Matches pattern.now name.now }
 {
-    let Some((piece, behind)) = split_at_star(pattern) else {
+    let Some((piece, after_it)) = split_at_star(pattern) else {
         return pattern == name;
     };
     match name.strip_prefix(piece) {
-        Some(rest) => stands_for_an_end(behind, rest),
+        Some(rest) => denotes_an_end(after_it, rest),
         None => false,
     }
 }
 
 /// True if some end of the name matches the pattern. The bytes between two stars are matched at
 /// their first occurrence, which leaves the most bytes to the later stars.
-fn stands_for_an_end(pattern: &[u8], name: &[u8]) -> bool
+fn denotes_an_end(pattern: &[u8], name: &[u8]) -> bool
     ensures { IsTrue result ↔ Becomes (star ∷ parts_of pattern.now) name.now }
 {
     let mut remaining_pattern = pattern;
     let mut remaining_name = name;
-    while let Some((piece, behind)) = split_at_star(remaining_pattern) {
-        let Some(after) = behind_first(remaining_name, piece) else {
+    while let Some((piece, after_it)) = split_at_star(remaining_pattern) {
+        let Some(after) = after_the_first(remaining_name, piece) else {
             return false;
         };
-        remaining_pattern = behind;
+        remaining_pattern = after_it;
         remaining_name = after;
     }
     remaining_name.ends_with(remaining_pattern)
@@ -116,20 +116,20 @@ fn split_at_star(pattern: &[u8]) -> Option<(&[u8], &[u8])>
 }
 
 /// Returns the bytes after the pattern's last star, or all bytes if there is no star.
-fn behind_last_star(pattern: &[u8]) -> &[u8]
+fn after_last_star(pattern: &[u8]) -> &[u8]
     ensures { result.now ≡ suffix_of pattern.now }
 {
     let mut remaining = pattern;
-    while let Some((_, behind)) = split_at_star(remaining) {
-        remaining = behind;
+    while let Some((_, after_it)) = split_at_star(remaining) {
+        remaining = after_it;
     }
     remaining
 }
 
 /// Returns the rest of the name after the first occurrence of the piece. `None` if the piece does
 /// not occur.
-fn behind_first<'x>(name: &'x [u8], piece: &[u8]) -> Option<&'x [u8]>
-    ensures { MatchOption result ((before rest : List ℕ) → name.now ≢ before ++ (piece.now ++ rest)) (λ rest. IsBehindFirst name.now piece.now rest.now) }
+fn after_the_first<'x>(name: &'x [u8], piece: &[u8]) -> Option<&'x [u8]>
+    ensures { MatchOption result ((before rest : List ℕ) → name.now ≢ before ++ (piece.now ++ rest)) (λ rest. IsAfterFirst name.now piece.now rest.now) }
 {
     let mut end = name;
     loop {

@@ -7,16 +7,16 @@ use Rattle.std.proofs.lemmas.List.{get_or-map, length-map}
 use Rattle.std.proofs.lemmas.List.Elements.{All-map}
 use Rattle.lf_segments.specs.declared.rows_by_y.RowEntry.{RowEntry}
 use Rattle.lf_segments.specs.declared.strip.Strip.{Strip}
-use Rattle.lf_segments.specs.Grounds.{FrameIndexView}
+use Rattle.lf_segments.specs.Indexes.{FrameIndexView}
 use Rattle.lf_segments.specs.Strips.{AreNear, AreStrips, IsNear, IsPlaced}
 use Rattle.lf_rules.specs.Padding.{IsShort}
 use Rattle.lf_rules.proofs.PaddingLemmas.{short_sites}
-use Rattle.lf_occupancy.specs.Lanes.{IsNearZero}
-use Rattle.lf_occupancy.specs.Occupied.{widened}
-use Rattle.lf_occupancy.specs.Strips.{IsSite, widened_strips}
+use Rattle.lf_occupancy.specs.MarkLists.{IsNearZero}
+use Rattle.lf_occupancy.specs.Views.{widened}
+use Rattle.lf_occupancy.specs.Strips.{IsSiteWidth, widened_strips}
 
 -- the strip lies near 0, is as high as a row, and its row has an entry
-pub record IsFelt (rows : List RowEntry) (height : ℤ) (g : Strip) : Type 0 where
+pub record IsInWidened (rows : List RowEntry) (height : ℤ) (g : Strip) : Type 0 where
   pub near : IsNearZero g.area
   pub y_low : negsuc 2147483647 ≤ℤ g.area.y1
   pub high : g.area.y2 ≡ g.area.y1 +ℤ height
@@ -35,14 +35,14 @@ around site s = record {
 }
 
 -- the greatest padding is short
-pub site_short : (site : ℤ) → IsSite site → IsShort (pos 16 *ℤ site)
+pub site_short : (site : ℤ) → IsSiteWidth site → IsShort (pos 16 *ℤ site)
 site_short site is = short_sites site 16 is.wide is.small (omega arith)
 
-pub felt_many : (site : ℤ) (xs : List Strip) → length (widened_strips site xs) ≡ length xs
-felt_many site xs = length-map xs (widened (pos 16 *ℤ site))
+pub widened_many : (site : ℤ) (xs : List Strip) → length (widened_strips site xs) ≡ length xs
+widened_many site xs = length-map xs (widened (pos 16 *ℤ site))
 
-pub felt_at : (site : ℤ) (xs : List Strip) (n : ℕ) (d e : Strip) → n < length xs → get_or (widened_strips site xs) n d ≡ widened (pos 16 *ℤ site) (get_or xs n e)
-felt_at site xs n d e within = get_or-map (widened (pos 16 *ℤ site)) xs n e d within
+pub widened_at : (site : ℤ) (xs : List Strip) (n : ℕ) (d e : Strip) → n < length xs → get_or (widened_strips site xs) n d ≡ widened (pos 16 *ℤ site) (get_or xs n e)
+widened_at site xs n d e within = get_or-map (widened (pos 16 *ℤ site)) xs n e d within
 
 near_zero : (by : ℤ) (rows : List RowEntry) (height : ℤ) (g : Strip) → IsShort by → IsPlaced rows height g → IsNearZero (widened by g).area
 near_zero by rows height g short placed =
@@ -54,10 +54,10 @@ near_zero by rows height g short placed =
     record { low = omega (arith, ints, a, b, l); high = omega (arith, ints, a, b, h); begins = omega (arith, ints, b, w, h) }
 
 -- strips that are placed lie near 0 when widened
-pub strips_felt : (site : ℤ) (s : FrameIndexView) → IsSite site → AreStrips s.rows s.height s.strips → All (IsFelt s.rows s.height) (widened_strips site s.strips)
-strips_felt site s is strips = All-map (IsFelt s.rows s.height) (widened (pos 16 *ℤ site)) s.strips each
+pub strips_widened : (site : ℤ) (s : FrameIndexView) → IsSiteWidth site → AreStrips s.rows s.height s.strips → All (IsInWidened s.rows s.height) (widened_strips site s.strips)
+strips_widened site s is strips = All-map (IsInWidened s.rows s.height) (widened (pos 16 *ℤ site)) s.strips each
   where
-    each : All (λ g. IsFelt s.rows s.height (widened (pos 16 *ℤ site) g)) s.strips
+    each : All (λ g. IsInWidened s.rows s.height (widened (pos 16 *ℤ site) g)) s.strips
     each k d within =
         let p = strips.placed k d within in
         record {
@@ -94,15 +94,15 @@ near_back by rows height row team lo hi low high g short placed from to near =
     }
 
 -- the strips near a range that is wider by the reach are those that, widened, are near the range
-pub near_is_felt : (site : ℤ) (s : FrameIndexView) (row team : ℕ) (lo hi low high : ℤ) (start end : ℕ) → IsSite site → AreStrips s.rows s.height s.strips →
+pub near_is_widened : (site : ℤ) (s : FrameIndexView) (row team : ℕ) (lo hi low high : ℤ) (start end : ℕ) → IsSiteWidth site → AreStrips s.rows s.height s.strips →
     low ≡ int_max lo (negsuc 1099511627775) -ℤ (pos 16 *ℤ site) → high ≡ int_min hi (pos 1099511627776) +ℤ (pos 16 *ℤ site) →
     AreNear s.strips row team low high start end → AreNear (widened_strips site s.strips) row team lo hi start end
-near_is_felt site s row team lo hi low high start end is strips from to near = record {
-  within = let h = near.within in let m = felt_many site s.strips in omega (arith, h, m);
+near_is_widened site s row team lo hi low high start end is strips from to near = record {
+  within = let h = near.within in let m = widened_many site s.strips in omega (arith, h, m);
   exact = λ n d within.
-      let m = felt_many site s.strips in
+      let m = widened_many site s.strips in
       let inner : n < length s.strips = omega (arith, within, m) in
-      let at = felt_at site s.strips n d d inner in
+      let at = widened_at site s.strips n d d inner in
       let g : Strip = get_or s.strips n d in
       let placed = strips.placed n d inner in
       let by : ℤ = pos 16 *ℤ site in

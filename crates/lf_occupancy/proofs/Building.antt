@@ -18,10 +18,10 @@ use Rattle.lf_cells.specs.declared.cell.CellId.{CellId}
 use Rattle.lf_cells.specs.Cells.{Cells, cell_at, cells_of, id_of}
 use Rattle.lf_occupancy.specs.declared.strip_marks.StripMarks.{StripMarks}
 use Rattle.lf_segments.specs.declared.strip.Strip.{Strip}
-use Rattle.lf_occupancy.specs.Building.{HaveNoMarks, AreFilled, AreFilledIn, HasNoMark, IsBefore, id_at}
-use Rattle.lf_occupancy.specs.Floorplans.{box_of, boxes_in}
-use Rattle.lf_occupancy.specs.Occupied.{cell_box}
-use Rattle.lf_occupancy.specs.Lanes.{IsMarked, entries_in}
+use Rattle.lf_occupancy.specs.Building.{HaveNoMarks, AreFilled, AreFilledIn, HasNoMark, PrecedesCell, id_at}
+use Rattle.lf_occupancy.specs.Floorplans.{working_box_of, boxes_in}
+use Rattle.lf_occupancy.specs.Views.{cell_box}
+use Rattle.lf_occupancy.specs.MarkLists.{IsMarked, marked_entries}
 use Rattle.lf_occupancy.specs.Strips.{ShowAllBoxes, HasCell, HasNoBox}
 use Rattle.lf_occupancy.proofs.Laning.{box_other, box_same}
 
@@ -32,25 +32,25 @@ row_made g (r ∷ rows) zero = refl
 row_made g (r ∷ rows) (suc team) = row_made g rows team
 
 -- the boxes of a team's cells
-pub boxes_there : (f : Frame) (cells : Cells) (team : ℕ) → get_or (boxes_in f cells) team [] ≡ map (box_of f) (cells_of cells team)
-boxes_there f cells team = row_made (box_of f) cells.cells team
+pub boxes_there : (f : Frame) (cells : Cells) (team : ℕ) → get_or (boxes_in f cells) team [] ≡ map (working_box_of f) (cells_of cells team)
+boxes_there f cells team = row_made (working_box_of f) cells.cells team
 
 one_cell : (c d : Cell) → Some c ≡ Some d → c ≡ d
 one_cell c d e = cc
 
 -- the box of a cell
-box_there : (f : Frame) (cs : List Cell) (k : ℕ) (c : Cell) → slice_get cs k ≡ Some c → cell_box (map (box_of f) cs) k ≡ box_of f c
+box_there : (f : Frame) (cs : List Cell) (k : ℕ) (c : Cell) → slice_get cs k ≡ Some c → cell_box (map (working_box_of f) cs) k ≡ working_box_of f c
 box_there f [] k c is = absurd cc
-box_there f (x ∷ cs) zero c is = ap (box_of f) (one_cell x c is)
+box_there f (x ∷ cs) zero c is = ap (working_box_of f) (one_cell x c is)
 box_there f (x ∷ cs) (suc k) c is = box_there f cs k c is
 
-box_at_number : (f : Frame) (cs : List Cell) (k : ℕ) → cell_box (map (box_of f) cs) k ≡ option_and_then (box_of f) (slice_get cs k)
+box_at_number : (f : Frame) (cs : List Cell) (k : ℕ) → cell_box (map (working_box_of f) cs) k ≡ option_and_then (working_box_of f) (slice_get cs k)
 box_at_number f [] k = refl
 box_at_number f (c ∷ cs) zero = refl
 box_at_number f (c ∷ cs) (suc k) = box_at_number f cs k
 
 pub box_here : (f : Frame) (cells : Cells) (id : CellId) →
-    cell_box (get_or (boxes_in f cells) id.team []) id.own ≡ option_and_then (box_of f) (cell_at cells id)
+    cell_box (get_or (boxes_in f cells) id.team []) id.own ≡ option_and_then (working_box_of f) (cell_at cells id)
 box_here f cells id =
     ap (λ (bs : List (Option Rect)). cell_box bs id.own) (boxes_there f cells id.team) ∙ box_at_number f (cells_of cells id.team) id.own
 
@@ -61,12 +61,12 @@ pub id_there : (team own : ℕ) (o : Option Cell) (id : CellId) → Some id ≡ 
 id_there team own None id e = absurd cc
 id_there team own (Some c) id e = one_id id (id_of team own) e
 
-pub none_in : (f : Frame) (team own : ℕ) (o : Option Cell) → ◌≡◌ {A = Option CellId} None (option_map (λ c. id_of team own) o) → option_and_then (box_of f) o ≡ None
+pub none_in : (f : Frame) (team own : ℕ) (o : Option Cell) → ◌≡◌ {A = Option CellId} None (option_map (λ c. id_of team own) o) → option_and_then (working_box_of f) o ≡ None
 none_in f team own None e = refl
 none_in f team own (Some c) e = absurd cc
 
 pub box_said : (f : Frame) (cells : Cells) (id : CellId) (box : Option Rect) → box ≡ cell_box (get_or (boxes_in f cells) id.team []) id.own →
-    (c : Cell) → cell_at cells id ≡ Some c → box ≡ box_of f c
+    (c : Cell) → cell_at cells id ≡ Some c → box ≡ working_box_of f c
 box_said f cells id box is c there =
     is ∙ ap (λ (bs : List (Option Rect)). cell_box bs id.own) (boxes_there f cells id.team) ∙ box_there f (cells_of cells id.team) id.own c there
 
@@ -89,12 +89,12 @@ none_is_some : (r : Rect) → ◌≡◌ {A = Option Rect} None (Some r) → ⊥
 none_is_some r e = cc
 
 -- the marks of a strip without any are right if no cell has a box
-bare_lane : (cells : List (Option Rect)) (area : Rect) (l : StripMarks) → ((own : ℕ) → cell_box cells own ≡ None) → HasNoMark l → IsMarked cells area l
-bare_lane cells area l none b =
-    let many : length (entries_in cells area l.marks.items) ≡ 0 = ap (λ ms. length (entries_in cells area ms)) b.marks in
+bare_mark_list : (cells : List (Option Rect)) (area : Rect) (l : StripMarks) → ((own : ℕ) → cell_box cells own ≡ None) → HasNoMark l → IsMarked cells area l
+bare_mark_list cells area l none b =
+    let many : length (marked_entries cells area l.marks.items) ≡ 0 = ap (λ ms. length (marked_entries cells area ms)) b.marks in
     let long : length l.marks.items ≡ 0 = ap (λ ms. length ms) b.marks in
     record {
-      lane = record {
+      mark_list = record {
         orderly = record {
           order = λ i j d less within. absurd (omega (arith, many, within));
           wide = λ k d within. absurd (omega (arith, many, within));
@@ -104,19 +104,19 @@ bare_lane cells area l none b =
         whole = λ k d within. absurd (omega (arith, many, within));
         inside = λ k d within. absurd (omega (arith, many, within));
         held = λ own x y lies. absurd (none_is_some lies.box (sym (none own) ∙ lies.is));
-        told = λ k d within. absurd (omega (arith, many, within));
+        reported = λ k d within. absurd (omega (arith, many, within));
         once = λ i j d less within. absurd (omega (arith, many, within));
       };
-      told = λ k d within. absurd (omega (arith, long, within));
+      reported = λ k d within. absurd (omega (arith, long, within));
     }
 
-none_before : (id : CellId) → IsBefore 0 0 id → ⊥
+none_before : (id : CellId) → PrecedesCell 0 0 id → ⊥
 none_before id before = elim before [ inl less ↦ omega (arith, less) | inr same ↦ let less = same.1 in omega (arith, less) ]
 
 -- the marks of strips without any are right if no cell is done
-pub lanes_bare : (f : Frame) (cells : Cells) (xs : List Strip) (lanes : List StripMarks) → HaveNoMarks (length xs) lanes →
-    AreFilledIn f cells xs (IsBefore 0 0) lanes
-lanes_bare f cells xs lanes bare = record {
+pub mark_lists_bare : (f : Frame) (cells : Cells) (xs : List Strip) (mark_lists : List StripMarks) → HaveNoMarks (length xs) mark_lists →
+    AreFilledIn f cells xs (PrecedesCell 0 0) mark_lists
+mark_lists_bare f cells xs mark_lists bare = record {
   boxes = no_boxes cells;
   filled = record {
     many = λ team. ap (λ (bs : List (Option Rect)). length bs) (row_made none_of cells.cells team) ∙ length-map (cells_of cells team) none_of;
@@ -126,7 +126,7 @@ lanes_bare f cells xs lanes bare = record {
   marked = record {
     many = bare.many;
     each = λ n d e within.
-        bare_lane (get_or (no_boxes cells) (get_or xs n d).team []) (get_or xs n d).area (get_or lanes n e) (no_box cells (get_or xs n d).team)
+        bare_mark_list (get_or (no_boxes cells) (get_or xs n d).team []) (get_or xs n d).area (get_or mark_lists n e) (no_box cells (get_or xs n d).team)
         (bare.each n e (let m = bare.many in omega (arith, m, within)));
   };
 }
@@ -241,7 +241,7 @@ one_passed Before ids i id within is other = (
 
 -- one more cell has its box
 pub filled_further : (f : Frame) (cells : Cells) (Done More : CellId → Type 0) (id : CellId) (box : Option Rect) (boxes : List (List (Option Rect))) →
-    IsOneMore Done id More → HasCell boxes id → ((c : Cell) → cell_at cells id ≡ Some c → box ≡ box_of f c) → AreFilled f cells Done boxes →
+    IsOneMore Done id More → HasCell boxes id → ((c : Cell) → cell_at cells id ≡ Some c → box ≡ working_box_of f c) → AreFilled f cells Done boxes →
     AreFilled f cells More (set boxes id.team (set (get_or boxes id.team []) id.own box))
 filled_further f cells Done More id box boxes more has said before = record {
   many = λ team. elim (eqb_tells team id.team) [
@@ -256,7 +256,7 @@ filled_further f cells Done More id box boxes more has said before = record {
     | inl same ↦ elim (eqb_tells other.own id.own) [
       | inr away ↦ still other (λ t o. away.1 o) ∙ before.done other c at (among other there (λ t o. away.1 o))
       | inl also ↦
-          let At : ℕ → ℕ → Type 0 = λ t o. cell_box (get_or (set boxes id.team changed) t []) o ≡ box_of f c in
+          let At : ℕ → ℕ → Type 0 = λ t o. cell_box (get_or (set boxes id.team changed) t []) o ≡ working_box_of f c in
           let Cell_at : ℕ → ℕ → Type 0 = λ t o. slice_get (cells_of cells t) o ≡ Some c in
           let there_is : cell_at cells id ≡ Some c = subst (λ t. Cell_at t id.own) same.1 (subst (λ o. Cell_at other.team o) also.1 at) in
           subst (λ t. At t other.own) (sym same.1) (subst (λ o. At id.team o) (sym also.1) (here ∙ said c there_is))
@@ -310,9 +310,9 @@ row_same (r ∷ rows) zero own none = ap (λ (z : List (Option Rect)). z ∷ row
 row_same (r ∷ rows) (suc k) own none = ap (λ (rs : List (List (Option Rect))). r ∷ rs) (row_same rows k own none)
 
 -- a cell without a box is still without one
-pub none_set : (xs : List Strip) (boxes : List (List (Option Rect))) (id : CellId) (lanes : List StripMarks) → HasNoBox boxes id → ShowAllBoxes xs boxes lanes →
-    ShowAllBoxes xs (set boxes id.team (set (get_or boxes id.team []) id.own None)) lanes
-none_set xs boxes id lanes nowhere are = subst (λ (bs : List (List (Option Rect))). ShowAllBoxes xs bs lanes) (sym (row_same boxes id.team id.own nowhere.at)) are
+pub none_set : (xs : List Strip) (boxes : List (List (Option Rect))) (id : CellId) (mark_lists : List StripMarks) → HasNoBox boxes id → ShowAllBoxes xs boxes mark_lists →
+    ShowAllBoxes xs (set boxes id.team (set (get_or boxes id.team []) id.own None)) mark_lists
+none_set xs boxes id mark_lists nowhere are = subst (λ (bs : List (List (Option Rect))). ShowAllBoxes xs bs mark_lists) (sym (row_same boxes id.team id.own nowhere.at)) are
 
 -- the next of the cells is marked
 pub one_filled : (f : Frame) (cells : Cells) (xs : List Strip) (Done More : CellId → Type 0) (id : CellId) (c : Cell) (old new : List StripMarks) →
@@ -330,9 +330,9 @@ one_filled f cells xs Done More id c old new there fresh more was marks =
     }
 
 -- the same holds if the same cells of the table are done
-pub filled_same : (f : Frame) (cells : Cells) (xs : List Strip) (Done Other : CellId → Type 0) (lanes : List StripMarks) →
-    ((id : CellId) (c : Cell) → cell_at cells id ≡ Some c → Done id ↔ Other id) → AreFilledIn f cells xs Done lanes → AreFilledIn f cells xs Other lanes
-filled_same f cells xs Done Other lanes same are = record {
+pub filled_same : (f : Frame) (cells : Cells) (xs : List Strip) (Done Other : CellId → Type 0) (mark_lists : List StripMarks) →
+    ((id : CellId) (c : Cell) → cell_at cells id ≡ Some c → Done id ↔ Other id) → AreFilledIn f cells xs Done mark_lists → AreFilledIn f cells xs Other mark_lists
+filled_same f cells xs Done Other mark_lists same are = record {
   boxes = are.boxes;
   filled = record {
     many = are.filled.many;
@@ -357,33 +357,33 @@ abbrev pub AreAllDone : Cells → (CellId → Type 0) → Type 0
 AreAllDone cells Done = (id : CellId) (c : Cell) → cell_at cells id ≡ Some c → Done id
 
 pub all_filled : (f : Frame) (cells : Cells) (Done : CellId → Type 0) (boxes : List (List (Option Rect))) → AreAllDone cells Done →
-    AreFilled f cells Done boxes → (team : ℕ) → get_or boxes team [] ≡ map (box_of f) (cells_of cells team)
-all_filled f cells Done boxes all filled team = same_lists (get_or boxes team []) (map (box_of f) (cells_of cells team))
-    (filled.many team ∙ sym (length-map (cells_of cells team) (box_of f))) each
+    AreFilled f cells Done boxes → (team : ℕ) → get_or boxes team [] ≡ map (working_box_of f) (cells_of cells team)
+all_filled f cells Done boxes all filled team = same_lists (get_or boxes team []) (map (working_box_of f) (cells_of cells team))
+    (filled.many team ∙ sym (length-map (cells_of cells team) (working_box_of f))) each
   where
     own_cells : List Cell
     own_cells = cells_of cells team
 
-    each : (k : ℕ) (d : Option Rect) → k < length (get_or boxes team []) → get_or (get_or boxes team []) k d ≡ get_or (map (box_of f) own_cells) k d
+    each : (k : ℕ) (d : Option Rect) → k < length (get_or boxes team []) → get_or (get_or boxes team []) k d ≡ get_or (map (working_box_of f) own_cells) k d
     each k d within =
         let many = filled.many team in
         let inner : k < length own_cells = omega (arith, many, within) in
         let c : Cell = get_or own_cells k (some_cell own_cells k inner) in
         let id : CellId = record { team = team; own = k } in
         let at : cell_at cells id ≡ Some c = slice_get-get_or own_cells k (some_cell own_cells k inner) inner in
-        sym (cell_box_at (get_or boxes team []) k d within) ∙ filled.done id c at (all id c at) ∙ sym (get_or-map (box_of f) own_cells k
+        sym (cell_box_at (get_or boxes team []) k d within) ∙ filled.done id c at (all id c at) ∙ sym (get_or-map (working_box_of f) own_cells k
         (some_cell own_cells k inner) d inner)
 
 -- the marks of the same boxes
-pub lanes_of_same : (xs : List Strip) (boxes other : List (List (Option Rect))) (lanes : List StripMarks) →
-    ((team : ℕ) → get_or boxes team [] ≡ get_or other team []) → ShowAllBoxes xs boxes lanes → ShowAllBoxes xs other lanes
-lanes_of_same xs boxes other lanes same are = record {
+pub mark_lists_of_same : (xs : List Strip) (boxes other : List (List (Option Rect))) (mark_lists : List StripMarks) →
+    ((team : ℕ) → get_or boxes team [] ≡ get_or other team []) → ShowAllBoxes xs boxes mark_lists → ShowAllBoxes xs other mark_lists
+mark_lists_of_same xs boxes other mark_lists same are = record {
   many = are.many;
   each = λ n d e within.
-      subst (λ (cs : List (Option Rect)). IsMarked cs (get_or xs n d).area (get_or lanes n e)) (same (get_or xs n d).team) (are.each n d e within);
+      subst (λ (cs : List (Option Rect)). IsMarked cs (get_or xs n d).area (get_or mark_lists n e)) (same (get_or xs n d).team) (are.each n d e within);
 }
 
-pub lanes_filled : (f : Frame) (cells : Cells) (xs : List Strip) (Done : CellId → Type 0) (lanes : List StripMarks) → AreAllDone cells Done →
-    AreFilledIn f cells xs Done lanes → ShowAllBoxes xs (boxes_in f cells) lanes
-lanes_filled f cells xs Done lanes all are =
-    lanes_of_same xs are.boxes (boxes_in f cells) lanes (λ team. all_filled f cells Done are.boxes all are.filled team ∙ sym (boxes_there f cells team)) are.marked
+pub mark_lists_filled : (f : Frame) (cells : Cells) (xs : List Strip) (Done : CellId → Type 0) (mark_lists : List StripMarks) → AreAllDone cells Done →
+    AreFilledIn f cells xs Done mark_lists → ShowAllBoxes xs (boxes_in f cells) mark_lists
+mark_lists_filled f cells xs Done mark_lists all are =
+    mark_lists_of_same xs are.boxes (boxes_in f cells) mark_lists (λ team. all_filled f cells Done are.boxes all are.filled team ∙ sym (boxes_there f cells team)) are.marked

@@ -7,16 +7,16 @@ use Rattle.lf_units.specs.declared.geometry.Rect.{Rect}
 use Rattle.lf_segments.specs.declared.rows_by_y.RowEntry.{RowEntry}
 use Rattle.lf_occupancy.specs.declared.strip_marks.StripMarks.{StripMarks}
 use Rattle.lf_segments.specs.declared.strip.Strip.{Strip}
-use Rattle.lf_occupancy.specs.Lanes.{HasRoomOf, IsKept}
+use Rattle.lf_occupancy.specs.MarkLists.{HasRoomOf, KeepsMarksOf}
 use Rattle.lf_segments.specs.Strips.{AreNear, IsNear}
-use Rattle.lf_occupancy.specs.Strips.{AreChanged, AreKept, IsReached, IsReachedIn}
+use Rattle.lf_occupancy.specs.Strips.{AreChanged, KeepMarksOf, IsReached, IsReachedIn}
 use Rattle.lf_occupancy.proofs.Lists.{any_more, any_less}
 use Rattle.lf_occupancy.proofs.Finds.{no_strip}
 
 -- the marks of one strip of the list
-pub some_lane : (lanes : List StripMarks) (k : ℕ) → k < length lanes → StripMarks
-some_lane [] k within = absurd (omega (arith, within))
-some_lane (l ∷ lanes) k within = l
+pub some_mark_list : (mark_lists : List StripMarks) (k : ℕ) → k < length mark_lists → StripMarks
+some_mark_list [] k within = absurd (omega (arith, within))
+some_mark_list (l ∷ mark_lists) k within = l
 
 -- the number lies between two, and below the end
 pub record IsBetween (start k end m : ℕ) : Type 0 where
@@ -25,9 +25,9 @@ pub record IsBetween (start k end m : ℕ) : Type 0 where
   pub until : m < end
 
 -- nothing is chosen
-pub none_changed : {X : Type 0} (Chosen : ℕ → Type 0) (Change : ℕ → X → X → Type 0) (lanes : List X) → ((n : ℕ) → Chosen n → ⊥) →
-    AreChanged Chosen Change lanes lanes
-none_changed Chosen Change lanes none = record { many = refl; chosen = λ n e within c. absurd (none n c); others = λ n e within h. refl }
+pub none_changed : {X : Type 0} (Chosen : ℕ → Type 0) (Change : ℕ → X → X → Type 0) (mark_lists : List X) → ((n : ℕ) → Chosen n → ⊥) →
+    AreChanged Chosen Change mark_lists mark_lists
+none_changed Chosen Change mark_lists none = record { many = refl; chosen = λ n e within c. absurd (none n c); others = λ n e within h. refl }
 
 -- the same numbers are chosen
 pub changed_alike : {X : Type 0} (P Q : ℕ → Type 0) (Change : ℕ → X → X → Type 0) (old new : List X) → ((n : ℕ) → n < length old → P n → Q n) →
@@ -39,10 +39,10 @@ changed_alike P Q Change old new f g a = record {
 }
 
 -- the marks of one more strip are changed
-pub changed_further : {X : Type 0} (Change : ℕ → X → X → Type 0) (start k end : ℕ) (old mid : List X) (lane new : X) → start ≤ k → k < end → k < length mid →
-    lane ≡ get_or mid k lane → Change k lane new → AreChanged (IsBetween start k end) Change old mid →
+pub changed_further : {X : Type 0} (Change : ℕ → X → X → Type 0) (start k end : ℕ) (old mid : List X) (mark_list new : X) → start ≤ k → k < end → k < length mid →
+    mark_list ≡ get_or mid k mark_list → Change k mark_list new → AreChanged (IsBetween start k end) Change old mid →
     AreChanged (IsBetween start (k + 1) end) Change old (set mid k new)
-changed_further {X} Change start k end old mid lane new from until within is change a = record {
+changed_further {X} Change start k end old mid mark_list new from until within is change a = record {
   many = length-set mid k new ∙ a.many;
   chosen = λ n e inner between. elim (order n between.below) [
     | inl less ↦
@@ -52,10 +52,10 @@ changed_further {X} Change start k end old mid lane new from until within is cha
     | inr same ↦
         let here : get_or old k e ≡ get_or mid k e = sym (a.others k e (let m = a.many in omega (arith, m, within)) (λ b. let h = b.below in omega
         (arith, h))) in
-        let lane_is : lane ≡ get_or old k e = is ∙ get_or_default mid k lane e within ∙ sym here in
+        let mark_list_is : mark_list ≡ get_or old k e = is ∙ get_or_default mid k mark_list e within ∙ sym here in
         let there : Change k (get_or old k e) (get_or (set mid k new) k e) =
         subst (λ (l : X). Change k (get_or old k e) l) (sym (get_or-set_same mid k new e within))
-        (subst (λ (l : X). Change k l new) lane_is change) in
+        (subst (λ (l : X). Change k l new) mark_list_is change) in
         subst (λ (m : ℕ). Change m (get_or old m e) (get_or (set mid k new) m e)) (sym same) there
   ];
   others = λ n e inner never.
@@ -126,10 +126,10 @@ rows_further {X} Change xs rows i r team rect old mid new once within is first s
     inside n inner = let m = first.many in omega (arith, m, inner)
 
 -- a list of strips keeps its own marks
-pub kept_same : (lanes : List StripMarks) → AreKept lanes lanes
-kept_same lanes = record { many = refl; each = λ n e within. record { marks = refl; widest = refl; many = refl; room = omega arith } }
+pub kept_same : (mark_lists : List StripMarks) → KeepMarksOf mark_lists mark_lists
+kept_same mark_lists = record { many = refl; each = λ n e within. record { marks = refl; widest = refl; many = refl; room = omega arith } }
 
-pub kept_along : (a b c : List StripMarks) → AreKept a b → AreKept b c → AreKept a c
+pub kept_along : (a b c : List StripMarks) → KeepMarksOf a b → KeepMarksOf b c → KeepMarksOf a c
 kept_along a b c first second = record {
   many = second.many ∙ first.many;
   each = λ n e within.
@@ -143,17 +143,17 @@ kept_along a b c first second = record {
       };
 }
 
-pub kept_set : (lanes : List StripMarks) (k : ℕ) (lane new : StripMarks) → k < length lanes → lane ≡ get_or lanes k lane → IsKept lane new → AreKept lanes (set lanes k new)
-kept_set lanes k lane new within is kept = record {
-  many = length-set lanes k new;
+pub kept_set : (mark_lists : List StripMarks) (k : ℕ) (mark_list new : StripMarks) → k < length mark_lists → mark_list ≡ get_or mark_lists k mark_list → KeepsMarksOf mark_list new → KeepMarksOf mark_lists (set mark_lists k new)
+kept_set mark_lists k mark_list new within is kept = record {
+  many = length-set mark_lists k new;
   each = λ n e inner. elim (order n) [
     | inl same ↦
-        let here : IsKept (get_or lanes k e) (get_or (set lanes k new) k e) =
-        subst (λ (l : StripMarks). IsKept (get_or lanes k e) l) (sym (get_or-set_same lanes k new e within))
-        (subst (λ (l : StripMarks). IsKept l new) (is ∙ get_or_default lanes k lane e within) kept) in
-        subst (λ (m : ℕ). IsKept (get_or lanes m e) (get_or (set lanes k new) m e)) (sym same) here
+        let here : KeepsMarksOf (get_or mark_lists k e) (get_or (set mark_lists k new) k e) =
+        subst (λ (l : StripMarks). KeepsMarksOf (get_or mark_lists k e) l) (sym (get_or-set_same mark_lists k new e within))
+        (subst (λ (l : StripMarks). KeepsMarksOf l new) (is ∙ get_or_default mark_lists k mark_list e within) kept) in
+        subst (λ (m : ℕ). KeepsMarksOf (get_or mark_lists m e) (get_or (set mark_lists k new) m e)) (sym same) here
     | inr apart ↦
-        subst (λ (l : StripMarks). IsKept (get_or lanes n e) l) (sym (get_or-set_other lanes k n new e apart))
+        subst (λ (l : StripMarks). KeepsMarksOf (get_or mark_lists n e) l) (sym (get_or-set_other mark_lists k n new e apart))
         record { marks = refl; widest = refl; many = refl; room = omega arith }
   ];
 }
@@ -162,35 +162,35 @@ kept_set lanes k lane new within is kept = record {
     order n = elim (eqb_tells n k) [ inl h ↦ inl h.1 | inr h ↦ inr h.1 ]
 
 -- strips that keep their marks keep their room
-pub room_kept : (more : ℕ) (old new : StripMarks) → IsKept old new → HasRoomOf more old → HasRoomOf more new
+pub room_kept : (more : ℕ) (old new : StripMarks) → KeepsMarksOf old new → HasRoomOf more old → HasRoomOf more new
 room_kept more old new kept room = let m = kept.many in let r = kept.room in omega (arith, m, r, room)
 
-pub room_further : (more start k end : ℕ) (lanes : List StripMarks) (lane new : StripMarks) → k < length lanes → lane ≡ get_or lanes k lane → HasRoomOf more new →
-    ((n : ℕ) (e : StripMarks) → IsBetween start k end n → HasRoomOf more (get_or lanes n e)) →
-    (n : ℕ) (e : StripMarks) → IsBetween start (k + 1) end n → HasRoomOf more (get_or (set lanes k new) n e)
-room_further more start k end lanes lane new within is room before n e b = elim (order b.below) [
+pub room_further : (more start k end : ℕ) (mark_lists : List StripMarks) (mark_list new : StripMarks) → k < length mark_lists → mark_list ≡ get_or mark_lists k mark_list → HasRoomOf more new →
+    ((n : ℕ) (e : StripMarks) → IsBetween start k end n → HasRoomOf more (get_or mark_lists n e)) →
+    (n : ℕ) (e : StripMarks) → IsBetween start (k + 1) end n → HasRoomOf more (get_or (set mark_lists k new) n e)
+room_further more start k end mark_lists mark_list new within is room before n e b = elim (order b.below) [
   | inl less ↦
       let apart : n ≢ k = omega (arith, less) in
-      subst (HasRoomOf more) (sym (get_or-set_other lanes k n new e apart)) (before n e record { from = b.from; below = less; until = b.until })
+      subst (HasRoomOf more) (sym (get_or-set_other mark_lists k n new e apart)) (before n e record { from = b.from; below = less; until = b.until })
   | inr same ↦
-      let here : HasRoomOf more (get_or (set lanes k new) k e) = subst (HasRoomOf more) (sym (get_or-set_same lanes k new e within)) room in
-      subst (λ (m : ℕ). HasRoomOf more (get_or (set lanes k new) m e)) (sym same) here
+      let here : HasRoomOf more (get_or (set mark_lists k new) k e) = subst (HasRoomOf more) (sym (get_or-set_same mark_lists k new e within)) room in
+      subst (λ (m : ℕ). HasRoomOf more (get_or (set mark_lists k new) m e)) (sym same) here
 ]
   where
     order : n < k + 1 → (n < k) ⊎ (n ≡ k)
     order less = grind arith
 
-pub room_of_row : (more : ℕ) (xs : List Strip) (row team start k end : ℕ) (rect : Rect) (lanes : List StripMarks) →
+pub room_of_row : (more : ℕ) (xs : List Strip) (row team start k end : ℕ) (rect : Rect) (mark_lists : List StripMarks) →
     AreNear xs row team rect.x1 rect.x2 start end → end ≤ k →
-    ((n : ℕ) (e : StripMarks) → IsBetween start k end n → HasRoomOf more (get_or lanes n e)) →
-    (n : ℕ) (e : StripMarks) → IsReachedIn xs row team rect n → HasRoomOf more (get_or lanes n e)
-room_of_row more xs row team start k end rect lanes near past room n e r =
+    ((n : ℕ) (e : StripMarks) → IsBetween start k end n → HasRoomOf more (get_or mark_lists n e)) →
+    (n : ℕ) (e : StripMarks) → IsReachedIn xs row team rect n → HasRoomOf more (get_or mark_lists n e)
+room_of_row more xs row team start k end rect mark_lists near past room n e r =
     let both = (near.exact n no_strip r.0).1 (r.1 no_strip) in
     let until = both.1 in
     room n e record { from = both.0; below = omega (arith, until, past); until = until }
 
 pub rooms_further : (more : ℕ) (xs : List Strip) (rows : List RowEntry) (i : ℕ) (r : RowEntry) (team : ℕ) (rect : Rect) (old new : List StripMarks) →
-    i < length rows → r ≡ get_or rows i r → length old ≡ length xs → AreKept old new →
+    i < length rows → r ≡ get_or rows i r → length old ≡ length xs → KeepMarksOf old new →
     ((n : ℕ) (e : StripMarks) → IsReached xs (take i rows) team rect n → HasRoomOf more (get_or old n e)) →
     ((n : ℕ) (e : StripMarks) → IsReachedIn xs r.row team rect n → HasRoomOf more (get_or new n e)) →
     (n : ℕ) (e : StripMarks) → IsReached xs (take (i + 1) rows) team rect n → HasRoomOf more (get_or new n e)

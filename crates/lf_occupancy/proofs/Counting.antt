@@ -9,7 +9,7 @@ use Rattle.std.proofs.lemmas.List.Sums.{sum_by-cons, count_by_more_yes, count_by
 use Rattle.lf_units.specs.declared.geometry.Rect.{Rect}
 use Rattle.lf_units.specs.Area.{SharesPoint}
 use Rattle.lf_segments.specs.declared.strip.Strip.{Strip}
-use Rattle.lf_occupancy.specs.Occupied.{ArePartOf, FitIn, KeepsCapacities, Occupied, cell_box, count_in, widened, meets}
+use Rattle.lf_occupancy.specs.Views.{ArePartOf, FitIn, KeepsCapacities, Occupied, cell_box, count_in, widened, does_overlap}
 
 -- 1 for true
 abbrev pub one_if : Bool → ℕ
@@ -27,8 +27,8 @@ pub of_less : (a b : ℤ) → a <ℤ b → int_lt a b ≡ true
 of_less a b h = grind (arith, ints)
 
 -- a box overlaps a strip by its edges if they share a point
-pub meets_shares : (g : Strip) (r : Rect) → meets g (Some r) ≡ true → SharesPoint g.area r
-meets_shares g r e = record {
+pub overlaps_shares : (g : Strip) (r : Rect) → does_overlap g (Some r) ≡ true → SharesPoint g.area r
+overlaps_shares g r e = record {
   x = int_max g.area.x1 r.x1;
   y = int_max g.area.y1 r.y1;
   in_first = record { left = omega (arith, ints, clamps); right = omega (arith, ints, clamps, x); bottom = omega (arith, ints, clamps); top = omega (arith, ints, clamps, y) };
@@ -53,8 +53,8 @@ meets_shares g r e = record {
 pub both_are : (a b : Bool) → a ≡ true → b ≡ true → a && b ≡ true
 both_are a b e f = cc
 
-pub shares_meets : (g : Strip) (r : Rect) → SharesPoint g.area r → meets g (Some r) ≡ true
-shares_meets g r s =
+pub shares_overlaps : (g : Strip) (r : Rect) → SharesPoint g.area r → does_overlap g (Some r) ≡ true
+shares_overlaps g r s =
     let a = s.in_first in
     let b = s.in_second in
     let l = a.left in
@@ -69,8 +69,8 @@ shares_meets g r s =
     let y : int_max g.area.y1 r.y1 <ℤ int_min g.area.y2 r.y2 = omega (arith, ints, clamps, p, q, t, u) in
     both_are _ _ (of_less _ _ x) (of_less _ _ y)
 
-pub one_more : (g : Strip) (b : Option Rect) (bs : List (Option Rect)) → count_in g (b ∷ bs) ≡ one_if (meets g b) + count_in g bs
-one_more g b bs = sum_by-cons (λ c. one_if (meets g c)) b bs
+pub one_more : (g : Strip) (b : Option Rect) (bs : List (Option Rect)) → count_in g (b ∷ bs) ≡ one_if (does_overlap g b) + count_in g bs
+one_more g b bs = sum_by-cons (λ c. one_if (does_overlap g c)) b bs
 
 -- boxes that are part of others
 rest_is_part : (b c : Option Rect) (bs cs : List (Option Rect)) → ArePartOf (b ∷ bs) (c ∷ cs) → ArePartOf bs cs
@@ -82,10 +82,10 @@ rest_of_none b bs p own = p (suc own)
 first_is_none : (b : Option Rect) (bs : List (Option Rect)) → ArePartOf (b ∷ bs) [] → b ≡ None
 first_is_none b bs p = elim (p 0) [ inl none ↦ none | inr same ↦ same ]
 
-no_more_of : (g : Strip) (b c : Option Rect) → (b ≡ None) ⊎ (b ≡ c) → one_if (meets g b) ≤ one_if (meets g c)
+no_more_of : (g : Strip) (b c : Option Rect) → (b ≡ None) ⊎ (b ≡ c) → one_if (does_overlap g b) ≤ one_if (does_overlap g c)
 no_more_of g b c either = elim either [
-  | inl none ↦ subst (λ (x : Option Rect). one_if (meets g x) ≤ one_if (meets g c)) (sym none) (omega arith)
-  | inr same ↦ subst (λ (x : Option Rect). one_if (meets g x) ≤ one_if (meets g c)) (sym same) (omega arith)
+  | inl none ↦ subst (λ (x : Option Rect). one_if (does_overlap g x) ≤ one_if (does_overlap g c)) (sym none) (omega arith)
+  | inr same ↦ subst (λ (x : Option Rect). one_if (does_overlap g x) ≤ one_if (does_overlap g c)) (sym same) (omega arith)
 ]
 
 -- no more of them share a point with a strip
@@ -94,7 +94,7 @@ part_is_no_more g [] whole p = omega arith
 part_is_no_more g (b ∷ bs) [] p =
     let rest = part_is_no_more g bs [] (rest_of_none b bs p) in
     let step = one_more g b bs in
-    let none = ap (λ (x : Option Rect). one_if (meets g x)) (first_is_none b bs p) in
+    let none = ap (λ (x : Option Rect). one_if (does_overlap g x)) (first_is_none b bs p) in
     omega (arith, rest, step, none)
 part_is_no_more g (b ∷ bs) (c ∷ cs) p =
     let rest = part_is_no_more g bs cs (rest_is_part b c bs cs p) in
@@ -109,7 +109,7 @@ pub part_leaves_room : (g : Strip) (part whole : List (Option Rect)) (own : ℕ)
 part_leaves_room g part [] own r p none is shares = absurd cc
 part_leaves_room g [] (c ∷ cs) zero r p none is shares =
     let after = one_more g c cs in
-    let one = ap one_if (ap (meets g) is ∙ shares_meets g r shares) in
+    let one = ap one_if (ap (does_overlap g) is ∙ shares_overlaps g r shares) in
     omega (arith, after, one)
 part_leaves_room g [] (c ∷ cs) (suc own) r p none is shares =
     let rest = part_leaves_room g [] cs own r (λ k. inl refl) refl is shares in
@@ -119,8 +119,8 @@ part_leaves_room g (b ∷ bs) (c ∷ cs) zero r p none is shares =
     let rest = part_is_no_more g bs cs (rest_is_part b c bs cs p) in
     let before = one_more g b bs in
     let after = one_more g c cs in
-    let zero_before = ap (λ (x : Option Rect). one_if (meets g x)) none in
-    let one = ap one_if (ap (meets g) is ∙ shares_meets g r shares) in
+    let zero_before = ap (λ (x : Option Rect). one_if (does_overlap g x)) none in
+    let one = ap one_if (ap (does_overlap g) is ∙ shares_overlaps g r shares) in
     omega (arith, rest, before, after, zero_before, one)
 part_leaves_room g (b ∷ bs) (c ∷ cs) (suc own) r p none is shares =
     let rest = part_leaves_room g bs cs own r (rest_is_part b c bs cs p) none is shares in
@@ -144,7 +144,7 @@ set_is_one_more g [] own box = omega arith
 set_is_one_more g (b ∷ bs) zero box =
     let before = one_more g b bs in
     let after = one_more g box bs in
-    let most = at_most_one (meets g box) in
+    let most = at_most_one (does_overlap g box) in
     omega (arith, before, after, most)
   where
     at_most_one : (t : Bool) → one_if t ≤ 1
@@ -192,15 +192,15 @@ count_once k (own ∷ owns) once there = elim (eqb_tells own k) [
       let one = ap one_if same.0 in
       omega (arith, rest, step, one)
   | inr apart ↦
-      let rest = count_once k owns (λ i j d less within. once (suc i) (suc j) d (omega (arith, less)) (omega (arith, within))) (behind there apart.1) in
+      let rest = count_once k owns (λ i j d less within. once (suc i) (suc j) d (omega (arith, less)) (omega (arith, within))) (after_it there apart.1) in
       let step = of_more k own owns in
       let none = ap one_if apart.0 in
       omega (arith, rest, step, none)
 ]
   where
-    behind : Contains (own ∷ owns) k → own ≢ k → Contains owns k
-    behind (zero, within, is) other = absurd (other is)
-    behind (suc i, within, is) other = (i, omega (arith, within), is)
+    after_it : Contains (own ∷ owns) k → own ≢ k → Contains owns k
+    after_it (zero, within, is) other = absurd (other is)
+    after_it (suc i, within, is) other = (i, omega (arith, within), is)
 
 below_next : (k : ℕ) (owns : List ℕ) → count_below (k + 1) owns ≡ count_below k owns + count_of k owns
 below_next k [] = refl
@@ -232,14 +232,14 @@ below_all k (own ∷ owns) low =
 -- a list that names each cell whose box shares a point with a strip once is as long as the count in
 -- the strip
 pub named_are_counted : (g : Strip) (boxes : List (Option Rect)) (owns : List ℕ) → AllPairs (λ a b. a ≢ b) owns →
-    ((own : ℕ) → Contains owns own ↔ (meets g (cell_box boxes own) ≡ true)) → length owns ≡ count_in g boxes
+    ((own : ℕ) → Contains owns own ↔ (does_overlap g (cell_box boxes own) ≡ true)) → length owns ≡ count_in g boxes
 named_are_counted g boxes owns once exact = sym (below_all (length boxes) owns low) ∙ up_to (length boxes) (omega arith) ∙ ap (count_in g) (take_whole boxes)
   where
     take_whole : (bs : List (Option Rect)) → take (length bs) bs ≡ bs
     take_whole [] = refl
     take_whole (b ∷ bs) = ap (λ (cs : List (Option Rect)). b ∷ cs) (take_whole bs)
 
-    past : (bs : List (Option Rect)) (k : ℕ) → meets g (cell_box bs k) ≡ true → k < length bs
+    past : (bs : List (Option Rect)) (k : ℕ) → does_overlap g (cell_box bs k) ≡ true → k < length bs
     past [] k e = absurd cc
     past (b ∷ bs) zero e = omega arith
     past (b ∷ bs) (suc k) e = let h = past bs k e in omega (arith, h)
@@ -262,15 +262,15 @@ named_are_counted g boxes owns once exact = sym (below_all (length boxes) owns l
     next_too : (k : ℕ) → k < length boxes → count_below k owns ≡ count_in g (take k boxes) → count_below (k + 1) owns ≡ count_in g (take (k + 1) boxes)
     next_too k inside before =
         let next = below_next k owns in
-        let here = ap (meets g) (at boxes k inside) in
-        elim (yes_or_no (meets g (cell_box boxes k))) [
+        let here = ap (does_overlap g) (at boxes k inside) in
+        elim (yes_or_no (does_overlap g (cell_box boxes k))) [
           | inl it_does ↦
-              let more = count_by_more_yes (meets g) boxes k None inside (sym here ∙ it_does) in
+              let more = count_by_more_yes (does_overlap g) boxes k None inside (sym here ∙ it_does) in
               let one = count_once k owns once ((exact k).1 it_does) in
               omega (arith, before, next, more, one)
           | inr it_does_not ↦
-              let more = count_by_more_no (meets g) boxes k None inside (sym here ∙ it_does_not) in
-              let none = count_none k owns (λ there. not_both (meets g (cell_box boxes k)) ((exact k).0 there) it_does_not) in
+              let more = count_by_more_no (does_overlap g) boxes k None inside (sym here ∙ it_does_not) in
+              let none = count_none k owns (λ there. not_both (does_overlap g (cell_box boxes k)) ((exact k).0 there) it_does_not) in
               omega (arith, before, next, more, none)
         ]
 

@@ -5,12 +5,12 @@ use Rattle.std.proofs.lemmas.Int.{ints}
 use Rattle.std.proofs.lemmas.List.{get_or_default}
 use Rattle.std.proofs.lemmas.List.Elements.{All-append, All-nil, Contains-get_or}
 use Rattle.lf_spans.specs.declared.span.Span.{Span}
-use Rattle.lf_spans.specs.Spans.{IsApart, IsFilled, IsFreeIn, IsRising, LiesIn, LiesInOneOf}
+use Rattle.lf_spans.specs.Spans.{IsDisjointFrom, IsFilled, IsFreeIn, IsRising, LiesIn, LiesInOneOf}
 use Rattle.lf_spans.proofs.Anys.{any_left, any_split}
 use Rattle.lf_spans.proofs.Edges.{in_of_lies}
 use Rattle.lf_segments.specs.declared.strip.Strip.{Strip}
-use Rattle.lf_occupancy.specs.Lanes.{StripView, all_padded, others_in, spans_in, x_range}
-use Rattle.lf_occupancy.specs.Occupied.{x_extent}
+use Rattle.lf_occupancy.specs.MarkLists.{StripView, all_padded, others_in, spans_in, x_range}
+use Rattle.lf_occupancy.specs.Views.{strip_extent}
 use Rattle.lf_segments.specs.Strips.{AreNear, LiesBefore, IsNear}
 use Rattle.lf_cells.specs.declared.cell.CellId.{CellId}
 use Rattle.lf_occupancy.specs.Strips.{AreFreeTo, AreFreeSpansOfStrip, LiesFree}
@@ -19,23 +19,23 @@ use Rattle.lf_occupancy.proofs.Finds.{no_strip}
 
 -- the span lies in the strip of this number between two positions, and shares no number with
 -- another cell's entry widened by the padding
-pub record FreeBetween (xs : List Strip) (lanes : List StripView) (own : ℕ) (padding : ℤ) (start k end : ℕ) (s : Span) : Type 0 where
+pub record FreeBetween (xs : List Strip) (mark_lists : List StripView) (own : ℕ) (padding : ℤ) (start k end : ℕ) (s : Span) : Type 0 where
   pub m : ℕ
   pub from : start ≤ m
   pub below : m < k
   pub until : m < end
-  pub inside : (d : Strip) → LiesIn s (x_extent (get_or xs m d))
-  pub apart : (d : StripView) → IsApart (spans_in (others_in (all_padded padding (get_or lanes m d).entries) own)) s
+  pub inside : (d : Strip) → LiesIn s (strip_extent (get_or xs m d))
+  pub apart : (d : StripView) → IsDisjointFrom (spans_in (others_in (all_padded padding (get_or mark_lists m d).entries) own)) s
 
 -- the free spans of the strips visited
-pub record AreFreeBetween (xs : List Strip) (lanes : List StripView) (own : ℕ) (padding : ℤ) (start k end : ℕ) (window : Span) (free : List Span) : Type 0 where
+pub record AreFreeBetween (xs : List Strip) (mark_lists : List StripView) (own : ℕ) (padding : ℤ) (start k end : ℕ) (window : Span) (free : List Span) : Type 0 where
   pub rising : IsRising free
   pub ends : (m : ℕ) (d : Strip) → k ≤ m → m < end → All (λ t. t.hi ≤ℤ (get_or xs m d).area.x1) free
-  pub exact : (s : Span) → IsFilled s → (LiesInOneOf free s → LiesIn s window × FreeBetween xs lanes own padding start k end s) ×
-      (LiesIn s window × FreeBetween xs lanes own padding start k end s → LiesInOneOf free s)
+  pub exact : (s : Span) → IsFilled s → (LiesInOneOf free s → LiesIn s window × FreeBetween xs mark_lists own padding start k end s) ×
+      (LiesIn s window × FreeBetween xs mark_lists own padding start k end s → LiesInOneOf free s)
 
-pub none_free : (xs : List Strip) (lanes : List StripView) (own : ℕ) (padding : ℤ) (start end : ℕ) (window : Span) → AreFreeBetween xs lanes own padding start start end window []
-none_free xs lanes own padding start end window = record {
+pub none_free : (xs : List Strip) (mark_lists : List StripView) (own : ℕ) (padding : ℤ) (start end : ℕ) (window : Span) → AreFreeBetween xs mark_lists own padding start start end window []
+none_free xs mark_lists own padding start end window = record {
   rising = record { filled = All-nil IsFilled; apart = λ i j d less within. absurd (omega (arith, within)) };
   ends = λ m d from until. All-nil (λ t. t.hi ≤ℤ (get_or xs m d).area.x1);
   exact = λ s filled. (
@@ -59,12 +59,12 @@ near_rise row team lo hi a b p q (inl less) = let e = p.in_row in let f = q.in_r
 near_rise row team lo hi a b p q (inr (same, inl less)) = let e = p.of_team in let f = q.of_team in absurd (omega (arith, less, e, f))
 near_rise row team lo hi a b p q (inr (same, inr (alike, apart))) = apart
 
-pub free_further : (xs : List Strip) (lanes : List StripView) (row team own : ℕ) (padding : ℤ) (start k end : ℕ) (window : Span) (lane : StripView) (g : Strip) (free part : List Span) →
-    AllPairs LiesBefore xs → AreNear xs row team window.lo window.hi start end → start ≤ k → k < end → k < length lanes →
+pub free_further : (xs : List Strip) (mark_lists : List StripView) (row team own : ℕ) (padding : ℤ) (start k end : ℕ) (window : Span) (mark_list : StripView) (g : Strip) (free part : List Span) →
+    AllPairs LiesBefore xs → AreNear xs row team window.lo window.hi start end → start ≤ k → k < end → k < length mark_lists →
     All (λ x. x.area.x1 <ℤ x.area.x2) xs →
-    lane ≡ get_or lanes k lane → ((d : Strip) → g ≡ get_or xs k d) → AreFreeBetween xs lanes own padding start k end window free →
-    IsFreeIn (x_range g.area) (spans_in (others_in (all_padded padding lane.entries) own)) window part → AreFreeBetween xs lanes own padding start (k + 1) end window (free ++ part)
-free_further xs lanes row team own padding start k end window lane g free part pairs near from until has wide is at old new = record {
+    mark_list ≡ get_or mark_lists k mark_list → ((d : Strip) → g ≡ get_or xs k d) → AreFreeBetween xs mark_lists own padding start k end window free →
+    IsFreeIn (x_range g.area) (spans_in (others_in (all_padded padding mark_list.entries) own)) window part → AreFreeBetween xs mark_lists own padding start (k + 1) end window (free ++ part)
+free_further xs mark_lists row team own padding start k end window mark_list g free part pairs near from until has wide is at old new = record {
   rising = record {
     filled = All-append IsFilled free part old.rising.filled new.rising.filled;
     apart = pairs_append (λ s t. s.hi ≤ℤ t.lo) free part cross old.rising.apart new.rising.apart;
@@ -86,7 +86,7 @@ free_further xs lanes row team own padding start k end window lane g free part p
     here = let b = bound in omega (arith, b, until)
 
     inside : All (λ t. (g.area.x1 ≤ℤ t.lo) × (t.hi ≤ℤ g.area.x2)) part
-    inside = part_inside (x_range g.area) window (spans_in (others_in (all_padded padding lane.entries) own)) part new
+    inside = part_inside (x_range g.area) window (spans_in (others_in (all_padded padding mark_list.entries) own)) part new
 
     cross : All (λ s. All (λ t. s.hi ≤ℤ t.lo) part) free
     cross i d within j e inner =
@@ -103,7 +103,7 @@ free_further xs lanes row team own padding start k end window lane g free part p
         let same : g.area.x2 ≡ (get_or xs k d).area.x2 = ap (λ (x : Strip). x.area.x2) (at d) in
         omega (arith, ints, up, same)
 
-    to : (s : Span) → IsFilled s → LiesInOneOf free s ⊎ LiesInOneOf part s → LiesIn s window × FreeBetween xs lanes own padding start (k + 1) end s
+    to : (s : Span) → IsFilled s → LiesInOneOf free s ⊎ LiesInOneOf part s → LiesIn s window × FreeBetween xs mark_lists own padding start (k + 1) end s
     to s filled (inl first) =
         let h = (old.exact s filled).0 first in
         let f = h.1 in
@@ -116,21 +116,21 @@ free_further xs lanes row team own padding start k end window lane g free part p
             from = from;
             below = omega arith;
             until = until;
-            inside = λ d. subst (λ (x : Strip). LiesIn s (x_extent x)) (at d) h.0;
-            apart = λ d. subst (λ (l : StripView). IsApart (spans_in (others_in (all_padded padding l.entries) own)) s) (is ∙ get_or_default lanes k lane d has) h.2;
+            inside = λ d. subst (λ (x : Strip). LiesIn s (strip_extent x)) (at d) h.0;
+            apart = λ d. subst (λ (l : StripView). IsDisjointFrom (spans_in (others_in (all_padded padding l.entries) own)) s) (is ∙ get_or_default mark_lists k mark_list d has) h.2;
           },
         )
 
-    back : (s : Span) → IsFilled s → LiesIn s window → FreeBetween xs lanes own padding start (k + 1) end s → LiesInOneOf (free ++ part) s
+    back : (s : Span) → IsFilled s → LiesIn s window → FreeBetween xs mark_lists own padding start (k + 1) end s → LiesInOneOf (free ++ part) s
     back s filled shown f = elim order [
       | inl h ↦ any_left (LiesIn s) free part
           ((old.exact s filled).1 (shown, record { m = f.m; from = f.from; below = h; until = f.until; inside = f.inside; apart = f.apart }))
       | inr h ↦ any_right (LiesIn s) free part
           ((new.exact s filled).1 (
-            subst (λ (x : Strip). LiesIn s (x_extent x)) (sym (at no_strip)) (subst (λ (m : ℕ). LiesIn s (x_extent (get_or xs m no_strip))) h (f.inside no_strip)),
+            subst (λ (x : Strip). LiesIn s (strip_extent x)) (sym (at no_strip)) (subst (λ (m : ℕ). LiesIn s (strip_extent (get_or xs m no_strip))) h (f.inside no_strip)),
             shown,
-            subst (λ (l : StripView). IsApart (spans_in (others_in (all_padded padding l.entries) own)) s) (sym is)
-                (subst (λ (m : ℕ). IsApart (spans_in (others_in (all_padded padding (get_or lanes m lane).entries) own)) s) h (f.apart lane)),
+            subst (λ (l : StripView). IsDisjointFrom (spans_in (others_in (all_padded padding l.entries) own)) s) (sym is)
+                (subst (λ (m : ℕ). IsDisjointFrom (spans_in (others_in (all_padded padding (get_or mark_lists m mark_list).entries) own)) s) h (f.apart mark_list)),
           ))
     ]
       where
@@ -139,16 +139,16 @@ free_further xs lanes row team own padding start k end window lane g free part p
 
 -- the free spans between the two positions found by binary search are the free spans in the strips
 -- of the row and the team
-pub free_of_row : (xs : List Strip) (lanes : List StripView) (row team own : ℕ) (padding : ℤ) (start k end : ℕ) (window : Span) (free : List Span) →
+pub free_of_row : (xs : List Strip) (mark_lists : List StripView) (row team own : ℕ) (padding : ℤ) (start k end : ℕ) (window : Span) (free : List Span) →
     AreNear xs row team window.lo window.hi start end →
-    end ≤ k → AreFreeBetween xs lanes own padding start k end window free → AreFreeTo xs lanes row team own window padding (length xs) free
-free_of_row xs lanes row team own padding start k end window free near past f = record {
+    end ≤ k → AreFreeBetween xs mark_lists own padding start k end window free → AreFreeTo xs mark_lists row team own window padding (length xs) free
+free_of_row xs mark_lists row team own padding start k end window free near past f = record {
   rising = f.rising;
   exact = λ s filled. (λ lies. to s ((f.exact s filled).0 lies), λ both. (f.exact s filled).1 (back s filled both.0 both.1.0 both.1.1.1));
 }
   where
-    to : (s : Span) → LiesIn s window × FreeBetween xs lanes own padding start k end s → LiesIn s window × ((n : ℕ) ×
-        ((n < length xs) × LiesFree xs lanes row team own padding s n))
+    to : (s : Span) → LiesIn s window × FreeBetween xs mark_lists own padding start k end s → LiesIn s window × ((n : ℕ) ×
+        ((n < length xs) × LiesFree xs mark_lists row team own padding s n))
     to s (shown, b) =
         let bound = near.within in
         let until = b.until in
@@ -169,10 +169,10 @@ free_of_row xs lanes row team own padding start k end window free near past f = 
           ),
         )
 
-    back : (s : Span) → IsFilled s → LiesIn s window → (n : ℕ) → LiesFree xs lanes row team own padding s n → LiesIn s window × FreeBetween xs lanes own padding start k end s
+    back : (s : Span) → IsFilled s → LiesIn s window → (n : ℕ) → LiesFree xs mark_lists row team own padding s n → LiesIn s window × FreeBetween xs mark_lists own padding start k end s
     back s filled shown n l =
         let w = in_of_lies s window filled shown in
-        let i = in_of_lies s (x_extent (get_or xs n no_strip)) filled (l.inside no_strip) in
+        let i = in_of_lies s (strip_extent (get_or xs n no_strip)) filled (l.inside no_strip) in
         let a = w.low in
         let b = w.high in
         let e = i.low in
@@ -187,53 +187,53 @@ free_of_row xs lanes row team own padding start k end window free near past f = 
         (shown, record { m = n; from = both.0; below = omega (arith, until, past); until = until; inside = l.inside; apart = l.apart })
 
 -- what is free in one strip of the cell's team is free of all other cells
-pub left_by_others : (xs : List Strip) (lanes : List StripView) (without : CellId) (padding : ℤ) (n : ℕ) (lane : StripView) (free : List Span) → n < length xs →
-    ((d : Strip) → (get_or xs n d).team ≡ without.team) → ((e : StripView) → lane ≡ get_or lanes n e) →
-    IsFreeIn (x_range (get_or xs n no_strip).area) (spans_in (others_in (all_padded padding lane.entries) without.own)) (x_range (get_or xs n no_strip).area) free →
-    AreFreeSpansOfStrip xs lanes without padding n free
-left_by_others xs lanes without padding n lane free within of_team is f = record {
+pub left_by_others : (xs : List Strip) (mark_lists : List StripView) (without : CellId) (padding : ℤ) (n : ℕ) (mark_list : StripView) (free : List Span) → n < length xs →
+    ((d : Strip) → (get_or xs n d).team ≡ without.team) → ((e : StripView) → mark_list ≡ get_or mark_lists n e) →
+    IsFreeIn (x_range (get_or xs n no_strip).area) (spans_in (others_in (all_padded padding mark_list.entries) without.own)) (x_range (get_or xs n no_strip).area) free →
+    AreFreeSpansOfStrip xs mark_lists without padding n free
+left_by_others xs mark_lists without padding n mark_list free within of_team is f = record {
   rising = f.rising;
   exact = λ s filled. (
     λ lies.
         let h = (f.exact s filled).0 lies in
         record {
           within = within;
-          inside = λ d. subst (λ (g : Strip). LiesIn s (x_extent g)) (sym (get_or_default xs n d no_strip within)) h.0;
+          inside = λ d. subst (λ (g : Strip). LiesIn s (strip_extent g)) (sym (get_or_default xs n d no_strip within)) h.0;
           own = λ d e same.
-              subst (λ (l : StripView). IsApart (spans_in (others_in (all_padded padding l.entries) without.own)) s) (is e) h.2;
+              subst (λ (l : StripView). IsDisjointFrom (spans_in (others_in (all_padded padding l.entries) without.own)) s) (is e) h.2;
           foreign = λ d e away. absurd (away (of_team d));
         },
     λ l.
         (f.exact s filled).1 (
           l.inside no_strip,
           l.inside no_strip,
-          subst (λ (x : StripView). IsApart (spans_in (others_in (all_padded padding x.entries) without.own)) s) (sym (is lane))
-              (l.own no_strip lane (of_team no_strip)),
+          subst (λ (x : StripView). IsDisjointFrom (spans_in (others_in (all_padded padding x.entries) without.own)) s) (sym (is mark_list))
+              (l.own no_strip mark_list (of_team no_strip)),
         ),
   );
 }
 
 -- what is free in one strip of another team is free of all its cells
-pub left_by_all : (xs : List Strip) (lanes : List StripView) (without : CellId) (padding : ℤ) (n : ℕ) (lane : StripView) (free : List Span) → n < length xs →
-    ((d : Strip) → (get_or xs n d).team ≡ without.team → ⊥) → ((e : StripView) → lane ≡ get_or lanes n e) →
-    IsFreeIn (x_range (get_or xs n no_strip).area) (spans_in (all_padded padding lane.entries)) (x_range (get_or xs n no_strip).area) free →
-    AreFreeSpansOfStrip xs lanes without padding n free
-left_by_all xs lanes without padding n lane free within other is f = record {
+pub left_by_all : (xs : List Strip) (mark_lists : List StripView) (without : CellId) (padding : ℤ) (n : ℕ) (mark_list : StripView) (free : List Span) → n < length xs →
+    ((d : Strip) → (get_or xs n d).team ≡ without.team → ⊥) → ((e : StripView) → mark_list ≡ get_or mark_lists n e) →
+    IsFreeIn (x_range (get_or xs n no_strip).area) (spans_in (all_padded padding mark_list.entries)) (x_range (get_or xs n no_strip).area) free →
+    AreFreeSpansOfStrip xs mark_lists without padding n free
+left_by_all xs mark_lists without padding n mark_list free within other is f = record {
   rising = f.rising;
   exact = λ s filled. (
     λ lies.
         let h = (f.exact s filled).0 lies in
         record {
           within = within;
-          inside = λ d. subst (λ (g : Strip). LiesIn s (x_extent g)) (sym (get_or_default xs n d no_strip within)) h.0;
+          inside = λ d. subst (λ (g : Strip). LiesIn s (strip_extent g)) (sym (get_or_default xs n d no_strip within)) h.0;
           own = λ d e same. absurd (other d same);
-          foreign = λ d e away. subst (λ (l : StripView). IsApart (spans_in (all_padded padding l.entries)) s) (is e) h.2;
+          foreign = λ d e away. subst (λ (l : StripView). IsDisjointFrom (spans_in (all_padded padding l.entries)) s) (is e) h.2;
         },
     λ l.
         (f.exact s filled).1 (
           l.inside no_strip,
           l.inside no_strip,
-          subst (λ (x : StripView). IsApart (spans_in (all_padded padding x.entries)) s) (sym (is lane)) (l.foreign no_strip lane (other no_strip)),
+          subst (λ (x : StripView). IsDisjointFrom (spans_in (all_padded padding x.entries)) s) (sym (is mark_list)) (l.foreign no_strip mark_list (other no_strip)),
         ),
   );
 }

@@ -4,7 +4,7 @@ use Rattle.std.proofs.lemmas.Bool.Decides.{eqb_tells}
 use Rattle.std.proofs.lemmas.List.{get_or-set_same, get_or-set_other, length-set}
 use Rattle.lf_units.specs.declared.geometry.Rect.{Rect}
 use Rattle.lf_cells.specs.declared.cell.CellId.{CellId}
-use Rattle.lf_occupancy.specs.Occupied.{cell_box}
+use Rattle.lf_occupancy.specs.Views.{cell_box}
 use Rattle.lf_occupancy.specs.Strips.{HasCell}
 use Rattle.lf_occupancy.proofs.Laning.{box_same}
 
@@ -30,8 +30,8 @@ known_still boxes id other box this known = record {
     changed = set (get_or boxes id.team []) id.own box
 
 -- a cell whose box is removed has no box
-pub stands_nowhere : (boxes : List (List (Option Rect))) (id : CellId) → HasCell boxes id →
+pub has_no_place : (boxes : List (List (Option Rect))) (id : CellId) → HasCell boxes id →
     cell_box (get_or (set boxes id.team (set (get_or boxes id.team []) id.own None)) id.team []) id.own ≡ None
-stands_nowhere boxes id known =
+has_no_place boxes id known =
     ap (λ (xs : List (Option Rect)). cell_box xs id.own) (get_or-set_same boxes id.team (set (get_or boxes id.team []) id.own None) [] known.team)
     ∙ box_same (get_or boxes id.team []) id.own None known.own

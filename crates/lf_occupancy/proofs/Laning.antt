@@ -13,9 +13,9 @@ use Rattle.lf_units.specs.Area.{Covers}
 use Rattle.lf_occupancy.specs.declared.strip_marks.Entry.{Entry}
 use Rattle.lf_occupancy.specs.declared.strip_marks.StripMarks.{StripMarks}
 use Rattle.lf_occupancy.specs.declared.strip_marks.Mark.{Mark}
-use Rattle.lf_occupancy.specs.Lanes.{AreInOrder, AreRising, MarksAreOf, HoldsPoint, IsAdded, IsInside, IsJoined, IsKept, ShowsBoxes, IsMarked, IsPart}
-use Rattle.lf_occupancy.specs.Lanes.{IsUnmarked, IsPutIn, HasPoints, IsNearZero, LiesInBox, StripView, MarkIsOf, entries_in, entry_in, entry_of_box, marks_but, others_in, part_in, strip_view}
-use Rattle.lf_occupancy.specs.Occupied.{cell_box}
+use Rattle.lf_occupancy.specs.MarkLists.{AreInOrder, AreRising, MarksAreOf, HoldsPoint, IsAdded, EntryIsInside, IsJoined, KeepsMarksOf, ShowsBoxes, IsMarked, IsPart}
+use Rattle.lf_occupancy.specs.MarkLists.{IsUnmarked, IsPutIn, HasPoints, IsNearZero, LiesInBox, StripView, MarkIsOf, marked_entries, marked_entry, entry_of_box, marks_but, others_in, part_in, strip_view}
+use Rattle.lf_occupancy.specs.Views.{cell_box}
 use Rattle.lf_occupancy.proofs.Parts.{part_is}
 use Rattle.lf_occupancy.proofs.Lists.{contains_filter, pairs_filter, pairs_append, pairs_cons}
 
@@ -51,16 +51,16 @@ in_box_of : (cells other : List (Option Rect)) (area : Rect) (own : ℕ) (x y : 
 in_box_of cells other area own x y same l = record { box = l.box; is = same ∙ l.is; in_area = l.in_area; in_box = l.in_box }
 
 -- the same points lie in the boxes
-lane_alike : (cells other : List (Option Rect)) (area : Rect) (l : StripView) → ((own : ℕ) (x y : ℤ) → LiesInBox cells area own x y →
+mark_list_alike : (cells other : List (Option Rect)) (area : Rect) (l : StripView) → ((own : ℕ) (x y : ℤ) → LiesInBox cells area own x y →
     LiesInBox other area own x y) →
     ((own : ℕ) (x y : ℤ) → LiesInBox other area own x y → LiesInBox cells area own x y) → ShowsBoxes cells area l → ShowsBoxes other area l
-lane_alike cells other area l f g lane = record {
-  orderly = lane.orderly;
-  whole = lane.whole;
-  inside = lane.inside;
-  held = λ own x y lies. lane.held own x y (g own x y lies);
-  told = λ k d within x y covers. f (get_or l.entries k d).own x y (lane.told k d within x y covers);
-  once = lane.once;
+mark_list_alike cells other area l f g mark_list = record {
+  orderly = mark_list.orderly;
+  whole = mark_list.whole;
+  inside = mark_list.inside;
+  held = λ own x y lies. mark_list.held own x y (g own x y lies);
+  reported = λ k d within x y covers. f (get_or l.entries k d).own x y (mark_list.reported k d within x y covers);
+  once = mark_list.once;
 }
 
 pub none_is_not_some : (r : Rect) → ◌≡◌ {A = Option Rect} None (Some r) → ⊥
@@ -77,7 +77,7 @@ record IsShownWith (e : Entry) (old new : StripView) : Type 0 where
   at : ℕ
   entries : new.entries ≡ insert old.entries at e
   before : (k : ℕ) (d : Entry) → k < at → (get_or old.entries k d).area.x1 <ℤ e.area.x1
-  behind : (k : ℕ) (d : Entry) → at ≤ k → k < length old.entries → e.area.x1 ≤ℤ (get_or old.entries k d).area.x1
+  after_it : (k : ℕ) (d : Entry) → at ≤ k → k < length old.entries → e.area.x1 ≤ℤ (get_or old.entries k d).area.x1
   widest : new.widest ≡ int_max old.widest (e.area.x2 -ℤ e.area.x1)
 
 -- the entries of a strip without the cell's
@@ -86,21 +86,21 @@ record IsShownWithout (own : ℕ) (old new : StripView) : Type 0 where
   widest : new.widest ≡ old.widest
 
 -- the entries of a strip without the cell's are those of the boxes without the cell's
-lane_pruned : (cells : List (Option Rect)) (area : Rect) (own : ℕ) (old new : StripView) → own < length cells → ShowsBoxes cells area old → IsShownWithout own old new →
+mark_list_pruned : (cells : List (Option Rect)) (area : Rect) (own : ℕ) (old new : StripView) → own < length cells → ShowsBoxes cells area old → IsShownWithout own old new →
     ShowsBoxes (set cells own None) area new
-lane_pruned cells area own old new has lane pruned = record {
+mark_list_pruned cells area own old new has mark_list pruned = record {
   orderly = record {
-    order = subst AreInOrder back (pairs_filter (λ a b. a.area.x1 ≤ℤ b.area.x1) p items lane.orderly.order);
+    order = subst AreInOrder back (pairs_filter (λ a b. a.area.x1 ≤ℤ b.area.x1) p items mark_list.orderly.order);
     wide = subst (λ (w : ℤ). All (λ e. (e.area.x2 -ℤ e.area.x1) ≤ℤ w) new.entries) (sym pruned.widest)
-        (subst (All (λ e. (e.area.x2 -ℤ e.area.x1) ≤ℤ old.widest)) back (All-filter p (λ e. (e.area.x2 -ℤ e.area.x1) ≤ℤ old.widest) items lane.orderly.wide));
-    some = let w = pruned.widest in let h = lane.orderly.some in omega (arith, ints, w, h);
-    most = let w = pruned.widest in let h = lane.orderly.most in omega (arith, ints, w, h);
+        (subst (All (λ e. (e.area.x2 -ℤ e.area.x1) ≤ℤ old.widest)) back (All-filter p (λ e. (e.area.x2 -ℤ e.area.x1) ≤ℤ old.widest) items mark_list.orderly.wide));
+    some = let w = pruned.widest in let h = mark_list.orderly.some in omega (arith, ints, w, h);
+    most = let w = pruned.widest in let h = mark_list.orderly.most in omega (arith, ints, w, h);
   };
-  whole = subst (All (λ e. HasPoints e.area)) back (All-filter p (λ e. HasPoints e.area) items lane.whole);
-  inside = subst (All (IsInside area)) back (All-filter p (IsInside area) items lane.inside);
+  whole = subst (All (λ e. HasPoints e.area)) back (All-filter p (λ e. HasPoints e.area) items mark_list.whole);
+  inside = subst (All (EntryIsInside area)) back (All-filter p (EntryIsInside area) items mark_list.inside);
   held = λ k x y lies. subst (Any (HoldsPoint k x y)) back (held k x y lies);
-  told = subst (All (λ e. (x y : ℤ) → Covers e.area x y → LiesInBox (set cells own None) area e.own x y)) back told;
-  once = subst AreOnce back (pairs_filter (λ a b. a.own ≢ b.own) p items lane.once);
+  reported = subst (All (λ e. (x y : ℤ) → Covers e.area x y → LiesInBox (set cells own None) area e.own x y)) back reported;
+  once = subst AreOnce back (pairs_filter (λ a b. a.own ≢ b.own) p items mark_list.once);
 }
   where
     items : List Entry
@@ -120,23 +120,23 @@ lane_pruned cells area own old new has lane pruned = record {
     held : (k : ℕ) (x y : ℤ) → LiesInBox (set cells own None) area k x y → Any (HoldsPoint k x y) (filter p items)
     held k x y lies =
         let apart = apart_from k x y lies in
-        let found = lane.held k x y (in_box_of (set cells own None) cells area k x y (sym (box_other cells own k None apart)) lies) in
+        let found = mark_list.held k x y (in_box_of (set cells own None) cells area k x y (sym (box_other cells own k None apart)) lies) in
         let other : found.1.own ≡ own → ⊥ = λ same. apart (sym found.4.is ∙ same) in
         let kept = contains_filter p items found.1 (found.0, found.2, found.3) (other_test found.1.own own other) in
         (kept.0, found.1, kept.1, kept.2, found.4)
 
-    told : All (λ e. (x y : ℤ) → Covers e.area x y → LiesInBox (set cells own None) area e.own x y) (filter p items)
-    told k d within x y covers =
+    reported : All (λ e. (x y : ℤ) → Covers e.area x y → LiesInBox (set cells own None) area e.own x y) (filter p items)
+    reported k d within x y covers =
         let e : Entry = get_or (filter p items) k d in
         let apart = test_other e.own own (filter_passes p items k d within) in
         in_box_of cells (set cells own None) area e.own x y (box_other cells own e.own None apart)
-        (All-filter p (λ z. (x y : ℤ) → Covers z.area x y → LiesInBox cells area z.own x y) items lane.told k d within x y covers)
+        (All-filter p (λ z. (x y : ℤ) → Covers z.area x y → LiesInBox cells area z.own x y) items mark_list.reported k d within x y covers)
 
 -- the entries of a strip if no point of it lies in the old box of the cell or in the new one
-lane_beside : (cells : List (Option Rect)) (area : Rect) (own : ℕ) (box : Option Rect) (l : StripView) → own < length cells →
+mark_list_beside : (cells : List (Option Rect)) (area : Rect) (own : ℕ) (box : Option Rect) (l : StripView) → own < length cells →
     ((x y : ℤ) → LiesInBox cells area own x y → ⊥) → ((r : Rect) (x y : ℤ) → box ≡ Some r → Covers area x y → Covers r x y → ⊥) → ShowsBoxes cells area l →
     ShowsBoxes (set cells own box) area l
-lane_beside cells area own box l has old new lane = lane_alike cells (set cells own box) area l to back lane
+mark_list_beside cells area own box l has old new mark_list = mark_list_alike cells (set cells own box) area l to back mark_list
   where
     to : (k : ℕ) (x y : ℤ) → LiesInBox cells area k x y → LiesInBox (set cells own box) area k x y
     to k x y lies = elim (eqb_tells k own) [
@@ -159,7 +159,7 @@ contains_insert : (xs : List Entry) (i : ℕ) (e x : Entry) → Contains xs x �
 contains_insert xs i e x there =
     elim (Contains-append_cases (take i xs) (drop i xs) x (subst (λ (zs : List Entry). Contains zs x) (sym (take-append-drop i xs)) there)) [
       | inl before ↦ Contains-append_left (take i xs) (e ∷ drop i xs) x before
-      | inr behind ↦ Contains-append_right (take i xs) (e ∷ drop i xs) x (suc behind.0, (let h = behind.1 in omega (arith, h)), behind.2)
+      | inr after_it ↦ Contains-append_right (take i xs) (e ∷ drop i xs) x (suc after_it.0, (let h = after_it.1 in omega (arith, h)), after_it.2)
     ]
 
 insert_contains : (xs : List Entry) (i : ℕ) (e : Entry) → Contains (insert xs i e) e
@@ -167,7 +167,7 @@ insert_contains xs i e = Contains-append_right (take i xs) (e ∷ drop i xs) e (
 
 order_insert : (xs : List Entry) (i : ℕ) (e : Entry) → AreInOrder xs → ((k : ℕ) (d : Entry) → k < i → (get_or xs k d).area.x1 <ℤ e.area.x1) →
     ((k : ℕ) (d : Entry) → i ≤ k → k < length xs → e.area.x1 ≤ℤ (get_or xs k d).area.x1) → AreInOrder (insert xs i e)
-order_insert xs i e order before behind =
+order_insert xs i e order before after_it =
     pairs_append R (take i xs) (e ∷ drop i xs) cross front (pairs_cons R e (drop i xs) after rest)
   where
     R : Entry → Entry → Type 0
@@ -195,7 +195,7 @@ order_insert xs i e order before behind =
     after m d within =
         let long = length-drop i xs in
         let first : (get_or (drop i xs) m d).area.x1 ≡ (get_or xs (i + m) d).area.x1 = ap (λ (z : Entry). z.area.x1) (get_or-drop i xs m d) in
-        let up = behind (i + m) d (omega arith) (omega (arith, long, within)) in
+        let up = after_it (i + m) d (omega arith) (omega (arith, long, within)) in
         omega (arith, ints, first, up)
 
     cross : All (λ a. All (R a) (e ∷ drop i xs)) (take i xs)
@@ -254,30 +254,30 @@ once_insert xs i e once fresh = pairs_append R (take i xs) (e ∷ drop i xs) cro
         ∙ own_of _ _ (get_or_default xs (i + n) z d (omega (arith, wide, inner))))
 
 -- the entries with the cell's part are those of the boxes with the cell's new box
-lane_joined : (cells : List (Option Rect)) (area : Rect) (own : ℕ) (rect part : Rect) (old new : StripView) → own < length cells → cell_box cells own ≡ None →
+mark_list_joined : (cells : List (Option Rect)) (area : Rect) (own : ℕ) (rect part : Rect) (old new : StripView) → own < length cells → cell_box cells own ≡ None →
     IsNearZero area → IsPart area rect part → HasPoints part →
     ShowsBoxes cells area old → IsShownWith record { own = own; area = part } old new → ShowsBoxes (set cells own (Some rect)) area new
-lane_joined cells area own rect part old new has nowhere def is whole lane j = record {
+mark_list_joined cells area own rect part old new has nowhere def is whole mark_list j = record {
   orderly = record {
-    order = subst AreInOrder back (order_insert items j.at e lane.orderly.order j.before j.behind);
+    order = subst AreInOrder back (order_insert items j.at e mark_list.orderly.order j.before j.after_it);
     wide = subst (All (λ z. (z.area.x2 -ℤ z.area.x1) ≤ℤ new.widest)) back
         (all_insert (λ z. (z.area.x2 -ℤ z.area.x1) ≤ℤ new.widest) items j.at e (let w = j.widest in omega (arith, ints, clamps, w))
-        (λ k d within. let h = lane.orderly.wide k d within in let w = j.widest in omega (arith, ints, clamps, w, h)));
-    some = let w = j.widest in let h = lane.orderly.some in omega (arith, ints, clamps, w, h);
+        (λ k d within. let h = mark_list.orderly.wide k d within in let w = j.widest in omega (arith, ints, clamps, w, h)));
+    some = let w = j.widest in let h = mark_list.orderly.some in omega (arith, ints, clamps, w, h);
     most = let w = j.widest in
-        let h = lane.orderly.most in
+        let h = mark_list.orderly.most in
         let l = def.low in
         let r = def.high in
         let a = is.left in
         let b = is.right in
         omega (arith, ints, clamps, w, h, l, r, a, b);
   };
-  whole = subst (All (λ z. HasPoints z.area)) back (all_insert (λ z. HasPoints z.area) items j.at e whole lane.whole);
-  inside = subst (All (IsInside area)) back (all_insert (IsInside area) items j.at e is_in lane.inside);
+  whole = subst (All (λ z. HasPoints z.area)) back (all_insert (λ z. HasPoints z.area) items j.at e whole mark_list.whole);
+  inside = subst (All (EntryIsInside area)) back (all_insert (EntryIsInside area) items j.at e is_in mark_list.inside);
   held = λ k x y lies. subst (Any (HoldsPoint k x y)) back (held k x y lies);
-  told = subst (All (λ z. (x y : ℤ) → Covers z.area x y → LiesInBox (set cells own (Some rect)) area z.own x y)) back
+  reported = subst (All (λ z. (x y : ℤ) → Covers z.area x y → LiesInBox (set cells own (Some rect)) area z.own x y)) back
       (all_insert (λ z. (x y : ℤ) → Covers z.area x y → LiesInBox (set cells own (Some rect)) area z.own x y) items j.at e here there);
-  once = subst AreOnce back (once_insert items j.at e lane.once fresh);
+  once = subst AreOnce back (once_insert items j.at e mark_list.once fresh);
 }
   where
     same_rect : (r : Rect) → ◌≡◌ {A = Option Rect} (Some rect) (Some r) → r ≡ rect
@@ -286,7 +286,7 @@ lane_joined cells area own rect part old new has nowhere def is whole lane j = r
     e : Entry
     e = record { own = own; area = part }
 
-    is_in : IsInside area e
+    is_in : EntryIsInside area e
     is_in =
         let w = whole.wide in
         let h = whole.high in
@@ -302,9 +302,9 @@ lane_joined cells area own rect part old new has nowhere def is whole lane j = r
         record { left = is.left; bottom = a; right = is.right; top = omega (arith, ints, b) }
 
     apart_from : (k : ℕ) → (box : Rect) → cell_box cells k ≡ Some box → k ≡ own → ⊥
-    apart_from k box stands same =
+    apart_from k box is_in_place same =
         let At : ℕ → Type 0 = λ m. cell_box cells m ≡ Some box in
-        none_is_not_some box (sym nowhere ∙ subst At same stands)
+        none_is_not_some box (sym nowhere ∙ subst At same is_in_place)
 
     items : List Entry
     items = old.entries
@@ -320,15 +320,15 @@ lane_joined cells area own rect part old new has nowhere def is whole lane j = r
     there : All (λ z. (x y : ℤ) → Covers z.area x y → LiesInBox (set cells own (Some rect)) area z.own x y) items
     there k d within x y covers =
         let z : Entry = get_or items k d in
-        let lies = lane.told k d within x y covers in
+        let lies = mark_list.reported k d within x y covers in
         in_box_of cells (set cells own (Some rect)) area z.own x y (box_other cells own z.own (Some rect) (apart_from z.own lies.box lies.is)) lies
 
     fresh : All (λ z. z.own ≢ own) items
     fresh k d within =
         let z : Entry = get_or items k d in
-        let w = (lane.whole k d within).wide in
-        let h = (lane.whole k d within).high in
-        let lies = lane.told k d within z.area.x1 z.area.y1
+        let w = (mark_list.whole k d within).wide in
+        let h = (mark_list.whole k d within).high in
+        let lies = mark_list.reported k d within z.area.x1 z.area.y1
         record { left = omega (arith, ints); right = w; bottom = omega (arith, ints); top = h } in
         apart_from z.own lies.box lies.is
 
@@ -340,7 +340,7 @@ lane_joined cells area own rect part old new has nowhere def is whole lane j = r
           let c = insert_contains items j.at e in
           (c.0, e, c.1, c.2, record { is = sym same.1; covers = (is.points x y).1 (lies.in_area, subst (λ (q : Rect). Covers q x y) same_box lies.in_box) })
       | inr apart ↦
-          let found = lane.held k x y (in_box_of (set cells own (Some rect)) cells area k x y (sym (box_other cells own k (Some rect) apart.1)) lies) in
+          let found = mark_list.held k x y (in_box_of (set cells own (Some rect)) cells area k x y (sym (box_other cells own k (Some rect) apart.1)) lies) in
           let c = contains_insert items j.at e found.1 (found.0, found.2, found.3) in
           (c.0, found.1, c.1, c.2, found.4)
     ]
@@ -349,25 +349,25 @@ lane_joined cells area own rect part old new has nowhere def is whole lane j = r
 
 -- the cell with the other box has no mark
 entry_other : (cells : List (Option Rect)) (area : Rect) (own : ℕ) (box : Option Rect) (m : Mark) → m.own ≢ own →
-    entry_in (set cells own box) area m ≡ entry_in cells area m
+    marked_entry (set cells own box) area m ≡ marked_entry cells area m
 entry_other cells area own box m apart = ap (λ (b : Option Rect). entry_of_box area b m.own) (box_other cells own m.own box apart)
 
 entries_other : (cells : List (Option Rect)) (area : Rect) (own : ℕ) (box : Option Rect) (ms : List Mark) → All (λ m. m.own ≢ own) ms →
-    entries_in (set cells own box) area ms ≡ entries_in cells area ms
+    marked_entries (set cells own box) area ms ≡ marked_entries cells area ms
 entries_other cells area own box [] all = refl
 entries_other cells area own box (m ∷ ms) all =
-    ap (λ (e : Entry). e ∷ entries_in (set cells own box) area ms) (entry_other cells area own box m (all 0 m (omega arith)))
-    ∙ ap (λ (es : List Entry). entry_in cells area m ∷ es)
+    ap (λ (e : Entry). e ∷ marked_entries (set cells own box) area ms) (entry_other cells area own box m (all 0 m (omega arith)))
+    ∙ ap (λ (es : List Entry). marked_entry cells area m ∷ es)
     (entries_other cells area own box ms (λ k d within. all (suc k) d (omega (arith, within))))
 
-entries_but : (cells : List (Option Rect)) (area : Rect) (own : ℕ) (ms : List Mark) → entries_in cells area (marks_but ms own) ≡ others_in (entries_in cells area ms) own
+entries_but : (cells : List (Option Rect)) (area : Rect) (own : ℕ) (ms : List Mark) → marked_entries cells area (marks_but ms own) ≡ others_in (marked_entries cells area ms) own
 entries_but cells area own [] = refl
 entries_but cells area own (m ∷ ms) = both (not (eqb m.own own)) (entries_but cells area own ms)
   where
-    both : (b : Bool) → entries_in cells area (marks_but ms own) ≡ others_in (entries_in cells area ms) own →
-        entries_in cells area (cond b (m ∷ marks_but ms own) (marks_but ms own))
-        ≡ cond b (entry_in cells area m ∷ others_in (entries_in cells area ms) own) (others_in (entries_in cells area ms) own)
-    both true rest = ap (λ (es : List Entry). entry_in cells area m ∷ es) rest
+    both : (b : Bool) → marked_entries cells area (marks_but ms own) ≡ others_in (marked_entries cells area ms) own →
+        marked_entries cells area (cond b (m ∷ marks_but ms own) (marks_but ms own))
+        ≡ cond b (marked_entry cells area m ∷ others_in (marked_entries cells area ms) own) (others_in (marked_entries cells area ms) own)
+    both true rest = ap (λ (es : List Entry). marked_entry cells area m ∷ es) rest
     both false rest = rest
 
 entries_insert : (f : Mark → Entry) (ms : List Mark) (i : ℕ) (m : Mark) → map f (insert ms i m) ≡ insert (map f ms) i (f m)
@@ -380,27 +380,27 @@ no_mark : Mark
 no_mark = record { own = 0; left = pos 0; width = 0 }
 
 pub entry_there : (cells : List (Option Rect)) (area : Rect) (ms : List Mark) (k : ℕ) (d : Entry) (e : Mark) → k < length ms →
-    get_or (entries_in cells area ms) k d ≡ entry_in cells area (get_or ms k e)
-entry_there cells area ms k d e within = get_or-map (entry_in cells area) ms k e d within
+    get_or (marked_entries cells area ms) k d ≡ marked_entry cells area (get_or ms k e)
+entry_there cells area ms k d e within = get_or-map (marked_entry cells area) ms k e d within
 
-pub entries_many : (cells : List (Option Rect)) (area : Rect) (ms : List Mark) → length (entries_in cells area ms) ≡ length ms
-entries_many cells area ms = length-map ms (entry_in cells area)
+pub entries_many : (cells : List (Option Rect)) (area : Rect) (ms : List Mark) → length (marked_entries cells area ms) ≡ length ms
+entries_many cells area ms = length-map ms (marked_entry cells area)
 
 -- the marks are of cells whose boxes have a point in the area
 pub none_marked : (cells : List (Option Rect)) (area : Rect) (own : ℕ) (l : StripMarks) → IsMarked cells area l → ((x y : ℤ) → LiesInBox cells area own x y → ⊥) →
     All (λ m. m.own ≢ own) l.marks.items
 none_marked cells area own l marked never k d within same =
-    let es = entries_in cells area l.marks.items in
+    let es = marked_entries cells area l.marks.items in
     let many = entries_many cells area l.marks.items in
     let m : Mark = get_or l.marks.items k d in
-    let e : Entry = entry_in cells area m in
+    let e : Entry = marked_entry cells area m in
     let inner : k < length es = omega (arith, within, many) in
     let at : get_or es k e ≡ e = entry_there cells area l.marks.items k e d within in
-    let whole = subst (λ (z : Entry). HasPoints z.area) at (marked.lane.whole k e inner) in
-    let told = subst (λ (z : Entry). (x y : ℤ) → Covers z.area x y → LiesInBox cells area z.own x y) at (marked.lane.told k e inner) in
+    let whole = subst (λ (z : Entry). HasPoints z.area) at (marked.mark_list.whole k e inner) in
+    let reported = subst (λ (z : Entry). (x y : ℤ) → Covers z.area x y → LiesInBox cells area z.own x y) at (marked.mark_list.reported k e inner) in
     let w = whole.wide in
     let h = whole.high in
-    let lies = told e.area.x1 e.area.y1 record { left = omega (arith, ints); right = w; bottom = omega (arith, ints); top = h } in
+    let lies = reported e.area.x1 e.area.y1 record { left = omega (arith, ints); right = w; bottom = omega (arith, ints); top = h } in
     never e.area.x1 e.area.y1 (subst (λ (n : ℕ). LiesInBox cells area n e.area.x1 e.area.y1) same lies)
 
 -- marks are in the order of the entries
@@ -408,13 +408,13 @@ pub marks_rise : (cells : List (Option Rect)) (area : Rect) (l : StripMarks) →
 marks_rise cells area l marked i j d less within =
     let ms = l.marks.items in
     let many = entries_many cells area ms in
-    let e : Entry = entry_in cells area d in
-    let up = marked.lane.orderly.order i j e less (omega (arith, within, many)) in
-    let a = (marked.told i d (omega (arith, less, within))).left in
-    let b = (marked.told j d within).left in
-    let first : (get_or (entries_in cells area ms) i e).area.x1 ≡ (entry_in cells area (get_or ms i d)).area.x1 =
+    let e : Entry = marked_entry cells area d in
+    let up = marked.mark_list.orderly.order i j e less (omega (arith, within, many)) in
+    let a = (marked.reported i d (omega (arith, less, within))).left in
+    let b = (marked.reported j d within).left in
+    let first : (get_or (marked_entries cells area ms) i e).area.x1 ≡ (marked_entry cells area (get_or ms i d)).area.x1 =
     ap (λ (z : Entry). z.area.x1) (entry_there cells area ms i e d (omega (arith, less, within))) in
-    let second : (get_or (entries_in cells area ms) j e).area.x1 ≡ (entry_in cells area (get_or ms j d)).area.x1 =
+    let second : (get_or (marked_entries cells area ms) j e).area.x1 ≡ (marked_entry cells area (get_or ms j d)).area.x1 =
     ap (λ (z : Entry). z.area.x1) (entry_there cells area ms j e d within) in
     omega (arith, ints, up, a, b, first, second)
 
@@ -422,33 +422,33 @@ abbrev made : List Entry → ℤ → StripView
 made es w = record { entries = es; widest = w }
 
 -- a strip with the same marks
-pub marked_kept : (cells : List (Option Rect)) (area : Rect) (old new : StripMarks) → IsMarked cells area old → IsKept old new → IsMarked cells area new
+pub marked_kept : (cells : List (Option Rect)) (area : Rect) (old new : StripMarks) → IsMarked cells area old → KeepsMarksOf old new → IsMarked cells area new
 marked_kept cells area old new marked kept = record {
-  lane = subst (ShowsBoxes cells area) same marked.lane;
-  told = subst (MarksAreOf cells area) (sym kept.marks) marked.told;
+  mark_list = subst (ShowsBoxes cells area) same marked.mark_list;
+  reported = subst (MarksAreOf cells area) (sym kept.marks) marked.reported;
 }
   where
     same : strip_view cells area old ≡ strip_view cells area new
-    same = ap (λ (ms : List Mark). made (entries_in cells area ms) old.widest) (sym kept.marks)
-        ∙ ap (λ (w : ℤ). made (entries_in cells area new.marks.items) w) (sym kept.widest)
+    same = ap (λ (ms : List Mark). made (marked_entries cells area ms) old.widest) (sym kept.marks)
+        ∙ ap (λ (w : ℤ). made (marked_entries cells area new.marks.items) w) (sym kept.widest)
 
 -- marks that are not the cell's have the same entries
-told_other : (cells : List (Option Rect)) (area : Rect) (own : ℕ) (box : Option Rect) (ms : List Mark) → All (λ m. m.own ≢ own) ms →
+reported_other : (cells : List (Option Rect)) (area : Rect) (own : ℕ) (box : Option Rect) (ms : List Mark) → All (λ m. m.own ≢ own) ms →
     MarksAreOf cells area ms → MarksAreOf (set cells own box) area ms
-told_other cells area own box ms apart told k d within =
-    subst (λ (e : Entry). MarkIsOf e (get_or ms k d)) (sym (entry_other cells area own box (get_or ms k d) (apart k d within))) (told k d within)
+reported_other cells area own box ms apart reported k d within =
+    subst (λ (e : Entry). MarkIsOf e (get_or ms k d)) (sym (entry_other cells area own box (get_or ms k d) (apart k d within))) (reported k d within)
 
 -- the marks of a strip without the cell's are those of the boxes without the cell's
 pub marked_pruned : (cells : List (Option Rect)) (area : Rect) (own : ℕ) (old new : StripMarks) → own < length cells → IsMarked cells area old →
     IsUnmarked own old new → IsMarked (set cells own None) area new
 marked_pruned cells area own old new has marked pruned = record {
-  lane = lane_pruned cells area own (strip_view cells area old) (strip_view (set cells own None) area new) has marked.lane record {
-    entries = ap (λ (ms : List Mark). entries_in (set cells own None) area ms) pruned.marks
+  mark_list = mark_list_pruned cells area own (strip_view cells area old) (strip_view (set cells own None) area new) has marked.mark_list record {
+    entries = ap (λ (ms : List Mark). marked_entries (set cells own None) area ms) pruned.marks
         ∙ entries_other cells area own None (marks_but items own) apart ∙ entries_but cells area own items;
     widest = pruned.widest;
   };
-  told = subst (MarksAreOf (set cells own None) area) (sym pruned.marks)
-      (told_other cells area own None (marks_but items own) apart (All-filter p (λ m. MarkIsOf (entry_in cells area m) m) items marked.told));
+  reported = subst (MarksAreOf (set cells own None) area) (sym pruned.marks)
+      (reported_other cells area own None (marks_but items own) apart (All-filter p (λ m. MarkIsOf (marked_entry cells area m) m) items marked.reported));
 }
   where
     items : List Mark
@@ -465,9 +465,9 @@ pub marked_beside : (cells : List (Option Rect)) (area : Rect) (own : ℕ) (box 
     ((x y : ℤ) → LiesInBox cells area own x y → ⊥) → ((r : Rect) (x y : ℤ) → box ≡ Some r → Covers area x y → Covers r x y → ⊥) → IsMarked cells area l →
     IsMarked (set cells own box) area l
 marked_beside cells area own box l has old new marked = record {
-  lane = subst (λ (es : List Entry). ShowsBoxes (set cells own box) area record { entries = es; widest = l.widest })
-      (sym (entries_other cells area own box l.marks.items apart)) (lane_beside cells area own box (strip_view cells area l) has old new marked.lane);
-  told = told_other cells area own box l.marks.items apart marked.told;
+  mark_list = subst (λ (es : List Entry). ShowsBoxes (set cells own box) area record { entries = es; widest = l.widest })
+      (sym (entries_other cells area own box l.marks.items apart)) (mark_list_beside cells area own box (strip_view cells area l) has old new marked.mark_list);
+  reported = reported_other cells area own box l.marks.items apart marked.reported;
 }
   where
     apart : All (λ m. m.own ≢ own) l.marks.items
@@ -509,33 +509,33 @@ marked_put cells area own rect old new has nowhere near marked put = elim put [
 
     joined : HasPoints part → IsAdded own part old new → IsMarked (set cells own (Some rect)) area new
     joined whole added = record {
-      lane = lane_joined cells area own rect part (strip_view cells area old) (strip_view (set cells own (Some rect)) area new) has nowhere near is whole marked.lane record {
+      mark_list = mark_list_joined cells area own rect part (strip_view cells area old) (strip_view (set cells own (Some rect)) area new) has nowhere near is whole marked.mark_list record {
         at = j.at;
-        entries = ap (λ (ms : List Mark). entries_in (set cells own (Some rect)) area ms) j.marks
-            ∙ entries_insert (entry_in (set cells own (Some rect)) area) items j.at m
-            ∙ ap (λ (es : List Entry). insert es j.at (entry_in (set cells own (Some rect)) area m)) (entries_other cells area own (Some rect) items apart)
-            ∙ ap (λ (e : Entry). insert (entries_in cells area items) j.at e) mine;
+        entries = ap (λ (ms : List Mark). marked_entries (set cells own (Some rect)) area ms) j.marks
+            ∙ entries_insert (marked_entry (set cells own (Some rect)) area) items j.at m
+            ∙ ap (λ (es : List Entry). insert es j.at (marked_entry (set cells own (Some rect)) area m)) (entries_other cells area own (Some rect) items apart)
+            ∙ ap (λ (e : Entry). insert (marked_entries cells area items) j.at e) mine;
         before = λ k d less.
             let bound = j.bound in
             let within : k < length items = omega (arith, bound, less) in
             let h = j.before k no_mark less in
-            let l = (marked.told k no_mark within).left in
-            let at : (get_or (entries_in cells area items) k d).area.x1 ≡ (entry_in cells area (get_or items k no_mark)).area.x1 =
+            let l = (marked.reported k no_mark within).left in
+            let at : (get_or (marked_entries cells area items) k d).area.x1 ≡ (marked_entry cells area (get_or items k no_mark)).area.x1 =
             ap (λ (z : Entry). z.area.x1) (entry_there cells area items k d no_mark within) in
             omega (arith, ints, h, l, at);
-        behind = λ k d from until.
+        after_it = λ k d from until.
             let many = entries_many cells area items in
             let within : k < length items = omega (arith, until, many) in
-            let h = j.behind k no_mark from within in
-            let l = (marked.told k no_mark within).left in
-            let at : (get_or (entries_in cells area items) k d).area.x1 ≡ (entry_in cells area (get_or items k no_mark)).area.x1 =
+            let h = j.after_it k no_mark from within in
+            let l = (marked.reported k no_mark within).left in
+            let at : (get_or (marked_entries cells area items) k d).area.x1 ≡ (marked_entry cells area (get_or items k no_mark)).area.x1 =
             ap (λ (z : Entry). z.area.x1) (entry_there cells area items k d no_mark within) in
             omega (arith, ints, h, l, at);
         widest = j.widest;
       };
-      told = subst (MarksAreOf (set cells own (Some rect)) area) (sym j.marks)
-          (mark_insert (λ z. MarkIsOf (entry_in (set cells own (Some rect)) area z) z) items j.at m (subst (λ (e : Entry). MarkIsOf e m) (sym mine) of_part)
-          (told_other cells area own (Some rect) items apart marked.told));
+      reported = subst (MarksAreOf (set cells own (Some rect)) area) (sym j.marks)
+          (mark_insert (λ z. MarkIsOf (marked_entry (set cells own (Some rect)) area z) z) items j.at m (subst (λ (e : Entry). MarkIsOf e m) (sym mine) of_part)
+          (reported_other cells area own (Some rect) items apart marked.reported));
     }
       where
         items : List Mark
@@ -553,6 +553,6 @@ marked_put cells area own rect old new has nowhere near marked put = elim put [
         apart : All (λ z. z.own ≢ own) items
         apart = none_marked cells area own old marked nothing
 
-        mine : entry_in (set cells own (Some rect)) area m ≡ record { own = own; area = part }
-        mine = ap (λ (n : ℕ). entry_in (set cells own (Some rect)) area record { own = n; left = m.left; width = m.width }) added.of.is
+        mine : marked_entry (set cells own (Some rect)) area m ≡ record { own = own; area = part }
+        mine = ap (λ (n : ℕ). marked_entry (set cells own (Some rect)) area record { own = n; left = m.left; width = m.width }) added.of.is
             ∙ ap (λ (b : Option Rect). entry_of_box area b own) (box_same cells own (Some rect) has)

@@ -1,20 +1,20 @@
 -- The least number of those that have a property.
 use Rattle.std.proofs.Common.{◌≡◌, ◌⊎◌, inl, inr, ℕ, ◌+◌, ◌<◌, ◌≤◌, List, Option, Some, None, length, get_or, take, refl, sym, subst, ◌∙◌, arith}
 use Rattle.std.specs.Prelude.{Any, IfSome, IsSomeAnd, MatchOption}
-use Rattle.lf_occupancy.specs.Lanes.{IsUpTo, IsLeast}
+use Rattle.lf_occupancy.specs.MarkLists.{IsAtMostOwn, IsLeast}
 use Rattle.lf_occupancy.proofs.Lists.{any_more, any_less}
 
 -- a bound on a number is a bound for a lesser one too
-up_to_less : (a b : Option ℕ) (n : ℕ) → IsUpTo a n → IfSome a (IsUpTo b) → IsUpTo b n
+up_to_less : (a b : Option ℕ) (n : ℕ) → IsAtMostOwn a n → IfSome a (IsAtMostOwn b) → IsAtMostOwn b n
 up_to_less None b n low less = absurd low
 up_to_less (Some x) None n low less = absurd less
 up_to_less (Some x) (Some y) n low less = omega arith
 
-up_to_itself : (a : Option ℕ) → IfSome a (IsUpTo a)
+up_to_itself : (a : Option ℕ) → IfSome a (IsAtMostOwn a)
 up_to_itself None = tt
 up_to_itself (Some x) = omega arith
 
-no_greater_along : (a b c : Option ℕ) → IfSome a (IsUpTo b) → IfSome b (IsUpTo c) → IfSome a (IsUpTo c)
+no_greater_along : (a b c : Option ℕ) → IfSome a (IsAtMostOwn b) → IfSome b (IsAtMostOwn c) → IfSome a (IsAtMostOwn c)
 no_greater_along None b c first second = tt
 no_greater_along (Some x) b c first second = up_to_less b c x first second
 
@@ -25,7 +25,7 @@ some_weaker P Q (Some n) f m = f n m
 -- the same numbers have the same least one
 pub least_alike : (P Q : ℕ → Type 0) (a b : Option ℕ) → ((n : ℕ) → P n → Q n) → ((n : ℕ) → Q n → P n) → IsLeast P a b → IsLeast Q a b
 least_alike P Q a b f g l = record {
-  from = elim l.from [ inl same ↦ inl same | inr met ↦ inr (some_weaker P Q b f met) ];
+  from = elim l.from [ inl same ↦ inl same | inr overlapping_one ↦ inr (some_weaker P Q b f overlapping_one) ];
   no_greater = l.no_greater;
   each = λ n q. l.each n (g n q);
 }
@@ -40,9 +40,9 @@ least_of_both P Q a b c first second = record {
   from = elim second.from [
     | inl same ↦ elim first.from [
       | inl again ↦ inl (same ∙ again)
-      | inr met ↦ inr (some_weaker P (λ n. P n ⊎ Q n) c (λ n p. inl p) (subst (λ (o : Option ℕ). IsSomeAnd o P) (sym same) met))
+      | inr overlapping_one ↦ inr (some_weaker P (λ n. P n ⊎ Q n) c (λ n p. inl p) (subst (λ (o : Option ℕ). IsSomeAnd o P) (sym same) overlapping_one))
     ]
-    | inr met ↦ inr (some_weaker Q (λ n. P n ⊎ Q n) c (λ n q. inr q) met)
+    | inr overlapping_one ↦ inr (some_weaker Q (λ n. P n ⊎ Q n) c (λ n q. inr q) overlapping_one)
   ];
   no_greater = no_greater_along a b c first.no_greater second.no_greater;
   each = λ n either. elim either [ inl p ↦ up_to_less b c n (first.each n p) second.no_greater | inr q ↦ second.each n q ];
@@ -58,4 +58,4 @@ least_more P xs i x a b c within is first second =
 -- starting from None, the least number with the property, or None if there is no such number
 pub least_from_none : (P : ℕ → Type 0) (b : Option ℕ) → IsLeast P None b → MatchOption b ((n : ℕ) → P n → ⊥) (λ n. P n × ((m : ℕ) → P m → n ≤ m))
 least_from_none P None l = λ n p. l.each n p
-least_from_none P (Some n) l = elim l.from [ inl same ↦ absurd cc | inr met ↦ (met, λ m p. l.each m p) ]
+least_from_none P (Some n) l = elim l.from [ inl same ↦ absurd cc | inr overlapping_one ↦ (overlapping_one, λ m p. l.each m p) ]

@@ -13,9 +13,9 @@ use Rattle.lf_occupancy.specs.declared.strip_marks.Entry.{Entry}
 use Rattle.lf_occupancy.specs.declared.strip_marks.StripMarks.{StripMarks}
 use Rattle.lf_occupancy.specs.declared.strip_marks.Mark.{Mark}
 use Rattle.lf_segments.specs.declared.strip.Strip.{Strip}
-use Rattle.lf_occupancy.specs.Occupied.{cell_box}
-use Rattle.lf_occupancy.specs.Lanes.{AreRising, HasAtMostOne, IsMarked, IsMarkOfCell, HasNoMarkFrom, entries_in, entry_in, marks_but, some_box}
-use Rattle.lf_occupancy.specs.Strips.{ShowAllBoxes, HaveAtMostOne, IsAt, IsReached, HasOneMark}
+use Rattle.lf_occupancy.specs.Views.{cell_box}
+use Rattle.lf_occupancy.specs.MarkLists.{AreRising, HasAtMostOne, IsMarked, IsMarkOfCell, HasNoMarkFrom, marked_entries, marked_entry, marks_but, some_box}
+use Rattle.lf_occupancy.specs.Strips.{ShowAllBoxes, HaveAtMostOne, HasBoxOrNone, IsReached, HasOneMark}
 use Rattle.lf_occupancy.proofs.Laning.{entries_many, entry_there, marks_rise, none_is_not_some, none_marked}
 
 kept_one : (e : Mark) (es : List Mark) (own : ℕ) → e.own ≢ own → marks_but (e ∷ es) own ≡ e ∷ marks_but es own
@@ -93,28 +93,28 @@ marked_has_one cells own rect area l at marked = record { order = marks_rise cel
     once : AllPairs (λ a b. a.own ≢ b.own) items
     once i j d less within same =
         let many = entries_many cells area items in
-        let e : Entry = entry_in cells area d in
-        let first : (get_or (entries_in cells area items) i e).own ≡ (get_or items i d).own =
+        let e : Entry = marked_entry cells area d in
+        let first : (get_or (marked_entries cells area items) i e).own ≡ (get_or items i d).own =
         ap (λ (z : Entry). z.own) (entry_there cells area items i e d (omega (arith, less, within))) in
-        let second : (get_or (entries_in cells area items) j e).own ≡ (get_or items j d).own =
+        let second : (get_or (marked_entries cells area items) j e).own ≡ (get_or items j d).own =
         ap (λ (z : Entry). z.own) (entry_there cells area items j e d within) in
-        marked.lane.once i j e less (omega (arith, within, many)) (first ∙ same ∙ sym second)
+        marked.mark_list.once i j e less (omega (arith, within, many)) (first ∙ same ∙ sym second)
 
     begins : (k : ℕ) (d : Mark) → k < length items → (get_or items k d).own ≡ own → (get_or items k d).left ≡ int_max area.x1 rect.x1
     begins k d within same = elim at [
       | inl none ↦ absurd (none_marked cells area own l marked (λ x y lies. none_is_not_some lies.box (sym none ∙ lies.is)) k d within same)
-      | inr is ↦ (marked.told k d within).left ∙ ap (λ (n : ℕ). int_max area.x1 (some_box (cell_box cells n)).x1) same
+      | inr is ↦ (marked.reported k d within).left ∙ ap (λ (n : ℕ). int_max area.x1 (some_box (cell_box cells n)).x1) same
           ∙ ap (λ (b : Option Rect). int_max area.x1 (some_box b).x1) is
     ]
 
-pub lanes_have_one : (xs : List Strip) (boxes : List (List (Option Rect))) (lanes : List StripMarks) (id : CellId) (rect : Rect) → ShowAllBoxes xs boxes lanes →
-    IsAt boxes id rect → HasOneMark xs id rect lanes
-lanes_have_one xs boxes lanes id rect are is = λ n d e of.
-    let At : ℕ → Type 0 = λ t. IsMarked (get_or boxes t []) (get_or xs n d).area (get_or lanes n e) in
-    marked_has_one (get_or boxes id.team []) id.own rect (get_or xs n d).area (get_or lanes n e) is.at (subst At (of.of_team d) (are.each n d e of.within))
+pub mark_lists_have_one : (xs : List Strip) (boxes : List (List (Option Rect))) (mark_lists : List StripMarks) (id : CellId) (rect : Rect) → ShowAllBoxes xs boxes mark_lists →
+    HasBoxOrNone boxes id rect → HasOneMark xs id rect mark_lists
+mark_lists_have_one xs boxes mark_lists id rect are is = λ n d e of.
+    let At : ℕ → Type 0 = λ t. IsMarked (get_or boxes t []) (get_or xs n d).area (get_or mark_lists n e) in
+    marked_has_one (get_or boxes id.team []) id.own rect (get_or xs n d).area (get_or mark_lists n e) is.at (subst At (of.of_team d) (are.each n d e of.within))
 
 -- a strip that the cell's box reaches is of the cell's team
-pub reached_has_one : (xs : List Strip) (id : CellId) (rect : Rect) (run : List RowEntry) (lanes : List StripMarks) →
-    HasOneMark xs id rect lanes → HaveAtMostOne xs id.own rect (IsReached xs run id.team rect) lanes
-reached_has_one xs id rect run lanes one n d e (within, (k, r, below, at, near)) =
+pub reached_has_one : (xs : List Strip) (id : CellId) (rect : Rect) (run : List RowEntry) (mark_lists : List StripMarks) →
+    HasOneMark xs id rect mark_lists → HaveAtMostOne xs id.own rect (IsReached xs run id.team rect) mark_lists
+reached_has_one xs id rect run mark_lists one n d e (within, (k, r, below, at, near)) =
     one n d e record { within = within; of_team = λ g. (near g).of_team }

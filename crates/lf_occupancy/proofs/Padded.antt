@@ -8,79 +8,79 @@ use Rattle.std.proofs.lemmas.List.{append-nil, get_or-map, get_or_default, lengt
 use Rattle.std.proofs.lemmas.List.Elements.{All-contains, All-map, Contains-get_or, filter-append}
 use Rattle.lf_units.specs.declared.geometry.Rect.{Rect}
 use Rattle.lf_spans.specs.declared.span.Span.{Span}
-use Rattle.lf_spans.specs.Spans.{AreApart, IsApart}
+use Rattle.lf_spans.specs.Spans.{AreDisjoint, IsDisjointFrom}
 use Rattle.lf_occupancy.specs.declared.strip_marks.Entry.{Entry}
 use Rattle.lf_occupancy.specs.declared.strip_marks.Mark.{Mark}
-use Rattle.lf_occupancy.specs.Lanes.{AreInOrder, IsNearRun, all_padded, entries_in, entry_in, others_in, padded, spans_in, wider_range, x_range}
+use Rattle.lf_occupancy.specs.MarkLists.{AreInOrder, IsNearRun, all_padded, marked_entries, marked_entry, others_in, widened_entry, spans_in, wider_range, x_range}
 use Rattle.lf_occupancy.proofs.Laning.{entry_there}
 use Rattle.lf_occupancy.proofs.Runs.{apart_each, each_apart, all_apart_each, each_all_apart, near_in}
 
 pub padded_in_order : (by : ℤ) (es : List Entry) → AreInOrder es → AreInOrder (all_padded by es)
 padded_in_order by es order i j d less within =
-    let long = length-map es (padded by) in
+    let long = length-map es (widened_entry by) in
     let inner : j < length es = omega (arith, long, within) in
     let first : (get_or (all_padded by es) i d).area.x1 ≡ (get_or es i d).area.x1 -ℤ by =
-    ap (λ (e : Entry). e.area.x1) (get_or-map (padded by) es i d d (omega (arith, less, inner))) in
+    ap (λ (e : Entry). e.area.x1) (get_or-map (widened_entry by) es i d d (omega (arith, less, inner))) in
     let second : (get_or (all_padded by es) j d).area.x1 ≡ (get_or es j d).area.x1 -ℤ by =
-    ap (λ (e : Entry). e.area.x1) (get_or-map (padded by) es j d d inner) in
+    ap (λ (e : Entry). e.area.x1) (get_or-map (widened_entry by) es j d d inner) in
     let up = order i j d less inner in
     omega (arith, ints, first, second, up)
 
 pub padded_narrow : (by widest : ℤ) (es : List Entry) → All (λ e. (e.area.x2 -ℤ e.area.x1) ≤ℤ widest) es →
     All (λ e. (e.area.x2 -ℤ e.area.x1) ≤ℤ (widest +ℤ (pos 2 *ℤ by))) (all_padded by es)
 padded_narrow by widest es wide =
-    All-map (λ e. (e.area.x2 -ℤ e.area.x1) ≤ℤ (widest +ℤ (pos 2 *ℤ by))) (padded by) es (λ k d within. let h = wide k d within in omega (arith, ints, h))
+    All-map (λ e. (e.area.x2 -ℤ e.area.x1) ≤ℤ (widest +ℤ (pos 2 *ℤ by))) (widened_entry by) es (λ k d within. let h = wide k d within in omega (arith, ints, h))
 
 pub padded_near : (by : ℤ) (es near : List Entry) (lo hi low high : ℤ) → low ≡ lo -ℤ by → high ≡ hi +ℤ by → IsNearRun es low high near →
     IsNearRun (all_padded by es) lo hi (all_padded by near)
 padded_near by es near lo hi low high from to run = record {
   before = all_padded by run.before;
-  behind = all_padded by run.behind;
-  parts = ap (all_padded by) run.parts ∙ map-append (padded by) run.before (near ++ run.behind)
-      ∙ ap (λ (rest : List Entry). all_padded by run.before ++ rest) (map-append (padded by) near run.behind);
-  left = All-map (λ e. e.area.x2 ≤ℤ lo) (padded by) run.before (λ k d within. let h = run.left k d within in omega (arith, ints, h, from));
-  right = All-map (λ e. hi ≤ℤ e.area.x1) (padded by) run.behind (λ k d within. let h = run.right k d within in omega (arith, ints, h, to));
+  after_it = all_padded by run.after_it;
+  parts = ap (all_padded by) run.parts ∙ map-append (widened_entry by) run.before (near ++ run.after_it)
+      ∙ ap (λ (rest : List Entry). all_padded by run.before ++ rest) (map-append (widened_entry by) near run.after_it);
+  left = All-map (λ e. e.area.x2 ≤ℤ lo) (widened_entry by) run.before (λ k d within. let h = run.left k d within in omega (arith, ints, h, from));
+  right = All-map (λ e. hi ≤ℤ e.area.x1) (widened_entry by) run.after_it (λ k d within. let h = run.right k d within in omega (arith, ints, h, to));
 }
 
-pub padded_there : (by : ℤ) (es : List Entry) (e : Entry) → Contains es e → Contains (all_padded by es) (padded by e)
+pub padded_there : (by : ℤ) (es : List Entry) (e : Entry) → Contains es e → Contains (all_padded by es) (widened_entry by e)
 padded_there by es e (k, within, is) =
-    let long = length-map es (padded by) in
-    (k, omega (arith, within, long), get_or-map (padded by) es k e (padded by e) within ∙ ap (padded by) is)
+    let long = length-map es (widened_entry by) in
+    (k, omega (arith, within, long), get_or-map (widened_entry by) es k e (widened_entry by e) within ∙ ap (widened_entry by) is)
 
-pub there_padded : (by : ℤ) (es : List Entry) (e : Entry) → Contains (all_padded by es) e → (x : Entry) × (Contains es x × (e ≡ padded by x))
+pub there_padded : (by : ℤ) (es : List Entry) (e : Entry) → Contains (all_padded by es) e → (x : Entry) × (Contains es x × (e ≡ widened_entry by x))
 there_padded by es e (k, within, is) =
-    let long = length-map es (padded by) in
+    let long = length-map es (widened_entry by) in
     let inner : k < length es = omega (arith, within, long) in
-    (get_or es k e, ((k, inner, same_at es k e inner), sym is ∙ get_or-map (padded by) es k e e inner))
+    (get_or es k e, ((k, inner, same_at es k e inner), sym is ∙ get_or-map (widened_entry by) es k e e inner))
   where
     same_at : (xs : List Entry) (i : ℕ) (d : Entry) → i < length xs → get_or xs i (get_or xs i d) ≡ get_or xs i d
     same_at xs i d inside = get_or_default xs i (get_or xs i d) d inside
 
 -- what holds for each of the other cells' entries, after they are widened
-pub other_padded : (by : ℤ) (es : List Entry) (own : ℕ) (s : Span) → IsApart (spans_in (others_in (all_padded by es) own)) s → (e : Entry) → Contains es e →
-    (e.own ≡ own → ⊥) → AreApart s (x_range (padded by e).area)
-other_padded by es own s apart e there other = apart_each (all_padded by es) own s apart (padded by e) (padded_there by es e there) other
+pub other_padded : (by : ℤ) (es : List Entry) (own : ℕ) (s : Span) → IsDisjointFrom (spans_in (others_in (all_padded by es) own)) s → (e : Entry) → Contains es e →
+    (e.own ≡ own → ⊥) → AreDisjoint s (x_range (widened_entry by e).area)
+other_padded by es own s apart e there other = apart_each (all_padded by es) own s apart (widened_entry by e) (padded_there by es e there) other
 
 pub others_padded : (by : ℤ) (es : List Entry) (own : ℕ) (s : Span) →
-    ((e : Entry) → Contains es e → (e.own ≡ own → ⊥) → AreApart s (x_range (padded by e).area)) → IsApart (spans_in (others_in (all_padded by es) own)) s
+    ((e : Entry) → Contains es e → (e.own ≡ own → ⊥) → AreDisjoint s (x_range (widened_entry by e).area)) → IsDisjointFrom (spans_in (others_in (all_padded by es) own)) s
 others_padded by es own s each =
     each_apart (all_padded by es) own s
     (λ e there other.
     let found = there_padded by es e there in
-    let At : Entry → Type 0 = λ x. AreApart s (x_range x.area) in
+    let At : Entry → Type 0 = λ x. AreDisjoint s (x_range x.area) in
     subst At (sym found.1.1) (each found.0 found.1.0 (λ same. other (ap (λ (x : Entry). x.own) found.1.1 ∙ same))))
 
-pub one_padded : (by : ℤ) (es : List Entry) (s : Span) → IsApart (spans_in (all_padded by es)) s → (e : Entry) → Contains es e →
-    AreApart s (x_range (padded by e).area)
-one_padded by es s apart e there = all_apart_each (all_padded by es) s apart (padded by e) (padded_there by es e there)
+pub one_padded : (by : ℤ) (es : List Entry) (s : Span) → IsDisjointFrom (spans_in (all_padded by es)) s → (e : Entry) → Contains es e →
+    AreDisjoint s (x_range (widened_entry by e).area)
+one_padded by es s apart e there = all_apart_each (all_padded by es) s apart (widened_entry by e) (padded_there by es e there)
 
-pub each_padded : (by : ℤ) (es : List Entry) (s : Span) → ((e : Entry) → Contains es e → AreApart s (x_range (padded by e).area)) →
-    IsApart (spans_in (all_padded by es)) s
+pub each_padded : (by : ℤ) (es : List Entry) (s : Span) → ((e : Entry) → Contains es e → AreDisjoint s (x_range (widened_entry by e).area)) →
+    IsDisjointFrom (spans_in (all_padded by es)) s
 each_padded by es s each =
     each_all_apart (all_padded by es) s
     (λ e there.
     let found = there_padded by es e there in
-    let At : Entry → Type 0 = λ x. AreApart s (x_range x.area) in
+    let At : Entry → Type 0 = λ x. AreDisjoint s (x_range x.area) in
     subst At (sym found.1.1) (each found.0 found.1.0))
 
 -- what holds for the strip's entries holds for those near a range
@@ -114,24 +114,24 @@ nearest_in lo hi by x wide low high some = elim order [
 
 -- one more entry
 padded_further : (by : ℤ) (es : List Entry) (i : ℕ) (e : Entry) → i < length es → e ≡ get_or es i e →
-    all_padded by (take (i + 1) es) ≡ all_padded by (take i es) ++ padded by e ∷ []
+    all_padded by (take (i + 1) es) ≡ all_padded by (take i es) ++ widened_entry by e ∷ []
 padded_further by es i e within is =
     ap (λ (xs : List Entry). all_padded by xs) (take_more es i e within ∙ ap (λ (x : Entry). take i es ++ x ∷ []) (sym is))
-    ∙ map-append (padded by) (take i es) (e ∷ [])
+    ∙ map-append (widened_entry by) (take i es) (e ∷ [])
 
 further : (by : ℤ) (es : List Entry) (i : ℕ) (e : Entry) (own : ℕ) → i < length es → e ≡ get_or es i e →
-    others_in (all_padded by (take (i + 1) es)) own ≡ others_in (all_padded by (take i es)) own ++ cond (not (eqb e.own own)) (padded by e ∷ []) []
+    others_in (all_padded by (take (i + 1) es)) own ≡ others_in (all_padded by (take i es)) own ++ cond (not (eqb e.own own)) (widened_entry by e ∷ []) []
 further by es i e own within is =
     ap (λ (xs : List Entry). others_in (all_padded by xs) own) (take_more es i e within ∙ ap (λ (x : Entry). take i es ++ x ∷ []) (sym is))
-    ∙ ap (λ (xs : List Entry). others_in xs own) (map-append (padded by) (take i es) (e ∷ []))
-    ∙ filter-append (λ (x : Entry). not (eqb x.own own)) (all_padded by (take i es)) (padded by e ∷ [])
+    ∙ ap (λ (xs : List Entry). others_in xs own) (map-append (widened_entry by) (take i es) (e ∷ []))
+    ∙ filter-append (λ (x : Entry). not (eqb x.own own)) (all_padded by (take i es)) (widened_entry by e ∷ [])
 
 -- one more entry of the others
 pub other_further : (by : ℤ) (es : List Entry) (i : ℕ) (e : Entry) (own : ℕ) → i < length es → e ≡ get_or es i e → (e.own ≡ own → ⊥) →
-    others_in (all_padded by (take (i + 1) es)) own ≡ others_in (all_padded by (take i es)) own ++ padded by e ∷ []
+    others_in (all_padded by (take (i + 1) es)) own ≡ others_in (all_padded by (take i es)) own ++ widened_entry by e ∷ []
 other_further by es i e own within is apart =
     further by es i e own within is
-    ∙ ap (λ (b : Bool). others_in (all_padded by (take i es)) own ++ cond b (padded by e ∷ []) []) (apart_test e.own own apart)
+    ∙ ap (λ (b : Bool). others_in (all_padded by (take i es)) own ++ cond b (widened_entry by e ∷ []) []) (apart_test e.own own apart)
   where
     apart_test : (a b : ℕ) → (a ≡ b → ⊥) → not (eqb a b) ≡ true
     apart_test a b away = grind (arith, nat_tests, away)
@@ -141,7 +141,7 @@ pub other_no_further : (by : ℤ) (es : List Entry) (i : ℕ) (e : Entry) (own :
     others_in (all_padded by (take (i + 1) es)) own ≡ others_in (all_padded by (take i es)) own
 other_no_further by es i e own within is same =
     further by es i e own within is
-    ∙ ap (λ (b : Bool). others_in (all_padded by (take i es)) own ++ cond b (padded by e ∷ []) []) (same_test e.own own same)
+    ∙ ap (λ (b : Bool). others_in (all_padded by (take i es)) own ++ cond b (widened_entry by e ∷ []) []) (same_test e.own own same)
     ∙ append-nil (others_in (all_padded by (take i es)) own)
   where
     same_test : (a b : ℕ) → a ≡ b → not (eqb a b) ≡ false
@@ -155,15 +155,15 @@ same_entry es i within = get_or_default es i no_entry (get_or es i no_entry) wit
 
 -- the x range of a mark's entry is that of the entry at its position
 pub range_there : (cells : List (Option Rect)) (area : Rect) (ms : List Mark) (i : ℕ) (m : Mark) (s : Span) → i < length ms →
-    s ≡ x_range (entry_in cells area (get_or ms i m)).area → s ≡ x_range (get_or (entries_in cells area ms) i no_entry).area
+    s ≡ x_range (marked_entry cells area (get_or ms i m)).area → s ≡ x_range (get_or (marked_entries cells area ms) i no_entry).area
 range_there cells area ms i m s within is = is ∙ ap (λ (z : Entry). x_range z.area) (sym (entry_there cells area ms i no_entry m within))
 
 -- the spans with one more entry
 spans_more : (by : ℤ) (es : List Entry) (e : Entry) (s : Span) (old new : List Span) → old ≡ spans_in es → s ≡ wider_range by (x_range e.area) →
-    new ≡ old ++ s ∷ [] → new ≡ spans_in (es ++ padded by e ∷ [])
+    new ≡ old ++ s ∷ [] → new ≡ spans_in (es ++ widened_entry by e ∷ [])
 spans_more by es e s old new before is pushed =
     pushed ∙ ap (λ (t : Span). old ++ t ∷ []) is ∙ ap (λ (xs : List Span). xs ++ wider_range by (x_range e.area) ∷ []) before
-    ∙ sym (map-append (λ (z : Entry). x_range z.area) es (padded by e ∷ []))
+    ∙ sym (map-append (λ (z : Entry). x_range z.area) es (widened_entry by e ∷ []))
 
 -- one more of the spans
 pub spans_further : (by : ℤ) (es : List Entry) (i : ℕ) (e : Entry) (s : Span) (old new : List Span) → i < length es → e ≡ get_or es i e →

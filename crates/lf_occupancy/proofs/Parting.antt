@@ -11,7 +11,7 @@ use Rattle.lf_cells.specs.declared.cell.Cell.{Cell}
 use Rattle.lf_cells.specs.declared.cell.CellId.{CellId}
 use Rattle.lf_cells.specs.Cells.{AreAllIds, Cells, cell_at, cells_of, id_of, ids_of}
 use Rattle.lf_cells.proofs.TeamIds.{ids_many}
-use Rattle.lf_occupancy.specs.Building.{IsBefore, id_at}
+use Rattle.lf_occupancy.specs.Building.{PrecedesCell, id_at}
 use Rattle.lf_occupancy.proofs.Building.{AreAllDone, fresh_id, ids_apart, some_cell}
 
 one_or_past : (own from : ℕ) → (own < from) ⊎ (from ≤ own)
@@ -117,7 +117,7 @@ part_contains most from team cells order id are is =
 
 -- the cells in front of the batch, and those of it that were visited
 abbrev pub IsPassed : ℕ → ℕ → List CellId → ℕ → CellId → Type 0
-IsPassed team from order i id = IsBefore team from id ⊎ Contains (take i order) id
+IsPassed team from order i id = PrecedesCell team from id ⊎ Contains (take i order) id
 
 -- the next cell of the batch is not among the visited ones
 pub part_fresh : (most from team : ℕ) (cells : List Cell) (order : List CellId) (i : ℕ) (id : CellId) → IsPart most from team cells order → i < length order →
@@ -144,7 +144,7 @@ part_cell most from team cells order id are there =
         (get_or cs id.own (some_cell cs id.own within), slice_get-get_or cs id.own (some_cell cs id.own within) within)
 
 -- no cell of the batch is visited
-pub none_passed : (team from : ℕ) (order : List CellId) (id : CellId) → IsBefore team from id ↔ IsPassed team from order 0 id
+pub none_passed : (team from : ℕ) (order : List CellId) (id : CellId) → PrecedesCell team from id ↔ IsPassed team from order 0 id
 none_passed team from order id = (
   λ before. inl before,
   λ done. elim done [ inl before ↦ before | inr there ↦ let within = there.1 in absurd (omega (arith, within)) ],
@@ -156,7 +156,7 @@ cell_within team cells id c there same =
 
 -- all of the batch is visited
 pub part_passed : (most from team : ℕ) (cells : Cells) (order : List CellId) (i : ℕ) → IsPart most from team (cells_of cells team) order → length order ≤ i →
-    (id : CellId) (c : Cell) → cell_at cells id ≡ Some c → IsPassed team from order i id ↔ IsBefore team (from + most) id
+    (id : CellId) (c : Cell) → cell_at cells id ≡ Some c → IsPassed team from order i id ↔ PrecedesCell team (from + most) id
 part_passed most from team cells order i are past id c there = (
   λ done. elim done [
     | inl before ↦ elim before [ inl less ↦ inl less | inr mine ↦ let less = mine.1 in inr (mine.0, omega (arith, less)) ]
@@ -181,7 +181,7 @@ part_passed most from team cells order i are past id c there = (
 
 -- all of the team is visited
 pub team_passed : (from team : ℕ) (cells : Cells) → length (cells_of cells team) ≤ from →
-    (id : CellId) (c : Cell) → cell_at cells id ≡ Some c → IsBefore team from id ↔ IsBefore (team + 1) 0 id
+    (id : CellId) (c : Cell) → cell_at cells id ≡ Some c → PrecedesCell team from id ↔ PrecedesCell (team + 1) 0 id
 team_passed from team cells past id c there = (
   λ before. elim before [ inl less ↦ inl (omega (arith, less)) | inr mine ↦ let same = mine.0 in inl (omega (arith, same)) ],
   λ before. elim before [
@@ -201,7 +201,7 @@ some_is o c is = subst IsSome (sym is) refl
 
 -- the teams of all cells are visited
 pub all_passed : (cells : Cells) (ids : List CellId) (above teams : ℕ) → AreAllIds cells ids → All (λ id. id.team < above) ids → above ≤ teams →
-    AreAllDone cells (IsBefore teams 0)
+    AreAllDone cells (PrecedesCell teams 0)
 all_passed cells ids above teams are below past id c there =
     let found = (are.cells id).1 (some_is (cell_at cells id) c there) in
     let less = below found.0 id found.1 in

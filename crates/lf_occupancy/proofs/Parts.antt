@@ -3,7 +3,7 @@ use Rattle.std.proofs.Common.{◌≡◌, ℤ, ap, ◌∙◌, arith}
 use Rattle.std.specs.Int.{int_max, int_min}
 use Rattle.std.proofs.lemmas.Int.{ints, clamps}
 use Rattle.lf_units.specs.declared.geometry.Rect.{Rect}
-use Rattle.lf_occupancy.specs.Lanes.{IsPart, part_in}
+use Rattle.lf_occupancy.specs.MarkLists.{IsPart, part_in}
 
 abbrev rect_at : ℤ → ℤ → ℤ → ℤ → Rect
 rect_at x1 y1 x2 y2 = record { x1 = x1; y1 = y1; x2 = x2; y2 = y2 }

@@ -15,31 +15,31 @@ use Rattle.lf_spans.proofs.Anys.{any_nil, any_head, any_tail, any_cases}
 use Rattle.lf_segments.specs.declared.rows_by_y.RowEntry.{RowEntry}
 use Rattle.lf_occupancy.specs.declared.strip_marks.StripMarks.{StripMarks}
 use Rattle.lf_segments.specs.declared.strip.Strip.{Strip}
-use Rattle.lf_segments.specs.Grounds.{FrameIndexView}
-use Rattle.lf_occupancy.specs.Lanes.{AreRising, IsMarked, IsUnmarked, StripView, part_in}
+use Rattle.lf_segments.specs.Indexes.{FrameIndexView}
+use Rattle.lf_occupancy.specs.MarkLists.{AreRising, IsMarked, IsUnmarked, StripView, part_in}
 use Rattle.lf_segments.specs.Strips.{AreRowsNear}
-use Rattle.lf_occupancy.specs.Strips.{AreChanged, AreKept, ShowAllBoxes, AreOrderly, AreShown, MeetsStrip}
+use Rattle.lf_occupancy.specs.Strips.{AreChanged, KeepMarksOf, ShowAllBoxes, AreOrderly, AreShown, OverlapsStrip}
 use Rattle.lf_segments.specs.Strips.{IsNear}
 use Rattle.lf_occupancy.specs.Strips.{IsReached, PutsIn, CanTake, HaveRoom, capacities_in}
-use Rattle.lf_occupancy.specs.Occupied.{KeepsCapacities, cell_box}
-use Rattle.lf_occupancy.proofs.Around.{IsFelt}
+use Rattle.lf_occupancy.specs.Views.{KeepsCapacities, cell_box}
+use Rattle.lf_occupancy.proofs.Around.{IsInWidened}
 use Rattle.lf_occupancy.proofs.Finds.{no_strip}
 use Rattle.lf_occupancy.proofs.Lists.{maps_alike}
 use Rattle.lf_occupancy.proofs.Parts.{part_is}
-use Rattle.lf_occupancy.proofs.Changes.{room_kept, some_lane}
+use Rattle.lf_occupancy.proofs.Changes.{room_kept, some_mark_list}
 use Rattle.lf_occupancy.proofs.Laning.{marked_beside, marked_kept, marked_pruned, marked_put, marks_rise, none_is_not_some}
 
 -- a strip that shares a point with the rectangle is reached
-pub point_is_reached : (s : FrameIndexView) (rect : Rect) (run : List RowEntry) (team n : ℕ) (d : Strip) (x y : ℤ) → All (IsFelt s.rows s.height) s.strips →
+pub point_is_reached : (s : FrameIndexView) (rect : Rect) (run : List RowEntry) (team n : ℕ) (d : Strip) (x y : ℤ) → All (IsInWidened s.rows s.height) s.strips →
     AreRowsNear s.rows s.height rect run →
     n < length s.strips → (get_or s.strips n d).team ≡ team → Covers (get_or s.strips n d).area x y → Covers rect x y →
     IsReached s.strips run team rect n
 point_is_reached s rect run team n d x y strips rows within of_team in_strip in_rect =
     elim (Contains-append_cases rows.part.before _ e there) [
       | inl before ↦ let h = All-contains (λ r. r.y <ℤ rows.from) rows.part.before e rows.part.below before in absurd (omega (arith, ints, h, low))
-      | inr rest ↦ elim (Contains-append_cases run rows.part.behind e rest) [
+      | inr rest ↦ elim (Contains-append_cases run rows.part.after_it e rest) [
         | inl inside ↦ (within, (inside.0, e, inside.1, inside.2, λ c. near c))
-        | inr behind ↦ let h = All-contains (λ r. rect.y2 ≤ℤ r.y) rows.part.behind e rows.part.above behind in absurd (omega (arith, ints, h, high))
+        | inr after_it ↦ let h = All-contains (λ r. rect.y2 ≤ℤ r.y) rows.part.after_it e rows.part.above after_it in absurd (omega (arith, ints, h, high))
       ]
     ]
   where
@@ -49,13 +49,13 @@ point_is_reached s rect run team n d x y strips rows within of_team in_strip in_
     g : Strip
     g = get_or xs n d
 
-    placed : IsFelt s.rows s.height g
+    placed : IsInWidened s.rows s.height g
     placed = strips n d within
 
     e : RowEntry
     e = placed.found.1
 
-    there : Contains (rows.part.before ++ (run ++ rows.part.behind)) e
+    there : Contains (rows.part.before ++ (run ++ rows.part.after_it)) e
     there = subst (λ (es : List RowEntry). Contains es e) rows.part.parts (placed.found.0, placed.found.2, placed.found.3)
 
     level : e.y ≡ g.area.y1
@@ -133,81 +133,81 @@ pub not_of_team : (xs : List Strip) (run : List RowEntry) (team : ℕ) (rect : R
 not_of_team xs run team rect n d other (within, (k, r, below, is, near)) = other (near d).of_team
 
 -- if one team's boxes change, only the marks of its strips do
-pub lanes_of_team : (xs : List Strip) (boxes : List (List (Option Rect))) (team : ℕ) (cells : List (Option Rect)) (lanes new : List StripMarks) →
+pub mark_lists_of_team : (xs : List Strip) (boxes : List (List (Option Rect))) (team : ℕ) (cells : List (Option Rect)) (mark_lists new : List StripMarks) →
     team < length boxes →
-    length new ≡ length lanes → ShowAllBoxes xs boxes lanes →
-    ((n : ℕ) (d : Strip) (e : StripMarks) → n < length xs → (get_or xs n d).team ≡ team → IsMarked (get_or boxes team []) (get_or xs n d).area (get_or lanes n e) →
+    length new ≡ length mark_lists → ShowAllBoxes xs boxes mark_lists →
+    ((n : ℕ) (d : Strip) (e : StripMarks) → n < length xs → (get_or xs n d).team ≡ team → IsMarked (get_or boxes team []) (get_or xs n d).area (get_or mark_lists n e) →
     IsMarked cells (get_or xs n d).area (get_or new n e)) →
-    ((n : ℕ) (d : Strip) (e : StripMarks) → n < length xs → ((get_or xs n d).team ≡ team → ⊥) → get_or new n e ≡ get_or lanes n e) →
+    ((n : ℕ) (d : Strip) (e : StripMarks) → n < length xs → ((get_or xs n d).team ≡ team → ⊥) → get_or new n e ≡ get_or mark_lists n e) →
     ShowAllBoxes xs (set boxes team cells) new
-lanes_of_team xs boxes team cells lanes new has many old own others = record {
+mark_lists_of_team xs boxes team cells mark_lists new has many old own others = record {
   many = many ∙ old.many;
   each = λ n d e within.
       let g : Strip = get_or xs n d in
-      let lane = old.each n d e within in
+      let mark_list = old.each n d e within in
       elim (eqb_tells g.team team) [
         | inl same ↦
-            let At : ℕ → Type 0 = λ t. IsMarked (get_or boxes t []) g.area (get_or lanes n e) in
+            let At : ℕ → Type 0 = λ t. IsMarked (get_or boxes t []) g.area (get_or mark_lists n e) in
             let Here : ℕ → Type 0 = λ t. IsMarked (get_or (set boxes team cells) t []) g.area (get_or new n e) in
             subst Here (sym same.1)
             (subst (λ (cs : List (Option Rect)). IsMarked cs g.area (get_or new n e)) (sym (get_or-set_same boxes team cells [] has))
-            (own n d e within same.1 (subst At same.1 lane)))
+            (own n d e within same.1 (subst At same.1 mark_list)))
         | inr apart ↦
             subst (λ (cs : List (Option Rect)). IsMarked cs g.area (get_or new n e)) (sym (get_or-set_other boxes team g.team cells [] apart.1))
-            (subst (IsMarked (get_or boxes g.team []) g.area) (sym (others n d e within apart.1)) lane)
+            (subst (IsMarked (get_or boxes g.team []) g.area) (sym (others n d e within apart.1)) mark_list)
       ];
 }
 
 -- the marks after the cell's are removed from the strips that the old box reaches
-pub lanes_out : (s : FrameIndexView) (boxes : List (List (Option Rect))) (team own : ℕ) (rect : Rect) (run : List RowEntry) (lanes new : List StripMarks) → All (IsFelt s.rows s.height) s.strips →
+pub mark_lists_out : (s : FrameIndexView) (boxes : List (List (Option Rect))) (team own : ℕ) (rect : Rect) (run : List RowEntry) (mark_lists new : List StripMarks) → All (IsInWidened s.rows s.height) s.strips →
     AreRowsNear s.rows s.height rect run → team < length boxes → own < length (get_or boxes team []) → (cell_box (get_or boxes team []) own ≡ None) ⊎ (cell_box (get_or boxes team []) own ≡ Some rect) →
-    ShowAllBoxes s.strips boxes lanes → AreChanged (IsReached s.strips run team rect) (λ n. IsUnmarked own) lanes new →
+    ShowAllBoxes s.strips boxes mark_lists → AreChanged (IsReached s.strips run team rect) (λ n. IsUnmarked own) mark_lists new →
     ShowAllBoxes s.strips (set boxes team (set (get_or boxes team []) own None)) new
-lanes_out s boxes team own rect run lanes new strips rows has_team has at old changed =
-    lanes_of_team s.strips boxes team (set cells own None) lanes new has_team changed.many old each
+mark_lists_out s boxes team own rect run mark_lists new strips rows has_team has at old changed =
+    mark_lists_of_team s.strips boxes team (set cells own None) mark_lists new has_team changed.many old each
     (λ n d e within other. changed.others n e (inside n within) (not_of_team s.strips run team rect n d other))
   where
     cells : List (Option Rect)
     cells = get_or boxes team []
 
-    inside : (n : ℕ) → n < length s.strips → n < length lanes
+    inside : (n : ℕ) → n < length s.strips → n < length mark_lists
     inside n within = let m = old.many in omega (arith, m, within)
 
     same_rect : (r : Rect) → ◌≡◌ {A = Option Rect} (Some rect) (Some r) → r ≡ rect
     same_rect r e = cc
 
     each : (n : ℕ) (d : Strip) (e : StripMarks) → n < length s.strips → (get_or s.strips n d).team ≡ team →
-        IsMarked cells (get_or s.strips n d).area (get_or lanes n e) → IsMarked (set cells own None) (get_or s.strips n d).area (get_or new n e)
-    each n d e within of_team lane = elim (decide_reached s.strips run team rect n within) [
-      | inl reached ↦ marked_pruned cells (get_or s.strips n d).area own (get_or lanes n e) (get_or new n e) has lane (changed.chosen n e
+        IsMarked cells (get_or s.strips n d).area (get_or mark_lists n e) → IsMarked (set cells own None) (get_or s.strips n d).area (get_or new n e)
+    each n d e within of_team mark_list = elim (decide_reached s.strips run team rect n within) [
+      | inl reached ↦ marked_pruned cells (get_or s.strips n d).area own (get_or mark_lists n e) (get_or new n e) has mark_list (changed.chosen n e
           (inside n within) reached)
       | inr never ↦
           subst (IsMarked (set cells own None) (get_or s.strips n d).area) (sym (changed.others n e (inside n within) never))
-          (marked_beside cells (get_or s.strips n d).area own None (get_or lanes n e) has
+          (marked_beside cells (get_or s.strips n d).area own None (get_or mark_lists n e) has
           (λ x y lies. elim at [
             | inl none ↦ none_is_not_some lies.box (sym none ∙ lies.is)
             | inr is ↦ never (point_is_reached s rect run team n d x y strips rows within of_team lies.in_area
                 (subst (λ (q : Rect). Covers q x y) (same_rect lies.box (sym is ∙ lies.is)) lies.in_box))
           ])
-          (λ r x y same a b. nothing r same) lane)
+          (λ r x y same a b. nothing r same) mark_list)
     ]
       where
         nothing : (r : Rect) → ◌≡◌ {A = Option Rect} None (Some r) → ⊥
         nothing r same = cc
 
 -- the marks after the parts of the new box are added in the strips that it reaches
-pub lanes_in : (s : FrameIndexView) (boxes : List (List (Option Rect))) (team own : ℕ) (rect : Rect) (run : List RowEntry) (lanes new : List StripMarks) → All (IsFelt s.rows s.height) s.strips →
+pub mark_lists_in : (s : FrameIndexView) (boxes : List (List (Option Rect))) (team own : ℕ) (rect : Rect) (run : List RowEntry) (mark_lists new : List StripMarks) → All (IsInWidened s.rows s.height) s.strips →
     AreRowsNear s.rows s.height rect run → team < length boxes → own < length (get_or boxes team []) → cell_box (get_or boxes team []) own ≡ None →
-    ShowAllBoxes s.strips boxes lanes → AreChanged (IsReached s.strips run team rect) (PutsIn s.strips own rect) lanes new →
+    ShowAllBoxes s.strips boxes mark_lists → AreChanged (IsReached s.strips run team rect) (PutsIn s.strips own rect) mark_lists new →
     ShowAllBoxes s.strips (set boxes team (set (get_or boxes team []) own (Some rect))) new
-lanes_in s boxes team own rect run lanes new strips rows has_team has is old changed =
-    lanes_of_team s.strips boxes team (set cells own (Some rect)) lanes new has_team changed.many old each
+mark_lists_in s boxes team own rect run mark_lists new strips rows has_team has is old changed =
+    mark_lists_of_team s.strips boxes team (set cells own (Some rect)) mark_lists new has_team changed.many old each
     (λ n d e within other. changed.others n e (inside n within) (not_of_team s.strips run team rect n d other))
   where
     cells : List (Option Rect)
     cells = get_or boxes team []
 
-    inside : (n : ℕ) → n < length s.strips → n < length lanes
+    inside : (n : ℕ) → n < length s.strips → n < length mark_lists
     inside n within = let m = old.many in omega (arith, m, within)
 
     nothing : (r : Rect) → ◌≡◌ {A = Option Rect} None (Some r) → ⊥
@@ -217,42 +217,42 @@ lanes_in s boxes team own rect run lanes new strips rows has_team has is old cha
     same_rect r e = cc
 
     each : (n : ℕ) (d : Strip) (e : StripMarks) → n < length s.strips → (get_or s.strips n d).team ≡ team →
-        IsMarked cells (get_or s.strips n d).area (get_or lanes n e) → IsMarked (set cells own (Some rect)) (get_or s.strips n d).area (get_or new n e)
-    each n d e within of_team lane = elim (decide_reached s.strips run team rect n within) [
+        IsMarked cells (get_or s.strips n d).area (get_or mark_lists n e) → IsMarked (set cells own (Some rect)) (get_or s.strips n d).area (get_or new n e)
+    each n d e within of_team mark_list = elim (decide_reached s.strips run team rect n within) [
       | inl reached ↦
-          marked_put cells (get_or s.strips n d).area own rect (get_or lanes n e)
-          (get_or new n e) has is (strips n d within).near lane
+          marked_put cells (get_or s.strips n d).area own rect (get_or mark_lists n e)
+          (get_or new n e) has is (strips n d within).near mark_list
           (changed.chosen n e (inside n within) reached d)
       | inr never ↦
           subst (IsMarked (set cells own (Some rect)) (get_or s.strips n d).area) (sym (changed.others n e (inside n within) never))
-          (marked_beside cells (get_or s.strips n d).area own (Some rect) (get_or lanes n e) has (λ x y lies. nothing lies.box (sym is ∙ lies.is))
+          (marked_beside cells (get_or s.strips n d).area own (Some rect) (get_or mark_lists n e) has (λ x y lies. nothing lies.box (sym is ∙ lies.is))
           (λ r x y same a b. never (point_is_reached s rect run team n d x y strips rows within of_team a (subst (λ (q : Rect). Covers q x y)
           (same_rect r same) b)))
-          lane)
+          mark_list)
     ]
 
 -- strips that keep their marks
-pub lanes_kept : (xs : List Strip) (boxes : List (List (Option Rect))) (old new : List StripMarks) → AreKept old new → ShowAllBoxes xs boxes old → ShowAllBoxes xs boxes new
-lanes_kept xs boxes old new kept lanes = record {
-  many = kept.many ∙ lanes.many;
+pub mark_lists_kept : (xs : List Strip) (boxes : List (List (Option Rect))) (old new : List StripMarks) → KeepMarksOf old new → ShowAllBoxes xs boxes old → ShowAllBoxes xs boxes new
+mark_lists_kept xs boxes old new kept mark_lists = record {
+  many = kept.many ∙ mark_lists.many;
   each = λ n d e within.
-      marked_kept _ _ (get_or old n e) (get_or new n e) (lanes.each n d e within) (kept.each n e (let m = lanes.many in omega (arith, m, within)));
+      marked_kept _ _ (get_or old n e) (get_or new n e) (mark_lists.each n d e within) (kept.each n e (let m = mark_lists.many in omega (arith, m, within)));
 }
 
 -- the entries of strips that show their boxes are in order
-pub lanes_orderly : (xs : List Strip) (boxes : List (List (Option Rect))) (lanes : List StripView) → AreShown xs boxes lanes → AreOrderly xs lanes
-lanes_orderly xs boxes lanes l = record {
+pub mark_lists_orderly : (xs : List Strip) (boxes : List (List (Option Rect))) (mark_lists : List StripView) → AreShown xs boxes mark_lists → AreOrderly xs mark_lists
+mark_lists_orderly xs boxes mark_lists l = record {
   many = l.many;
   each = λ n e within. (l.each n no_strip e within).orderly;
   inside = λ n d e within. (l.each n d e within).inside;
 }
 
 -- the marks of each strip are in order
-pub lanes_rise : (xs : List Strip) (boxes : List (List (Option Rect))) (lanes : List StripMarks) → ShowAllBoxes xs boxes lanes → All (λ l. AreRising l.marks.items) lanes
-lanes_rise xs boxes lanes l n e within =
-    let many = l.many in marks_rise _ _ (get_or lanes n e) (l.each n no_strip e (omega (arith, many, within)))
+pub mark_lists_rise : (xs : List Strip) (boxes : List (List (Option Rect))) (mark_lists : List StripMarks) → ShowAllBoxes xs boxes mark_lists → All (λ l. AreRising l.marks.items) mark_lists
+mark_lists_rise xs boxes mark_lists l n e within =
+    let many = l.many in marks_rise _ _ (get_or mark_lists n e) (l.each n no_strip e (omega (arith, many, within)))
 
-pub rising_kept : (old new : List StripMarks) → AreKept old new → All (λ l. AreRising l.marks.items) old → All (λ l. AreRising l.marks.items) new
+pub rising_kept : (old new : List StripMarks) → KeepMarksOf old new → All (λ l. AreRising l.marks.items) old → All (λ l. AreRising l.marks.items) new
 rising_kept old new kept rising n e within =
     let many = kept.many in
     let inner : n < length old = omega (arith, many, within) in
@@ -263,21 +263,21 @@ pub once_in_run : (s : FrameIndexView) (rect : Rect) (run : List RowEntry) → A
     AllPairs (λ a b. a.row ≢ b.row) run
 once_in_run s rect run once rows i j d less within =
     let front = rows.part.before in
-    let whole : AllPairs (λ a b. a.row ≢ b.row) (front ++ (run ++ rows.part.behind)) =
+    let whole : AllPairs (λ a b. a.row ≢ b.row) (front ++ (run ++ rows.part.after_it)) =
     subst (λ (es : List RowEntry). AllPairs (λ a b. a.row ≢ b.row) es) rows.part.parts once in
-    let long = length-append front (run ++ rows.part.behind) in
-    let longer = length-append run rows.part.behind in
-    let a = get_or-append-add front (run ++ rows.part.behind) i d ∙ get_or_append_left run rows.part.behind d i (omega (arith, less, within)) in
-    let b = get_or-append-add front (run ++ rows.part.behind) j d ∙ get_or_append_left run rows.part.behind d j within in
+    let long = length-append front (run ++ rows.part.after_it) in
+    let longer = length-append run rows.part.after_it in
+    let a = get_or-append-add front (run ++ rows.part.after_it) i d ∙ get_or_append_left run rows.part.after_it d i (omega (arith, less, within)) in
+    let b = get_or-append-add front (run ++ rows.part.after_it) j d ∙ get_or_append_left run rows.part.after_it d j within in
     λ same. whole (length front + i) (length front + j) d (omega (arith, less)) (omega (arith, long, longer, within))
     (ap (λ (r : RowEntry). r.row) a ∙ same ∙ sym (ap (λ (r : RowEntry). r.row) b))
 
 -- strips whose marks are removed or unchanged keep their capacity
-pub rooms_out : (xs : List Strip) (run : List RowEntry) (team own : ℕ) (rect : Rect) (lanes new : List StripMarks) → length lanes ≡ length xs →
-    AreChanged (IsReached xs run team rect) (λ n. IsUnmarked own) lanes new → capacities_in new ≡ capacities_in lanes
-rooms_out xs run team own rect lanes new many changed = maps_alike (λ (l : StripMarks). vec_capacity l.marks) new lanes changed.many each
+pub rooms_out : (xs : List Strip) (run : List RowEntry) (team own : ℕ) (rect : Rect) (mark_lists new : List StripMarks) → length mark_lists ≡ length xs →
+    AreChanged (IsReached xs run team rect) (λ n. IsUnmarked own) mark_lists new → capacities_in new ≡ capacities_in mark_lists
+rooms_out xs run team own rect mark_lists new many changed = maps_alike (λ (l : StripMarks). vec_capacity l.marks) new mark_lists changed.many each
   where
-    each : (n : ℕ) (e : StripMarks) → n < length lanes → vec_capacity (get_or new n e).marks ≡ vec_capacity (get_or lanes n e).marks
+    each : (n : ℕ) (e : StripMarks) → n < length mark_lists → vec_capacity (get_or new n e).marks ≡ vec_capacity (get_or mark_lists n e).marks
     each n e within = elim (decide_reached xs run team rect n (omega (arith, within, many))) [
       | inl reached ↦ (changed.chosen n e within reached).room
       | inr never ↦ ap (λ (l : StripMarks). vec_capacity l.marks) (changed.others n e within never)
@@ -287,11 +287,11 @@ pub order_of : (n m : ℕ) → (n < m) ⊎ (m ≤ n)
 order_of n m = grind arith
 
 -- strips that get marks of a box keep their capacity
-pub rooms_put : (xs : List Strip) (run : List RowEntry) (team own : ℕ) (rect : Rect) (lanes new : List StripMarks) → length lanes ≡ length xs →
-    AreChanged (IsReached xs run team rect) (PutsIn xs own rect) lanes new → capacities_in new ≡ capacities_in lanes
-rooms_put xs run team own rect lanes new many changed = maps_alike (λ (l : StripMarks). vec_capacity l.marks) new lanes changed.many each
+pub rooms_put : (xs : List Strip) (run : List RowEntry) (team own : ℕ) (rect : Rect) (mark_lists new : List StripMarks) → length mark_lists ≡ length xs →
+    AreChanged (IsReached xs run team rect) (PutsIn xs own rect) mark_lists new → capacities_in new ≡ capacities_in mark_lists
+rooms_put xs run team own rect mark_lists new many changed = maps_alike (λ (l : StripMarks). vec_capacity l.marks) new mark_lists changed.many each
   where
-    each : (n : ℕ) (e : StripMarks) → n < length lanes → vec_capacity (get_or new n e).marks ≡ vec_capacity (get_or lanes n e).marks
+    each : (n : ℕ) (e : StripMarks) → n < length mark_lists → vec_capacity (get_or new n e).marks ≡ vec_capacity (get_or mark_lists n e).marks
     each n e within = elim (decide_reached xs run team rect n (omega (arith, within, many))) [
       | inl reached ↦ elim (changed.chosen n e within reached no_strip) [
         | inl both ↦ both.1.joined.room
@@ -301,46 +301,46 @@ rooms_put xs run team own rect lanes new many changed = maps_alike (λ (l : Stri
     ]
 
 -- a reached strip takes the part of the box if the strips that share a point with the box have room
-pub takes_parts : (xs : List Strip) (team : ℕ) (rect : Rect) (run : List RowEntry) (lanes : List StripMarks) → length lanes ≡ length xs →
-    All (λ l. AreRising l.marks.items) lanes → HaveRoom (MeetsStrip xs team rect) 1 lanes → CanTake xs rect (IsReached xs run team rect) lanes
-takes_parts xs team rect run lanes many rising room n d e (within, (k, r, below, at, near)) = record {
+pub takes_parts : (xs : List Strip) (team : ℕ) (rect : Rect) (run : List RowEntry) (mark_lists : List StripMarks) → length mark_lists ≡ length xs →
+    All (λ l. AreRising l.marks.items) mark_lists → HaveRoom (OverlapsStrip xs team rect) 1 mark_lists → CanTake xs rect (IsReached xs run team rect) mark_lists
+takes_parts xs team rect run mark_lists many rising room n d e (within, (k, r, below, at, near)) = record {
   order = rising n e (omega (arith, many, within));
   room = λ whole.
       let part : Rect = part_in (get_or xs n d).area rect in
       let is = part_is (get_or xs n d).area rect part refl refl refl refl in
       let both = (is.points part.x1 part.y1).0
       record { left = omega (arith, ints); right = whole.wide; bottom = omega (arith, ints); top = whole.high } in
-      let meets : MeetsStrip xs team rect n =
+      let does_overlap : OverlapsStrip xs team rect n =
       subst (λ (found : Option Strip). IsSomeAnd found (λ g. (g.team ≡ team) × SharesPoint g.area rect)) (sym (slice_get-get_or xs n d within))
       ((near d).of_team, record { x = part.x1; y = part.y1; in_first = both.0; in_second = both.1 }) in
-      let h = room n e meets in
+      let h = room n e does_overlap in
       omega (arith, h);
 }
 
 -- the strips that share a point with the box have room if the reached strips have room
-pub room_of_met : (s : FrameIndexView) (team : ℕ) (rect : Rect) (run : List RowEntry) (more : ℕ) (lanes : List StripMarks) → All (IsFelt s.rows s.height) s.strips →
-    AreRowsNear s.rows s.height rect run → HaveRoom (IsReached s.strips run team rect) more lanes →
-    HaveRoom (MeetsStrip s.strips team rect) more lanes
-room_of_met s team rect run more lanes strips rows room n e meets = elim (order_of n (length s.strips)) [
+pub room_of_overlapped : (s : FrameIndexView) (team : ℕ) (rect : Rect) (run : List RowEntry) (more : ℕ) (mark_lists : List StripMarks) → All (IsInWidened s.rows s.height) s.strips →
+    AreRowsNear s.rows s.height rect run → HaveRoom (IsReached s.strips run team rect) more mark_lists →
+    HaveRoom (OverlapsStrip s.strips team rect) more mark_lists
+room_of_overlapped s team rect run more mark_lists strips rows room n e does_overlap = elim (order_of n (length s.strips)) [
   | inl within ↦
       let m = subst (λ (found : Option Strip). IsSomeAnd found (λ g. (g.team ≡ team) × SharesPoint g.area rect))
-      (slice_get-get_or s.strips n no_strip within) meets in
+      (slice_get-get_or s.strips n no_strip within) does_overlap in
       room n e (point_is_reached s rect run team n no_strip m.1.x m.1.y strips rows within m.0 m.1.in_first m.1.in_second)
   | inr past ↦ absurd (subst (λ (found : Option Strip). IsSomeAnd found (λ g. (g.team ≡ team) × SharesPoint g.area rect))
-      (slice_get_past s.strips n past) meets)
+      (slice_get_past s.strips n past) does_overlap)
 ]
 
 -- room that was reserved stays
-pub room_stays : (xs : List Strip) (team : ℕ) (rect : Rect) (more : ℕ) (old new : List StripMarks) → length old ≡ length xs → AreKept old new →
-    HaveRoom (MeetsStrip xs team rect) more old → HaveRoom (MeetsStrip xs team rect) more new
-room_stays xs team rect more old new many kept room n e meets = elim (order_of n (length xs)) [
-  | inl within ↦ room_kept more (get_or old n e) (get_or new n e) (kept.each n e (omega (arith, within, many))) (room n e meets)
+pub room_stays : (xs : List Strip) (team : ℕ) (rect : Rect) (more : ℕ) (old new : List StripMarks) → length old ≡ length xs → KeepMarksOf old new →
+    HaveRoom (OverlapsStrip xs team rect) more old → HaveRoom (OverlapsStrip xs team rect) more new
+room_stays xs team rect more old new many kept room n e does_overlap = elim (order_of n (length xs)) [
+  | inl within ↦ room_kept more (get_or old n e) (get_or new n e) (kept.each n e (omega (arith, within, many))) (room n e does_overlap)
   | inr past ↦ absurd (subst (λ (found : Option Strip). IsSomeAnd found (λ g. (g.team ≡ team) × SharesPoint g.area rect))
-      (slice_get_past xs n past) meets)
+      (slice_get_past xs n past) does_overlap)
 ]
 
-pub move_stays : (xs : List Strip) (team : ℕ) (to : Option Rect) (more : ℕ) (old new : List StripMarks) → length old ≡ length xs → AreKept old new →
-    IfSome to (λ rect. HaveRoom (MeetsStrip xs team rect) more old) → IfSome to (λ rect. HaveRoom (MeetsStrip xs team rect) more new)
+pub move_stays : (xs : List Strip) (team : ℕ) (to : Option Rect) (more : ℕ) (old new : List StripMarks) → length old ≡ length xs → KeepMarksOf old new →
+    IfSome to (λ rect. HaveRoom (OverlapsStrip xs team rect) more old) → IfSome to (λ rect. HaveRoom (OverlapsStrip xs team rect) more new)
 move_stays xs team None more old new many kept room = tt
 move_stays xs team (Some rect) more old new many kept room = room_stays xs team rect more old new many kept room
 
@@ -350,13 +350,13 @@ many_still old new rooms =
     sym (length-map new (λ (l : StripMarks). vec_capacity l.marks)) ∙ ap (λ (ns : List ℕ). length ns) rooms ∙ length-map old (λ (l : StripMarks). vec_capacity l.marks)
 
 -- strips that keep their marks have no less room
-pub rooms_kept : (old new : List StripMarks) → AreKept old new → KeepsCapacities (capacities_in old) (capacities_in new)
+pub rooms_kept : (old new : List StripMarks) → KeepMarksOf old new → KeepsCapacities (capacities_in old) (capacities_in new)
 rooms_kept old new kept = record {
   many = length-map new (λ (l : StripMarks). vec_capacity l.marks) ∙ kept.many ∙ sym (length-map old (λ (l : StripMarks). vec_capacity l.marks));
   each = λ n. elim (order_of n (length old)) [
     | inl within ↦
         let many = kept.many in
-        let e = some_lane old n within in
+        let e = some_mark_list old n within in
         let a = get_or-map (λ (l : StripMarks). vec_capacity l.marks) old n e 0 within in
         let b = get_or-map (λ (l : StripMarks). vec_capacity l.marks) new n e 0 (omega (arith, within, many)) in
         let h = (kept.each n e within).room in

@@ -11,10 +11,10 @@ use Rattle.std.proofs.lemmas.List.Elements.{All-contains, All-contains_itself, A
 use Rattle.std.proofs.lemmas.List.Elements.{Contains-append_left, Contains-append_right, Contains-append_cases, Contains-get_or}
 use Rattle.lf_units.specs.declared.geometry.Rect.{Rect}
 use Rattle.lf_spans.specs.declared.span.Span.{Span}
-use Rattle.lf_spans.specs.Spans.{AreApart, Holds, IsApart, IsFreeIn, LiesIn}
+use Rattle.lf_spans.specs.Spans.{AreDisjoint, HoldsNumber, IsDisjointFrom, IsFreeIn, LiesIn}
 use Rattle.lf_occupancy.specs.declared.strip_marks.Entry.{Entry}
 use Rattle.lf_occupancy.specs.declared.strip_marks.Mark.{Mark}
-use Rattle.lf_occupancy.specs.Lanes.{AreInOrder, AreRising, IsNearRun, MeetsOne, others_in, spans_in, x_range}
+use Rattle.lf_occupancy.specs.MarkLists.{AreInOrder, AreRising, IsNearRun, OverlapsOne, others_in, spans_in, x_range}
 use Rattle.lf_occupancy.proofs.Lists.{contains_filter, pairs_filter}
 
 less_of : (a b : ℤ) → int_lt a b ≡ true → a <ℤ b
@@ -63,7 +63,7 @@ pub near_run : (xs ys : List Entry) (lo hi widest : ℤ) (f c : ℕ) → f ≤ l
     ((k : ℕ) (d : Entry) → c ≤ k → k < length ys → hi ≤ℤ (get_or ys k d).area.x1) → IsNearRun xs lo hi (take c ys)
 near_run xs ys lo hi widest f c bound same wide low high = record {
   before = take f xs;
-  behind = drop c ys;
+  after_it = drop c ys;
   parts = sym (take-append-drop f xs) ∙ ap (λ (zs : List Entry). take f xs ++ zs) (sym same ∙ sym (take-append-drop c ys));
   left = λ k d at.
       let long = length-take f xs in
@@ -80,38 +80,38 @@ near_run xs ys lo hi widest f c bound same wide low high = record {
 pub near_in : (xs near : List Entry) (lo hi : ℤ) (e : Entry) → IsNearRun xs lo hi near → Contains near e → Contains xs e
 near_in xs near lo hi e run there =
     subst (λ (zs : List Entry). Contains zs e) (sym run.parts)
-    (Contains-append_right run.before (near ++ run.behind) e (Contains-append_left near run.behind e there))
+    (Contains-append_right run.before (near ++ run.after_it) e (Contains-append_left near run.after_it e there))
 
 -- an entry that does not end before the range begins, and begins before the range ends, is near
 pub in_near : (xs near : List Entry) (lo hi : ℤ) (e : Entry) → IsNearRun xs lo hi near → Contains xs e → lo <ℤ e.area.x2 → e.area.x1 <ℤ hi → Contains near e
 in_near xs near lo hi e run there right left =
-    elim (Contains-append_cases run.before (near ++ run.behind) e (subst (λ (zs : List Entry). Contains zs e) run.parts there)) [
+    elim (Contains-append_cases run.before (near ++ run.after_it) e (subst (λ (zs : List Entry). Contains zs e) run.parts there)) [
       | inl before ↦ let h = All-contains (λ x. x.area.x2 ≤ℤ lo) run.before e run.left before in absurd (omega (arith, ints, h, right))
-      | inr rest ↦ elim (Contains-append_cases near run.behind e rest) [
+      | inr rest ↦ elim (Contains-append_cases near run.after_it e rest) [
         | inl inside ↦ inside
-        | inr behind ↦ let h = All-contains (λ x. hi ≤ℤ x.area.x1) run.behind e run.right behind in absurd (omega (arith, ints, h, left))
+        | inr after_it ↦ let h = All-contains (λ x. hi ≤ℤ x.area.x1) run.after_it e run.right after_it in absurd (omega (arith, ints, h, left))
       ]
     ]
 
 -- an entry that overlaps a rectangle is near it
-pub met_near : (xs near : List Entry) (lo left : ℤ) (rect : Rect) (but own : ℕ) → IsNearRun xs lo rect.x2 near → All (λ e. left ≤ℤ e.area.x1) xs →
-    ((x : ℤ) → rect.x1 ≤ℤ x → left ≤ℤ x → lo ≤ℤ x) → MeetsOne xs rect but own → MeetsOne near rect but own
-met_near xs near lo left rect but own run inside most (k, e, within, is, meets) =
+pub overlapped_near : (xs near : List Entry) (lo left : ℤ) (rect : Rect) (but own : ℕ) → IsNearRun xs lo rect.x2 near → All (λ e. left ≤ℤ e.area.x1) xs →
+    ((x : ℤ) → rect.x1 ≤ℤ x → left ≤ℤ x → lo ≤ℤ x) → OverlapsOne xs rect but own → OverlapsOne near rect but own
+overlapped_near xs near lo left rect but own run inside most (k, e, within, is, does_overlap) =
     let there : Contains xs e = (k, within, is) in
     let at = All-contains (λ x. left ≤ℤ x.area.x1) xs e inside there in
-    let s = meets.meets in
+    let s = does_overlap.does_overlap in
     let a = s.in_first.left in
     let b = s.in_first.right in
     let c = s.in_second.left in
     let d = s.in_second.right in
     let low : lo ≤ℤ s.x = most s.x a (omega (arith, ints, at, c)) in
     let found = in_near xs near lo rect.x2 e run there (omega (arith, ints, low, d)) (omega (arith, ints, b, c)) in
-    (found.0, e, found.1, found.2, meets)
+    (found.0, e, found.1, found.2, does_overlap)
 
-pub near_met : (xs near : List Entry) (lo hi : ℤ) (rect : Rect) (but own : ℕ) → IsNearRun xs lo hi near → MeetsOne near rect but own → MeetsOne xs rect but own
-near_met xs near lo hi rect but own run (k, e, within, is, meets) =
+pub near_overlapped : (xs near : List Entry) (lo hi : ℤ) (rect : Rect) (but own : ℕ) → IsNearRun xs lo hi near → OverlapsOne near rect but own → OverlapsOne xs rect but own
+near_overlapped xs near lo hi rect but own run (k, e, within, is, does_overlap) =
     let found = near_in xs near lo hi e run (k, within, is) in
-    (found.0, e, found.1, found.2, meets)
+    (found.0, e, found.1, found.2, does_overlap)
 
 other_test : (a b : ℕ) → (a ≡ b → ⊥) → not (eqb a b) ≡ true
 other_test a b apart = grind (arith, nat_tests, apart)
@@ -120,30 +120,30 @@ test_other : (a b : ℕ) → not (eqb a b) ≡ true → a ≡ b → ⊥
 test_other a b t same = grind (arith, nat_tests)
 
 -- the other cells' entries share no number with the span if and only if each of them does not
-pub apart_each : (xs : List Entry) (own : ℕ) (s : Span) → IsApart (spans_in (others_in xs own)) s → (e : Entry) → Contains xs e → (e.own ≡ own → ⊥) →
-    AreApart s (x_range e.area)
+pub apart_each : (xs : List Entry) (own : ℕ) (s : Span) → IsDisjointFrom (spans_in (others_in xs own)) s → (e : Entry) → Contains xs e → (e.own ≡ own → ⊥) →
+    AreDisjoint s (x_range e.area)
 apart_each xs own s apart e there other =
     let kept : Contains (others_in xs own) e = contains_filter (λ x. not (eqb x.own own)) xs e there (other_test e.own own other) in
     let mapped : Contains (spans_in (others_in xs own)) (x_range e.area) = map_contains (others_in xs own) e kept in
-    All-contains (λ t. AreApart s t) (spans_in (others_in xs own)) (x_range e.area) apart mapped
+    All-contains (λ t. AreDisjoint s t) (spans_in (others_in xs own)) (x_range e.area) apart mapped
   where
     map_contains : (ys : List Entry) (y : Entry) → Contains ys y → Contains (spans_in ys) (x_range y.area)
     map_contains ys y (k, within, is) =
         let long = length-map ys (λ z. x_range z.area) in
         (k, omega (arith, within, long), get_or-map (λ z. x_range z.area) ys k y (x_range y.area) within ∙ ap (λ (z : Entry). x_range z.area) is)
 
-pub each_apart : (xs : List Entry) (own : ℕ) (s : Span) → ((e : Entry) → Contains xs e → (e.own ≡ own → ⊥) → AreApart s (x_range e.area)) →
-    IsApart (spans_in (others_in xs own)) s
+pub each_apart : (xs : List Entry) (own : ℕ) (s : Span) → ((e : Entry) → Contains xs e → (e.own ≡ own → ⊥) → AreDisjoint s (x_range e.area)) →
+    IsDisjointFrom (spans_in (others_in xs own)) s
 each_apart xs own s each =
     let p = λ (x : Entry). not (eqb x.own own) in
-    All-map (λ t. AreApart s t) (λ e. x_range e.area) (others_in xs own)
+    All-map (λ t. AreDisjoint s t) (λ e. x_range e.area) (others_in xs own)
     (λ k d within.
     each (get_or (others_in xs own) k d) (All-filter p (Contains xs) xs (All-contains_itself xs) k d within)
     (test_other (get_or (others_in xs own) k d).own own (filter_passes p xs k d within)))
 
 -- what is free in a strip within a window depends only on the entries near both
 pub free_near : (xs near : List Entry) (own : ℕ) (strip window : Span) (lo hi : ℤ) (free : List Span) → IsNearRun xs lo hi near →
-    ((x : ℤ) → Holds strip x → Holds window x → (lo ≤ℤ x) × (x <ℤ hi)) →
+    ((x : ℤ) → HoldsNumber strip x → HoldsNumber window x → (lo ≤ℤ x) × (x <ℤ hi)) →
     IsFreeIn strip (spans_in (others_in near own)) window free → IsFreeIn strip (spans_in (others_in xs own)) window free
 free_near xs near own strip window lo hi free run shown f = record {
   rising = f.rising;
@@ -157,8 +157,8 @@ free_near xs near own strip window lo hi free run shown f = record {
   );
 }
   where
-    all_apart : (s : Span) → LiesIn s strip → LiesIn s window → IsApart (spans_in (others_in near own)) s → (e : Entry) → Contains xs e →
-        (e.own ≡ own → ⊥) → AreApart s (x_range e.area)
+    all_apart : (s : Span) → LiesIn s strip → LiesIn s window → IsDisjointFrom (spans_in (others_in near own)) s → (e : Entry) → Contains xs e →
+        (e.own ≡ own → ⊥) → AreDisjoint s (x_range e.area)
     all_apart s in_strip in_window apart e there other x first second =
         let w = shown x (in_strip x first) (in_window x first) in
         let a = w.0 in
@@ -184,7 +184,7 @@ others_in_order xs near lo hi own run order i j d less within =
     omega (arith, ints, low, high, up)
   where
     near_order : AreInOrder near
-    near_order = pairs_left near run.behind (pairs_right run.before (near ++ run.behind) (subst AreInOrder run.parts order))
+    near_order = pairs_left near run.after_it (pairs_right run.before (near ++ run.after_it) (subst AreInOrder run.parts order))
       where
         pairs_left : (front back : List Entry) → AreInOrder (front ++ back) → AreInOrder front
         pairs_left front back r i j d less within =
@@ -223,12 +223,12 @@ pub spans_narrow : (xs : List Entry) (widest : ℤ) → All (λ e. (e.area.x2 -�
 spans_narrow xs widest wide = All-map (λ s. (s.hi -ℤ s.lo) ≤ℤ widest) (λ (e : Entry). x_range e.area) xs wide
 
 -- all entries share no number with the span if and only if each of them does not
-pub all_apart_each : (xs : List Entry) (s : Span) → IsApart (spans_in xs) s → (e : Entry) → Contains xs e → AreApart s (x_range e.area)
+pub all_apart_each : (xs : List Entry) (s : Span) → IsDisjointFrom (spans_in xs) s → (e : Entry) → Contains xs e → AreDisjoint s (x_range e.area)
 all_apart_each xs s apart e (k, within, is) =
     let long = length-map xs (λ z. x_range z.area) in
     let mapped : Contains (spans_in xs) (x_range e.area) =
     (k, omega (arith, within, long), get_or-map (λ z. x_range z.area) xs k e (x_range e.area) within ∙ ap (λ (z : Entry). x_range z.area) is) in
-    All-contains (λ t. AreApart s t) (spans_in xs) (x_range e.area) apart mapped
+    All-contains (λ t. AreDisjoint s t) (spans_in xs) (x_range e.area) apart mapped
 
-pub each_all_apart : (xs : List Entry) (s : Span) → ((e : Entry) → Contains xs e → AreApart s (x_range e.area)) → IsApart (spans_in xs) s
-each_all_apart xs s each = All-map (λ t. AreApart s t) (λ e. x_range e.area) xs (λ k d within. each (get_or xs k d) (Contains-get_or xs k d within))
+pub each_all_apart : (xs : List Entry) (s : Span) → ((e : Entry) → Contains xs e → AreDisjoint s (x_range e.area)) → IsDisjointFrom (spans_in xs) s
+each_all_apart xs s each = All-map (λ t. AreDisjoint s t) (λ e. x_range e.area) xs (λ k d within. each (get_or xs k d) (Contains-get_or xs k d within))

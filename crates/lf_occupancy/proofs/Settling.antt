@@ -8,9 +8,9 @@ use Rattle.lf_segments.specs.declared.strip.Strip.{Strip}
 use Rattle.lf_segments.specs.declared.strips.StripRange.{StripRange}
 use Rattle.lf_segments.specs.Strips.{AreNear}
 use Rattle.lf_occupancy.specs.declared.strip_marks.StripMarks.{StripMarks}
-use Rattle.lf_occupancy.specs.Lanes.{AreRising, TakesPart}
-use Rattle.lf_occupancy.specs.Settling.{AreReservedAndMarked, IsOneOf}
-use Rattle.lf_occupancy.specs.Strips.{AreChanged, AreKept, CanTake, HaveRoom, IsReached, IsReachedIn, PutsIn}
+use Rattle.lf_occupancy.specs.MarkLists.{AreRising, TakesPart}
+use Rattle.lf_occupancy.specs.Reserving.{AreReservedAndMarked, IsOneOf}
+use Rattle.lf_occupancy.specs.Strips.{AreChanged, KeepMarksOf, CanTake, HaveRoom, IsReached, IsReachedIn, PutsIn}
 use Rattle.lf_occupancy.proofs.Changes.{IsBetween, changed_alike, kept_along, other_row, rows_further}
 use Rattle.lf_occupancy.proofs.Finds.{no_strip}
 
@@ -42,9 +42,9 @@ changed_in_row xs row team rect near Change old new are = changed_alike (IsOneOf
     (λ n within one. run_is_reached xs row team rect near are n one) (λ n within r. reached_in_run xs row team rect near are n r)
 
 -- strips with room, whose marks are in order, take a part of the rectangle
-pub takes_room : (xs : List Strip) (rect : Rect) (Chosen : ℕ → Type 0) (lanes : List StripMarks) → ((n : ℕ) → Chosen n → n < length lanes) →
-    All (λ l. AreRising l.marks.items) lanes → HaveRoom Chosen 1 lanes → CanTake xs rect Chosen lanes
-takes_room xs rect Chosen lanes inside rising room n d e chosen =
+pub takes_room : (xs : List Strip) (rect : Rect) (Chosen : ℕ → Type 0) (mark_lists : List StripMarks) → ((n : ℕ) → Chosen n → n < length mark_lists) →
+    All (λ l. AreRising l.marks.items) mark_lists → HaveRoom Chosen 1 mark_lists → CanTake xs rect Chosen mark_lists
+takes_room xs rect Chosen mark_lists inside rising room n d e chosen =
     record { order = rising n e (inside n chosen); room = λ whole. let h = room n e chosen in omega (arith, h) }
 
 -- strips of a row that had room still take a part of the rectangle after the cell is marked in the
@@ -69,7 +69,7 @@ settled_takes xs rows i r team own rect near mid new once inside is are many ris
 pub settled_further : (xs : List Strip) (rows : List RowEntry) (i : ℕ) (r : RowEntry) (team own : ℕ) (rect : Rect) (near : StripRange)
     (old mid settled new : List StripMarks) →
     AllPairs (λ a b. a.row ≢ b.row) rows → i + 1 ≡ length rows → r ≡ get_or rows i r → AreNear xs r.row team rect.x1 rect.x2 near.start near.end →
-    AreKept old mid → AreReservedAndMarked xs own rect (IsReached xs (take i rows) team rect) mid settled → AreChanged (IsOneOf near) (PutsIn xs own rect) settled new →
+    KeepMarksOf old mid → AreReservedAndMarked xs own rect (IsReached xs (take i rows) team rect) mid settled → AreChanged (IsOneOf near) (PutsIn xs own rect) settled new →
     AreReservedAndMarked xs own rect (IsReached xs rows team rect) old new
 settled_further xs rows i r team own rect near old mid settled new once long is are kept s put = record {
   roomy = s.roomy;

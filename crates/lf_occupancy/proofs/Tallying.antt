@@ -11,17 +11,17 @@ use Rattle.lf_units.specs.Area.{Covers}
 use Rattle.lf_units.specs.declared.geometry.Rect.{Rect}
 use Rattle.lf_segments.specs.declared.rows_by_y.RowEntry.{RowEntry}
 use Rattle.lf_segments.specs.declared.strip.Strip.{Strip}
-use Rattle.lf_segments.specs.Grounds.{FrameIndexView}
+use Rattle.lf_segments.specs.Indexes.{FrameIndexView}
 use Rattle.lf_segments.specs.Strips.{AreRowsNear}
 use Rattle.lf_occupancy.specs.declared.strip_marks.StripMarks.{StripMarks}
-use Rattle.lf_occupancy.specs.Lanes.{HasPoints, part_in}
-use Rattle.lf_occupancy.specs.Occupied.{Bounds, KeepsCapacities, Occupied, cell_box, count_in, widened, meets, reach}
+use Rattle.lf_occupancy.specs.MarkLists.{HasPoints, part_in}
+use Rattle.lf_occupancy.specs.Views.{Bounds, KeepsCapacities, Occupied, cell_box, count_in, widened, does_overlap, reach}
 use Rattle.lf_occupancy.specs.Strips.{AreChanged, IsReached, capacities_in}
 use Rattle.lf_occupancy.specs.declared.strip_counts.BoxChange.{BoxChange}
-use Rattle.lf_occupancy.specs.Tallies.{AreShifted, IsHigher, IsLess, IsLessAt, IsLower, IsMore, IsShifted, IsShiftedAt, hull_in}
-use Rattle.lf_occupancy.proofs.Around.{IsFelt}
-use Rattle.lf_occupancy.proofs.Changes.{some_lane}
-use Rattle.lf_occupancy.proofs.Counting.{both_are, meets_shares, of_less, one_if, one_more}
+use Rattle.lf_occupancy.specs.StripCounting.{AreShifted, IsHigher, IsLess, IsLessAt, IsLower, IsMore, IsShifted, IsShiftedAt, hull_in}
+use Rattle.lf_occupancy.proofs.Around.{IsInWidened}
+use Rattle.lf_occupancy.proofs.Changes.{some_mark_list}
+use Rattle.lf_occupancy.proofs.Counting.{both_are, overlaps_shares, of_less, one_if, one_more}
 use Rattle.lf_occupancy.proofs.Finds.{no_strip}
 use Rattle.lf_occupancy.proofs.Lists.{made_at}
 use Rattle.lf_occupancy.proofs.Reaching.{decide_reached, not_of_team, order_of, point_is_reached}
@@ -50,21 +50,21 @@ yes_or_no : (b : Bool) → (b ≡ true) ⊎ (b ≡ false)
 yes_or_no true = inl refl
 yes_or_no false = inr refl
 
-counted : (g : Strip) (box : Option Rect) → meets g box ≡ true → count_in g (box ∷ []) ≡ 1
+counted : (g : Strip) (box : Option Rect) → does_overlap g box ≡ true → count_in g (box ∷ []) ≡ 1
 counted g box it_does = one_more g box [] ∙ ap (λ (b : Bool). one_if b + 0) it_does
 
-not_counted : (g : Strip) (box : Option Rect) → meets g box ≡ false → count_in g (box ∷ []) ≡ 0
+not_counted : (g : Strip) (box : Option Rect) → does_overlap g box ≡ false → count_in g (box ∷ []) ≡ 0
 not_counted g box it_does_not = one_more g box [] ∙ ap (λ (b : Bool). one_if b + 0) it_does_not
 
-not_whole : (g : Strip) (rect : Rect) → meets g (Some rect) ≡ false → HasPoints (part_in g.area rect) → ⊥
-not_whole g rect it_does_not whole = clash (meets g (Some rect)) (both_are _ _ (of_less _ _ whole.wide) (of_less _ _ whole.high)) it_does_not
+not_whole : (g : Strip) (rect : Rect) → does_overlap g (Some rect) ≡ false → HasPoints (part_in g.area rect) → ⊥
+not_whole g rect it_does_not whole = clash (does_overlap g (Some rect)) (both_are _ _ (of_less _ _ whole.wide) (of_less _ _ whole.high)) it_does_not
   where
     clash : (b : Bool) → b ≡ true → b ≡ false → ⊥
     clash b a_yes a_no = cc
 
 -- a strip counts one less if it overlaps the box
 less_counts : (g : Strip) (rect : Rect) (old new : ℕ) → IsLess g.area rect old new → old ≤ new + count_in g (Some rect ∷ [])
-less_counts g rect old new less = elim (yes_or_no (meets g (Some rect))) [
+less_counts g rect old new less = elim (yes_or_no (does_overlap g (Some rect))) [
   | inl it_does ↦ let one = counted g (Some rect) it_does in let least = less.least in omega (arith, one, least)
   | inr it_does_not ↦ let same = less.same (not_whole g rect it_does_not) in omega (arith, same)
 ]
@@ -91,7 +91,7 @@ lower_of_reached xs rows team rect old new many changed = record {
   others = λ n d within other. changed.others n 0 (omega (arith, within, many)) (not_of_team xs rows team rect n d other);
 }
 
-pub higher_of_reached : (s : FrameIndexView) (rows : List RowEntry) (team : ℕ) (rect : Rect) (old new : List ℕ) → All (IsFelt s.rows s.height) s.strips →
+pub higher_of_reached : (s : FrameIndexView) (rows : List RowEntry) (team : ℕ) (rect : Rect) (old new : List ℕ) → All (IsInWidened s.rows s.height) s.strips →
     AreRowsNear s.rows s.height rect rows → length old ≡ length s.strips → AreChanged (IsReached s.strips rows team rect) IsMore old new →
     IsHigher s.strips team (Some rect) old new
 higher_of_reached s rows team rect old new strips near many changed = record { many = changed.many; least = least; more = more } where
@@ -109,9 +109,9 @@ higher_of_reached s rows team rect old new strips near many changed = record { m
 
   more : (n : ℕ) (d : Strip) → n < length xs → (get_or xs n d).team ≡ team →
       (get_or old n 0 + count_in (get_or xs n d) (Some rect ∷ [])) ≤ get_or new n 0
-  more n d within of_team = elim (yes_or_no (meets (get_or xs n d) (Some rect))) [
+  more n d within of_team = elim (yes_or_no (does_overlap (get_or xs n d) (Some rect))) [
     | inl it_does ↦
-        let shares = meets_shares (get_or xs n d) rect it_does in
+        let shares = overlaps_shares (get_or xs n d) rect it_does in
         let reached = point_is_reached s rect rows team n d shares.x shares.y strips near within of_team shares.in_first shares.in_second in
         let next = changed.chosen n 0 (omega (arith, within, many)) reached in
         let one = counted (get_or xs n d) (Some rect) it_does in
@@ -125,24 +125,24 @@ higher_of_reached s rows team rect old new strips near many changed = record { m
 -- the count after one box is counted in place of the other
 shift_counts : (g : Strip) (shift : BoxChange) (old new : ℕ) → IsShifted g.area shift old new →
     (old + count_in g (Some shift.to ∷ [])) ≤ new + count_in g (Some shift.from ∷ [])
-shift_counts g shift old new s = elim (yes_or_no (meets g (Some shift.to))) [
+shift_counts g shift old new s = elim (yes_or_no (does_overlap g (Some shift.to))) [
   | inl goes ↦
       let one = counted g (Some shift.to) goes in
-      elim (yes_or_no (meets g (Some shift.from))) [
-        | inl stood ↦ let here = counted g (Some shift.from) stood in let most = s.goes (whole_of g shift.to goes) in omega (arith, one, here, most)
+      elim (yes_or_no (does_overlap g (Some shift.from))) [
+        | inl original_place ↦ let here = counted g (Some shift.from) original_place in let most = s.goes (whole_of g shift.to goes) in omega (arith, one, here, most)
         | inr none ↦ let more = s.more (not_whole g shift.from none) (whole_of g shift.to goes) in omega (arith, one, more)
       ]
   | inr away ↦
       let zero_there = not_counted g (Some shift.to) away in
-      elim (yes_or_no (meets g (Some shift.from))) [
-        | inl stood ↦ let here = counted g (Some shift.from) stood in let least = s.least in omega (arith, zero_there, here, least)
+      elim (yes_or_no (does_overlap g (Some shift.from))) [
+        | inl original_place ↦ let here = counted g (Some shift.from) original_place in let least = s.least in omega (arith, zero_there, here, least)
         | inr none ↦ let same = s.stays (not_whole g shift.from none) in omega (arith, zero_there, same)
       ]
 ]
   where
-    whole_of : (g : Strip) (rect : Rect) → meets g (Some rect) ≡ true → HasPoints (part_in g.area rect)
+    whole_of : (g : Strip) (rect : Rect) → does_overlap g (Some rect) ≡ true → HasPoints (part_in g.area rect)
     whole_of g rect it_does =
-        let shares = meets_shares g rect it_does in
+        let shares = overlaps_shares g rect it_does in
         let a = shares.in_first in
         let b = shares.in_second in
         let l = a.left in
@@ -181,7 +181,7 @@ in_hull shift x y c =
       top = omega (arith, ints, clamps, t);
     }
 
-pub shifted_of_reached : (s : FrameIndexView) (rows : List RowEntry) (team : ℕ) (shift : BoxChange) (old new : List ℕ) → All (IsFelt s.rows s.height) s.strips →
+pub shifted_of_reached : (s : FrameIndexView) (rows : List RowEntry) (team : ℕ) (shift : BoxChange) (old new : List ℕ) → All (IsInWidened s.rows s.height) s.strips →
     AreRowsNear s.rows s.height (hull_in shift) rows → length old ≡ length s.strips →
     AreChanged (IsReached s.strips rows team (hull_in shift)) (IsShiftedAt s.strips shift) old new → AreShifted s.strips team shift old new
 shifted_of_reached s rows team shift old new strips near many changed = record {
@@ -200,9 +200,9 @@ shifted_of_reached s rows team shift old new strips near many changed = record {
           shift_counts (get_or xs n d) shift (get_or old n 0) (get_or new n 0) (changed.chosen n 0 (omega (arith, within, many)) reached d)
       | inr never ↦
           let same = changed.others n 0 (omega (arith, within, many)) never in
-          elim (yes_or_no (meets (get_or xs n d) (Some shift.to))) [
+          elim (yes_or_no (does_overlap (get_or xs n d) (Some shift.to))) [
             | inl goes ↦
-                let shares = meets_shares (get_or xs n d) shift.to goes in
+                let shares = overlaps_shares (get_or xs n d) shift.to goes in
                 absurd (never (point_is_reached s (hull_in shift) rows team n d shares.x shares.y strips near within of_team shares.in_first
                 (in_hull shift shares.x shares.y shares.in_second)))
             | inr away ↦ let none = not_counted (get_or xs n d) (Some shift.to) away in omega (arith, same, none)
@@ -228,11 +228,11 @@ no_less_set xs ys k x y within less all = record {
 }
 
 -- a strip counts more, and has room for that
-pub room_for_more : (counts : List ℕ) (lanes : List StripMarks) (k count : ℕ) (lane : StripMarks) → k < length counts → count ≤ vec_capacity lane.marks →
-    KeepsCapacities counts (capacities_in lanes) → KeepsCapacities (set counts k count) (capacities_in (set lanes k lane))
-room_for_more counts lanes k count lane within most room =
-    subst (KeepsCapacities (set counts k count)) (sym (map-set (λ (l : StripMarks). vec_capacity l.marks) lanes k lane))
-    (no_less_set counts (capacities_in lanes) k count (vec_capacity lane.marks) within most room)
+pub room_for_more : (counts : List ℕ) (mark_lists : List StripMarks) (k count : ℕ) (mark_list : StripMarks) → k < length counts → count ≤ vec_capacity mark_list.marks →
+    KeepsCapacities counts (capacities_in mark_lists) → KeepsCapacities (set counts k count) (capacities_in (set mark_lists k mark_list))
+room_for_more counts mark_lists k count mark_list within most room =
+    subst (KeepsCapacities (set counts k count)) (sym (map-set (λ (l : StripMarks). vec_capacity l.marks) mark_lists k mark_list))
+    (no_less_set counts (capacities_in mark_lists) k count (vec_capacity mark_list.marks) within most room)
 
 -- counts that are lowered for one box and raised for another bound the boxes with the new one
 pub bounds_own : (o : Occupied) (team : ℕ) (boxes : List (Option Rect)) (own : ℕ) (from to : Option Rect) (old mid new : List ℕ) → cell_box boxes own ≡ from →
@@ -291,19 +291,19 @@ bounds_beside o team other boxes shift old new differ shifted bounds = λ n g at
     omega (arith, same, before)
 
 -- strips have room for the marks that they have
-pub marks_fit : (lanes : List StripMarks) → KeepsCapacities (map (λ l. vec_len l.marks) lanes) (capacities_in lanes)
-marks_fit lanes = record {
-  many = length-map lanes (λ (l : StripMarks). vec_capacity l.marks) ∙ sym (length-map lanes (λ (l : StripMarks). vec_len l.marks));
-  each = λ n. elim (order_of n (length lanes)) [
+pub marks_fit : (mark_lists : List StripMarks) → KeepsCapacities (map (λ l. vec_len l.marks) mark_lists) (capacities_in mark_lists)
+marks_fit mark_lists = record {
+  many = length-map mark_lists (λ (l : StripMarks). vec_capacity l.marks) ∙ sym (length-map mark_lists (λ (l : StripMarks). vec_len l.marks));
+  each = λ n. elim (order_of n (length mark_lists)) [
     | inl within ↦
-        let e = some_lane lanes n within in
-        let a = get_or-map (λ (l : StripMarks). vec_len l.marks) lanes n e 0 within in
-        let b = get_or-map (λ (l : StripMarks). vec_capacity l.marks) lanes n e 0 within in
-        let most = (get_or lanes n e).marks.ok.1 in
+        let e = some_mark_list mark_lists n within in
+        let a = get_or-map (λ (l : StripMarks). vec_len l.marks) mark_lists n e 0 within in
+        let b = get_or-map (λ (l : StripMarks). vec_capacity l.marks) mark_lists n e 0 within in
+        let most = (get_or mark_lists n e).marks.ok.1 in
         omega (arith, a, b, most)
     | inr past ↦
-        let long = length-map lanes (λ (l : StripMarks). vec_len l.marks) in
-        let a = get_or_past (map (λ (l : StripMarks). vec_len l.marks) lanes) n 0 (omega (arith, past, long)) in
+        let long = length-map mark_lists (λ (l : StripMarks). vec_len l.marks) in
+        let a = get_or_past (map (λ (l : StripMarks). vec_len l.marks) mark_lists) n 0 (omega (arith, past, long)) in
         omega (arith, a)
   ];
 }

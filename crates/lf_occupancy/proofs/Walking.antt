@@ -10,11 +10,11 @@ use Rattle.std.proofs.lemmas.List.{get_or-map, length-append, length-map, map-ap
 use Rattle.std.proofs.lemmas.List.Elements.{filter-append}
 use Rattle.lf_spans.specs.declared.span.Span.{Span}
 use Rattle.lf_spans.specs.Spans.{IsFilled, IsFree, IsFreeIn, IsInOrder, LiesIn}
-use Rattle.lf_spans.specs.Steps.{AddsFilled, IsBefore, IsBehind}
+use Rattle.lf_spans.specs.Steps.{AddsFilled, IsBefore, IsAfter}
 use Rattle.lf_spans.proofs.Edges.{rising_nil}
 use Rattle.lf_spans.proofs.Frees.{Frees, frees_end, frees_more}
 use Rattle.lf_occupancy.specs.declared.strip_marks.Entry.{Entry}
-use Rattle.lf_occupancy.specs.Lanes.{all_padded, others_in, padded, spans_in, wider_range, x_range}
+use Rattle.lf_occupancy.specs.MarkLists.{all_padded, others_in, widened_entry, spans_in, wider_range, x_range}
 use Rattle.lf_occupancy.proofs.Padded.{other_further, other_no_further}
 
 -- the other cells' entries, widened, as spans
@@ -46,12 +46,12 @@ walk_skips by es i e own range free rest within is same f =
 -- one more entry of another cell
 pub walk_goes_on : (by : ℤ) (es : List Entry) (i : ℕ) (e : Entry) (own : ℕ) (range : Span) (free new : List Span) (rest next z s : Span) → i < length es →
     e ≡ get_or es i e → (e.own ≡ own → ⊥) → s ≡ wider_range by (x_range e.area) → IsFilled s → IsInOrder (taken by es own) → IsBefore rest s z →
-    IsBehind rest s next → AddsFilled z free new → Frees range (taken by es own) free rest (passed by es own i) →
+    IsAfter rest s next → AddsFilled z free new → Frees range (taken by es own) free rest (passed by es own i) →
     Frees range (taken by es own) new next (passed by es own (i + 1))
-walk_goes_on by es i e own range free new rest next z s within is apart wide filled order before behind adds f =
+walk_goes_on by es i e own range free new rest next z s within is apart wide filled order before after_it adds f =
     subst (λ (n : ℕ). Frees range (taken by es own) new next n) (sym more)
     (frees_more range (taken by es own) free new rest next z (length front) s order inside f (subst IsFilled (sym here) filled)
-    (subst (λ (u : Span). IsBefore rest u z) (sym here) before) (subst (λ (u : Span). IsBehind rest u next) (sym here) behind) adds)
+    (subst (λ (u : Span). IsBefore rest u z) (sym here) before) (subst (λ (u : Span). IsAfter rest u next) (sym here) after_it) adds)
   where
     front : List Entry
     front = others_in (all_padded by (take i es)) own
@@ -59,33 +59,33 @@ walk_goes_on by es i e own range free new rest next z s within is apart wide fil
     back : List Entry
     back = others_in (all_padded by (drop (i + 1) es)) own
 
-    further : others_in (all_padded by (take (i + 1) es)) own ≡ front ++ padded by e ∷ []
+    further : others_in (all_padded by (take (i + 1) es)) own ≡ front ++ widened_entry by e ∷ []
     further = other_further by es i e own within is apart
 
-    whole : others_in (all_padded by es) own ≡ front ++ padded by e ∷ back
+    whole : others_in (all_padded by es) own ≡ front ++ widened_entry by e ∷ back
     whole =
         ap (λ (xs : List Entry). others_in (all_padded by xs) own) (sym (take-append-drop (i + 1) es))
-        ∙ ap (λ (xs : List Entry). others_in xs own) (map-append (padded by) (take (i + 1) es) (drop (i + 1) es))
+        ∙ ap (λ (xs : List Entry). others_in xs own) (map-append (widened_entry by) (take (i + 1) es) (drop (i + 1) es))
         ∙ filter-append (λ (x : Entry). not (eqb x.own own)) (all_padded by (take (i + 1) es)) (all_padded by (drop (i + 1) es))
-        ∙ ap (λ (xs : List Entry). xs ++ back) further ∙ append_assoc front (padded by e ∷ []) back
+        ∙ ap (λ (xs : List Entry). xs ++ back) further ∙ append_assoc front (widened_entry by e ∷ []) back
 
     more : passed by es own (i + 1) ≡ length front + 1
-    more = let long = length-append front (padded by e ∷ []) in let same = ap (λ (xs : List Entry). length xs) further in omega (arith, long, same)
+    more = let long = length-append front (widened_entry by e ∷ []) in let same = ap (λ (xs : List Entry). length xs) further in omega (arith, long, same)
 
-    inner : length front < length (front ++ padded by e ∷ back)
-    inner = let long = length-append front (padded by e ∷ back) in omega (arith, long)
+    inner : length front < length (front ++ widened_entry by e ∷ back)
+    inner = let long = length-append front (widened_entry by e ∷ back) in omega (arith, long)
 
     inside : length front < length (taken by es own)
     inside =
         let same = ap (λ (xs : List Entry). length (spans_in xs)) whole in
-        let long = length-map (front ++ padded by e ∷ back) (λ (z : Entry). x_range z.area) in
+        let long = length-map (front ++ widened_entry by e ∷ back) (λ (z : Entry). x_range z.area) in
         omega (arith, same, long, inner)
 
     here : get_or (taken by es own) (length front) s ≡ s
     here =
         ap (λ (xs : List Entry). get_or (spans_in xs) (length front) s) whole
-        ∙ get_or-map (λ (z : Entry). x_range z.area) (front ++ padded by e ∷ back) (length front) (padded by e) s inner
-        ∙ ap (λ (z : Entry). x_range z.area) (get_or-append_seam front (padded by e) back (padded by e)) ∙ sym wide
+        ∙ get_or-map (λ (z : Entry). x_range z.area) (front ++ widened_entry by e ∷ back) (length front) (widened_entry by e) s inner
+        ∙ ap (λ (z : Entry). x_range z.area) (get_or-append_seam front (widened_entry by e) back (widened_entry by e)) ∙ sym wide
 
 -- after the last entry the remaining range is free
 pub walk_ends : (by : ℤ) (es : List Entry) (i own : ℕ) (range : Span) (free new : List Span) (rest : Span) → length es ≤ i →

@@ -7,8 +7,8 @@ use Rattle.lf_cells.specs.declared.cell.CellId.{CellId}
 use Rattle.lf_cells.specs.Cells.{Cells, cells_of, cell_at}
 use Rattle.lf_occupancy.specs.declared.strip_marks.StripMarks.{StripMarks}
 use Rattle.lf_segments.specs.declared.strip.Strip.{Strip}
-use Rattle.lf_occupancy.specs.Floorplans.{box_of}
-use Rattle.lf_occupancy.specs.Occupied.{cell_box}
+use Rattle.lf_occupancy.specs.Floorplans.{working_box_of}
+use Rattle.lf_occupancy.specs.Views.{cell_box}
 use Rattle.lf_occupancy.specs.Strips.{ShowAllBoxes}
 
 -- the strip has no mark
@@ -17,27 +17,27 @@ pub record HasNoMark (l : StripMarks) : Type 0 where
   pub widest : l.widest ≡ pos 0
 
 -- a list of `count` strips without marks
-pub record HaveNoMarks (count : ℕ) (lanes : List StripMarks) : Type 0 where
-  pub many : length lanes ≡ count
-  pub each : All HasNoMark lanes
+pub record HaveNoMarks (count : ℕ) (mark_lists : List StripMarks) : Type 0 where
+  pub many : length mark_lists ≡ count
+  pub each : All HasNoMark mark_lists
 
 -- the id of a cell by its position in the batch, which is in the last 16 bits of the number
 abbrev pub id_at : List CellId → ℕ → CellId
 id_at ids w = slice_index_or ids (w % 65536) record { team = 0; own = 0 }
 
 -- the cell's team is less than `team`, or equal to it and the cell's position is less than `own`
-abbrev pub IsBefore : ℕ → ℕ → CellId → Type 0
-IsBefore team own id = (id.team < team) ⊎ ((id.team ≡ team) × (id.own < own))
+abbrev pub PrecedesCell : ℕ → ℕ → CellId → Type 0
+PrecedesCell team own id = (id.team < team) ⊎ ((id.team ≡ team) × (id.own < own))
 
 -- each team has a list with an element for each of its cells: the box of the cell if it is done,
 -- otherwise None
 pub record AreFilled (f : Frame) (cells : Cells) (Done : CellId → Type 0) (boxes : List (List (Option Rect))) : Type 0 where
   pub many : (team : ℕ) → length (slice_index_or boxes team []) ≡ length (cells_of cells team)
-  pub done : (id : CellId) (c : Cell) → cell_at cells id ≡ Some c → Done id → cell_box (slice_index_or boxes id.team []) id.own ≡ box_of f c
+  pub done : (id : CellId) (c : Cell) → cell_at cells id ≡ Some c → Done id → cell_box (slice_index_or boxes id.team []) id.own ≡ working_box_of f c
   pub rest : (id : CellId) (c : Cell) → cell_at cells id ≡ Some c → (Done id → ⊥) → cell_box (slice_index_or boxes id.team []) id.own ≡ None
 
 -- the marks of the strips are those of the cells that are done
-pub record AreFilledIn (f : Frame) (cells : Cells) (strips : List Strip) (Done : CellId → Type 0) (lanes : List StripMarks) : Type 0 where
+pub record AreFilledIn (f : Frame) (cells : Cells) (strips : List Strip) (Done : CellId → Type 0) (mark_lists : List StripMarks) : Type 0 where
   pub boxes : List (List (Option Rect))
   pub filled : AreFilled f cells Done boxes
-  pub marked : ShowAllBoxes strips boxes lanes
+  pub marked : ShowAllBoxes strips boxes mark_lists

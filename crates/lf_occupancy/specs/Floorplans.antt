@@ -7,13 +7,13 @@ use Rattle.lf_floorplan.specs.declared.frame.Frame.{Frame}
 use Rattle.lf_floorplan.specs.Boxes.{IsSized, macro_of}
 use Rattle.lf_floorplan.specs.Ground.{StaysInGround, IsClear}
 use Rattle.lf_floorplan.specs.Standing.{RestsOnRows}
-use Rattle.lf_segments.specs.Grounds.{IsIndexOf}
+use Rattle.lf_segments.specs.Indexes.{IsIndexOf}
 use Rattle.lf_rules.specs.Choice.{spot_of}
 use Rattle.lf_rules.specs.Padding.{wider}
 use Rattle.lf_rules.specs.Team.{box_in}
 use Rattle.lf_cells.specs.declared.cell.Cell.{Cell}
 use Rattle.lf_cells.specs.Cells.{Cells, cells_of}
-use Rattle.lf_occupancy.specs.Occupied.{Occupied, boxes_of, reach}
+use Rattle.lf_occupancy.specs.Views.{Occupied, boxes_of, reach}
 use Rattle.lf_occupancy.specs.Strips.{MarksBoxes, Marked}
 
 -- the cell's macro is one of the frame's, of whole size
@@ -22,12 +22,12 @@ pub record HasSize (f : Frame) (c : Cell) : Type 0 where
   pub sized : IsSized f (macro_of f c.mac)
 
 -- the box of a cell at its working place; None if it is unplaced
-abbrev pub box_of : Frame → Cell → Option Rect
-box_of f c = option_map (λ p. box_in f c.mac (spot_of p)) c.working
+abbrev pub working_box_of : Frame → Cell → Option Rect
+working_box_of f c = option_map (λ p. box_in f c.mac (spot_of p)) c.working
 
 -- the boxes of all teams' cells at their working places
 abbrev pub boxes_in : Frame → Cells → List (List (Option Rect))
-boxes_in f cells = map (λ own. map (box_of f) own) cells.cells
+boxes_in f cells = map (λ own. map (working_box_of f) own) cells.cells
 
 -- the macros of all cells are the frame's, of whole size
 abbrev pub HaveSize : Frame → Cells → Type 0
@@ -35,7 +35,7 @@ HaveSize f cells = (team : ℕ) → All (HasSize f) (cells_of cells team)
 
 -- the boxes are those of the table's cells at their working places
 abbrev pub HoldsCells : Frame → Cells → Occupied → Type 0
-HoldsCells f cells o = (team : ℕ) → boxes_of o team ≡ map (box_of f) (cells_of cells team)
+HoldsCells f cells o = (team : ℕ) → boxes_of o team ≡ map (working_box_of f) (cells_of cells team)
 
 -- the occupancy is of this frame, and holds the working places of this table's cells
 pub record IsOccupancyOf (f : Frame) (cells : Cells) (o : Occupied) : Type 0 where

@@ -1,7 +1,7 @@
-pub mod Occupied
-pub mod Lanes
+pub mod Views
+pub mod MarkLists
 pub mod Strips
-pub mod Settling
-pub mod Tallies
+pub mod Reserving
+pub mod StripCounting
 pub mod Floorplans
 pub mod Building

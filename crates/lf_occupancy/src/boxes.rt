@@ -2,9 +2,9 @@
 
 ghost use Rattle.std.specs.Prelude.{◌≡◌, [], All, IfSome, option_and_then, slice_index_or};
 ghost use Rattle.lf_cells.specs.Cells.{cell_at, cells_of};
-ghost use Rattle.lf_occupancy.specs.Floorplans.{HasSize, HaveSize, box_of, boxes_in};
-ghost use Rattle.lf_occupancy.specs.Lanes.{IsPlaceX};
-ghost use Rattle.lf_occupancy.specs.Occupied.{cell_box};
+ghost use Rattle.lf_occupancy.specs.Floorplans.{HasSize, HaveSize, working_box_of, boxes_in};
+ghost use Rattle.lf_occupancy.specs.MarkLists.{IsPlaceX};
+ghost use Rattle.lf_occupancy.specs.Views.{cell_box};
 
 use lf_cells::{CellId, CellTable};
 use lf_floorplan::Frame;
@@ -36,7 +36,7 @@ impl<'a> Model for Boxes<'a> {
 /// the table.
 fn box_in_table(frame: &Frame, cells: &CellTable, id: CellId) -> Option<Rect>
     requires { All (HasSize frame.now) (cells_of cells.now id.team) }
-    ensures is { result ≡ option_and_then (box_of frame.now) (cell_at cells.now id) }
+    ensures is { result ≡ option_and_then (working_box_of frame.now) (cell_at cells.now id) }
     ensures edge { IfSome result (λ rect. IsPlaceX rect.x1) }
 {
     let standing = cells.placement_of(id)?;

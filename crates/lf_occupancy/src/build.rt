@@ -1,11 +1,11 @@
 //! Builds the marks of all strips.
 
 ghost use Rattle.std.specs.Prelude.{◌≡◌, ◌+◌, ◌%◌, ◌<◌, ◌≤◌, [], All, IfOk, IsPermutation, List, OnOk, Option, drop, length, map, slice_index_or, take};
-ghost use Rattle.lf_occupancy.specs.Building.{HaveNoMarks, AreFilledIn, IsBefore, id_at};
+ghost use Rattle.lf_occupancy.specs.Building.{HaveNoMarks, AreFilledIn, PrecedesCell, id_at};
 ghost use Rattle.lf_occupancy.specs.Floorplans.{HaveSize, boxes_in};
 ghost use Rattle.lf_units.specs.declared.geometry.Rect.{Rect};
-ghost use Rattle.lf_occupancy.specs.Lanes.{AreRising};
-ghost use Rattle.lf_occupancy.specs.Occupied.{cell_box};
+ghost use Rattle.lf_occupancy.specs.MarkLists.{AreRising};
+ghost use Rattle.lf_occupancy.specs.Views.{cell_box};
 ghost use Rattle.lf_occupancy.specs.Strips.{ShowAllBoxes, HasNoBox, boxes_set, widened_strips};
 
 use crate::boxes::box_at_work;
@@ -23,16 +23,16 @@ const PART: usize = 65_536;
 
 /// A list of `count` strips without marks.
 fn empty_marks(alloc: Global, count: usize) -> Result<Vec<StripMarks>, AllocError>
-    ensures { IfOk result (λ lanes. HaveNoMarks count lanes.items) }
+    ensures { IfOk result (λ mark_lists. HaveNoMarks count mark_lists.items) }
 {
-    let mut lanes = Vec::with_capacity(alloc, count)?;
+    let mut mark_lists = Vec::with_capacity(alloc, count)?;
     for _ in 0..count {
-        lanes.push(StripMarks {
+        mark_lists.push(StripMarks {
             marks: Vec::new(alloc),
             widest: 0,
         })?;
     }
-    Ok(lanes)
+    Ok(mark_lists)
 }
 
 /// The difference between the number and the least 32-bit number.
@@ -112,23 +112,23 @@ fn id_waiting(ids: &[CellId], waiting: u64) -> CellId
 
 /// Marks a cell that has no marks yet at its working place. An unplaced cell is skipped.
 fn mark_cell(
-    lanes: &mut Vec<StripMarks>,
+    mark_lists: &mut Vec<StripMarks>,
     index: &FrameIndex,
     frame: &Frame,
     cells: &CellTable,
     id: &CellId,
 ) -> Result<(), AllocError>
     requires sized { HaveSize frame.now cells.now }
-    requires many { length lanes.old.items ≡ length (widened_strips frame.now.pitch.x index.now.strips) }
-    requires rising { All (λ l. AreRising l.marks.items) lanes.old.items }
-    ensures { (boxes : List (List (Option Rect))) → HasNoBox boxes id.now → ShowAllBoxes (widened_strips frame.now.pitch.x index.now.strips) boxes lanes.old.items
+    requires many { length mark_lists.old.items ≡ length (widened_strips frame.now.pitch.x index.now.strips) }
+    requires rising { All (λ l. AreRising l.marks.items) mark_lists.old.items }
+    ensures { (boxes : List (List (Option Rect))) → HasNoBox boxes id.now → ShowAllBoxes (widened_strips frame.now.pitch.x index.now.strips) boxes mark_lists.old.items
         → OnOk result (ShowAllBoxes (widened_strips frame.now.pitch.x index.now.strips)
-        (boxes_set boxes id.now (cell_box (slice_index_or (boxes_in frame.now cells.now) id.now.team []) id.now.own)) lanes.new.items) }
+        (boxes_set boxes id.now (cell_box (slice_index_or (boxes_in frame.now cells.now) id.now.team []) id.now.own)) mark_lists.new.items) }
 {
     let Some(rect) = box_at_work(frame, cells, id) else {
         return Ok(());
     };
-    reserve_and_mark(lanes, index, &frame.pitch.x, id, &rect)
+    reserve_and_mark(mark_lists, index, &frame.pitch.x, id, &rect)
 }
 
 /// The ids of one batch, which begins at position `from`. The last batch may be shorter.
@@ -144,7 +144,7 @@ fn part_of(ids: &[CellId], from: usize) -> &[CellId]
 /// it are marked already. The order within a batch matters only for speed.
 fn fill_in(
     alloc: Global,
-    lanes: &mut Vec<StripMarks>,
+    mark_lists: &mut Vec<StripMarks>,
     index: &FrameIndex,
     frame: &Frame,
     cells: &CellTable,
@@ -152,13 +152,13 @@ fn fill_in(
     from: usize,
 ) -> Result<(), AllocError>
     requires sized { HaveSize frame.now cells.now }
-    requires before { AreFilledIn frame.now cells.now (widened_strips frame.now.pitch.x index.now.strips) (IsBefore team from) lanes.old.items }
-    ensures { OnOk result (AreFilledIn frame.now cells.now (widened_strips frame.now.pitch.x index.now.strips) (IsBefore team (from + 65536)) lanes.new.items) }
+    requires before { AreFilledIn frame.now cells.now (widened_strips frame.now.pitch.x index.now.strips) (PrecedesCell team from) mark_lists.old.items }
+    ensures { OnOk result (AreFilledIn frame.now cells.now (widened_strips frame.now.pitch.x index.now.strips) (PrecedesCell team (from + 65536)) mark_lists.new.items) }
 {
     let ids = part_of(cells.cells_of(team), from);
     let order = by_place(alloc, cells, ids)?;
     for waiting in &order {
-        mark_cell(lanes, index, frame, cells, &id_waiting(ids, *waiting))?;
+        mark_cell(mark_lists, index, frame, cells, &id_waiting(ids, *waiting))?;
     }
     Ok(())
 }
@@ -166,18 +166,18 @@ fn fill_in(
 /// Marks the cells of the team. The cells of the teams in front of it are marked already.
 fn fill_team(
     alloc: Global,
-    lanes: &mut Vec<StripMarks>,
+    mark_lists: &mut Vec<StripMarks>,
     index: &FrameIndex,
     frame: &Frame,
     cells: &CellTable,
     team: usize,
 ) -> Result<(), AllocError>
     requires sized { HaveSize frame.now cells.now }
-    requires before { AreFilledIn frame.now cells.now (widened_strips frame.now.pitch.x index.now.strips) (IsBefore team 0) lanes.old.items }
-    ensures { OnOk result (AreFilledIn frame.now cells.now (widened_strips frame.now.pitch.x index.now.strips) (IsBefore (team + 1) 0) lanes.new.items) }
+    requires before { AreFilledIn frame.now cells.now (widened_strips frame.now.pitch.x index.now.strips) (PrecedesCell team 0) mark_lists.old.items }
+    ensures { OnOk result (AreFilledIn frame.now cells.now (widened_strips frame.now.pitch.x index.now.strips) (PrecedesCell (team + 1) 0) mark_lists.new.items) }
 {
     for part in 0..cells.cells_of(team).len() / PART + 1 {
-        fill_in(alloc, lanes, index, frame, cells, team, part * PART)?;
+        fill_in(alloc, mark_lists, index, frame, cells, team, part * PART)?;
     }
     Ok(())
 }
@@ -202,11 +202,11 @@ pub(crate) fn marks_of_strips(
     cells: &CellTable,
 ) -> Result<Vec<StripMarks>, AllocError>
     requires { HaveSize frame.now cells.now }
-    ensures { IfOk result (λ lanes. ShowAllBoxes (widened_strips frame.now.pitch.x index.now.strips) (boxes_in frame.now cells.now) lanes.items) }
+    ensures { IfOk result (λ mark_lists. ShowAllBoxes (widened_strips frame.now.pitch.x index.now.strips) (boxes_in frame.now cells.now) mark_lists.items) }
 {
-    let mut lanes = empty_marks(alloc, index.strips().len())?;
+    let mut mark_lists = empty_marks(alloc, index.strips().len())?;
     for team in 0..team_count(cells.cell_ids()) {
-        fill_team(alloc, &mut lanes, index, frame, cells, team)?;
+        fill_team(alloc, &mut mark_lists, index, frame, cells, team)?;
     }
-    Ok(lanes)
+    Ok(mark_lists)
 }

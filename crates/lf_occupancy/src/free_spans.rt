@@ -3,7 +3,7 @@
 
 ghost use Rattle.std.specs.Prelude.{◌≡◌, OnOk};
 ghost use Rattle.std.specs.Int.{int_max, int_min};
-ghost use Rattle.lf_spans.specs.Steps.{AddsFilled, IsBefore, IsBehind};
+ghost use Rattle.lf_spans.specs.Steps.{AddsFilled, IsBefore, IsAfter};
 
 use lf_spans::Span;
 use std::alloc::AllocError;
@@ -30,8 +30,8 @@ pub(crate) fn part_before(rest: &Span, span: &Span) -> Span
 }
 
 /// The part of the remaining range after the span.
-pub(crate) fn part_behind(rest: &Span, span: &Span) -> Span
-    ensures { IsBehind rest.now span.now result }
+pub(crate) fn part_after(rest: &Span, span: &Span) -> Span
+    ensures { IsAfter rest.now span.now result }
 {
     Span {
         lo: rest.lo.max(span.hi),

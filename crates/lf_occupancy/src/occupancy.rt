@@ -3,11 +3,11 @@
 ghost use Rattle.std.specs.Prelude.{◌≡◌, ◌≢◌, ◌≤ℤ◌, ◌*ℤ◌, [], All, IfOk, IfSome, List, None, OnOk, Option, Some, length, map, pos, slice_index_or, slice_set, ℕ};
 ghost use Rattle.std.specs.Vec.{vec_len};
 ghost use Rattle.lf_units.specs.declared.geometry.Rect.{Rect};
-ghost use Rattle.lf_segments.specs.Grounds.{IsIndexOf};
+ghost use Rattle.lf_segments.specs.Indexes.{IsIndexOf};
 ghost use Rattle.lf_occupancy.specs.Floorplans.{HaveSize, IsMarkedBy, boxes_in};
-ghost use Rattle.lf_occupancy.specs.Lanes.{IsPlaceX};
-ghost use Rattle.lf_occupancy.specs.Occupied.{AreFreeSpans, Bounds, FitIn, HasRoomFor, IsPaddingOf, KeepsCapacities, cell_box};
-ghost use Rattle.lf_occupancy.specs.Strips.{CanEnter, CanLeave, MarksBoxes, IsAt, HasNoBox, boxes_set, with_boxes, capacities_in};
+ghost use Rattle.lf_occupancy.specs.MarkLists.{IsPlaceX};
+ghost use Rattle.lf_occupancy.specs.Views.{AreFreeSpans, Bounds, FitIn, HasRoomFor, IsPaddingOf, KeepsCapacities, cell_box};
+ghost use Rattle.lf_occupancy.specs.Strips.{CanEnter, CanLeave, MarksBoxes, HasBoxOrNone, HasNoBox, boxes_set, with_boxes, capacities_in};
 
 use crate::boxes::Boxes;
 use crate::build::marks_of_strips;
@@ -33,7 +33,7 @@ use std::marker::Model;
 pub struct Occupancy {
     pub(crate) index: FrameIndex,
     pub(crate) site: i64,
-    pub(crate) lanes: Vec<StripMarks>,
+    pub(crate) mark_lists: Vec<StripMarks>,
 }
 
 /// (Written by hand: with a derived `drop`, the proof of every function that drops an occupancy
@@ -43,19 +43,19 @@ impl Drop for Occupancy {
         let Occupancy {
             index: _,
             site: _,
-            lanes: _,
+            mark_lists: _,
         } = self;
     }
 }
 
 impl Model for Occupancy {
-    ghost use Rattle.lf_occupancy.specs.Strips.{HasLanes, Marked};
+    ghost use Rattle.lf_occupancy.specs.Strips.{HasStripMarks, Marked};
 
     ghost Value = { Marked };
 
-    ghost view = { λ o. record { index = o.index; site = o.site; lanes = o.lanes.items } };
+    ghost view = { λ o. record { index = o.index; site = o.site; mark_lists = o.mark_lists.items } };
 
-    ghost invariant = { λ o. HasLanes record { index = o.index; site = o.site; lanes = o.lanes.items } };
+    ghost invariant = { λ o. HasStripMarks record { index = o.index; site = o.site; mark_lists = o.mark_lists.items } };
 }
 
 impl Occupancy {
@@ -72,11 +72,11 @@ impl Occupancy {
         requires sized { HaveSize frame.now cells.now }
         ensures { IfOk result (λ occupancy. IsMarkedBy frame.now cells.now occupancy) }
     {
-        let lanes = marks_of_strips(alloc, &index, frame, cells)?;
+        let mark_lists = marks_of_strips(alloc, &index, frame, cells)?;
         Ok(Occupancy {
             index,
             site: frame.pitch.x,
-            lanes,
+            mark_lists,
         })
     }
 
@@ -139,12 +139,12 @@ impl Occupancy {
     /// Does not allocate. Each strip keeps its capacity.
     pub fn remove(&mut self, id: CellId, rect: &Rect)
         requires { CanLeave self.old id rect.now }
-        ensures holds { (boxes : List (List (Option Rect))) → IsAt boxes id rect.now → MarksBoxes self.old boxes → MarksBoxes self.new (boxes_set boxes id None) }
+        ensures holds { (boxes : List (List (Option Rect))) → HasBoxOrNone boxes id rect.now → MarksBoxes self.old boxes → MarksBoxes self.new (boxes_set boxes id None) }
         ensures index { self.new.index ≡ self.old.index }
         ensures site { self.new.site ≡ self.old.site }
-        ensures rooms { capacities_in self.new.lanes ≡ capacities_in self.old.lanes }
+        ensures rooms { capacities_in self.new.mark_lists ≡ capacities_in self.old.mark_lists }
     {
-        take_out(&mut self.lanes, &self.index, &self.site, &id, rect);
+        take_out(&mut self.mark_lists, &self.index, &self.site, &id, rect);
     }
 
     /// Marks this box for a cell that has no box. Whatever boxes the strips held, they then hold
@@ -158,9 +158,9 @@ impl Occupancy {
             → MarksBoxes self.new (boxes_set boxes id (Some rect.now)) }
         ensures index { self.new.index ≡ self.old.index }
         ensures site { self.new.site ≡ self.old.site }
-        ensures rooms { capacities_in self.new.lanes ≡ capacities_in self.old.lanes }
+        ensures rooms { capacities_in self.new.mark_lists ≡ capacities_in self.old.mark_lists }
     {
-        take_in(&mut self.lanes, &self.index, &self.site, &id, rect);
+        take_in(&mut self.mark_lists, &self.index, &self.site, &id, rect);
     }
 
     /// Makes the room that `insert` needs if the moves are made in their order.
@@ -177,20 +177,20 @@ impl Occupancy {
         ensures holds { (boxes : List (List (Option Rect))) → MarksBoxes self.old boxes → MarksBoxes self.new boxes }
         ensures index { self.new.index ≡ self.old.index }
         ensures site { self.new.site ≡ self.old.site }
-        ensures rooms { KeepsCapacities (capacities_in self.old.lanes) (capacities_in self.new.lanes) }
+        ensures rooms { KeepsCapacities (capacities_in self.old.mark_lists) (capacities_in self.new.mark_lists) }
     {
-        reserve_moves(&mut self.lanes, &self.index, &self.site, moves)
+        reserve_moves(&mut self.mark_lists, &self.index, &self.site, moves)
     }
 
     /// The number of boxes that each strip holds. `reserve_counted` then changes these counts for
     /// boxes at other places. `Err` if an allocation fails.
     pub fn strip_counts(&self, alloc: Global) -> Result<StripCounts, AllocError>
-        ensures is { IfOk result (λ tally. tally ≡ map (λ l. vec_len l.marks) self.now.lanes) }
-        ensures room { IfOk result (λ tally. KeepsCapacities tally (capacities_in self.now.lanes)) }
+        ensures is { IfOk result (λ tally. tally ≡ map (λ l. vec_len l.marks) self.now.mark_lists) }
+        ensures room { IfOk result (λ tally. KeepsCapacities tally (capacities_in self.now.mark_lists)) }
         ensures bounds { (boxes : List (List (Option Rect))) → (team : ℕ) → MarksBoxes self.now boxes
             → IfOk result (λ tally. Bounds (with_boxes self.now boxes) team (slice_index_or boxes team []) tally) }
     {
-        let counts = marks_of(alloc, self.lanes.as_slice())?;
+        let counts = marks_of(alloc, self.mark_lists.as_slice())?;
         Ok(StripCounts { counts })
     }
 
@@ -209,8 +209,8 @@ impl Occupancy {
         from: &Option<Rect>,
         to: &Option<Rect>,
     ) -> Result<(), AllocError>
-        requires { KeepsCapacities tally.old (capacities_in self.old.lanes) }
-        ensures room { OnOk result (KeepsCapacities tally.new (capacities_in self.new.lanes)) }
+        requires { KeepsCapacities tally.old (capacities_in self.old.mark_lists) }
+        ensures room { OnOk result (KeepsCapacities tally.new (capacities_in self.new.mark_lists)) }
         ensures own { (boxes : List (Option Rect)) → (own : ℕ) → cell_box boxes own ≡ from.now → Bounds (with_boxes self.old []) team boxes tally.old
             → OnOk result (Bounds (with_boxes self.new []) team (slice_set boxes own to.now) tally.new) }
         ensures others { (boxes : List (Option Rect)) → (other : ℕ) → other ≢ team → Bounds (with_boxes self.old []) other boxes tally.old
@@ -218,11 +218,11 @@ impl Occupancy {
         ensures holds { (boxes : List (List (Option Rect))) → MarksBoxes self.old boxes → MarksBoxes self.new boxes }
         ensures index { self.new.index ≡ self.old.index }
         ensures site { self.new.site ≡ self.old.site }
-        ensures rooms { KeepsCapacities (capacities_in self.old.lanes) (capacities_in self.new.lanes) }
+        ensures rooms { KeepsCapacities (capacities_in self.old.mark_lists) (capacities_in self.new.mark_lists) }
     {
         if let Some(shift) = near_shift(from, to) {
             return shift_rows(
-                &mut self.lanes,
+                &mut self.mark_lists,
                 &mut tally.counts,
                 &self.index,
                 &self.site,
@@ -232,7 +232,7 @@ impl Occupancy {
         }
         lower(&mut tally.counts, &self.index, &self.site, team, from);
         raise(
-            &mut self.lanes,
+            &mut self.mark_lists,
             &mut tally.counts,
             &self.index,
             &self.site,
@@ -246,6 +246,6 @@ impl Occupancy {
     pub fn boxes_fit(&self)
         ensures { (boxes : List (List (Option Rect))) → MarksBoxes self.now boxes → (team : ℕ) → FitIn (with_boxes self.now boxes) team (slice_index_or boxes team []) }
     {
-        let _ = &self.lanes;
+        let _ = &self.mark_lists;
     }
 }

@@ -1,12 +1,12 @@
 //! The strips of a frame together with the boxes of a table's cells.
 
 ghost use Rattle.std.specs.Prelude.{◌≡◌, ◌≤ℤ◌, IfOk, Option, negsuc, pos};
-ghost use Rattle.lf_occupancy.specs.Occupied.{reach, AreFreeSpans, IsFirstMet, IsFreeInRow, IsPaddingOf};
+ghost use Rattle.lf_occupancy.specs.Views.{reach, AreFreeSpans, IsFirstOverlappingCell, IsFreeInRow, IsPaddingOf};
 ghost use Rattle.lf_occupancy.specs.Strips.{MarksBoxes, with_boxes};
 
 use crate::boxes::Boxes;
 use crate::occupancy::Occupancy;
-use crate::queries::{free_in_one, free_in_strips, least_met};
+use crate::queries::{free_in_one, free_in_strips, least_overlapped};
 use lf_cells::CellId;
 use lf_segments::FrameIndex;
 use lf_units::{Rect, Span};
@@ -23,7 +23,7 @@ pub struct OccupancyView<'a> {
 }
 
 impl<'a> Model for OccupancyView<'a> {
-    ghost use Rattle.lf_occupancy.specs.Occupied.{Occupied};
+    ghost use Rattle.lf_occupancy.specs.Views.{Occupied};
     ghost use Rattle.lf_occupancy.specs.Strips.{MarksBoxes, with_boxes};
 
     ghost Value = { Occupied };
@@ -87,7 +87,7 @@ impl<'a> OccupancyView<'a> {
             alloc,
             &occupancy.index,
             &occupancy.site,
-            &occupancy.lanes,
+            &occupancy.mark_lists,
             &self.boxes,
             row,
             &id,
@@ -123,7 +123,7 @@ impl<'a> OccupancyView<'a> {
             alloc,
             &occupancy.index,
             &occupancy.site,
-            &occupancy.lanes,
+            &occupancy.mark_lists,
             &self.boxes,
             segment,
             &without,
@@ -135,13 +135,13 @@ impl<'a> OccupancyView<'a> {
     /// one of the team's strips. The strips are widened by 16 core sites on their left and right.
     /// `None` if there is no such cell. Does not allocate.
     pub fn first_overlapping(&self, id: CellId, rect: &Rect) -> Option<u32>
-        ensures { IsFirstMet self.now id rect.now result }
+        ensures { IsFirstOverlappingCell self.now id rect.now result }
     {
         let occupancy = self.occupancy;
-        least_met(
+        least_overlapped(
             &occupancy.index,
             &occupancy.site,
-            &occupancy.lanes,
+            &occupancy.mark_lists,
             &self.boxes,
             &id,
             rect,

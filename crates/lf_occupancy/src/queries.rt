@@ -2,11 +2,13 @@
 
 ghost use Rattle.std.specs.Prelude.{◌≡◌, ◌++◌, IfOk, None, negsuc, ◌≤ℤ◌, length};
 ghost use Rattle.lf_rules.specs.Padding.{IsShort};
-ghost use Rattle.lf_occupancy.specs.Lanes.{IsLeast};
-ghost use Rattle.lf_occupancy.specs.Strips.{AreFreeTo, ShowAllBoxes, AreFreeSpansOfStrip, IsSite, MeetsInOne, MeetsInRow, widened_strips, strip_views};
+ghost use Rattle.lf_occupancy.specs.MarkLists.{IsLeast};
+ghost use Rattle.lf_occupancy.specs.Strips.{AreFreeTo, ShowAllBoxes, AreFreeSpansOfStrip, IsSiteWidth, OverlapsInOne, OverlapsInRow, widened_strips, strip_views};
 
 use crate::boxes::Boxes;
-use crate::strip_marks::{StripMarks, free_in_lane, free_of_all, least_in_lane, x_range_of};
+use crate::strip_marks::{
+    StripMarks, free_in_mark_list, free_of_all, least_in_mark_list, x_range_of,
+};
 use crate::widened::{widened_area, widened_strips};
 use lf_cells::CellId;
 use lf_segments::FrameIndex;
@@ -18,25 +20,25 @@ use std::alloc::{AllocError, Global};
 fn least_in_row(
     index: &FrameIndex,
     site: &i64,
-    lanes: &[StripMarks],
+    mark_lists: &[StripMarks],
     boxes: &Boxes<'_>,
     row: usize,
     id: &CellId,
     rect: &Rect,
     so_far: Option<u32>,
 ) -> Option<u32>
-    requires site { IsSite site.now }
-    requires lanes { ShowAllBoxes (widened_strips site.now index.now.strips) boxes.now lanes.now }
-    ensures { IsLeast (MeetsInRow (widened_strips site.now index.now.strips) (strip_views (widened_strips site.now index.now.strips) boxes.now lanes.now) row
+    requires site { IsSiteWidth site.now }
+    requires mark_lists { ShowAllBoxes (widened_strips site.now index.now.strips) boxes.now mark_lists.now }
+    ensures { IsLeast (OverlapsInRow (widened_strips site.now index.now.strips) (strip_views (widened_strips site.now index.now.strips) boxes.now mark_lists.now) row
         id.now.team rect.now id.now.own) so_far result }
 {
     let near = widened_strips(index, site, row, id.team as usize, rect);
     let mut least = so_far;
     for n in near.start..near.end {
-        least = least_in_lane(
+        least = least_in_mark_list(
             boxes,
             id.team,
-            &lanes[n],
+            &mark_lists[n],
             &widened_area(index, site, n),
             rect,
             id.own,
@@ -48,23 +50,23 @@ fn least_in_row(
 
 /// The least position of an overlapping cell, in the same sense, in the strips of all rows. `None`
 /// if no cell overlaps.
-pub(crate) fn least_met(
+pub(crate) fn least_overlapped(
     index: &FrameIndex,
     site: &i64,
-    lanes: &[StripMarks],
+    mark_lists: &[StripMarks],
     boxes: &Boxes<'_>,
     id: &CellId,
     rect: &Rect,
 ) -> Option<u32>
-    requires site { IsSite site.now }
-    requires lanes { ShowAllBoxes (widened_strips site.now index.now.strips) boxes.now lanes.now }
-    ensures { IsLeast (MeetsInOne (widened_strips site.now index.now.strips) (strip_views (widened_strips site.now index.now.strips) boxes.now lanes.now)
+    requires site { IsSiteWidth site.now }
+    requires mark_lists { ShowAllBoxes (widened_strips site.now index.now.strips) boxes.now mark_lists.now }
+    ensures { IsLeast (OverlapsInOne (widened_strips site.now index.now.strips) (strip_views (widened_strips site.now index.now.strips) boxes.now mark_lists.now)
         id.now.team rect.now id.now.own) None result }
 {
     index.strips_are_placed();
     let mut least = None;
     for entry in index.rows_near(rect) {
-        least = least_in_row(index, site, lanes, boxes, entry.row, id, rect, least);
+        least = least_in_row(index, site, mark_lists, boxes, entry.row, id, rect, least);
     }
     least
 }
@@ -88,18 +90,18 @@ pub(crate) fn free_in_strips(
     alloc: Global,
     index: &FrameIndex,
     site: &i64,
-    lanes: &[StripMarks],
+    mark_lists: &[StripMarks],
     boxes: &Boxes<'_>,
     row: usize,
     id: &CellId,
     window: &Span,
     padding: &i64,
 ) -> Result<Vec<Span>, AllocError>
-    requires site { IsSite site.now }
-    requires lanes { ShowAllBoxes (widened_strips site.now index.now.strips) boxes.now lanes.now }
+    requires site { IsSiteWidth site.now }
+    requires mark_lists { ShowAllBoxes (widened_strips site.now index.now.strips) boxes.now mark_lists.now }
     requires short { IsShort padding.now }
     requires low { negsuc 4611686018427387903 ≤ℤ window.now.lo }
-    ensures { IfOk result (λ free. AreFreeTo index.now.strips (strip_views (widened_strips site.now index.now.strips) boxes.now lanes.now) row id.now.team
+    ensures { IfOk result (λ free. AreFreeTo index.now.strips (strip_views (widened_strips site.now index.now.strips) boxes.now mark_lists.now) row id.now.team
         id.now.own window.now padding.now (length index.now.strips) free.items) }
 {
     index.strips_are_placed();
@@ -109,7 +111,16 @@ pub(crate) fn free_in_strips(
     for n in near.start..near.end {
         let span = x_range_of(&list[n].area);
         let area = widened_area(index, site, n);
-        let part = free_in_lane(alloc, boxes, id, &lanes[n], &area, &span, window, padding)?;
+        let part = free_in_mark_list(
+            alloc,
+            boxes,
+            id,
+            &mark_lists[n],
+            &area,
+            &span,
+            window,
+            padding,
+        )?;
         free = joined(free, part)?;
     }
     Ok(free)
@@ -121,16 +132,16 @@ pub(crate) fn free_in_one(
     alloc: Global,
     index: &FrameIndex,
     site: &i64,
-    lanes: &[StripMarks],
+    mark_lists: &[StripMarks],
     boxes: &Boxes<'_>,
     number: usize,
     without: &CellId,
     padding: &i64,
 ) -> Result<Vec<Span>, AllocError>
-    requires site { IsSite site.now }
-    requires lanes { ShowAllBoxes (widened_strips site.now index.now.strips) boxes.now lanes.now }
+    requires site { IsSiteWidth site.now }
+    requires mark_lists { ShowAllBoxes (widened_strips site.now index.now.strips) boxes.now mark_lists.now }
     requires short { IsShort padding.now }
-    ensures { IfOk result (λ free. AreFreeSpansOfStrip index.now.strips (strip_views (widened_strips site.now index.now.strips) boxes.now lanes.now) without.now
+    ensures { IfOk result (λ free. AreFreeSpansOfStrip index.now.strips (strip_views (widened_strips site.now index.now.strips) boxes.now mark_lists.now) without.now
         padding.now number free.items) }
 {
     index.strips_are_placed();
@@ -140,10 +151,12 @@ pub(crate) fn free_in_one(
     }
     let span = x_range_of(&list[number].area);
     let team = list[number].team;
-    let lane = &lanes[number];
+    let mark_list = &mark_lists[number];
     let area = widened_area(index, site, number);
     if team == without.team as usize {
-        return free_in_lane(alloc, boxes, without, lane, &area, &span, &span, padding);
+        return free_in_mark_list(
+            alloc, boxes, without, mark_list, &area, &span, &span, padding,
+        );
     }
-    free_of_all(alloc, boxes, team, lane, &area, &span, padding)
+    free_of_all(alloc, boxes, team, mark_list, &area, &span, padding)
 }

@@ -2,11 +2,11 @@
 
 ghost use Rattle.std.specs.Prelude.{◌≡◌, ◌+◌, ◌≢◌, ◌≤◌, AllPairs, IfOk, IfSome, OnOk, Some, length, map};
 ghost use Rattle.std.specs.Vec.{vec_capacity, vec_len};
-ghost use Rattle.lf_occupancy.specs.Occupied.{KeepsCapacities};
-ghost use Rattle.lf_occupancy.specs.Settling.{IsOneOf};
-ghost use Rattle.lf_occupancy.specs.Strips.{AreChanged, AreKept, IsReached, IsSite, widened_strips, capacities_in};
-ghost use Rattle.lf_occupancy.specs.Lanes.{IsKept};
-ghost use Rattle.lf_occupancy.specs.Tallies.{AreShifted, IsHigher, IsLess, IsLessAt, IsLower, IsMore, IsShiftOf, IsShifted, IsShiftedAt, hull_in};
+ghost use Rattle.lf_occupancy.specs.Views.{KeepsCapacities};
+ghost use Rattle.lf_occupancy.specs.Reserving.{IsOneOf};
+ghost use Rattle.lf_occupancy.specs.Strips.{AreChanged, KeepMarksOf, IsReached, IsSiteWidth, widened_strips, capacities_in};
+ghost use Rattle.lf_occupancy.specs.MarkLists.{KeepsMarksOf};
+ghost use Rattle.lf_occupancy.specs.StripCounting.{AreShifted, IsHigher, IsLess, IsLessAt, IsLower, IsMore, IsShiftOf, IsShifted, IsShiftedAt, hull_in};
 
 use crate::strip_marks::{StripMarks, has_points, make_room, part_of};
 use crate::widened::{widened_area, widened_strips};
@@ -31,12 +31,12 @@ impl Model for StripCounts {
 }
 
 /// The number of marks of each strip.
-pub(crate) fn marks_of(alloc: Global, lanes: &[StripMarks]) -> Result<Vec<usize>, AllocError>
-    ensures { IfOk result (λ counts. counts.items ≡ map (λ l. vec_len l.marks) lanes.now) }
+pub(crate) fn marks_of(alloc: Global, mark_lists: &[StripMarks]) -> Result<Vec<usize>, AllocError>
+    ensures { IfOk result (λ counts. counts.items ≡ map (λ l. vec_len l.marks) mark_lists.now) }
 {
-    let mut counts = Vec::with_capacity(alloc, lanes.len())?;
-    for lane in lanes {
-        counts.push(lane.marks.len())?;
+    let mut counts = Vec::with_capacity(alloc, mark_lists.len())?;
+    for mark_list in mark_lists {
+        counts.push(mark_list.marks.len())?;
     }
     Ok(counts)
 }
@@ -58,7 +58,7 @@ fn lower_run(
     near: &StripRange,
     rect: &Rect,
 )
-    requires site { IsSite site.now }
+    requires site { IsSiteWidth site.now }
     requires many { length counts.old.items ≡ length (widened_strips site.now index.now.strips) }
     requires within { near.now.end ≤ length (widened_strips site.now index.now.strips) }
     ensures { AreChanged (IsOneOf near.now) (IsLessAt (widened_strips site.now index.now.strips) rect.now) counts.old.items counts.new.items }
@@ -77,7 +77,7 @@ fn lower_rows(
     team: usize,
     rect: &Rect,
 )
-    requires site { IsSite site.now }
+    requires site { IsSiteWidth site.now }
     requires many { length counts.old.items ≡ length (widened_strips site.now index.now.strips) }
     requires once { AllPairs (λ a b. a.row ≢ b.row) rows.now }
     ensures { AreChanged (IsReached (widened_strips site.now index.now.strips) rows.now team rect.now) (IsLessAt (widened_strips site.now index.now.strips) rect.now)
@@ -98,7 +98,7 @@ pub(crate) fn lower(
     team: usize,
     from: &Option<Rect>,
 )
-    requires site { IsSite site.now }
+    requires site { IsSiteWidth site.now }
     requires many { length counts.old.items ≡ length (widened_strips site.now index.now.strips) }
     ensures { IsLower (widened_strips site.now index.now.strips) team from.now counts.old.items counts.new.items }
 {
@@ -110,82 +110,82 @@ pub(crate) fn lower(
 
 /// Increases the count of a strip by one, and makes room for what is counted. `Err` if an
 /// allocation fails: the strip then keeps its marks.
-fn count_more(lane: &mut StripMarks, count: &mut usize) -> Result<(), AllocError>
-    ensures kept { IsKept lane.old lane.new }
+fn count_more(mark_list: &mut StripMarks, count: &mut usize) -> Result<(), AllocError>
+    ensures kept { KeepsMarksOf mark_list.old mark_list.new }
     ensures more { OnOk result (count.new ≡ count.old + 1) }
-    ensures room { OnOk result (count.new ≤ vec_capacity lane.new.marks) }
+    ensures room { OnOk result (count.new ≤ vec_capacity mark_list.new.marks) }
 {
     let Some(next) = count.checked_add(1) else {
         return Err(AllocError);
     };
-    let marks = &mut lane.marks;
+    let marks = &mut mark_list.marks;
     let more = next.saturating_sub(marks.len());
-    make_room(lane, more)?;
+    make_room(mark_list, more)?;
     *count = next;
     Ok(())
 }
 
 /// Increases by one the count of each strip of the range.
 fn raise_run(
-    lanes: &mut Vec<StripMarks>,
+    mark_lists: &mut Vec<StripMarks>,
     counts: &mut Vec<usize>,
     near: &StripRange,
 ) -> Result<(), AllocError>
-    requires room { KeepsCapacities counts.old.items (capacities_in lanes.old.items) }
-    requires within { near.now.end ≤ length lanes.old.items }
-    ensures kept { AreKept lanes.old.items lanes.new.items }
+    requires room { KeepsCapacities counts.old.items (capacities_in mark_lists.old.items) }
+    requires within { near.now.end ≤ length mark_lists.old.items }
+    ensures kept { KeepMarksOf mark_lists.old.items mark_lists.new.items }
     ensures more { OnOk result (AreChanged (IsOneOf near.now) IsMore counts.old.items counts.new.items) }
-    ensures room { OnOk result (KeepsCapacities counts.new.items (capacities_in lanes.new.items)) }
+    ensures room { OnOk result (KeepsCapacities counts.new.items (capacities_in mark_lists.new.items)) }
 {
     for n in near.start..near.end {
-        count_more(&mut lanes[n], &mut counts[n])?;
+        count_more(&mut mark_lists[n], &mut counts[n])?;
     }
     Ok(())
 }
 
 /// Increases by one the count of each strip of the team that shares a point with the rectangle.
 fn raise_rows(
-    lanes: &mut Vec<StripMarks>,
+    mark_lists: &mut Vec<StripMarks>,
     counts: &mut Vec<usize>,
     index: &FrameIndex,
     site: &i64,
     team: usize,
     rect: &Rect,
 ) -> Result<(), AllocError>
-    requires site { IsSite site.now }
-    requires many { length lanes.old.items ≡ length (widened_strips site.now index.now.strips) }
-    requires room { KeepsCapacities counts.old.items (capacities_in lanes.old.items) }
-    ensures kept { AreKept lanes.old.items lanes.new.items }
+    requires site { IsSiteWidth site.now }
+    requires many { length mark_lists.old.items ≡ length (widened_strips site.now index.now.strips) }
+    requires room { KeepsCapacities counts.old.items (capacities_in mark_lists.old.items) }
+    ensures kept { KeepMarksOf mark_lists.old.items mark_lists.new.items }
     ensures more { OnOk result (IsHigher (widened_strips site.now index.now.strips) team (Some rect.now) counts.old.items counts.new.items) }
-    ensures room { OnOk result (KeepsCapacities counts.new.items (capacities_in lanes.new.items)) }
+    ensures room { OnOk result (KeepsCapacities counts.new.items (capacities_in mark_lists.new.items)) }
 {
     index.strips_are_placed();
     let rows = index.rows_near(rect);
     for entry in rows {
         let near = widened_strips(index, site, entry.row, team, rect);
-        raise_run(lanes, counts, &near)?;
+        raise_run(mark_lists, counts, &near)?;
     }
     Ok(())
 }
 
 /// Increases counts as `raise_rows` does for the box, if there is one.
 pub(crate) fn raise(
-    lanes: &mut Vec<StripMarks>,
+    mark_lists: &mut Vec<StripMarks>,
     counts: &mut Vec<usize>,
     index: &FrameIndex,
     site: &i64,
     team: usize,
     to: &Option<Rect>,
 ) -> Result<(), AllocError>
-    requires site { IsSite site.now }
-    requires many { length lanes.old.items ≡ length (widened_strips site.now index.now.strips) }
-    requires room { KeepsCapacities counts.old.items (capacities_in lanes.old.items) }
-    ensures kept { AreKept lanes.old.items lanes.new.items }
+    requires site { IsSiteWidth site.now }
+    requires many { length mark_lists.old.items ≡ length (widened_strips site.now index.now.strips) }
+    requires room { KeepsCapacities counts.old.items (capacities_in mark_lists.old.items) }
+    ensures kept { KeepMarksOf mark_lists.old.items mark_lists.new.items }
     ensures more { OnOk result (IsHigher (widened_strips site.now index.now.strips) team to.now counts.old.items counts.new.items) }
-    ensures room { OnOk result (KeepsCapacities counts.new.items (capacities_in lanes.new.items)) }
+    ensures room { OnOk result (KeepsCapacities counts.new.items (capacities_in mark_lists.new.items)) }
 {
     match to {
-        Some(rect) => raise_rows(lanes, counts, index, site, team, rect),
+        Some(rect) => raise_rows(mark_lists, counts, index, site, team, rect),
         None => Ok(()),
     }
 }
@@ -227,21 +227,21 @@ fn hull_of(shift: &BoxChange) -> Rect
 /// Counts the new box in place of the old one in a strip with this area, and makes room for what is
 /// counted. `Err` if an allocation fails: the strip then keeps its marks.
 fn count_shift(
-    lane: &mut StripMarks,
+    mark_list: &mut StripMarks,
     count: &mut usize,
     area: &Rect,
     shift: &BoxChange,
 ) -> Result<(), AllocError>
-    requires room { count.old ≤ vec_capacity lane.old.marks }
-    ensures kept { IsKept lane.old lane.new }
+    requires room { count.old ≤ vec_capacity mark_list.old.marks }
+    ensures kept { KeepsMarksOf mark_list.old mark_list.new }
     ensures shifted { OnOk result (IsShifted area.now shift.now count.old count.new) }
-    ensures room { OnOk result (count.new ≤ vec_capacity lane.new.marks) }
+    ensures room { OnOk result (count.new ≤ vec_capacity mark_list.new.marks) }
 {
     if has_points(&part_of(area, &shift.to)) {
         if has_points(&part_of(area, &shift.from)) {
             return Ok(());
         }
-        return count_more(lane, count);
+        return count_more(mark_list, count);
     }
     count_less(count, area, &shift.from);
     Ok(())
@@ -249,25 +249,25 @@ fn count_shift(
 
 /// Counts the new box in place of the old one in each strip of the range.
 fn shift_run(
-    lanes: &mut Vec<StripMarks>,
+    mark_lists: &mut Vec<StripMarks>,
     counts: &mut Vec<usize>,
     index: &FrameIndex,
     site: &i64,
     near: &StripRange,
     shift: &BoxChange,
 ) -> Result<(), AllocError>
-    requires site { IsSite site.now }
-    requires many { length lanes.old.items ≡ length (widened_strips site.now index.now.strips) }
-    requires room { KeepsCapacities counts.old.items (capacities_in lanes.old.items) }
-    requires within { near.now.end ≤ length lanes.old.items }
-    ensures kept { AreKept lanes.old.items lanes.new.items }
+    requires site { IsSiteWidth site.now }
+    requires many { length mark_lists.old.items ≡ length (widened_strips site.now index.now.strips) }
+    requires room { KeepsCapacities counts.old.items (capacities_in mark_lists.old.items) }
+    requires within { near.now.end ≤ length mark_lists.old.items }
+    ensures kept { KeepMarksOf mark_lists.old.items mark_lists.new.items }
     ensures shifted { OnOk result (AreChanged (IsOneOf near.now) (IsShiftedAt (widened_strips site.now index.now.strips) shift.now)
         counts.old.items counts.new.items) }
-    ensures room { OnOk result (KeepsCapacities counts.new.items (capacities_in lanes.new.items)) }
+    ensures room { OnOk result (KeepsCapacities counts.new.items (capacities_in mark_lists.new.items)) }
 {
     for n in near.start..near.end {
         let area = widened_area(index, site, n);
-        count_shift(&mut lanes[n], &mut counts[n], &area, shift)?;
+        count_shift(&mut mark_lists[n], &mut counts[n], &area, shift)?;
     }
     Ok(())
 }
@@ -275,26 +275,26 @@ fn shift_run(
 /// Counts the new box in place of the old one in the strips of the team. Each strip is visited
 /// once, because most cells stay in their strips.
 pub(crate) fn shift_rows(
-    lanes: &mut Vec<StripMarks>,
+    mark_lists: &mut Vec<StripMarks>,
     counts: &mut Vec<usize>,
     index: &FrameIndex,
     site: &i64,
     team: usize,
     shift: &BoxChange,
 ) -> Result<(), AllocError>
-    requires site { IsSite site.now }
-    requires many { length lanes.old.items ≡ length (widened_strips site.now index.now.strips) }
-    requires room { KeepsCapacities counts.old.items (capacities_in lanes.old.items) }
-    ensures kept { AreKept lanes.old.items lanes.new.items }
+    requires site { IsSiteWidth site.now }
+    requires many { length mark_lists.old.items ≡ length (widened_strips site.now index.now.strips) }
+    requires room { KeepsCapacities counts.old.items (capacities_in mark_lists.old.items) }
+    ensures kept { KeepMarksOf mark_lists.old.items mark_lists.new.items }
     ensures shifted { OnOk result (AreShifted (widened_strips site.now index.now.strips) team shift.now counts.old.items counts.new.items) }
-    ensures room { OnOk result (KeepsCapacities counts.new.items (capacities_in lanes.new.items)) }
+    ensures room { OnOk result (KeepsCapacities counts.new.items (capacities_in mark_lists.new.items)) }
 {
     index.strips_are_placed();
     let hull = hull_of(shift);
     let rows = index.rows_near(&hull);
     for entry in rows {
         let near = widened_strips(index, site, entry.row, team, &hull);
-        shift_run(lanes, counts, index, site, &near, shift)?;
+        shift_run(mark_lists, counts, index, site, &near, shift)?;
     }
     Ok(())
 }

@@ -6,13 +6,13 @@ ghost use Rattle.lf_spans.specs.Spans.{IsFree, IsFreeIn, IsInOrder};
 ghost use Rattle.lf_rules.specs.Padding.{HasRoomAround, IsShort};
 ghost use Rattle.lf_units.specs.declared.geometry.Rect.{Rect};
 ghost use Rattle.lf_occupancy.specs.declared.strip_marks.Mark.{Mark};
-ghost use Rattle.lf_occupancy.specs.Lanes.{AreRising, MarksAreOf, HasAtMostOne, HasRoom, HasRoomOf, IsJoined, IsKept, IsKeptAs, IsLeast, IsMarked};
-ghost use Rattle.lf_occupancy.specs.Lanes.{IsNearRun, IsNearZero, IsPlaceX, IsUnmarked, IsPutIn, HasPoints, LiesBeside, MeetsEntry, MeetsOne, IsMarkOfCell};
-ghost use Rattle.lf_occupancy.specs.Lanes.{HasNoMarkFrom, MarkIsOf, all_padded, entries_in, entry_in, entry_of_box, others_in, part_in, some_box, spans_in};
-ghost use Rattle.lf_occupancy.specs.Lanes.{wider_range, x_range};
+ghost use Rattle.lf_occupancy.specs.MarkLists.{AreRising, MarksAreOf, HasAtMostOne, HasRoom, HasRoomOf, IsJoined, KeepsMarksOf, IsKeptAs, IsLeast, IsMarked};
+ghost use Rattle.lf_occupancy.specs.MarkLists.{IsNearRun, IsNearZero, IsPlaceX, IsUnmarked, IsPutIn, HasPoints, LiesBeside, OverlapsEntry, OverlapsOne, IsMarkOfCell};
+ghost use Rattle.lf_occupancy.specs.MarkLists.{HasNoMarkFrom, MarkIsOf, all_padded, marked_entries, marked_entry, entry_of_box, others_in, part_in, some_box, spans_in};
+ghost use Rattle.lf_occupancy.specs.MarkLists.{wider_range, x_range};
 
 use crate::boxes::Boxes;
-use crate::free_spans::{common_range, part_before, part_behind, push_filled};
+use crate::free_spans::{common_range, part_after, part_before, push_filled};
 use lf_cells::CellId;
 use lf_spans::{Span, free_in};
 use lf_units::Rect;
@@ -104,7 +104,7 @@ fn entry_of(area: &Rect, found: &Option<Rect>, own: u32) -> Entry
 
 /// The entry of a mark, in a strip of the team with this area.
 fn entry_at(boxes: &Boxes<'_>, team: u32, area: &Rect, mark: &Mark) -> Entry
-    ensures { result ≡ entry_in (slice_index_or boxes.now team []) area.now mark.now }
+    ensures { result ≡ marked_entry (slice_index_or boxes.now team []) area.now mark.now }
 {
     let id = CellId {
         team,
@@ -115,7 +115,7 @@ fn entry_at(boxes: &Boxes<'_>, team: u32, area: &Rect, mark: &Mark) -> Entry
 
 /// The entry of a mark, in a strip of the team of this number.
 fn entry_of_team(boxes: &Boxes<'_>, team: usize, area: &Rect, mark: &Mark) -> Entry
-    ensures { result ≡ entry_in (slice_index_or boxes.now team []) area.now mark.now }
+    ensures { result ≡ marked_entry (slice_index_or boxes.now team []) area.now mark.now }
 {
     entry_of(area, &boxes.get_in(team, mark.own), mark.own)
 }
@@ -123,8 +123,8 @@ fn entry_of_team(boxes: &Boxes<'_>, team: usize, area: &Rect, mark: &Mark) -> En
 /// The x range of the entry of a mark, in a strip of the team with this area. It computes the
 /// cell's box only if the mark does not contain the width.
 fn range_at(boxes: &Boxes<'_>, team: usize, area: &Rect, mark: &Mark) -> Span
-    requires { MarkIsOf (entry_in (slice_index_or boxes.now team []) area.now mark.now) mark.now }
-    ensures { result ≡ x_range (entry_in (slice_index_or boxes.now team []) area.now mark.now).area }
+    requires { MarkIsOf (marked_entry (slice_index_or boxes.now team []) area.now mark.now) mark.now }
+    ensures { result ≡ x_range (marked_entry (slice_index_or boxes.now team []) area.now mark.now).area }
 {
     if mark.width == u32::MAX {
         return x_range_of(&entry_of_team(boxes, team, area, mark).area);
@@ -159,17 +159,17 @@ pub(crate) fn count_before(marks: &[Mark], x: &i64) -> usize
 }
 
 /// The marks of the entries near a range of x. They are found by binary search.
-pub(crate) fn near_marks<'a>(lane: &'a StripMarks, lo: &i64, hi: &i64) -> &'a [Mark]
-    requires rising { AreRising lane.now.marks.items }
-    requires some { pos 0 ≤ℤ lane.now.widest }
-    requires most { lane.now.widest ≤ℤ pos 1099511627776 }
+pub(crate) fn near_marks<'a>(mark_list: &'a StripMarks, lo: &i64, hi: &i64) -> &'a [Mark]
+    requires rising { AreRising mark_list.now.marks.items }
+    requires some { pos 0 ≤ℤ mark_list.now.widest }
+    requires most { mark_list.now.widest ≤ℤ pos 1099511627776 }
     requires low { negsuc 4611686018427387903 ≤ℤ lo.now }
-    ensures near { (cells : List (Option Rect)) → (area : Rect) → IsMarked cells area lane.now →
-        IsNearRun (entries_in cells area lane.now.marks.items) lo.now hi.now (entries_in cells area result.now) }
-    ensures told { (cells : List (Option Rect)) → (area : Rect) → IsMarked cells area lane.now → MarksAreOf cells area result.now }
+    ensures near { (cells : List (Option Rect)) → (area : Rect) → IsMarked cells area mark_list.now →
+        IsNearRun (marked_entries cells area mark_list.now.marks.items) lo.now hi.now (marked_entries cells area result.now) }
+    ensures reported { (cells : List (Option Rect)) → (area : Rect) → IsMarked cells area mark_list.now → MarksAreOf cells area result.now }
 {
-    let marks = lane.marks.as_slice();
-    let from = *lo - lane.widest;
+    let marks = mark_list.marks.as_slice();
+    let from = *lo - mark_list.widest;
     let rest = &marks[count_before(marks, &from)..];
     &rest[..count_before(rest, hi)]
 }
@@ -192,8 +192,8 @@ fn lesser(
     but: u32,
     so_far: Option<u32>,
 ) -> Option<u32>
-    requires { MarkIsOf (entry_in (slice_index_or boxes.now team []) area.now mark.now) mark.now }
-    ensures { IsLeast (λ own. MeetsEntry rect.now but own (entry_in (slice_index_or boxes.now team []) area.now mark.now)) so_far result }
+    requires { MarkIsOf (marked_entry (slice_index_or boxes.now team []) area.now mark.now) mark.now }
+    ensures { IsLeast (λ own. OverlapsEntry rect.now but own (marked_entry (slice_index_or boxes.now team []) area.now mark.now)) so_far result }
 {
     if mark.own == but {
         return so_far;
@@ -223,7 +223,7 @@ fn least_in(
     so_far: Option<u32>,
 ) -> Option<u32>
     requires { MarksAreOf (slice_index_or boxes.now team []) area.now marks.now }
-    ensures { IsLeast (MeetsOne (entries_in (slice_index_or boxes.now team []) area.now marks.now) rect.now but) so_far result }
+    ensures { IsLeast (OverlapsOne (marked_entries (slice_index_or boxes.now team []) area.now marks.now) rect.now but) so_far result }
 {
     let mut least = so_far;
     for mark in marks {
@@ -234,21 +234,21 @@ fn least_in(
 
 /// The least such position over the marks of a strip with this area. Only the marks near the
 /// rectangle are visited.
-pub(crate) fn least_in_lane(
+pub(crate) fn least_in_mark_list(
     boxes: &Boxes<'_>,
     team: u32,
-    lane: &StripMarks,
+    mark_list: &StripMarks,
     area: &Rect,
     rect: &Rect,
     but: u32,
     so_far: Option<u32>,
 ) -> Option<u32>
-    requires marked { IsMarked (slice_index_or boxes.now team []) area.now lane.now }
+    requires marked { IsMarked (slice_index_or boxes.now team []) area.now mark_list.now }
     requires near { IsNearZero area.now }
-    ensures { IsLeast (MeetsOne (entries_in (slice_index_or boxes.now team []) area.now lane.now.marks.items) rect.now but) so_far result }
+    ensures { IsLeast (OverlapsOne (marked_entries (slice_index_or boxes.now team []) area.now mark_list.now.marks.items) rect.now but) so_far result }
 {
     let lo = rect.x1.max(area.x1);
-    let near = near_marks(lane, &lo, &rect.x2);
+    let near = near_marks(mark_list, &lo, &rect.x2);
     least_in(boxes, team, area, near, rect, but, so_far)
 }
 
@@ -276,9 +276,9 @@ fn padded_of(
     padding: &i64,
 ) -> Result<Vec<Span>, AllocError>
     requires short { IsShort padding.now }
-    requires told { MarksAreOf (slice_index_or boxes.now team []) area.now marks.now }
-    requires around { All (λ e. HasRoomAround e.area) (entries_in (slice_index_or boxes.now team []) area.now marks.now) }
-    ensures { IfOk result (λ list. list.items ≡ spans_in (all_padded padding.now (entries_in (slice_index_or boxes.now team []) area.now marks.now))) }
+    requires reported { MarksAreOf (slice_index_or boxes.now team []) area.now marks.now }
+    requires around { All (λ e. HasRoomAround e.area) (marked_entries (slice_index_or boxes.now team []) area.now marks.now) }
+    ensures { IfOk result (λ list. list.items ≡ spans_in (all_padded padding.now (marked_entries (slice_index_or boxes.now team []) area.now marks.now))) }
 {
     let mut list = Vec::with_capacity(alloc, marks.len())?;
     for mark in marks {
@@ -300,13 +300,13 @@ fn free_beside(
     range: &Span,
 ) -> Result<Vec<Span>, AllocError>
     requires short { IsShort padding.now }
-    requires told { MarksAreOf (slice_index_or boxes.now id.now.team []) area.now marks.now }
-    requires around { All (λ e. HasRoomAround e.area) (entries_in (slice_index_or boxes.now id.now.team []) area.now marks.now) }
-    requires whole { All (λ e. HasPoints e.area) (entries_in (slice_index_or boxes.now id.now.team []) area.now marks.now) }
+    requires reported { MarksAreOf (slice_index_or boxes.now id.now.team []) area.now marks.now }
+    requires around { All (λ e. HasRoomAround e.area) (marked_entries (slice_index_or boxes.now id.now.team []) area.now marks.now) }
+    requires whole { All (λ e. HasPoints e.area) (marked_entries (slice_index_or boxes.now id.now.team []) area.now marks.now) }
     requires order { IsInOrder
-        (spans_in (others_in (all_padded padding.now (entries_in (slice_index_or boxes.now id.now.team []) area.now marks.now)) id.now.own)) }
+        (spans_in (others_in (all_padded padding.now (marked_entries (slice_index_or boxes.now id.now.team []) area.now marks.now)) id.now.own)) }
     ensures { IfOk result (λ free. IsFree range.now
-        (spans_in (others_in (all_padded padding.now (entries_in (slice_index_or boxes.now id.now.team []) area.now marks.now)) id.now.own)) free.items) }
+        (spans_in (others_in (all_padded padding.now (marked_entries (slice_index_or boxes.now id.now.team []) area.now marks.now)) id.now.own)) free.items) }
 {
     let mut free = Vec::with_capacity(alloc, marks.len().saturating_add(1))?;
     let mut rest = *range;
@@ -317,49 +317,49 @@ fn free_beside(
         let reach = range_at(boxes, id.team as usize, area, mark);
         let span = padded_range(&reach, padding);
         push_filled(&part_before(&rest, &span), &mut free)?;
-        rest = part_behind(&rest, &span);
+        rest = part_after(&rest, &span);
     }
     push_filled(&rest, &mut free)?;
     Ok(free)
 }
 
 /// A bound on the width of the strip's entries, each widened by the padding.
-fn widest_padded(lane: &StripMarks, padding: &i64) -> i64
-    requires some { pos 0 ≤ℤ lane.now.widest }
-    requires most { lane.now.widest ≤ℤ pos 1099511627776 }
+fn widest_padded(mark_list: &StripMarks, padding: &i64) -> i64
+    requires some { pos 0 ≤ℤ mark_list.now.widest }
+    requires most { mark_list.now.widest ≤ℤ pos 1099511627776 }
     requires short { IsShort padding.now }
-    ensures { result ≡ lane.now.widest +ℤ (pos 2 *ℤ padding.now) }
+    ensures { result ≡ mark_list.now.widest +ℤ (pos 2 *ℤ padding.now) }
 {
-    lane.widest + 2 * *padding
+    mark_list.widest + 2 * *padding
 }
 
 /// The spans of a strip, within a window, that the team's cells other than this one leave free,
 /// with the padding around each. The widened strip has this area. Only the marks near the window
 /// are visited.
-pub(crate) fn free_in_lane(
+pub(crate) fn free_in_mark_list(
     alloc: Global,
     boxes: &Boxes<'_>,
     id: &CellId,
-    lane: &StripMarks,
+    mark_list: &StripMarks,
     area: &Rect,
     strip: &Span,
     window: &Span,
     padding: &i64,
 ) -> Result<Vec<Span>, AllocError>
-    requires marked { IsMarked (slice_index_or boxes.now id.now.team []) area.now lane.now }
+    requires marked { IsMarked (slice_index_or boxes.now id.now.team []) area.now mark_list.now }
     requires near { IsNearZero area.now }
     requires short { IsShort padding.now }
     requires left { negsuc 2147483647 ≤ℤ strip.now.lo }
     requires right { strip.now.hi ≤ℤ pos 2147483647 }
     requires low { negsuc 4611686018427387903 ≤ℤ window.now.lo }
     ensures { IfOk result (λ free. IsFreeIn strip.now
-        (spans_in (others_in (all_padded padding.now (entries_in (slice_index_or boxes.now id.now.team []) area.now lane.now.marks.items)) id.now.own))
+        (spans_in (others_in (all_padded padding.now (marked_entries (slice_index_or boxes.now id.now.team []) area.now mark_list.now.marks.items)) id.now.own))
         window.now free.items) }
 {
     let range = common_range(window, strip);
     let lo = range.lo - *padding;
     let hi = range.hi + *padding;
-    let near = near_marks(lane, &lo, &hi);
+    let near = near_marks(mark_list, &lo, &hi);
     free_beside(alloc, boxes, id, area, near, padding, &range)
 }
 
@@ -369,24 +369,31 @@ pub(crate) fn free_of_all(
     alloc: Global,
     boxes: &Boxes<'_>,
     team: usize,
-    lane: &StripMarks,
+    mark_list: &StripMarks,
     area: &Rect,
     strip: &Span,
     padding: &i64,
 ) -> Result<Vec<Span>, AllocError>
-    requires marked { IsMarked (slice_index_or boxes.now team []) area.now lane.now }
+    requires marked { IsMarked (slice_index_or boxes.now team []) area.now mark_list.now }
     requires near { IsNearZero area.now }
     requires short { IsShort padding.now }
     requires low { negsuc 4611686018427387903 ≤ℤ strip.now.lo }
     ensures { IfOk result (λ free. IsFreeIn strip.now
-        (spans_in (all_padded padding.now (entries_in (slice_index_or boxes.now team []) area.now lane.now.marks.items))) strip.now free.items) }
+        (spans_in (all_padded padding.now (marked_entries (slice_index_or boxes.now team []) area.now mark_list.now.marks.items))) strip.now free.items) }
 {
-    let all = padded_of(alloc, boxes, team, area, lane.marks.as_slice(), padding)?;
+    let all = padded_of(
+        alloc,
+        boxes,
+        team,
+        area,
+        mark_list.marks.as_slice(),
+        padding,
+    )?;
     free_in(
         alloc,
         strip,
         all.as_slice(),
-        widest_padded(lane, padding),
+        widest_padded(mark_list, padding),
         strip,
     )
 }
@@ -411,23 +418,23 @@ fn place_from(marks: &[Mark], own: u32, from: usize, left: &i64) -> Option<usize
 }
 
 /// Removes the cell's mark. If present it is at `left`; found by binary search.
-pub(crate) fn unmark(lane: &mut StripMarks, own: u32, left: &i64)
-    requires { HasAtMostOne own left.now lane.old }
-    ensures { IsUnmarked own lane.old lane.new }
+pub(crate) fn unmark(mark_list: &mut StripMarks, own: u32, left: &i64)
+    requires { HasAtMostOne own left.now mark_list.old }
+    ensures { IsUnmarked own mark_list.old mark_list.new }
 {
-    let marks = lane.marks.as_slice();
+    let marks = mark_list.marks.as_slice();
     if let Some(n) = place_from(marks, own, count_before(marks, left), left) {
-        lane.marks.remove(n);
+        mark_list.marks.remove(n);
     }
 }
 
 /// Makes room for `more` marks. If there is not enough, it adds room for a quarter of the present
 /// marks, and for two at least. There are many strips, so doubling each would cost too much memory.
-pub(crate) fn make_room(lane: &mut StripMarks, more: usize) -> Result<(), AllocError>
-    ensures kept { IsKept lane.old lane.new }
-    ensures ok { OnOk result (HasRoomOf more lane.new) }
+pub(crate) fn make_room(mark_list: &mut StripMarks, more: usize) -> Result<(), AllocError>
+    ensures kept { KeepsMarksOf mark_list.old mark_list.new }
+    ensures ok { OnOk result (HasRoomOf more mark_list.new) }
 {
-    let marks = &mut lane.marks;
+    let marks = &mut mark_list.marks;
     if more <= marks.capacity().saturating_sub(marks.len()) {
         return Ok(());
     }
@@ -452,17 +459,17 @@ fn insert_at(marks: &mut Vec<Mark>, at: usize, mark: &Mark)
 }
 
 /// Inserts the mark of an entry with this area at its place in the order. Does not allocate.
-fn join(lane: &mut StripMarks, mark: &Mark, area: &Rect)
-    requires order { AreRising lane.old.marks.items }
+fn join(mark_list: &mut StripMarks, mark: &Mark, area: &Rect)
+    requires order { AreRising mark_list.old.marks.items }
     requires left { negsuc 549755813887 ≤ℤ area.now.x1 }
     requires right { area.now.x2 ≤ℤ pos 549755813888 }
     requires whole { HasPoints area.now }
-    requires room { HasRoom lane.old }
-    ensures { IsJoined mark.now (area.now.x2 -ℤ area.now.x1) lane.old lane.new }
+    requires room { HasRoom mark_list.old }
+    ensures { IsJoined mark.now (area.now.x2 -ℤ area.now.x1) mark_list.old mark_list.new }
 {
-    let at = count_before(lane.marks.as_slice(), &i64::from(mark.left));
-    lane.widest = lane.widest.max(area.x2 - area.x1);
-    insert_at(&mut lane.marks, at, mark);
+    let at = count_before(mark_list.marks.as_slice(), &i64::from(mark.left));
+    mark_list.widest = mark_list.widest.max(area.x2 - area.x1);
+    insert_at(&mut mark_list.marks, at, mark);
 }
 
 /// The width of the part as a mark keeps it. A width of 2^32 - 1 or more is kept as 2^32 - 1.
@@ -496,15 +503,15 @@ fn mark_of(own: u32, part: &Rect) -> Mark
 
 /// Marks the part of the cell's box that lies in the strip's area, if there is one. Does not
 /// allocate.
-pub(crate) fn put_in(lane: &mut StripMarks, area: &Rect, own: u32, rect: &Rect)
-    requires order { AreRising lane.old.marks.items }
+pub(crate) fn put_in(mark_list: &mut StripMarks, area: &Rect, own: u32, rect: &Rect)
+    requires order { AreRising mark_list.old.marks.items }
     requires within { IsNearZero area.now }
     requires edge { IsPlaceX rect.now.x1 }
-    requires room { HasPoints (part_in area.now rect.now) → HasRoom lane.old }
-    ensures { IsPutIn own rect.now area.now lane.old lane.new }
+    requires room { HasPoints (part_in area.now rect.now) → HasRoom mark_list.old }
+    ensures { IsPutIn own rect.now area.now mark_list.old mark_list.new }
 {
     let part = part_of(area, rect);
     if has_points(&part) {
-        join(lane, &mark_of(own, &part), &part);
+        join(mark_list, &mark_of(own, &part), &part);
     }
 }

@@ -4,8 +4,8 @@ ghost use Rattle.std.specs.Prelude.{◌≡◌, ◌<◌, ◌*ℤ◌, length, pos,
 ghost use Rattle.lf_segments.specs.declared.strip.Strip.{Strip};
 ghost use Rattle.lf_segments.specs.Strips.{AreNear};
 ghost use Rattle.lf_rules.specs.Padding.{IsShort};
-ghost use Rattle.lf_occupancy.specs.Lanes.{IsNearZero};
-ghost use Rattle.lf_occupancy.specs.Strips.{IsSite, widened_strips};
+ghost use Rattle.lf_occupancy.specs.MarkLists.{IsNearZero};
+ghost use Rattle.lf_occupancy.specs.Strips.{IsSiteWidth, widened_strips};
 
 use lf_rules::widen;
 use lf_segments::{FrameIndex, StripRange};
@@ -16,7 +16,7 @@ const FAR: i64 = 1_099_511_627_776;
 
 /// The greatest padding as a length, in database units: 16 core sites of this width.
 pub(crate) fn reach_of(site: &i64) -> i64
-    requires { IsSite site.now }
+    requires { IsSiteWidth site.now }
     ensures is { result ≡ pos 16 *ℤ site.now }
     ensures short { IsShort result }
 {
@@ -32,7 +32,7 @@ pub(crate) fn widened_strips(
     team: usize,
     rect: &Rect,
 ) -> StripRange
-    requires { IsSite site.now }
+    requires { IsSiteWidth site.now }
     ensures { AreNear (widened_strips site.now index.now.strips) row team rect.now.x1 rect.now.x2 result.start result.end }
 {
     index.strips_are_placed();
@@ -44,7 +44,7 @@ pub(crate) fn widened_strips(
 
 /// The area of the strip with this number, widened.
 pub(crate) fn widened_area(index: &FrameIndex, site: &i64, number: usize) -> Rect
-    requires site { IsSite site.now }
+    requires site { IsSiteWidth site.now }
     requires within { number < length (widened_strips site.now index.now.strips) }
     ensures is { (d : Strip) → result ≡ (slice_index_or (widened_strips site.now index.now.strips) number d).area }
     ensures near { IsNearZero result }

@@ -8,10 +8,10 @@ use Rattle.lf_floorplan.specs.declared.frame.Frame.{Frame}
 use Rattle.lf_cells.specs.declared.cell.Cell.{Cell}
 use Rattle.lf_cells.specs.declared.cell.CellId.{CellId}
 use Rattle.lf_cells.specs.Cells.{Cells, id_in, id_of, working_at}
-use Rattle.lf_segments.specs.Grounds.{FrameIndexView}
-use Rattle.lf_occupancy.specs.Occupied.{FitIn, HasRoomFor, Occupied, box_at, boxes_of, boxes_with, cell_box, widened, reach}
+use Rattle.lf_segments.specs.Indexes.{FrameIndexView}
+use Rattle.lf_occupancy.specs.Views.{FitIn, HasRoomFor, Occupied, box_in_team, boxes_of, boxes_with, cell_box, widened, reach}
 use Rattle.lf_occupancy.specs.Strips.{HasCell}
-use Rattle.lf_occupancy.specs.Floorplans.{box_of}
+use Rattle.lf_occupancy.specs.Floorplans.{working_box_of}
 use Rattle.lf_occupancy.proofs.Counting.{part_leaves_room}
 use Rattle.lf_undo.specs.declared.moves.Move.{Move}
 use Rattle.lf_placement.specs.Steps.{IsRemovedOrUnchanged, KeepsStrips, BoxesMayBeInserted, OthersAreInserted, RemovesFirst, box_moved, moved_positions, working_boxes}
@@ -66,7 +66,7 @@ box_within (b ∷ bs) (suc own) r is = let h = box_within bs own r is in omega (
 
 -- ---- boxes of cells
 
-box_read : (f : Frame) (cells : List Cell) (own : ℕ) → box_moved f (slice_get cells own) (working_at cells own) ≡ cell_box (map (box_of f) cells) own
+box_read : (f : Frame) (cells : List Cell) (own : ℕ) → box_moved f (slice_get cells own) (working_at cells own) ≡ cell_box (map (working_box_of f) cells) own
 box_read f [] own = refl
 box_read f (c ∷ cs) zero = refl
 box_read f (c ∷ cs) (suc own) = box_read f cs own
@@ -190,14 +190,14 @@ has_cell id boxes o r many is =
     row_there (r ∷ rows) (suc k) within = let h = row_there rows k within in omega (arith, h)
 
 -- there is room for it
-pub has_room : (id : CellId) (boxes : Boxes) (o : Occupied) (r : Rect) → BoxesMayBeInserted id.team boxes o → box_at o id.team id.own ≡ None
+pub has_room : (id : CellId) (boxes : Boxes) (o : Occupied) (r : Rect) → BoxesMayBeInserted id.team boxes o → box_in_team o id.team id.own ≡ None
     → cell_box boxes id.own ≡ Some r → HasRoomFor o id.team r 1
 has_room id boxes o r may nowhere is = λ n g there of_team shares.
     let more = part_leaves_room (widened (reach o) g) (boxes_of o id.team) boxes id.own r may.part nowhere is shares in
     let most = may.fits n g there of_team in
     omega (arith, more, most)
 
-pub nowhere_now : (id : CellId) (a b : Occupied) → b.boxes ≡ boxes_with a id None → box_at b id.team id.own ≡ None
+pub nowhere_now : (id : CellId) (a b : Occupied) → b.boxes ≡ boxes_with a id None → box_in_team b id.team id.own ≡ None
 nowhere_now id a b is = rw (box_put id None a b is) (none_here (boxes_of a id.team) id.own)
 
 -- the cells that the remaining moves do not name have their boxes
@@ -213,21 +213,21 @@ standing_next f cells team named n own b c is put kept standing = record {
   may = may_with team own boxes b c put kept standing.may;
   rest = λ k never. ⊎_elim (λ (same : k ≡ own). rw (put, same) (box_here (boxes_of b team) boxes own standing.may.many))
       (λ (differ : k ≢ own). rw put (there_still (boxes_of b team) own k (cell_box boxes own) differ
-      ∙ standing.rest k (λ i from within. at_or_behind k differ never i from within (cases_eq i n)))) (cases_eq k own);
+      ∙ standing.rest k (λ i from within. at_or_after k differ never i from within (cases_eq i n)))) (cases_eq k own);
   others = λ other differ. kept.boxes other differ ∙ standing.others other differ;
 }
   where
     boxes : Boxes
     boxes = working_boxes f cells team
 
-    at_or_behind : (k : ℕ) → k ≢ own → ((i : ℕ) → n + 1 ≤ i → i < length named → get_or named i 0 ≢ k) → (i : ℕ) → n ≤ i → i < length named
+    at_or_after : (k : ℕ) → k ≢ own → ((i : ℕ) → n + 1 ≤ i → i < length named → get_or named i 0 ≢ k) → (i : ℕ) → n ≤ i → i < length named
         → (i ≡ n) ⊎ (i ≢ n) → get_or named i 0 ≢ k
-    at_or_behind k differ never i from within (inl same) = λ here. differ (sym here ∙ ap (λ (j : ℕ). get_or named j 0) same ∙ sym is)
-    at_or_behind k differ never i from within (inr other) = never i (omega (arith, from, other)) within
+    at_or_after k differ never i from within (inl same) = λ here. differ (sym here ∙ ap (λ (j : ℕ). get_or named j 0) same ∙ sym is)
+    at_or_after k differ never i from within (inr other) = never i (omega (arith, from, other)) within
 
-pub all_stand : (f : Frame) (cells : Cells) (team : ℕ) (named : List ℕ) (n : ℕ) (o : Occupied) → length named ≤ n → AreStanding f cells team named n o
+pub all_are_placed : (f : Frame) (cells : Cells) (team : ℕ) (named : List ℕ) (n : ℕ) (o : Occupied) → length named ≤ n → AreStanding f cells team named n o
     → boxes_of o team ≡ working_boxes f cells team
-all_stand f cells team named n o past standing =
+all_are_placed f cells team named n o past standing =
     boxes_alike (boxes_of o team) (working_boxes f cells team) standing.may.many
     (λ own. standing.rest own (λ k from within. absurd (omega (arith, past, from, within))))
 

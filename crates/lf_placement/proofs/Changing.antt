@@ -13,11 +13,11 @@ use Rattle.lf_rules.specs.Team.{box_in}
 use Rattle.lf_cells.specs.declared.cell.Cell.{Cell}
 use Rattle.lf_cells.specs.Cells.{as_committed, moved}
 use Rattle.lf_legalize.specs.Members.{IsSizedCell}
-use Rattle.lf_occupancy.specs.Occupied.{FitIn, Occupied, boxes_of, cell_box}
-use Rattle.lf_occupancy.specs.Floorplans.{box_of}
+use Rattle.lf_occupancy.specs.Views.{FitIn, Occupied, boxes_of, cell_box}
+use Rattle.lf_occupancy.specs.Floorplans.{working_box_of}
 use Rattle.lf_undo.specs.declared.moves.Move.{Move}
 use Rattle.lf_undo.specs.Entries.{Places}
-use Rattle.lf_placement.specs.Placings.{SameButPlaces, boxes_at, moves_applied, places_of}
+use Rattle.lf_placement.specs.Placements.{SameButPlaces, boxes_at, moves_applied, working_places_of}
 use Rattle.lf_placement.specs.Steps.{AreRemoved, IsRemovedOrUnchanged, BoxesMayBeInserted, DoNotMove, AreInsertedExcept, RemovesFirst, moves_reverted, moved_positions}
 use Rattle.lf_placement.proofs.Moves.{same_back, same_made}
 use Rattle.lf_placement.proofs.Boxes.{fits_still}
@@ -85,12 +85,12 @@ boxes_alike_at f (d ∷ ds) (c ∷ cs) (p ∷ ps) same =
     rw first (ap (λ (r : List (Option Rect)). option_map (λ (q : Place). box_in f d.mac (spot_of q)) p ∷ r) (boxes_alike_at f ds cs ps rest))
 
 -- at their working places they are the cells' boxes
-pub boxes_at_work : (f : Frame) (cells : List Cell) → boxes_at f cells (places_of cells) ≡ map (box_of f) cells
+pub boxes_at_work : (f : Frame) (cells : List Cell) → boxes_at f cells (working_places_of cells) ≡ map (working_box_of f) cells
 boxes_at_work f [] = refl
-boxes_at_work f (c ∷ cs) = ap (λ (r : List (Option Rect)). box_of f c ∷ r) (boxes_at_work f cs)
+boxes_at_work f (c ∷ cs) = ap (λ (r : List (Option Rect)). working_box_of f c ∷ r) (boxes_at_work f cs)
 
-pub boxes_at_new : (f : Frame) (old new : List Cell) → SameButPlaces old new → boxes_at f old (places_of new) ≡ map (box_of f) new
-boxes_at_new f old new same = sym (boxes_alike_at f old new (places_of new) (macs_same old new same)) ∙ boxes_at_work f new
+pub boxes_at_new : (f : Frame) (old new : List Cell) → SameButPlaces old new → boxes_at f old (working_places_of new) ≡ map (working_box_of f) new
+boxes_at_new f old new same = sym (boxes_alike_at f old new (working_places_of new) (macs_same old new same)) ∙ boxes_at_work f new
 
 -- ---- cells that no move names
 
@@ -111,7 +111,7 @@ back_other [] cells k never = refl
 back_other (m ∷ ms) cells k never =
     moved_other (moves_reverted ms cells) m.own k m.old (never 0 (omega arith)) ∙ back_other ms cells k (λ i less. never (suc i) (omega (arith, less)))
 
-box_at_number : (f : Frame) (cells : List Cell) (k : ℕ) → cell_box (map (box_of f) cells) k ≡ option_and_then (box_of f) (slice_get cells k)
+box_at_number : (f : Frame) (cells : List Cell) (k : ℕ) → cell_box (map (working_box_of f) cells) k ≡ option_and_then (working_box_of f) (slice_get cells k)
 box_at_number f [] k = refl
 box_at_number f (c ∷ cs) zero = refl
 box_at_number f (c ∷ cs) (suc k) = box_at_number f cs k
@@ -129,34 +129,34 @@ others_back moves old new is = λ k never. rw is (back_other moves old k never)
 -- ---- all are removed
 
 module _ (f : Frame) (team : ℕ) (named : List ℕ) (count : ℕ) (old new : List Cell) (a b : Occupied) (whole : count ≡ length named)
-    (held : boxes_of a team ≡ map (box_of f) old) (stay : OthersStay named old new) (out : RemovesFirst team named count a b) where
-  as_new : (k : ℕ) → DoNotMove named count k → cell_box (boxes_of a team) k ≡ cell_box (map (box_of f) new) k
+    (held : boxes_of a team ≡ map (working_box_of f) old) (stay : OthersStay named old new) (out : RemovesFirst team named count a b) where
+  as_new : (k : ℕ) → DoNotMove named count k → cell_box (boxes_of a team) k ≡ cell_box (map (working_box_of f) new) k
   as_new k never =
       ap (λ (bs : List (Option Rect)). cell_box bs k) held
       ∙ box_at_number f old k
-      ∙ ap (option_and_then (box_of f)) (sym (stay k (subst (λ (n : ℕ). DoNotMove named n k) whole never)))
+      ∙ ap (option_and_then (working_box_of f)) (sym (stay k (subst (λ (n : ℕ). DoNotMove named n k) whole never)))
       ∙ sym (box_at_number f new k)
 
   part : (k : ℕ) → IsRemovedOrUnchanged named count (boxes_of a team) (boxes_of b team) k
-      → (cell_box (boxes_of b team) k ≡ None) ⊎ (cell_box (boxes_of b team) k ≡ cell_box (map (box_of f) new) k)
+      → (cell_box (boxes_of b team) k ≡ None) ⊎ (cell_box (boxes_of b team) k ≡ cell_box (map (working_box_of f) new) k)
   part k (inl (was, none)) = inl none
   part k (inr (never, as_before)) = inr (as_before ∙ as_new k never)
 
   rest : (k : ℕ) → DoNotMove named count k → IsRemovedOrUnchanged named count (boxes_of a team) (boxes_of b team) k
-      → cell_box (boxes_of b team) k ≡ cell_box (map (box_of f) new) k
+      → cell_box (boxes_of b team) k ≡ cell_box (map (working_box_of f) new) k
   rest k never (inl (was, none)) = absurd (was never)
   rest k never (inr (not, as_before)) = as_before ∙ as_new k never
 
-  pub may_stand : length new ≡ length old → FitIn a team (map (box_of f) new) → BoxesMayBeInserted team (map (box_of f) new) b
-  may_stand many fits = record {
+  pub may_be_placed : length new ≡ length old → FitIn a team (map (working_box_of f) new) → BoxesMayBeInserted team (map (working_box_of f) new) b
+  may_be_placed many fits = record {
     many =
-        out.rest.many ∙ ap {B = ℕ} (λ (bs : List (Option Rect)). length bs) held ∙ length-map old (box_of f) ∙ sym many ∙ sym (length-map new (box_of f));
+        out.rest.many ∙ ap {B = ℕ} (λ (bs : List (Option Rect)). length bs) held ∙ length-map old (working_box_of f) ∙ sym many ∙ sym (length-map new (working_box_of f));
     part = λ k. part k (out.each k);
-    fits = fits_still team (map (box_of f) new) b a out.rest.index out.rest.site out.rest.rooms fits;
+    fits = fits_still team (map (working_box_of f) new) b a out.rest.index out.rest.site out.rest.rooms fits;
   }
 
-  pub stand_but : AreInsertedExcept team (map (box_of f) new) named b
-  stand_but = λ k never. rest k (subst (λ (n : ℕ). DoNotMove named n k) (sym whole) never) (out.each k)
+  pub placed_except : AreInsertedExcept team (map (working_box_of f) new) named b
+  placed_except = λ k never. rest k (subst (λ (n : ℕ). DoNotMove named n k) (sym whole) never) (out.each k)
 
 -- a removed cell has no box
 pub all_out : (team : ℕ) (named : List ℕ) (count : ℕ) (a b : Occupied) → count ≡ length named → RemovesFirst team named count a b → AreRemoved team named b

@@ -22,17 +22,17 @@ use Rattle.lf_cells.specs.declared.cell.CellId.{CellId}
 use Rattle.lf_cells.specs.declared.cell.CellPlacement.{CellPlacement}
 use Rattle.lf_cells.specs.Cells.{cell_at, cells_of, placement_of}
 use Rattle.lf_legalize.specs.Members.{IsSizedCell, member_of}
-use Rattle.lf_occupancy.specs.Occupied.{IsFirstMet}
+use Rattle.lf_occupancy.specs.Views.{IsFirstOverlappingCell}
 use Rattle.lf_occupancy.specs.Floorplans.{IsOccupancyOf, WidenedStripsCover}
-use Rattle.lf_placement.specs.Placings.{IsBrokenFrameRule, IsBrokenAt, Placing}
+use Rattle.lf_placement.specs.Placements.{IsBrokenFrameRule, IsBrokenAt, Placing}
 use Rattle.lf_placement.specs.Laws.{SameMacros}
-use Rattle.lf_placement.proofs.Overlapping.{met_decides}
+use Rattle.lf_placement.proofs.Overlapping.{overlapped_decides}
 
 abbrev alone : Rule → Option Broken
 alone rule = Some record { rule = rule; other = None }
 
 abbrev overlapping : Option ℕ → Option Broken
-overlapping met = option_map (λ own. record { rule = Overlap; other = Some own }) met
+overlapping overlapping_one = option_map (λ own. record { rule = Overlap; other = Some own }) overlapping_one
 
 abbrev no_rule : Option Rule
 no_rule = None
@@ -56,8 +56,8 @@ broken_alone p padding id place rule broken = alone_is_first p padding id place 
 
 macro_is : (f : Frame) (cells : List Cell) (own : ℕ) (c : Cell) (standing : CellPlacement) (mac : Macro) → All (λ d. IsSizedCell f d) cells
     → slice_get cells own ≡ Some c → Some standing ≡ option_map placement_of (Some c) → mac ≡ get_or f.macros standing.mac mac → mac ≡ macro_of f c.mac
-macro_is f cells own c standing mac sized there stands is =
-    let same : standing.mac ≡ c.mac = ap {B = ℕ} (λ (s : CellPlacement). s.mac) (one standing (placement_of c) stands) in
+macro_is f cells own c standing mac sized there is_in_place is =
+    let same : standing.mac ≡ c.mac = ap {B = ℕ} (λ (s : CellPlacement). s.mac) (one standing (placement_of c) is_in_place) in
     let whole : IsSizedCell f c =
     subst (λ (d : Cell). IsSizedCell f d) (get_or_from_slice_get cells own c c there) (sized own c (slice_get_within cells own c there)) in
     macro_there f c.mac mac whole.known (is ∙ ap (λ (n : ℕ). get_or f.macros n mac) same)
@@ -74,13 +74,13 @@ macro_sized f cells own c sized there =
     whole.sized
 
 -- if the rules hold, the overlapping cell found in the strips decides
-pub met_at : (p : Placing) (padding : ℕ) (id : CellId) (place : Place) (standing : CellPlacement) (mac : Macro) (rect : Rect) (met : Option ℕ)
+pub overlapped_at : (p : Placing) (padding : ℕ) (id : CellId) (place : Place) (standing : CellPlacement) (mac : Macro) (rect : Rect) (overlapping_one : Option ℕ)
     → All (λ d. IsSizedCell p.frame d) (cells_of p.cells id.team) → IsOccupancyOf p.frame p.cells p.held → WidenedStripsCover → padding ≤ 16
     → Some standing ≡ option_map placement_of (cell_at p.cells id) → mac ≡ get_or p.frame.macros standing.mac mac
     → rect ≡ padded_box (candidate_of p.frame id.team padding mac place (boxes_beside p.frame (map member_of (cells_of p.cells id.team)) id.own))
-    → IsBrokenFrameRule p id place None → IsFirstMet p.held id rect met
-    → IsBrokenAt p padding id place (overlapping met)
-met_at p padding id place standing mac rect met sized follows feel few stands is box holds first = go (cell_at p.cells id) refl stands holds
+    → IsBrokenFrameRule p id place None → IsFirstOverlappingCell p.held id rect overlapping_one
+    → IsBrokenAt p padding id place (overlapping overlapping_one)
+overlapped_at p padding id place standing mac rect overlapping_one sized follows widened_cover few is_in_place is box holds first = go (cell_at p.cells id) refl is_in_place holds
   where
     others : List Placed
     others = boxes_beside p.frame (map member_of (cells_of p.cells id.team)) id.own
@@ -88,12 +88,12 @@ met_at p padding id place standing mac rect met sized follows feel few stands is
     go : (o : Option Cell) → cell_at p.cells id ≡ o → Some standing ≡ option_map placement_of o
         → MatchOption o (no_rule ≡ no_rule)
         (λ c. (sites : ℕ) (those : List Placed) → IsFrameRuleVerdict (candidate_of p.frame id.team sites (macro_of p.frame c.mac) place those) no_rule)
-        → MatchOption o (overlapping met ≡ no_broken)
-        (λ c. IsVerdict (candidate_of p.frame id.team padding (macro_of p.frame c.mac) place others) (overlapping met))
+        → MatchOption o (overlapping overlapping_one ≡ no_broken)
+        (λ c. IsVerdict (candidate_of p.frame id.team padding (macro_of p.frame c.mac) place others) (overlapping overlapping_one))
     go None there at those = absurd cc
     go (Some c) there at those =
         let same : mac ≡ macro_of p.frame c.mac = macro_is p.frame (cells_of p.cells id.team) id.own c standing mac sized there at is in
-        met_decides (candidate_of p.frame id.team padding (macro_of p.frame c.mac) place others) p.cells p.held id rect met follows feel few
+        overlapped_decides (candidate_of p.frame id.team padding (macro_of p.frame c.mac) place others) p.cells p.held id rect overlapping_one follows widened_cover few
         (macro_sized p.frame (cells_of p.cells id.team) id.own c sized there) refl refl
         (subst (λ (m : Macro). rect ≡ padded_box (candidate_of p.frame id.team padding m place others)) same box) (those padding others) first
 

@@ -6,23 +6,23 @@ use Rattle.std.proofs.lemmas.List.{length-map}
 use Rattle.std.proofs.lemmas.List.Elements.{All-filter, All-map}
 use Rattle.lf_units.specs.declared.geometry.Rect.{Rect}
 use Rattle.lf_floorplan.specs.declared.frame.Frame.{Frame}
-use Rattle.lf_floorplan.specs.declared.loaded.Cell.{Cell as LoadedCell}
+use Rattle.lf_floorplan.specs.declared.loaded.LoadedCell.{LoadedCell}
 use Rattle.lf_floorplan.specs.declared.loaded.Loaded.{Loaded}
 use Rattle.lf_floorplan.specs.declared.macros.Macro.{Macro}
 use Rattle.lf_floorplan.specs.Boxes.{macro_of, no_macro}
 use Rattle.lf_floorplan.specs.Design.{IsCell}
 use Rattle.lf_cells.specs.declared.cell.Cell.{Cell}
 use Rattle.lf_cells.specs.Cells.{Cells, as_committed, cells_of}
-use Rattle.lf_cells.specs.Openings.{initial_cell, initial_cells, own_cells, team_numbers}
+use Rattle.lf_cells.specs.Initial.{initial_cell, initial_cells, own_cells, team_numbers}
 use Rattle.lf_legalize.specs.Members.{IsSizedCell}
-use Rattle.lf_segments.specs.Grounds.{IsIndexOf, FrameIndexView}
+use Rattle.lf_segments.specs.Indexes.{IsIndexOf, FrameIndexView}
 use Rattle.lf_occupancy.specs.Strips.{Marked, capacities_in}
-use Rattle.lf_occupancy.specs.Occupied.{FitIn, KeepsCapacities, Occupied, boxes_of}
-use Rattle.lf_occupancy.specs.Floorplans.{IsOccupancyOf, box_of, boxes_in}
+use Rattle.lf_occupancy.specs.Views.{FitIn, KeepsCapacities, Occupied, boxes_of}
+use Rattle.lf_occupancy.specs.Floorplans.{IsOccupancyOf, working_box_of, boxes_in}
 use Rattle.lf_occupancy.proofs.Building.{boxes_there}
 use Rattle.lf_undo.specs.declared.moves.Move.{Move}
 use Rattle.lf_undo.specs.Entries.{Places, moves_taken_back}
-use Rattle.lf_placement.specs.Placings.{Fits, IsPlacing, OtherCellsStay, Placing, SameButPlaces, boxes_at, committed_of, moves_applied, placing_of, places_of}
+use Rattle.lf_placement.specs.Placements.{Fits, IsPlacing, OtherCellsStay, Placing, SameButPlaces, boxes_at, committed_of, moves_applied, placing_of, working_places_of}
 use Rattle.lf_placement.specs.Steps.{moves_reverted}
 use Rattle.lf_placement.specs.Laws.{SameMacros}
 use Rattle.lf_placement.proofs.Moves.{length_same, places_back, same_back, same_made}
@@ -31,27 +31,27 @@ use Rattle.lf_placement.proofs.Changing.{boxes_alike_at, boxes_at_new, boxes_at_
 
 -- ---- what fits
 
-pub fits_made : (p : Placing) (team : ℕ) (moves : List Move) → Fits p team (places_of (moves_applied moves (cells_of p.cells team)))
-    → FitIn p.held team (map (box_of p.frame) (moves_applied moves (cells_of p.cells team)))
+pub fits_made : (p : Placing) (team : ℕ) (moves : List Move) → Fits p team (working_places_of (moves_applied moves (cells_of p.cells team)))
+    → FitIn p.held team (map (working_box_of p.frame) (moves_applied moves (cells_of p.cells team)))
 fits_made p team moves fits =
     let old = cells_of p.cells team in
     subst (λ (bs : List (Option Rect)). FitIn p.held team bs) (boxes_at_new p.frame old (moves_applied moves old) (same_made moves old)) fits
 
-pub made_fits : (p : Placing) (team : ℕ) (moves : List Move) → FitIn p.held team (map (box_of p.frame) (moves_applied moves (cells_of p.cells team)))
-    → Fits p team (places_of (moves_applied moves (cells_of p.cells team)))
+pub made_fits : (p : Placing) (team : ℕ) (moves : List Move) → FitIn p.held team (map (working_box_of p.frame) (moves_applied moves (cells_of p.cells team)))
+    → Fits p team (working_places_of (moves_applied moves (cells_of p.cells team)))
 made_fits p team moves fits =
     let old = cells_of p.cells team in
     subst (λ (bs : List (Option Rect)). FitIn p.held team bs) (sym (boxes_at_new p.frame old (moves_applied moves old) (same_made moves old))) fits
 
-pub fits_back : (p : Placing) (team : ℕ) (moves : List Move) → Fits p team (moves_taken_back moves (places_of (cells_of p.cells team)))
-    → FitIn p.held team (map (box_of p.frame) (moves_reverted moves (cells_of p.cells team)))
+pub fits_back : (p : Placing) (team : ℕ) (moves : List Move) → Fits p team (moves_taken_back moves (working_places_of (cells_of p.cells team)))
+    → FitIn p.held team (map (working_box_of p.frame) (moves_reverted moves (cells_of p.cells team)))
 fits_back p team moves fits =
     let old = cells_of p.cells team in
     subst (λ (bs : List (Option Rect)). FitIn p.held team bs)
     (ap (boxes_at p.frame old) (sym (places_back moves old)) ∙ boxes_at_new p.frame old (moves_reverted moves old) (same_back moves old)) fits
 
 pub places_fit : (p : Placing) → IsOccupancyOf p.frame p.cells p.held → ((team : ℕ) → FitIn p.held team (boxes_of p.held team))
-    → (team : ℕ) → Fits p team (places_of (cells_of p.cells team))
+    → (team : ℕ) → Fits p team (working_places_of (cells_of p.cells team))
 places_fit p held fits team =
     subst (λ (bs : List (Option Rect)). FitIn p.held team bs) (held.boxes team ∙ sym (boxes_at_work p.frame (cells_of p.cells team))) (fits team)
 
@@ -98,11 +98,11 @@ placing_moved p team cells held is others same follows index site rooms = record
 
 -- ---- after a team is committed
 
-boxes_committed : (f : Frame) (cells : List Cell) → map (box_of f) (map as_committed cells) ≡ map (box_of f) cells
+boxes_committed : (f : Frame) (cells : List Cell) → map (working_box_of f) (map as_committed cells) ≡ map (working_box_of f) cells
 boxes_committed f [] = refl
-boxes_committed f (c ∷ cs) = ap (λ (r : List (Option Rect)). box_of f c ∷ r) (boxes_committed f cs)
+boxes_committed f (c ∷ cs) = ap (λ (r : List (Option Rect)). working_box_of f c ∷ r) (boxes_committed f cs)
 
-committed_now : (cells : List Cell) → committed_of (map as_committed cells) ≡ places_of cells
+committed_now : (cells : List Cell) → committed_of (map as_committed cells) ≡ working_places_of cells
 committed_now [] = refl
 committed_now (c ∷ cs) = ap (λ (r : Places). c.working ∷ r) (committed_now cs)
 
@@ -111,8 +111,8 @@ pub boxes_still_committed : (f : Frame) (team : ℕ) (old new : Cells) → Other
     → (other : ℕ) → get_or (boxes_in f old) other [] ≡ get_or (boxes_in f new) other []
 boxes_still_committed f team old new others own other =
     boxes_there f old other
-    ∙ sym (each_team (λ n cs. map (box_of f) cs ≡ map (box_of f) (cells_of old n)) team old new others
-    (ap (λ (cs : List Cell). map (box_of f) cs) own ∙ boxes_committed f (cells_of old team)) (λ n. refl) other)
+    ∙ sym (each_team (λ n cs. map (working_box_of f) cs ≡ map (working_box_of f) (cells_of old n)) team old new others
+    (ap (λ (cs : List Cell). map (working_box_of f) cs) own ∙ boxes_committed f (cells_of old team)) (λ n. refl) other)
     ∙ sym (boxes_there f new other)
 
 pub placing_committed : (p : Placing) (team : ℕ) (cells : Cells) (held : Occupied) → IsPlacing p → OtherCellsStay team p.cells cells
@@ -126,7 +126,7 @@ placing_committed p team cells held is others own fits follows index site rooms 
   follows = follows;
   committed = each_team (λ n cs. FitIn held n (boxes_at p.frame cs (committed_of cs))) team p.cells cells others
       (subst (λ (places : Places). FitIn held team (boxes_at p.frame (cells_of cells team) places)) (sym (ap committed_of own ∙ committed_now old))
-      (fits_as p.frame p.held held team old (cells_of cells team) (places_of old) macros index site rooms (places_fit p is.follows fits team)))
+      (fits_as p.frame p.held held team old (cells_of cells team) (working_places_of old) macros index site rooms (places_fit p is.follows fits team)))
       (λ other. fits_still other (boxes_at p.frame (cells_of p.cells other) (committed_of (cells_of p.cells other))) held p.held index site rooms
       (is.committed other));
 }
@@ -181,13 +181,13 @@ own_few design number =
 
 -- the committed places of cells are their working places
 AreCommitted : List Cell → Type 0
-AreCommitted cells = committed_of cells ≡ places_of cells
+AreCommitted cells = committed_of cells ≡ working_places_of cells
 
 committed_none : AreCommitted []
 unfolding AreCommitted
 committed_none = refl
 
-committed_each : (cells : List LoadedCell) → committed_of (map initial_cell cells) ≡ places_of (map initial_cell cells)
+committed_each : (cells : List LoadedCell) → committed_of (map initial_cell cells) ≡ working_places_of (map initial_cell cells)
 committed_each [] = refl
 committed_each (c ∷ cs) = ap (λ (r : Places). c.place ∷ r) (committed_each cs)
 
@@ -209,7 +209,7 @@ pub few_opening : (design : Loaded) (cells : Cells) → cells.cells ≡ initial_
 few_opening design cells is = each_opening (λ cs. length cs ≤ 4000000) design cells is (omega arith) (own_few design)
 
 committed_opening : (design : Loaded) (cells : Cells) → cells.cells ≡ initial_cells design → (team : ℕ)
-    → committed_of (cells_of cells team) ≡ places_of (cells_of cells team)
+    → committed_of (cells_of cells team) ≡ working_places_of (cells_of cells team)
 unfolding AreCommitted
 committed_opening design cells is = each_opening AreCommitted design cells is committed_none (own_committed design)
 
@@ -235,7 +235,7 @@ last old new team places frame index site rooms same fits = λ n g there of_team
 
 -- after strips have gained room
 pub placing_grown : (f : Frame) (cells : Cells) (m n : Marked) → IsPlacing (placing_of f cells m) → n.index ≡ m.index → n.site ≡ m.site
-    → KeepsCapacities (capacities_in m.lanes) (capacities_in n.lanes) → IsPlacing (placing_of f cells n)
+    → KeepsCapacities (capacities_in m.mark_lists) (capacities_in n.mark_lists) → IsPlacing (placing_of f cells n)
 placing_grown f cells m n is index site rooms = record {
   sized = is.sized;
   few = is.few;

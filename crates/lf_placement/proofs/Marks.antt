@@ -8,15 +8,15 @@ use Rattle.lf_floorplan.specs.declared.frame.Frame.{Frame}
 use Rattle.lf_cells.specs.declared.cell.Cell.{Cell}
 use Rattle.lf_cells.specs.declared.cell.CellId.{CellId}
 use Rattle.lf_cells.specs.Cells.{Cells, cells_of, id_in, id_of}
-use Rattle.lf_segments.specs.Grounds.{IsIndexOf, FrameIndexView}
-use Rattle.lf_occupancy.specs.Occupied.{HasRoomFor, Occupied, boxes_of, cell_box}
-use Rattle.lf_occupancy.specs.Floorplans.{IsMarkedBy, IsOccupancyOf, box_of, boxes_in}
-use Rattle.lf_occupancy.specs.Strips.{CanEnter, CanLeave, MarksBoxes, IsAt, HasNoBox, Marked, widened_strips, with_boxes, capacities_in}
-use Rattle.lf_occupancy.proofs.Building.{boxes_there, lanes_of_same}
-use Rattle.lf_occupancy.proofs.Knowing.{known_still, stands_nowhere}
-use Rattle.lf_placement.specs.Placings.{OtherCellsStay}
-use Rattle.lf_placement.specs.Steps.{AreRemoved, MovedMayBeInserted, MarksSome, IsRemovedOrUnchanged, IsPartly, KeepsRooms, CellMayBeInserted, BoxMayBeInserted, BoxesMayBeInserted, AreInsertedExcept, RemovesFirst, box_set, working_boxes}
-use Rattle.lf_placement.proofs.Boxes.{AreStanding, all_stand, box_put, has_cell, has_room, keeps, keeps_put, may_without, none_put, nowhere_now, out_next}
+use Rattle.lf_segments.specs.Indexes.{IsIndexOf, FrameIndexView}
+use Rattle.lf_occupancy.specs.Views.{HasRoomFor, Occupied, boxes_of, cell_box}
+use Rattle.lf_occupancy.specs.Floorplans.{IsMarkedBy, IsOccupancyOf, working_box_of, boxes_in}
+use Rattle.lf_occupancy.specs.Strips.{CanEnter, CanLeave, MarksBoxes, HasBoxOrNone, HasNoBox, Marked, widened_strips, with_boxes, capacities_in}
+use Rattle.lf_occupancy.proofs.Building.{boxes_there, mark_lists_of_same}
+use Rattle.lf_occupancy.proofs.Knowing.{known_still, has_no_place}
+use Rattle.lf_placement.specs.Placements.{OtherCellsStay}
+use Rattle.lf_placement.specs.Steps.{AreRemoved, MovedMayBeInserted, MarksSome, IsRemovedOrUnchanged, IsPartly, KeepsStripRooms, CellMayBeInserted, BoxMayBeInserted, BoxesMayBeInserted, AreInsertedExcept, RemovesFirst, box_set, working_boxes}
+use Rattle.lf_placement.proofs.Boxes.{AreStanding, all_are_placed, box_put, has_cell, has_room, keeps, keeps_put, may_without, none_put, nowhere_now, out_next}
 use Rattle.lf_placement.proofs.Boxes.{set_none, standing_next, team_is}
 
 abbrev AllBoxes : Type 0
@@ -26,7 +26,7 @@ AllBoxes = List (List (Option Rect))
 pub of_marked : (f : Frame) (cells : Cells) (m : Marked) → IsMarkedBy f cells m → IsOccupancyOf f cells (with_boxes m (boxes_in f cells))
 of_marked f cells m is = record { index = is.index; site = is.site; boxes = boxes_there f cells }
 
-pub follows_still : (f : Frame) (old new : Cells) (m n : Marked) → IsOccupancyOf f old (with_boxes m (boxes_in f old)) → KeepsRooms m n →
+pub follows_still : (f : Frame) (old new : Cells) (m n : Marked) → IsOccupancyOf f old (with_boxes m (boxes_in f old)) → KeepsStripRooms m n →
     IsOccupancyOf f new (with_boxes n (boxes_in f new))
 follows_still f old new m n is kept = record {
   index = subst (IsIndexOf f) (sym kept.index) is.index;
@@ -36,10 +36,10 @@ follows_still f old new m n is kept = record {
 
 -- ---- rooms
 
-pub rooms_same : (m : Marked) → KeepsRooms m m
+pub rooms_same : (m : Marked) → KeepsStripRooms m m
 rooms_same m = record { index = refl; site = refl; rooms = refl }
 
-pub rooms_through : (a b c : Marked) → KeepsRooms a b → KeepsRooms b c → KeepsRooms a c
+pub rooms_through : (a b c : Marked) → KeepsStripRooms a b → KeepsStripRooms b c → KeepsStripRooms a c
 rooms_through a b c first second = record {
   index = second.index ∙ first.index;
   site = second.site ∙ first.site;
@@ -60,7 +60,7 @@ pub none_holds : (f : Frame) (cells : Cells) (team own : ℕ) (x : Option Rect) 
 none_holds f cells team own x m boxes none part holds =
     subst (MarksBoxes m)
     (sym (row_same boxes team own x
-    (sym (none_put team own (cells_of cells team) x (with_boxes m boxes) (part.many ∙ length-map (cells_of cells team) (box_of f)) none))))
+    (sym (none_put team own (cells_of cells team) x (with_boxes m boxes) (part.many ∙ length-map (cells_of cells team) (working_box_of f)) none))))
     holds
 
 module _ (f : Frame) (cells : Cells) (team own : ℕ) (id : CellId) (is : Some id ≡ id_in (cells_of cells team) team own) where
@@ -79,7 +79,7 @@ module _ (f : Frame) (cells : Cells) (team own : ℕ) (id : CellId) (is : Some i
       none : (cell_box (get_or boxes team []) own ≡ None) ⊎ (cell_box (get_or boxes team []) own ≡ cell_box (working_boxes f cells team) own) →
           cell_box (get_or boxes team []) own ≡ None
       none (inl out) = out
-      none (inr stands) = stands ∙ here None at
+      none (inr is_in_place) = is_in_place ∙ here None at
 
   pub still_bare : (m : Marked) (boxes : AllBoxes) → None ≡ cell_box (working_boxes f cells id.team) id.own →
       IsPartly team (working_boxes f cells team) (with_boxes m boxes) → MarksBoxes m boxes →
@@ -89,9 +89,9 @@ module _ (f : Frame) (cells : Cells) (team own : ℕ) (id : CellId) (is : Some i
 
   -- it has this box
   pub is_at : (rect : Rect) (o : Occupied) → Some rect ≡ cell_box (working_boxes f cells id.team) id.own → IsPartly team (working_boxes f cells team) o →
-      IsAt o.boxes id rect
+      HasBoxOrNone o.boxes id rect
   is_at rect o at part =
-      subst (λ (i : CellId). IsAt o.boxes i rect) (sym same) record {
+      subst (λ (i : CellId). HasBoxOrNone o.boxes i rect) (sym same) record {
         known = has_cell (id_of team own) (working_boxes f cells team) o rect part.many (here (Some rect) at);
         at = two (part.part own);
       }
@@ -99,7 +99,7 @@ module _ (f : Frame) (cells : Cells) (team own : ℕ) (id : CellId) (is : Some i
       two : (cell_box (boxes_of o team) own ≡ None) ⊎ (cell_box (boxes_of o team) own ≡ cell_box (working_boxes f cells team) own) →
           (cell_box (boxes_of o team) own ≡ None) ⊎ (cell_box (boxes_of o team) own ≡ Some rect)
       two (inl out) = inl out
-      two (inr stands) = inr (stands ∙ here (Some rect) at)
+      two (inr is_in_place) = inr (is_in_place ∙ here (Some rect) at)
 
   pub may_have : (rect : Rect) (o : Occupied) → Some rect ≡ cell_box (working_boxes f cells id.team) id.own → BoxesMayBeInserted team (working_boxes f cells team) o →
       BoxMayBeInserted id rect o
@@ -161,16 +161,16 @@ room_as : (a b : Occupied) (team : ℕ) (rect : Rect) (more : ℕ) → b.index �
 room_as a b team rect more index site rooms boxes room = λ n g there of_team shares.
     rw (rooms, site, boxes) (room n g (subst (λ (looked : FrameIndexView). slice_get looked.strips n ≡ Some g) index there) of_team (rw (sym site) shares))
 
-pub out_nowhere : (boxes : AllBoxes) (id : CellId) (rect : Rect) → IsAt boxes id rect → HasNoBox (box_set boxes id.team id.own None) id
-out_nowhere boxes id rect at = record { known = known_still boxes id id None at.known at.known; at = stands_nowhere boxes id at.known }
+pub out_nowhere : (boxes : AllBoxes) (id : CellId) (rect : Rect) → HasBoxOrNone boxes id rect → HasNoBox (box_set boxes id.team id.own None) id
+out_nowhere boxes id rect at = record { known = known_still boxes id id None at.known at.known; at = has_no_place boxes id at.known }
 
-pub can_enter : (old mid : Marked) (id : CellId) (rect : Rect) → KeepsRooms old mid → (may : MarksSome (BoxMayBeInserted id rect) old) →
+pub can_enter : (old mid : Marked) (id : CellId) (rect : Rect) → KeepsStripRooms old mid → (may : MarksSome (BoxMayBeInserted id rect) old) →
     MarksBoxes mid (box_set may.boxes id.team id.own None) → CanEnter mid id rect
 can_enter old mid id rect kept may holds = record {
   boxes = box_set may.boxes id.team id.own None;
   holds = holds;
   nowhere = out_nowhere may.boxes id rect may.is.at;
-  room = room_as record { index = old.index; site = old.site; boxes = box_set may.boxes id.team id.own None; rooms = capacities_in old.lanes }
+  room = room_as record { index = old.index; site = old.site; boxes = box_set may.boxes id.team id.own None; rooms = capacities_in old.mark_lists }
       (with_boxes mid (box_set may.boxes id.team id.own None)) id.team rect 1 kept.index kept.site kept.rooms refl may.is.room;
 }
 
@@ -206,12 +206,12 @@ none_out team named m boxes holds = record {
   is = record { each = λ own. inr (λ k less. absurd (omega (arith, less)), refl); rest = keeps team (with_boxes m boxes) };
 }
 
-kept_strips : (team own : ℕ) (x : Option Rect) (mid new : Marked) (boxes : AllBoxes) → KeepsRooms mid new →
+kept_strips : (team own : ℕ) (x : Option Rect) (mid new : Marked) (boxes : AllBoxes) → KeepsStripRooms mid new →
     (boxes_of (with_boxes new (box_set boxes team own x)) team ≡ set (get_or boxes team []) own x)
 kept_strips team own x mid new boxes kept =
     box_put record { team = team; own = own } x (with_boxes mid boxes) (with_boxes new (box_set boxes team own x)) refl
 
-pub one_out : (team : ℕ) (named : List ℕ) (n own : ℕ) (old : Occupied) (mid new : Marked) → own ≡ get_or named n 0 → KeepsRooms mid new →
+pub one_out : (team : ℕ) (named : List ℕ) (n own : ℕ) (old : Occupied) (mid new : Marked) → own ≡ get_or named n 0 → KeepsStripRooms mid new →
     (was : MarksSome (RemovesFirst team named n old) mid) → MarksBoxes new (box_set was.boxes team own None) → MarksSome (RemovesFirst team named (n + 1) old) new
 one_out team named n own old mid new is kept was holds =
     let id : CellId = record { team = team; own = own } in
@@ -231,18 +231,18 @@ standing_so_far f cells team named o can = record {
   others = can.others;
 }
 
-pub none_stand : (f : Frame) (cells : Cells) (team : ℕ) (named : List ℕ) (m : Marked) → MarksSome (MovedMayBeInserted f cells team named) m →
+pub none_are_placed : (f : Frame) (cells : Cells) (team : ℕ) (named : List ℕ) (m : Marked) → MarksSome (MovedMayBeInserted f cells team named) m →
     MarksSome (AreStanding f cells team named 0) m
-none_stand f cells team named m can = record {
+none_are_placed f cells team named m can = record {
   boxes = can.boxes;
   holds = can.holds;
   is = standing_so_far f cells team named (with_boxes m can.boxes) can.is;
 }
 
-pub one_stands : (f : Frame) (cells : Cells) (team : ℕ) (named : List ℕ) (n own : ℕ) (mid new : Marked) → own ≡ get_or named n 0 → KeepsRooms mid new →
+pub one_is_placed : (f : Frame) (cells : Cells) (team : ℕ) (named : List ℕ) (n own : ℕ) (mid new : Marked) → own ≡ get_or named n 0 → KeepsStripRooms mid new →
     (was : MarksSome (AreStanding f cells team named n) mid) → MarksBoxes new (box_set was.boxes team own (cell_box (working_boxes f cells team) own)) →
     MarksSome (AreStanding f cells team named (n + 1)) new
-one_stands f cells team named n own mid new is kept was holds =
+one_is_placed f cells team named n own mid new is kept was holds =
     let id : CellId = record { team = team; own = own } in
     let x : Option Rect = cell_box (working_boxes f cells team) own in
     let a = with_boxes mid was.boxes in
@@ -260,35 +260,35 @@ may_of f cells team named n m was = record { boxes = was.boxes; holds = was.hold
 
 pub all_hold : (f : Frame) (cells : Cells) (team : ℕ) (named : List ℕ) (n : ℕ) (m : Marked) → length named ≤ n → MarksSome (AreStanding f cells team named n) m →
     MarksBoxes m (boxes_in f cells)
-all_hold f cells team named n m past was = lanes_of_same (widened_strips m.site m.index.strips) was.boxes (boxes_in f cells) m.lanes same was.holds
+all_hold f cells team named n m past was = mark_lists_of_same (widened_strips m.site m.index.strips) was.boxes (boxes_in f cells) m.mark_lists same was.holds
   where
     same : (other : ℕ) → get_or was.boxes other [] ≡ get_or (boxes_in f cells) other []
     same other = ⊎_elim
-        (λ (is : other ≡ team). rw is (all_stand f cells team named n (with_boxes m was.boxes) past was.is ∙ sym (boxes_there f cells team)))
+        (λ (is : other ≡ team). rw is (all_are_placed f cells team named n (with_boxes m was.boxes) past was.is ∙ sym (boxes_there f cells team)))
         (λ (differ : other ≢ team). was.is.others other differ ∙ sym (boxes_there f cells other)) (cases_eq other team)
 
 -- the one cell that is named is inserted
 pub one_enters : (f : Frame) (cells : Cells) (team : ℕ) (named : List ℕ) (own : ℕ) (old new : Marked) → length named ≡ 1 → own ≡ get_or named 0 0 →
-    KeepsRooms old new → (can : MarksSome (MovedMayBeInserted f cells team named) old) →
+    KeepsStripRooms old new → (can : MarksSome (MovedMayBeInserted f cells team named) old) →
     MarksBoxes new (box_set can.boxes team own (cell_box (working_boxes f cells team) own)) → MarksBoxes new (boxes_in f cells)
 one_enters f cells team named own old new one is kept can holds =
     let begun : MarksSome (AreStanding f cells team named 0) old =
     record { boxes = can.boxes; holds = can.holds; is = standing_so_far f cells team named (with_boxes old can.boxes) can.is } in
-    all_hold f cells team named 1 new (omega (arith, one)) (one_stands f cells team named 0 own old new is kept begun holds)
+    all_hold f cells team named 1 new (omega (arith, one)) (one_is_placed f cells team named 0 own old new is kept begun holds)
 
 -- the cells that are removed can be inserted at their new places
-pub can_stand : (f : Frame) (old new : Cells) (team : ℕ) (named named_then : List ℕ) (count : ℕ) (before after : Marked) → OtherCellsStay team old new →
+pub can_be_placed : (f : Frame) (old new : Cells) (team : ℕ) (named named_then : List ℕ) (count : ℕ) (before after : Marked) → OtherCellsStay team old new →
     (out : MarksSome (RemovesFirst team named count (with_boxes before (boxes_in f old))) after) →
     BoxesMayBeInserted team (working_boxes f new team) (with_boxes after out.boxes) → AreInsertedExcept team (working_boxes f new team) named_then (with_boxes after out.boxes) →
     AreRemoved team named_then (with_boxes after out.boxes) → MarksSome (MovedMayBeInserted f new team named_then) after
-can_stand f old new team named named_then count before after stay out may rest gone = record {
+can_be_placed f old new team named named_then count before after stay out may rest gone = record {
   boxes = out.boxes;
   holds = out.holds;
   is = record {
     may = may;
     rest = rest;
     others = λ other differ.
-        out.is.rest.boxes other differ ∙ boxes_there f old other ∙ ap (λ (cs : List Cell). map (box_of f) cs) (sym (stay.cells other differ));
+        out.is.rest.boxes other differ ∙ boxes_there f old other ∙ ap (λ (cs : List Cell). map (working_box_of f) cs) (sym (stay.cells other differ));
     out = gone;
   };
 }

@@ -9,7 +9,7 @@ use Rattle.lf_cells.specs.Cells.{Cells, id_in, id_of, moved, working_at}
 use Rattle.lf_undo.specs.declared.moves.Move.{Move}
 use Rattle.lf_undo.specs.Entries.{Places, replaced, moves_taken_back}
 use Rattle.lf_undo.proofs.Undone.{undo_one_more}
-use Rattle.lf_placement.specs.Placings.{HaveMoved, OtherCellsStay, SameButPlaces, moves_applied, places_of, without_place}
+use Rattle.lf_placement.specs.Placements.{HaveMoved, OtherCellsStay, SameButPlaces, moves_applied, working_places_of, without_place}
 use Rattle.lf_placement.specs.Steps.{moves_reverted, moved_positions}
 
 past_moved : (cells : List Cell) (own : ℕ) (place : Option Place) → slice_get cells own ≡ None → moved cells own place ≡ cells
@@ -81,7 +81,7 @@ unfolding with_place
 back_with c = refl
 
 -- cells with the same places that differ in nothing else are the same
-pub same_places : (old new : List Cell) → SameButPlaces old new → places_of new ≡ places_of old → new ≡ old
+pub same_places : (old new : List Cell) → SameButPlaces old new → working_places_of new ≡ working_places_of old → new ≡ old
 same_places [] [] same places = refl
 same_places [] (c ∷ cs) same places = absurd cc
 same_places (d ∷ ds) [] same places = absurd cc
@@ -95,16 +95,16 @@ length_same old new same = sym (length-map new without_place) ∙ ap (λ (cs : L
 
 -- ---- moves
 
-pub places_moved : (cells : List Cell) (own : ℕ) (place : Option Place) → places_of (moved cells own place) ≡ set (places_of cells) own place
+pub places_moved : (cells : List Cell) (own : ℕ) (place : Option Place) → working_places_of (moved cells own place) ≡ set (working_places_of cells) own place
 places_moved [] own place = refl
 places_moved (c ∷ cs) zero place = refl
 places_moved (c ∷ cs) (suc own) place = ap (λ (r : Places). c.working ∷ r) (places_moved cs own place)
 
-pub places_back : (moves : List Move) (cells : List Cell) → places_of (moves_reverted moves cells) ≡ moves_taken_back moves (places_of cells)
+pub places_back : (moves : List Move) (cells : List Cell) → working_places_of (moves_reverted moves cells) ≡ moves_taken_back moves (working_places_of cells)
 places_back [] cells = refl
 places_back (m ∷ ms) cells = places_moved (moves_reverted ms cells) m.own m.old ∙ ap (λ (ps : Places). set ps m.own m.old) (places_back ms cells)
 
-place_there : (cells : List Cell) (own : ℕ) → get_or (places_of cells) own None ≡ working_at cells own
+place_there : (cells : List Cell) (own : ℕ) → get_or (working_places_of cells) own None ≡ working_at cells own
 place_there [] own = refl
 place_there (c ∷ cs) zero = refl
 place_there (c ∷ cs) (suc own) = place_there cs own
@@ -114,9 +114,9 @@ one_more : (before now : List Cell) (moves : List Move) (own : ℕ) (place old :
     → HaveMoved before (moves ++ record { own = own; old = old } ∷ []) (moved now own place)
 one_more before now moves own place old was have = record {
   places =
-      ap (λ (o : Option Place). moves_taken_back (moves ++ record { own = own; old = o } ∷ []) (places_of (moved now own place))) (was ∙ sym (place_there now own))
-      ∙ ap (moves_taken_back (moves ++ record { own = own; old = get_or (places_of now) own None } ∷ [])) (places_moved now own place)
-      ∙ undo_one_more (places_of before) (places_of now) moves own place have.places;
+      ap (λ (o : Option Place). moves_taken_back (moves ++ record { own = own; old = o } ∷ []) (working_places_of (moved now own place))) (was ∙ sym (place_there now own))
+      ∙ ap (moves_taken_back (moves ++ record { own = own; old = get_or (working_places_of now) own None } ∷ [])) (places_moved now own place)
+      ∙ undo_one_more (working_places_of before) (working_places_of now) moves own place have.places;
   same = same_moved now own place ∙ have.same;
 }
 

@@ -10,14 +10,14 @@ use Rattle.lf_rules.specs.Team.{box_in}
 use Rattle.lf_cells.specs.declared.cell.Cell.{Cell}
 use Rattle.lf_cells.specs.declared.cell.CellId.{CellId}
 use Rattle.lf_cells.specs.Cells.{AreAllIds, Cells, cells_of, committed_at, working_at}
-use Rattle.lf_segments.specs.Grounds.{IsIndexOf}
+use Rattle.lf_segments.specs.Indexes.{IsIndexOf}
 use Rattle.lf_occupancy.specs.Floorplans.{boxes_in}
-use Rattle.lf_occupancy.specs.Occupied.{Bounds, FitIn, KeepsCapacities, Occupied, cell_box}
+use Rattle.lf_occupancy.specs.Views.{Bounds, FitIn, KeepsCapacities, Occupied, cell_box}
 use Rattle.lf_occupancy.specs.Strips.{Marked, with_boxes, capacities_in}
 use Rattle.lf_occupancy.proofs.Building.{boxes_there}
 use Rattle.lf_undo.specs.declared.moves.Move.{Move}
 use Rattle.lf_undo.specs.Entries.{Places, moves_taken_back}
-use Rattle.lf_placement.specs.Placings.{AreSized, IsPlacing, Placing, SameButRooms, boxes_at, committed_of, placing_of, places_of}
+use Rattle.lf_placement.specs.Placements.{AreSized, IsPlacing, Placing, SameButRooms, boxes_at, committed_of, placing_of, working_places_of}
 use Rattle.lf_placement.specs.Steps.{KeepsMarks, box_moved}
 use Rattle.lf_placement.proofs.Changing.{boxes_at_work}
 
@@ -51,7 +51,7 @@ within_places (p ∷ ps) (suc own) place is = let h = within_places ps own place
 
 -- the first `n` cells at their committed places, and the others at their working places
 abbrev pub half_committed : ℕ → List Cell → Places
-half_committed zero cells = places_of cells
+half_committed zero cells = working_places_of cells
 half_committed (suc n) [] = []
 half_committed (suc n) (c ∷ cs) = c.committed ∷ half_committed n cs
 
@@ -97,7 +97,7 @@ gains_through a b c first second = record {
   holds = λ boxes h. second.holds boxes (first.holds boxes h);
   index = second.index ∙ first.index;
   site = second.site ∙ first.site;
-  rooms = no_less_through (capacities_in a.lanes) (capacities_in b.lanes) (capacities_in c.lanes) first.rooms second.rooms;
+  rooms = no_less_through (capacities_in a.mark_lists) (capacities_in b.mark_lists) (capacities_in c.mark_lists) first.rooms second.rooms;
 }
 
 pub same_through : (a b c : Placing) → SameButRooms a b → SameButRooms b c → SameButRooms a c
@@ -124,7 +124,7 @@ bounds_fit o team boxes tally room bounds = λ n g at of_team.
 
 -- the boxes at their working places
 pub bounds_at_work : (f : Frame) (cells : Cells) (team : ℕ) (o : Occupied) (tally : List ℕ) → Bounds o team (get_or (boxes_in f cells) team []) tally
-    → Bounds o team (boxes_at f (cells_of cells team) (places_of (cells_of cells team))) tally
+    → Bounds o team (boxes_at f (cells_of cells team) (working_places_of (cells_of cells team))) tally
 bounds_at_work f cells team o tally bounds =
     subst (λ (bs : Boxes). Bounds o team bs tally) (boxes_there f cells team ∙ sym (boxes_at_work f (cells_of cells team))) bounds
 
@@ -133,7 +133,7 @@ bounds_at_work f cells team o tally bounds =
 -- teams with a lesser number are at their committed places, and the others at their working places
 pub record HalfCommitted (f : Frame) (cells : Cells) (o : Occupied) (team : ℕ) (tally : List ℕ) : Type 0 where
   pub done : (t : ℕ) → t < team → Bounds o t (boxes_at f (cells_of cells t) (committed_of (cells_of cells t))) tally
-  pub rest : (t : ℕ) → team ≤ t → Bounds o t (boxes_at f (cells_of cells t) (places_of (cells_of cells t))) tally
+  pub rest : (t : ℕ) → team ≤ t → Bounds o t (boxes_at f (cells_of cells t) (working_places_of (cells_of cells t))) tally
 
 order : (a b : ℕ) → (a < b) ⊎ (b ≤ a)
 order a b = grind arith
@@ -146,7 +146,7 @@ pub team_next : (f : Frame) (cells : Cells) (o p : Occupied) (team : ℕ) (old n
     → ((boxes : Boxes) (other : ℕ) → other ≢ team → Bounds o other boxes old → Bounds p other boxes new) → HalfCommitted f cells p (team + 1) new
 team_next f cells o p team old new half here others = record {
   done = λ t less. at t (below_or_at t team less);
-  rest = λ t past. others (boxes_at f (cells_of cells t) (places_of (cells_of cells t))) t (omega (arith, past)) (half.rest t (omega (arith, past)));
+  rest = λ t past. others (boxes_at f (cells_of cells t) (working_places_of (cells_of cells t))) t (omega (arith, past)) (half.rest t (omega (arith, past)));
 }
   where
     at : (t : ℕ) → (t < team) ⊎ (t ≡ team) → Bounds p t (boxes_at f (cells_of cells t) (committed_of (cells_of cells t))) new

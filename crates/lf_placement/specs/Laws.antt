@@ -5,9 +5,9 @@ use Rattle.lf_rules.specs.declared.rule.Rule.{Rule}
 use Rattle.lf_cells.specs.declared.cell.Cell.{Cell}
 use Rattle.lf_cells.specs.declared.cell.CellId.{CellId}
 use Rattle.lf_cells.specs.Cells.{as_committed, cells_of}
-use Rattle.lf_occupancy.specs.Occupied.{KeepsCapacities}
+use Rattle.lf_occupancy.specs.Views.{KeepsCapacities}
 use Rattle.lf_undo.specs.Entries.{Places}
-use Rattle.lf_placement.specs.Placings.{Fits, IsBrokenFrameRule, Placing, SameButPlaces}
+use Rattle.lf_placement.specs.Placements.{Fits, IsBrokenFrameRule, Placing, SameButPlaces}
 
 -- the cells have the same macros
 abbrev pub SameMacros : List Cell → List Cell → Type 0

@@ -1,3 +1,3 @@
-pub mod Placings
+pub mod Placements
 pub mod Steps
 pub mod Laws

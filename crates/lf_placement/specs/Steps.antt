@@ -10,9 +10,9 @@ use Rattle.lf_rules.specs.Team.{box_in}
 use Rattle.lf_cells.specs.declared.cell.Cell.{Cell}
 use Rattle.lf_cells.specs.declared.cell.CellId.{CellId}
 use Rattle.lf_cells.specs.Cells.{Cells, cells_of, id_in, moved}
-use Rattle.lf_occupancy.specs.Occupied.{ArePartOf, FitIn, HasRoomFor, KeepsCapacities, Occupied, boxes_of, cell_box}
-use Rattle.lf_occupancy.specs.Strips.{MarksBoxes, IsAt, Marked, with_boxes, capacities_in}
-use Rattle.lf_occupancy.specs.Floorplans.{box_of}
+use Rattle.lf_occupancy.specs.Views.{ArePartOf, FitIn, HasRoomFor, KeepsCapacities, Occupied, boxes_of, cell_box}
+use Rattle.lf_occupancy.specs.Strips.{MarksBoxes, HasBoxOrNone, Marked, with_boxes, capacities_in}
+use Rattle.lf_occupancy.specs.Floorplans.{working_box_of}
 use Rattle.lf_undo.specs.declared.moves.Move.{Move}
 
 -- the box of a cell at a place; None if there is no such cell, or no place
@@ -21,7 +21,7 @@ box_moved f cell place = option_and_then (λ c. option_map (λ p. box_in f c.mac
 
 -- the boxes of the team's cells at their working places
 abbrev pub working_boxes : Frame → Cells → ℕ → List (Option Rect)
-working_boxes f cells team = map (box_of f) (cells_of cells team)
+working_boxes f cells team = map (working_box_of f) (cells_of cells team)
 
 -- the cells after these moves are undone, the last one first
 abbrev pub moves_reverted : List Move → List Cell → List Cell
@@ -60,17 +60,17 @@ abbrev pub box_set : List (List (Option Rect)) → ℕ → ℕ → Option Rect �
 box_set boxes team own box = slice_set boxes team (slice_set (slice_index_or boxes team []) own box)
 
 -- the index, the site and the capacities of strips are unchanged
-pub record KeepsRooms (old new : Marked) : Type 0 where
+pub record KeepsStripRooms (old new : Marked) : Type 0 where
   pub index : new.index ≡ old.index
   pub site : new.site ≡ old.site
-  pub rooms : capacities_in new.lanes ≡ capacities_in old.lanes
+  pub rooms : capacities_in new.mark_lists ≡ capacities_in old.mark_lists
 
 -- the strips hold the same boxes, and no strip has less room
 pub record KeepsMarks (old new : Marked) : Type 0 where
   pub holds : (boxes : List (List (Option Rect))) → MarksBoxes old boxes → MarksBoxes new boxes
   pub index : new.index ≡ old.index
   pub site : new.site ≡ old.site
-  pub rooms : KeepsCapacities (capacities_in old.lanes) (capacities_in new.lanes)
+  pub rooms : KeepsCapacities (capacities_in old.mark_lists) (capacities_in new.mark_lists)
 
 -- the boxes of the team's cells are part of the given ones, in a list of the same length
 pub record IsPartly (team : ℕ) (boxes : List (Option Rect)) (o : Occupied) : Type 0 where
@@ -100,7 +100,7 @@ pub record CellMayBeInserted (team : ℕ) (boxes : List (Option Rect)) (own : �
 -- a cell with this id exists and has no box or this box; if it has no box, there is room for this
 -- one
 pub record BoxMayBeInserted (id : CellId) (rect : Rect) (o : Occupied) : Type 0 where
-  pub at : IsAt o.boxes id rect
+  pub at : HasBoxOrNone o.boxes id rect
   pub room : HasRoomFor record { index = o.index; site = o.site; boxes = box_set o.boxes id.team id.own None; rooms = o.rooms } id.team rect 1
 
 -- each cell of the team that is not named has its given box

@@ -7,11 +7,11 @@ ghost use Rattle.std.specs.Prelude.{◌≡◌, All, List, drop, map, take};
 ghost use Rattle.lf_cells.specs.declared.cell.Cell.{Cell};
 ghost use Rattle.lf_cells.specs.Cells.{as_committed, cells_of};
 ghost use Rattle.lf_legalize.specs.Members.{IsSizedCell};
-ghost use Rattle.lf_occupancy.specs.Occupied.{FitIn};
-ghost use Rattle.lf_occupancy.specs.Floorplans.{box_of, boxes_in};
+ghost use Rattle.lf_occupancy.specs.Views.{FitIn};
+ghost use Rattle.lf_occupancy.specs.Floorplans.{working_box_of, boxes_in};
 ghost use Rattle.lf_occupancy.specs.Strips.{MarksBoxes, with_boxes};
-ghost use Rattle.lf_placement.specs.Placings.{HaveMoved, OtherCellsStay, moves_applied};
-ghost use Rattle.lf_placement.specs.Steps.{KeepsRooms, moves_reverted};
+ghost use Rattle.lf_placement.specs.Placements.{HaveMoved, OtherCellsStay, moves_applied};
+ghost use Rattle.lf_placement.specs.Steps.{KeepsStripRooms, moves_reverted};
 
 use crate::occupancy_sync::{insert_moved, remove_moved};
 use crate::table_sync::{apply_in_table, revert_in_table};
@@ -42,12 +42,12 @@ pub(crate) fn apply_moves(
 )
     requires sized { All (IsSizedCell frame.now) (cells_of cells.old team) }
     requires holds { MarksBoxes occupancy.old (boxes_in frame.now cells.old) }
-    requires fits { FitIn (with_boxes occupancy.old (boxes_in frame.now cells.old)) team (map (box_of frame.now) (moves_applied (drop from moves.old) (cells_of cells.old team))) }
+    requires fits { FitIn (with_boxes occupancy.old (boxes_in frame.now cells.old)) team (map (working_box_of frame.now) (moves_applied (drop from moves.old) (cells_of cells.old team))) }
     ensures own { cells_of cells.new team ≡ moves_applied (drop from moves.old) (cells_of cells.old team) }
     ensures moved { (before : List Cell) → HaveMoved before (take from moves.old) (cells_of cells.old team) → HaveMoved before moves.new (cells_of cells.new team) }
     ensures others { OtherCellsStay team cells.old cells.new }
     ensures holds { MarksBoxes occupancy.new (boxes_in frame.now cells.new) }
-    ensures rooms { KeepsRooms occupancy.old occupancy.new }
+    ensures rooms { KeepsStripRooms occupancy.old occupancy.new }
 {
     remove_moved(
         frame,
@@ -76,11 +76,11 @@ pub(crate) fn revert_moves(
 )
     requires sized { All (IsSizedCell frame.now) (cells_of cells.old team) }
     requires holds { MarksBoxes occupancy.old (boxes_in frame.now cells.old) }
-    requires fits { FitIn (with_boxes occupancy.old (boxes_in frame.now cells.old)) team (map (box_of frame.now) (moves_reverted moves.now (cells_of cells.old team))) }
+    requires fits { FitIn (with_boxes occupancy.old (boxes_in frame.now cells.old)) team (map (working_box_of frame.now) (moves_reverted moves.now (cells_of cells.old team))) }
     ensures own { cells_of cells.new team ≡ moves_reverted moves.now (cells_of cells.old team) }
     ensures others { OtherCellsStay team cells.old cells.new }
     ensures holds { MarksBoxes occupancy.new (boxes_in frame.now cells.new) }
-    ensures rooms { KeepsRooms occupancy.old occupancy.new }
+    ensures rooms { KeepsStripRooms occupancy.old occupancy.new }
 {
     remove_moved(frame, occupancy, cells, team, moves.as_slice());
     revert_in_table(cells, team, moves);

@@ -2,10 +2,10 @@
 
 ghost use Rattle.std.specs.Prelude.{◌≡◌, ◌≤◌, ℕ, IfOk, length};
 ghost use Rattle.lf_cells.specs.Cells.{cells_of};
-ghost use Rattle.lf_cells.specs.Openings.{initial_cells, initial_components};
+ghost use Rattle.lf_cells.specs.Initial.{initial_cells, initial_components};
 ghost use Rattle.lf_occupancy.specs.Floorplans.{HaveSize, IsMarkedBy, boxes_in};
 ghost use Rattle.lf_occupancy.specs.Strips.{MarksBoxes};
-ghost use Rattle.lf_placement.specs.Placings.{AreSized, IsPlacing, placing_of};
+ghost use Rattle.lf_placement.specs.Placements.{AreSized, IsPlacing, placing_of};
 
 use crate::counted_capacity::fit_all_committed;
 use lf_cells::CellTable;

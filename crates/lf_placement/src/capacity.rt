@@ -3,10 +3,10 @@
 ghost use Rattle.std.specs.Prelude.{◌≡◌, ◌∷◌, [], All, IfOk, OnOk, map};
 ghost use Rattle.lf_cells.specs.Cells.{cells_of};
 ghost use Rattle.lf_legalize.specs.Members.{IsSizedCell};
-ghost use Rattle.lf_occupancy.specs.Occupied.{FitIn, KeepsCapacities};
-ghost use Rattle.lf_occupancy.specs.Floorplans.{box_of, boxes_in};
+ghost use Rattle.lf_occupancy.specs.Views.{FitIn, KeepsCapacities};
+ghost use Rattle.lf_occupancy.specs.Floorplans.{working_box_of, boxes_in};
 ghost use Rattle.lf_occupancy.specs.Strips.{MarksBoxes, with_boxes, capacities_in};
-ghost use Rattle.lf_placement.specs.Placings.{moves_applied};
+ghost use Rattle.lf_placement.specs.Placements.{moves_applied};
 ghost use Rattle.lf_placement.specs.Steps.{requested_box};
 
 use crate::occupancy_sync::box_at;
@@ -63,14 +63,14 @@ fn make_room_for(
 ) -> Result<(), AllocError>
     requires sized { All (IsSizedCell frame.now) (cells_of cells.now team) }
     requires holds { MarksBoxes occupancy.old (boxes_in frame.now cells.now) }
-    ensures ok { OnOk result (FitIn (with_boxes occupancy.new (boxes_in frame.now cells.now)) team (map (box_of frame.now) (moves_applied (next.now ∷ []) (cells_of cells.now team)))) }
+    ensures ok { OnOk result (FitIn (with_boxes occupancy.new (boxes_in frame.now cells.now)) team (map (working_box_of frame.now) (moves_applied (next.now ∷ []) (cells_of cells.now team)))) }
     ensures holds { MarksBoxes occupancy.new (boxes_in frame.now cells.now) }
     ensures index { occupancy.new.index ≡ occupancy.old.index }
     ensures site { occupancy.new.site ≡ occupancy.old.site }
-    ensures rooms { KeepsCapacities (capacities_in occupancy.old.lanes) (capacities_in occupancy.new.lanes) }
+    ensures rooms { KeepsCapacities (capacities_in occupancy.old.mark_lists) (capacities_in occupancy.new.mark_lists) }
 {
-    let asked = requested_box(frame, cells, team, next);
-    occupancy.reserve_for(slice::from_ref(&asked))?;
+    let requested = requested_box(frame, cells, team, next);
+    occupancy.reserve_for(slice::from_ref(&requested))?;
     occupancy.boxes_fit();
     Ok(())
 }
@@ -87,17 +87,17 @@ pub(crate) fn reserve_moves(
 ) -> Result<(), AllocError>
     requires sized { All (IsSizedCell frame.now) (cells_of cells.now team) }
     requires holds { MarksBoxes occupancy.old (boxes_in frame.now cells.now) }
-    ensures ok { OnOk result (FitIn (with_boxes occupancy.new (boxes_in frame.now cells.now)) team (map (box_of frame.now) (moves_applied moves.now (cells_of cells.now team)))) }
+    ensures ok { OnOk result (FitIn (with_boxes occupancy.new (boxes_in frame.now cells.now)) team (map (working_box_of frame.now) (moves_applied moves.now (cells_of cells.now team)))) }
     ensures holds { MarksBoxes occupancy.new (boxes_in frame.now cells.now) }
     ensures index { occupancy.new.index ≡ occupancy.old.index }
     ensures site { occupancy.new.site ≡ occupancy.old.site }
-    ensures rooms { KeepsCapacities (capacities_in occupancy.old.lanes) (capacities_in occupancy.new.lanes) }
+    ensures rooms { KeepsCapacities (capacities_in occupancy.old.mark_lists) (capacities_in occupancy.new.mark_lists) }
 {
     if moves.len() == 1 {
         return make_room_for(frame, cells, occupancy, team, &moves[0]);
     }
-    let asked = requested_boxes(alloc, frame, cells, team, moves)?;
-    occupancy.reserve_for(asked.as_slice())?;
+    let requested = requested_boxes(alloc, frame, cells, team, moves)?;
+    occupancy.reserve_for(requested.as_slice())?;
     occupancy.boxes_fit();
     Ok(())
 }

@@ -7,10 +7,10 @@ ghost use Rattle.lf_floorplan.specs.Sizes.{box_at, turned};
 ghost use Rattle.lf_cells.specs.Cells.{cells_of, committed_at, working_at};
 ghost use Rattle.lf_legalize.specs.Members.{IsSizedCell};
 ghost use Rattle.lf_occupancy.specs.Floorplans.{boxes_in};
-ghost use Rattle.lf_occupancy.specs.Occupied.{Bounds, FitIn, KeepsCapacities};
+ghost use Rattle.lf_occupancy.specs.Views.{Bounds, FitIn, KeepsCapacities};
 ghost use Rattle.lf_occupancy.specs.Strips.{MarksBoxes, with_boxes, capacities_in};
 ghost use Rattle.lf_undo.specs.Entries.{Places};
-ghost use Rattle.lf_placement.specs.Placings.{AreSized, boxes_at, committed_of, places_of};
+ghost use Rattle.lf_placement.specs.Placements.{AreSized, boxes_at, committed_of, working_places_of};
 ghost use Rattle.lf_placement.specs.Steps.{KeepsMarks, box_moved};
 
 use lf_cells::{CellId, CellTable};
@@ -71,8 +71,8 @@ pub(crate) fn reserve_change(
     change: &Change,
 ) -> Result<(), AllocError>
     requires sized { All (IsSizedCell frame.now) (cells_of cells.now team) }
-    requires room { KeepsCapacities tally.old (capacities_in occupancy.old.lanes) }
-    ensures room { OnOk result (KeepsCapacities tally.new (capacities_in occupancy.new.lanes)) }
+    requires room { KeepsCapacities tally.old (capacities_in occupancy.old.mark_lists) }
+    ensures room { OnOk result (KeepsCapacities tally.new (capacities_in occupancy.new.mark_lists)) }
     ensures own { (places : Places) → slice_get places change.now.own ≡ Some change.now.from
         → Bounds (with_boxes occupancy.old []) team (boxes_at frame.now (cells_of cells.now team) places) tally.old
         → OnOk result (Bounds (with_boxes occupancy.new []) team
@@ -94,8 +94,8 @@ fn fit_committed(
     id: &CellId,
 ) -> Result<(), AllocError>
     requires sized { All (IsSizedCell frame.now) (cells_of cells.now id.now.team) }
-    requires room { KeepsCapacities tally.old (capacities_in occupancy.old.lanes) }
-    ensures room { OnOk result (KeepsCapacities tally.new (capacities_in occupancy.new.lanes)) }
+    requires room { KeepsCapacities tally.old (capacities_in occupancy.old.mark_lists) }
+    ensures room { OnOk result (KeepsCapacities tally.new (capacities_in occupancy.new.mark_lists)) }
     ensures own { (places : Places) → slice_get places id.now.own ≡ Some (working_at (cells_of cells.now id.now.team) id.now.own)
         → Bounds (with_boxes occupancy.old []) id.now.team (boxes_at frame.now (cells_of cells.now id.now.team) places) tally.old
         → OnOk result (Bounds (with_boxes occupancy.new []) id.now.team (boxes_at frame.now (cells_of cells.now id.now.team)
@@ -127,9 +127,9 @@ fn fit_team(
     team: usize,
 ) -> Result<(), AllocError>
     requires sized { All (IsSizedCell frame.now) (cells_of cells.now team) }
-    requires room { KeepsCapacities tally.old (capacities_in occupancy.old.lanes) }
-    ensures room { OnOk result (KeepsCapacities tally.new (capacities_in occupancy.new.lanes)) }
-    ensures own { Bounds (with_boxes occupancy.old []) team (boxes_at frame.now (cells_of cells.now team) (places_of (cells_of cells.now team))) tally.old
+    requires room { KeepsCapacities tally.old (capacities_in occupancy.old.mark_lists) }
+    ensures room { OnOk result (KeepsCapacities tally.new (capacities_in occupancy.new.mark_lists)) }
+    ensures own { Bounds (with_boxes occupancy.old []) team (boxes_at frame.now (cells_of cells.now team) (working_places_of (cells_of cells.now team))) tally.old
         → OnOk result (Bounds (with_boxes occupancy.new []) team
         (boxes_at frame.now (cells_of cells.now team) (committed_of (cells_of cells.now team))) tally.new) }
     ensures others { (boxes : List (Option Rect)) → (other : ℕ) → other ≢ team → Bounds (with_boxes occupancy.old []) other boxes tally.old

@@ -5,10 +5,10 @@ ghost use Rattle.lf_units.specs.declared.geometry.Rect.{Rect};
 ghost use Rattle.lf_cells.specs.Cells.{cell_at, cells_of};
 ghost use Rattle.lf_legalize.specs.Members.{IsSizedCell};
 ghost use Rattle.lf_occupancy.specs.Floorplans.{boxes_in};
-ghost use Rattle.lf_occupancy.specs.Lanes.{IsPlaceX};
-ghost use Rattle.lf_occupancy.specs.Occupied.{cell_box};
-ghost use Rattle.lf_occupancy.specs.Strips.{MarksBoxes, IsAt, with_boxes};
-ghost use Rattle.lf_placement.specs.Steps.{MovedMayBeInserted, MarksSome, IsPartly, KeepsRooms, CellMayBeInserted, BoxMayBeInserted, BoxesMayBeInserted, RemovesFirst, box_moved, box_set, moved_positions, working_boxes};
+ghost use Rattle.lf_occupancy.specs.MarkLists.{IsPlaceX};
+ghost use Rattle.lf_occupancy.specs.Views.{cell_box};
+ghost use Rattle.lf_occupancy.specs.Strips.{MarksBoxes, HasBoxOrNone, with_boxes};
+ghost use Rattle.lf_placement.specs.Steps.{MovedMayBeInserted, MarksSome, IsPartly, KeepsStripRooms, CellMayBeInserted, BoxMayBeInserted, BoxesMayBeInserted, RemovesFirst, box_moved, box_set, moved_positions, working_boxes};
 
 use lf_cells::{CellId, CellTable};
 use lf_floorplan::{Frame, Place};
@@ -50,7 +50,7 @@ fn remove_cell(frame: &Frame, occupancy: &mut Occupancy, cells: &CellTable, team
     requires part { MarksSome (IsPartly team (working_boxes frame.now cells.now team)) occupancy.old }
     ensures holds { (boxes : List (List (Option Rect))) → IsPartly team (working_boxes frame.now cells.now team) (with_boxes occupancy.old boxes)
         → MarksBoxes occupancy.old boxes → MarksBoxes occupancy.new (box_set boxes team own None) }
-    ensures rooms { KeepsRooms occupancy.old occupancy.new }
+    ensures rooms { KeepsStripRooms occupancy.old occupancy.new }
 {
     let Some(id) = cells.cell_of(team, own as usize) else {
         return;
@@ -72,7 +72,7 @@ pub(crate) fn remove_moved(
     requires sized { All (IsSizedCell frame.now) (cells_of cells.now team) }
     requires holds { MarksBoxes occupancy.old (boxes_in frame.now cells.now) }
     ensures out { MarksSome (RemovesFirst team (moved_positions moves.now) (length moves.now) (with_boxes occupancy.old (boxes_in frame.now cells.now))) occupancy.new }
-    ensures rooms { KeepsRooms occupancy.old occupancy.new }
+    ensures rooms { KeepsStripRooms occupancy.old occupancy.new }
 {
     for next in moves {
         remove_cell(frame, occupancy, cells, team, next.own);
@@ -83,9 +83,9 @@ pub(crate) fn remove_moved(
 fn replace_box(occupancy: &mut Occupancy, id: CellId, rect: &Rect)
     requires edge { IsPlaceX rect.now.x1 }
     requires may { MarksSome (BoxMayBeInserted id rect.now) occupancy.old }
-    ensures holds { (boxes : List (List (Option Rect))) → IsAt boxes id rect.now → MarksBoxes occupancy.old boxes
+    ensures holds { (boxes : List (List (Option Rect))) → HasBoxOrNone boxes id rect.now → MarksBoxes occupancy.old boxes
         → MarksBoxes occupancy.new (box_set boxes id.team id.own (Some rect.now)) }
-    ensures rooms { KeepsRooms occupancy.old occupancy.new }
+    ensures rooms { KeepsStripRooms occupancy.old occupancy.new }
 {
     occupancy.remove(id, rect);
     occupancy.insert(id, rect);
@@ -104,7 +104,7 @@ fn replace_at_working(
     requires may { MarksSome (BoxesMayBeInserted team (working_boxes frame.now cells.now team)) occupancy.old }
     ensures holds { (boxes : List (List (Option Rect))) → IsPartly team (working_boxes frame.now cells.now team) (with_boxes occupancy.old boxes)
         → MarksBoxes occupancy.old boxes → MarksBoxes occupancy.new (box_set boxes team own (cell_box (working_boxes frame.now cells.now team) own)) }
-    ensures rooms { KeepsRooms occupancy.old occupancy.new }
+    ensures rooms { KeepsStripRooms occupancy.old occupancy.new }
 {
     let Some(id) = cells.cell_of(team, own as usize) else {
         return;
@@ -123,7 +123,7 @@ fn insert_absent(frame: &Frame, occupancy: &mut Occupancy, cells: &CellTable, te
     ensures holds { (boxes : List (List (Option Rect))) → cell_box (slice_index_or boxes team []) own ≡ None
         → IsPartly team (working_boxes frame.now cells.now team) (with_boxes occupancy.old boxes)
         → MarksBoxes occupancy.old boxes → MarksBoxes occupancy.new (box_set boxes team own (cell_box (working_boxes frame.now cells.now team) own)) }
-    ensures rooms { KeepsRooms occupancy.old occupancy.new }
+    ensures rooms { KeepsStripRooms occupancy.old occupancy.new }
 {
     let Some(id) = cells.cell_of(team, own as usize) else {
         return;
@@ -147,7 +147,7 @@ pub(crate) fn insert_moved(
     requires sized { All (IsSizedCell frame.now) (cells_of cells.now team) }
     requires may { MarksSome (MovedMayBeInserted frame.now cells.now team (moved_positions moves.now)) occupancy.old }
     ensures holds { MarksBoxes occupancy.new (boxes_in frame.now cells.now) }
-    ensures rooms { KeepsRooms occupancy.old occupancy.new }
+    ensures rooms { KeepsStripRooms occupancy.old occupancy.new }
 {
     if moves.len() == 1 {
         insert_absent(frame, occupancy, cells, team, moves[0].own);

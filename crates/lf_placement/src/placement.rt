@@ -6,12 +6,12 @@ ghost use Rattle.lf_rules.specs.Choice.{spot_of};
 ghost use Rattle.lf_rules.specs.Legalizer.{Legalizer};
 ghost use Rattle.lf_cells.specs.declared.cell.Cell.{Cell};
 ghost use Rattle.lf_cells.specs.Cells.{as_committed, cells_of};
-ghost use Rattle.lf_cells.specs.Openings.{initial_cells, initial_components};
+ghost use Rattle.lf_cells.specs.Initial.{initial_cells, initial_components};
 ghost use Rattle.lf_legalize.specs.Members.{best_of};
-ghost use Rattle.lf_occupancy.specs.Occupied.{KeepsCapacities};
+ghost use Rattle.lf_occupancy.specs.Views.{KeepsCapacities};
 ghost use Rattle.lf_undo.specs.Entries.{Places, moves_taken_back};
-ghost use Rattle.lf_placement.specs.Placings.{AreSized, BoundsAt, Fits, HaveMoved, IsBrokenFrameRule, IsBrokenAt, KeepsRest, OtherCellsStay, SameButRooms};
-ghost use Rattle.lf_placement.specs.Placings.{committed_of, moves_applied, places_of};
+ghost use Rattle.lf_placement.specs.Placements.{AreSized, BoundsAt, Fits, HaveMoved, IsBrokenFrameRule, IsBrokenAt, KeepsRest, OtherCellsStay, SameButRooms};
+ghost use Rattle.lf_placement.specs.Placements.{committed_of, moves_applied, working_places_of};
 
 use crate::apply::{apply_moves, commit_places, revert_moves};
 use crate::build::{BuiltParts, fitted, tables_of};
@@ -42,7 +42,7 @@ pub struct Placement {
 }
 
 impl Model for Placement {
-    ghost use Rattle.lf_placement.specs.Placings.{MatchesPlaces, Placing, placing_of};
+    ghost use Rattle.lf_placement.specs.Placements.{MatchesPlaces, Placing, placing_of};
 
     ghost Value = { Placing };
 
@@ -189,7 +189,7 @@ impl Placement {
     /// after the moves fit. Cells and boxes are unchanged, and no strip has less room. `Err` if an
     /// allocation fails: then some room may have been made, and nothing else is changed.
     pub fn reserve(&mut self, alloc: Global, team: usize, moves: &[Move]) -> Result<(), AllocError>
-        ensures ok { OnOk result (Fits self.new team (places_of (moves_applied moves.now (cells_of self.old.cells team)))) }
+        ensures ok { OnOk result (Fits self.new team (working_places_of (moves_applied moves.now (cells_of self.old.cells team)))) }
         ensures same { SameButRooms self.old self.new }
     {
         reserve_moves(
@@ -206,7 +206,7 @@ impl Placement {
     /// team. `reserve_undo` changes them to counts of earlier places. `Err` if an allocation fails.
     pub fn strip_counts(&self, alloc: Global) -> Result<StripCounts, AllocError>
         ensures room { IfOk result (λ tally. KeepsCapacities tally self.now.held.rooms) }
-        ensures bounds { (team : ℕ) → IfOk result (λ tally. BoundsAt self.now team (places_of (cells_of self.now.cells team)) tally) }
+        ensures bounds { (team : ℕ) → IfOk result (λ tally. BoundsAt self.now team (working_places_of (cells_of self.now.cells team)) tally) }
     {
         self.occupancy.strip_counts(alloc)
     }
@@ -275,7 +275,7 @@ impl Placement {
     /// the same cells. The places after the moves must fit. Other teams, the frame, the positions
     /// of components and the capacities of the strips are unchanged. Does not allocate.
     pub fn apply(&mut self, team: usize, moves: &mut Moves, from: usize)
-        requires { Fits self.old team (places_of (moves_applied (drop from moves.old) (cells_of self.old.cells team))) }
+        requires { Fits self.old team (working_places_of (moves_applied (drop from moves.old) (cells_of self.old.cells team))) }
         ensures own { cells_of self.new.cells team ≡ moves_applied (drop from moves.old) (cells_of self.old.cells team) }
         ensures moved { (before : List Cell) → HaveMoved before (take from moves.old) (cells_of self.old.cells team)
             → HaveMoved before moves.new (cells_of self.new.cells team) }
@@ -298,7 +298,7 @@ impl Placement {
     /// the undo must fit. Other teams, the frame, the positions of components and the capacities of
     /// the strips are unchanged. Does not allocate.
     pub fn undo_moves(&mut self, team: usize, moves: &Moves)
-        requires { Fits self.old team (moves_taken_back moves.now (places_of (cells_of self.old.cells team))) }
+        requires { Fits self.old team (moves_taken_back moves.now (working_places_of (cells_of self.old.cells team))) }
         ensures own { (before : List Cell) → HaveMoved before moves.now (cells_of self.old.cells team) → cells_of self.new.cells team ≡ before }
         ensures others { OtherCellsStay team self.old.cells self.new.cells }
         ensures rest { KeepsRest self.old self.new }
@@ -334,7 +334,7 @@ impl Placement {
 
     /// A law: the working places of each team fit.
     pub fn boxes_match_places(&self)
-        ensures { (team : ℕ) → Fits self.now team (places_of (cells_of self.now.cells team)) }
+        ensures { (team : ℕ) → Fits self.now team (working_places_of (cells_of self.now.cells team)) }
     {
         self.occupancy.boxes_fit();
     }

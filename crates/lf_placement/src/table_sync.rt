@@ -3,7 +3,7 @@
 ghost use Rattle.std.specs.Prelude.{◌≡◌, List, drop, take};
 ghost use Rattle.lf_cells.specs.declared.cell.Cell.{Cell};
 ghost use Rattle.lf_cells.specs.Cells.{cells_of, moved, working_at};
-ghost use Rattle.lf_placement.specs.Placings.{HaveMoved, OtherCellsStay, moves_applied};
+ghost use Rattle.lf_placement.specs.Placements.{HaveMoved, OtherCellsStay, moves_applied};
 ghost use Rattle.lf_placement.specs.Steps.{moves_reverted, moved_positions};
 
 use lf_cells::{CellId, CellTable};

@@ -1,9 +1,9 @@
 //! Undoes moves on a list of places, and makes room for the resulting places.
 
 ghost use Rattle.std.specs.Prelude.{◌≡◌, ◌≢◌, ◌<◌, All, OnOk, length, slice_set, ℕ};
-ghost use Rattle.lf_occupancy.specs.Occupied.{KeepsCapacities};
+ghost use Rattle.lf_occupancy.specs.Views.{KeepsCapacities};
 ghost use Rattle.lf_undo.specs.Entries.{Places, moves_taken_back};
-ghost use Rattle.lf_placement.specs.Placings.{BoundsAt, SameButRooms};
+ghost use Rattle.lf_placement.specs.Placements.{BoundsAt, SameButRooms};
 
 use crate::counted_capacity::Change;
 use crate::placement::Placement;

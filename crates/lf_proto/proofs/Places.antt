@@ -9,16 +9,16 @@ use Rattle.std.specs.Int.Signed.{lt_z, lt_z_yes}
 use Rattle.lf_units.specs.declared.geometry.Point.{Point}
 use Rattle.lf_floorplan.specs.declared.place.Place.{Place}
 use Rattle.lf_rules.specs.declared.padding.Padding.{Padding}
-use Rattle.lf_proto.specs.Requests.{in_def, place_at, place_written, orient_named, target_of}
-use Rattle.lf_proto.specs.Numbers.{shown, padding_at, coordinate}
+use Rattle.lf_proto.specs.Requests.{in_def, place_at, place_written, orient_named, target_of_words}
+use Rattle.lf_proto.specs.Numbers.{shown_by_test, padding_at, coordinate}
 
 -- a test that succeeds shows its fact, which has at most one proof
-shown-yes : {Fact : Type 0} (unique : (a b : Fact) → a ≡ b) (test : Bool) (fact : T test → Fact) (known : Fact) → T test → shown test fact ≡ Some known
+shown-yes : {Fact : Type 0} (unique : (a b : Fact) → a ≡ b) (test : Bool) (fact : T test → Fact) (known : Fact) → T test → shown_by_test test fact ≡ Some known
 shown-yes unique true fact known t = ap Some (unique (fact tt) known)
 shown-yes unique false fact known t = absurd t
 
 -- a test that fails shows nothing
-shown-no : {Fact : Type 0} (test : Bool) (fact : T test → Fact) → test ≡ false → shown test fact ≡ None
+shown-no : {Fact : Type 0} (test : Bool) (fact : T test → Fact) → test ≡ false → shown_by_test test fact ≡ None
 shown-no true fact fails = absurd (subst T fails tt)
 shown-no false fact fails = refl
 
@@ -38,7 +38,7 @@ pub place_written-some : (x y orient : List ℕ) (p : Place) → coordinate x �
 place_written-some x y orient p x_is y_is orient_is = rw (x_is, y_is, orient_is) (place_at-some p)
 
 -- two words are the target with the value of each
-pub target_of-some : (x y : List ℕ) (t : Point) → coordinate x ≡ Some t.x → coordinate y ≡ Some t.y → target_of (x ∷ y ∷ []) ≡ Some t
+pub target_of-some : (x y : List ℕ) (t : Point) → coordinate x ≡ Some t.x → coordinate y ≡ Some t.y → target_of_words (x ∷ y ∷ []) ≡ Some t
 target_of-some x y t x_is y_is = rw (x_is, y_is) refl
 
 -- the padding at a padding's number of sites is that padding

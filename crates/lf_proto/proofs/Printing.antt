@@ -17,12 +17,12 @@ use Rattle.lf_rules.specs.declared.padding.Padding.{Padding}
 use Rattle.lf_proto.proofs.Blanks.{fields-blank, line_bytes-blank}
 use Rattle.lf_proto.proofs.Digits.{all_digits, is_digit_at, Digits}
 use Rattle.lf_proto.proofs.Places.{place_written-some, target_of-some, padding_at-some}
-use Rattle.lf_proto.specs.Lines.{is_blank, is_line_byte, fields, is_visible, IsName}
+use Rattle.lf_proto.specs.Lines.{is_blank, is_line_byte, fields, is_visible, IsLineName}
 use Rattle.lf_proto.specs.Numbers.{◌>>=◌, digits, below, session_number, padding_at, padding, negative, positive, coordinate}
-use Rattle.lf_proto.specs.Printed.{target_words, operand_words, action_words, printed_fields, printed, ReadsBack}
+use Rattle.lf_proto.specs.Printed.{target_words, operand_words, action_words, printed_fields, printed, RequestReadsBack}
 use Rattle.lf_orient.specs.Words.{orient_word}
-use Rattle.lf_proto.specs.ReplyText.{place_words}
-use Rattle.lf_proto.specs.Requests.{command_in, orient_named, place_written, target_of, operands_by, action_by, command_by_verb, ArePlain, IsInRange, IsTarget, IsPlainAction, IsPlain}
+use Rattle.lf_proto.specs.ReplyText.{reply_place_words}
+use Rattle.lf_proto.specs.Requests.{command_in, orient_named, place_written, target_of_words, operands_by, action_by, command_by_verb, ArePlain, IsInRange, IsTarget, IsPlainAction, IsPlain}
 use Rattle.lf_proto.specs.Verbs.{shape_in, parts_of, joined, NamesReadBack, PartsJoin}
 use Rattle.lf_proto.specs.declared.request.Command.{Command}
 use Rattle.lf_proto.specs.declared.request.Command.TheVariants.{Bye, To}
@@ -93,7 +93,7 @@ place_written-printed p range =
     (coordinate-signed_decimal p.y p.y_in_def range.y_in_range)
     (orient_named-text p.orient)
 
-target_of-printed : (t : Point) → IsTarget t → target_of (target_words t) ≡ Some t
+target_of-printed : (t : Point) → IsTarget t → target_of_words (target_words t) ≡ Some t
 target_of-printed t range =
     target_of-some (signed_decimal t.x) (signed_decimal t.y) t
     (coordinate-signed_decimal t.x range.x_in_range.low range.x_in_range.high)
@@ -129,7 +129,7 @@ module _ (names : NamesReadBack) (parts : PartsJoin (List ℕ)) where
 -- each field is a name
 abbrev AllNames : List (List ℕ) → Type 0
 AllNames [] = Unit {0}
-AllNames (word ∷ words) = IsName word × AllNames words
+AllNames (word ∷ words) = IsLineName word × AllNames words
 
 not_blank : (b : ℕ) → is_visible b ≡ true → is_blank b ≡ false
 not_blank b visible = grind (arith, nat_tests)
@@ -152,7 +152,7 @@ parts-visible (b ∷ name) all =
     let parts = and_parts (is_visible b) (list_all is_visible name) all in
     slice_split-cons_no is_blank b name (not_blank b parts.0) ∙ ap (onto_first b) (parts-visible name parts.1)
 
-fields-name : (name : List ℕ) → IsName name → fields name ≡ name ∷ []
+fields-name : (name : List ℕ) → IsLineName name → fields name ≡ name ∷ []
 fields-name name is =
     ap (filter (λ field. nat_lt 0 (length field))) (parts-visible name is.visible)
     ∙ ap (λ t. cond t (name ∷ []) []) (lt-ltb 0 (length name) is.some)
@@ -172,19 +172,19 @@ line_bytes-joined (word ∷ next ∷ words) names =
     ∙ (ap (λ t. t && list_all is_line_byte (join_with_byte 32 (next ∷ words))) (list_all-weaker is_visible is_line_byte visible_line word names.0.visible)
     ∙ line_bytes-joined (next ∷ words) names.1)
 
-decimal_name : (n : ℕ) → n < 10 ^ 10 → IsName (decimal n)
+decimal_name : (n : ℕ) → n < 10 ^ 10 → IsLineName (decimal n)
 decimal_name n small = record {
   some = (decimal_is_IsNumeral n (omega arith)).0.0;
   visible = list_all-weaker is_ascii_digit is_visible digit_visible (decimal n) (decimal_digits n small);
 }
 
-signed_name : (z : ℤ) → negsuc 2147483647 <ℤ z → z <ℤ pos (2 ^ 31) → IsName (signed_decimal z)
+signed_name : (z : ℤ) → negsuc 2147483647 <ℤ z → z <ℤ pos (2 ^ 31) → IsLineName (signed_decimal z)
 signed_name (pos n) low high = let small : n < 2 ^ 31 = omega (arith, ints) in decimal_name n (omega arith)
 signed_name (negsuc n) low high =
     let small : suc n < 2 ^ 31 = omega (arith, ints) in
     record { some = omega arith; visible = (decimal_name (suc n) (omega arith)).visible }
 
-orient_name : (o : Orient) → IsName (orient_word o)
+orient_name : (o : Orient) → IsLineName (orient_word o)
 orient_name N = record { some = omega arith; visible = refl }
 orient_name W = record { some = omega arith; visible = refl }
 orient_name S = record { some = omega arith; visible = refl }
@@ -194,7 +194,7 @@ orient_name FW = record { some = omega arith; visible = refl }
 orient_name FS = record { some = omega arith; visible = refl }
 orient_name FE = record { some = omega arith; visible = refl }
 
-place_names : (place : Place) → IsInRange place → AllNames (place_words place)
+place_names : (place : Place) → IsInRange place → AllNames (reply_place_words place)
 place_names place range =
     let x_is = signed_name place.x place.x_in_def range.x_in_range in
     let y_is = signed_name place.y place.y_in_def range.y_in_range in
@@ -221,7 +221,7 @@ module _ (names : NamesReadBack) where
   printed_names (To team (Within session action)) (team_is, small, plain) =
       ((names (parts_of action).0).1, (team_is, (decimal_name session (omega arith), operand_names (parts_of action).1 plain)))
 
-pub reads_back : NamesReadBack → PartsJoin (List ℕ) → ReadsBack
+pub reads_back : NamesReadBack → PartsJoin (List ℕ) → RequestReadsBack
 reads_back names parts command plain =
     let all = printed_names names command plain in
     ap (λ t. cond t (command_in (fields (printed command))) None) (line_bytes-joined (printed_fields command) all)

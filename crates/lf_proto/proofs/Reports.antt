@@ -8,17 +8,17 @@ use Rattle.std.proofs.lemmas.List.{length-append}
 use Rattle.serde_json.proofs.OnLiterals.{serde_json_on_literals}
 use Rattle.serde_json.specs.Data.{Items, no_items}
 use Rattle.serde_json.specs.Written.{has_float, compact_text, items_text}
-use Rattle.lf_floorplan.specs.Bounds.{IsName}
+use Rattle.lf_floorplan.specs.Bounds.{IsDesignName}
 use Rattle.lf_rules.specs.declared.rule.Broken.{Broken}
 use Rattle.lf_rules.specs.declared.rule.Rule.{Rule}
 use Rattle.lf_rules.specs.Reports.{HasPrintableNames}
-use Rattle.lf_proto.specs.ReportText.{violation_by, violation_data, violation_in, violation_named, report_by, report_front, report_text}
+use Rattle.lf_proto.specs.ReportText.{violation_object, violation_data, violation_in, violation_named, report_by, report_front, report_text}
 use Rattle.lf_rules.specs.declared.report_types.Report.{Report}
 use Rattle.lf_rules.specs.declared.report_types.Violation.{Violation}
 use Rattle.serde_json.specs.View.{items_of}
 
 -- a violation has no number with a fraction
-pub no_float : (cell : List ℕ) (other : Option (List ℕ)) (rule : Rule) → has_float (violation_by cell other rule) ≡ false
+pub no_float : (cell : List ℕ) (other : Option (List ℕ)) (rule : Rule) → has_float (violation_object cell other rule) ≡ false
 no_float cell None rule = refl
 no_float cell (Some other) rule = refl
 
@@ -49,18 +49,18 @@ in_parts r violations front listed text same first then last =
 
 -- ---- names
 
-name_printed : (names : List (List ℕ)) (own : ℕ) (name : List ℕ) → All IsName names → slice_get names own ≡ Some name → IsName name
+name_printed : (names : List (List ℕ)) (own : ℕ) (name : List ℕ) → All IsDesignName names → slice_get names own ≡ Some name → IsDesignName name
 name_printed names own name printed there =
-    subst IsName (get_or_from_slice_get names own name name there) (printed own name (slice_get_within names own name there))
+    subst IsDesignName (get_or_from_slice_get names own name name there) (printed own name (slice_get_within names own name there))
 
-other_printed : (names : List (List ℕ)) (other : Option ℕ) → All IsName names → ForSome (option_and_then (slice_get names) other) IsName
+other_printed : (names : List (List ℕ)) (other : Option ℕ) → All IsDesignName names → ForSome (option_and_then (slice_get names) other) IsDesignName
 other_printed names None printed = λ name e. absurd cc
 other_printed names (Some own) printed = λ name e. name_printed names own name printed e
 
 -- the names in a violation are names of a text
-pub names_told : (names : List (List ℕ)) (own : ℕ) (verdict : Option Broken) (v : Violation) → All IsName names →
+pub names_reported : (names : List (List ℕ)) (own : ℕ) (verdict : Option Broken) (v : Violation) → All IsDesignName names →
     Some v ≡ option_and_then (violation_in names own) verdict → HasPrintableNames v
-names_told names own verdict v printed is = go verdict is
+names_reported names own verdict v printed is = go verdict is
   where
     named : (b : Broken) (o : Option (List ℕ)) → slice_get names own ≡ o → Some v ≡ option_map (violation_named names b) o → HasPrintableNames v
     named b None at e = absurd cc

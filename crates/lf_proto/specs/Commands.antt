@@ -14,6 +14,6 @@ order_of Open = Open
 order_of (Within session action) = Within session (action_of action)
 
 -- a command whose team and cells are named by lists of bytes
-abbrev pub command_of : Command (Bor (List ℕ)) Place → Command (List ℕ) Place
-command_of Bye = Bye
-command_of (To team order) = To team.now (order_of order)
+abbrev pub command_with_names : Command (Bor (List ℕ)) Place → Command (List ℕ) Place
+command_with_names Bye = Bye
+command_with_names (To team order) = To team.now (order_of order)

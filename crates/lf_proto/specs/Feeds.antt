@@ -1,6 +1,6 @@
 -- What a line framer finds in a piece of a stream, and at the stream's end.
 use Rattle.std.specs.Prelude.{◌≡◌, ℕ, ◌+◌, List, [], ◌∷◌, ◌++◌, length, take, drop, position, Option, Some, None}
-use Rattle.lf_proto.specs.Stream.{is_line_feed, lines_of, without_return}
+use Rattle.lf_proto.specs.Stream.{is_end_of_line, lines_of, without_return}
 use Rattle.lf_proto.specs.Framing.{Framing, with_more}
 use Rattle.lf_proto.specs.declared.framer.Fed.{Fed}
 use Rattle.lf_proto.specs.declared.framer.Got.{Got}
@@ -22,7 +22,7 @@ FeedsAt None old piece fed new = (fed.used ≡ length piece) × (fed.got ≡ Mor
 FeedsAt (Some at) old piece fed new = (fed.used ≡ at + 1) × (new.pending ≡ Some []) × EndsLine (without_return_of (with_more old.pending (take at piece))) fed.got new.line
 
 abbrev pub Feeds : Framing → List ℕ → Fed → Framing → Type 0
-Feeds old piece fed new = FeedsAt (position is_line_feed piece) old piece fed new
+Feeds old piece fed new = FeedsAt (position is_end_of_line piece) old piece fed new
 
 -- the result at the end of the stream: the kept bytes are the last line, with its carriage return
 abbrev pub FinishesAt : Option (List ℕ) → Got → List ℕ → Type 0

@@ -19,6 +19,6 @@ abbrev pub is_visible : ℕ → Bool
 is_visible b = nat_lt 32 b && nat_lt b 127
 
 -- a name: one visible byte or more
-pub record IsName (name : List ℕ) : Type 0 where
+pub record IsLineName (name : List ℕ) : Type 0 where
   pub some : 0 < length name
   pub visible : list_all is_visible name ≡ true

@@ -27,14 +27,14 @@ session_number text = do
   below (2 ^ 32) n
 
 -- the fact that a test shows, if it succeeds
-abbrev pub shown : {Fact : Type 0} (test : Bool) → (T test → Fact) → Option Fact
-shown true fact = Some (fact tt)
-shown false fact = None
+abbrev pub shown_by_test : {Fact : Type 0} (test : Bool) → (T test → Fact) → Option Fact
+shown_by_test true fact = Some (fact tt)
+shown_by_test false fact = None
 
 -- the padding of this number of core sites, which is at most 16
 abbrev pub padding_at : ℕ → Option Padding
 padding_at sites = do
-  most ← shown (nat_le sites 16) leb_yes
+  most ← shown_by_test (nat_le sites 16) leb_yes
   Some (record { sites = sites; most = most })
 
 -- a padding: from 0 to 16

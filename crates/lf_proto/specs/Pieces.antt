@@ -1,11 +1,11 @@
 -- The pieces of a stream between its line feeds.
 use Rattle.std.specs.Prelude.{ℕ, List, [], ◌∷◌, ◌++◌, Option, Some, None}
 use Rattle.std.specs.List.{slice_split}
-use Rattle.lf_proto.specs.Stream.{is_line_feed, lines_in}
+use Rattle.lf_proto.specs.Stream.{is_end_of_line, lines_in}
 
 -- the pieces between line feeds
-abbrev pub pieces : List ℕ → List (List ℕ)
-pieces bytes = slice_split is_line_feed bytes
+abbrev pub between_line_feeds : List ℕ → List (List ℕ)
+between_line_feeds bytes = slice_split is_end_of_line bytes
 
 -- the pieces, with more bytes in front of the first
 abbrev pub with_front : List ℕ → List (List ℕ) → List (List ℕ)

@@ -6,14 +6,14 @@ use Rattle.lf_units.specs.declared.geometry.Point.{Point}
 use Rattle.lf_floorplan.specs.declared.place.Place.{Place}
 use Rattle.lf_proto.specs.Lines.{is_blank}
 use Rattle.lf_proto.specs.Requests.{command_on, IsPlain}
-use Rattle.lf_proto.specs.ReplyText.{place_words}
+use Rattle.lf_proto.specs.ReplyText.{reply_place_words}
 use Rattle.lf_proto.specs.declared.request.Command.{Command}
 use Rattle.lf_proto.specs.declared.request.Command.TheVariants.{Bye, To}
 use Rattle.lf_proto.specs.declared.request.TeamCommand.TheVariants.{Open, Within}
 use Rattle.lf_proto.specs.declared.verb.Operands.{Operands}
 use Rattle.lf_proto.specs.declared.verb.Operands.TheVariants.{Alone, Cell, CellAt, CellTo, Cells, Sites}
 use Rattle.lf_proto.specs.declared.verb.Action.{Action}
-use Rattle.lf_proto.specs.Verbs.{name_of, parts_of}
+use Rattle.lf_proto.specs.Verbs.{verb_name, parts_of}
 
 -- a target: X Y
 abbrev pub target_words : Point → List (List ℕ)
@@ -23,14 +23,14 @@ target_words target = signed_decimal target.x ∷ signed_decimal target.y ∷ []
 abbrev pub operand_words : Operands (List ℕ) Place → List (List ℕ)
 operand_words Alone = []
 operand_words (Cell cell) = cell ∷ []
-operand_words (CellAt cell place) = cell ∷ place_words place
+operand_words (CellAt cell place) = cell ∷ reply_place_words place
 operand_words (CellTo cell target) = cell ∷ target_words target
 operand_words (Cells first second) = first ∷ second ∷ []
 operand_words (Sites padding) = decimal padding.sites ∷ []
 
 -- the verb of a session's action, and its own fields
 abbrev pub action_words : Action (List ℕ) Place → List ℕ × List (List ℕ)
-action_words action = (name_of (parts_of action).0, operand_words (parts_of action).1)
+action_words action = (verb_name (parts_of action).0, operand_words (parts_of action).1)
 
 -- the fields of a request: bye, or open TEAM, or the verb, TEAM N, and the verb's own fields
 abbrev pub printed_fields : Command (List ℕ) Place → List (List ℕ)
@@ -43,8 +43,8 @@ abbrev pub printed : Command (List ℕ) Place → List ℕ
 printed command = join_with_byte 32 (printed_fields command)
 
 -- the line that prints a request reads as that request
-abbrev pub ReadsBack : Type 0
-ReadsBack = (command : Command (List ℕ) Place) → IsPlain command → command_on (printed command) ≡ Some command
+abbrev pub RequestReadsBack : Type 0
+RequestReadsBack = (command : Command (List ℕ) Place) → IsPlain command → command_on (printed command) ≡ Some command
 
 -- a blank at either end of a line does not matter
 abbrev pub PassesBlanksAround : Type 0

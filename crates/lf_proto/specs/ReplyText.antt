@@ -12,12 +12,12 @@ use Rattle.lf_proto.specs.declared.reply.Refusal.{Refusal}
 use Rattle.lf_proto.specs.declared.reply.Refusal.TheVariants.{BadRequest, NoTeam, NoSession, Stale, NoCell, Unplaced, Illegal, NoPlace, NothingToUndo, SessionsFull, RevisionsSpent, OutOfMemory}
 
 -- words with one space between each two, and a line feed
-abbrev pub line_text : List (List ℕ) → List ℕ
-line_text words = join_with_byte 32 words ++ 10 ∷ []
+abbrev pub reply_words_line : List (List ℕ) → List ℕ
+reply_words_line words = join_with_byte 32 words ++ 10 ∷ []
 
 -- a place: its corner and its orientation
-abbrev pub place_words : Place → List (List ℕ)
-place_words place = signed_decimal place.x ∷ signed_decimal place.y ∷ orient_word place.orient ∷ []
+abbrev pub reply_place_words : Place → List (List ℕ)
+reply_place_words place = signed_decimal place.x ∷ signed_decimal place.y ∷ orient_word place.orient ∷ []
 
 -- the other cell's name, if there is another cell
 abbrev pub other_words : Option ℕ → List ℕ → List (List ℕ)
@@ -48,22 +48,22 @@ abbrev pub reply_words : Reply → List ℕ → List ℕ → List (List ℕ)
 reply_words Done cell_name other_name = codes "ok" ∷ []
 reply_words (Opened session revision) cell_name other_name = codes "ok" ∷ decimal session ∷ decimal revision ∷ []
 reply_words (Revision revision) cell_name other_name = codes "ok" ∷ decimal revision ∷ []
-reply_words (At place) cell_name other_name = codes "ok" ∷ place_words place
-reply_words (Legalized revision place) cell_name other_name = codes "ok" ∷ decimal revision ∷ place_words place
+reply_words (At place) cell_name other_name = codes "ok" ∷ reply_place_words place
+reply_words (Legalized revision place) cell_name other_name = codes "ok" ∷ decimal revision ∷ reply_place_words place
 reply_words (Tidied revision moved) cell_name other_name = codes "ok" ∷ decimal revision ∷ decimal moved ∷ []
 reply_words (Report text) cell_name other_name = codes "ok" ∷ text ∷ []
 reply_words (Def text) cell_name other_name = codes "ok" ∷ decimal (length text) ∷ []
 reply_words (Refused refusal) cell_name other_name = codes "no" ∷ refusal_words refusal cell_name other_name
 
 -- the text after the line of a reply: all bytes of a DEF text; the line has its length
-abbrev pub text_behind : Reply → List ℕ
-text_behind (Def text) = text
-text_behind _ = []
+abbrev pub text_after : Reply → List ℕ
+text_after (Def text) = text
+text_after _ = []
 
 -- the line of a reply
 abbrev pub reply_line : Reply → List ℕ → List ℕ → List ℕ
-reply_line reply cell_name other_name = line_text (reply_words reply cell_name other_name)
+reply_line reply cell_name other_name = reply_words_line (reply_words reply cell_name other_name)
 
 -- the text of a reply: its line, and the text after it
 abbrev pub reply_text : Reply → List ℕ → List ℕ → List ℕ
-reply_text reply cell_name other_name = reply_line reply cell_name other_name ++ text_behind reply
+reply_text reply cell_name other_name = reply_line reply cell_name other_name ++ text_after reply

@@ -20,14 +20,14 @@ abbrev pub violation_in : List (List ℕ) → ℕ → Broken → Option Violatio
 violation_in names own b = option_map (violation_named names b) (slice_get names own)
 
 -- the cell, the other cell if there is one, and the number of the rule
-abbrev pub violation_by : List ℕ → Option (List ℕ) → Rule → Data
-violation_by cell None rule = object (member (codes "cell") (string cell) (member (codes "rule") (number (unsigned (number_of rule))) no_members))
-violation_by cell (Some other) rule =
+abbrev pub violation_object : List ℕ → Option (List ℕ) → Rule → Data
+violation_object cell None rule = object (member (codes "cell") (string cell) (member (codes "rule") (number (unsigned (number_of rule))) no_members))
+violation_object cell (Some other) rule =
     object (member (codes "cell") (string cell) (member (codes "other") (string other) (member (codes "rule") (number (unsigned (number_of rule))) no_members)))
 
 -- a violation
 abbrev pub violation_data : Violation → Data
-violation_data v = violation_by v.cell v.other v.rule
+violation_data v = violation_object v.cell v.other v.rule
 
 -- a report: the number of cells, the number of unplaced cells, and the violations
 abbrev pub report_by : ℕ → ℕ → Items → Data

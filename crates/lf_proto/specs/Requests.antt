@@ -7,8 +7,8 @@ use Rattle.lf_units.specs.declared.geometry.Point.{Point}
 use Rattle.lf_orient.specs.declared.Orient.{Orient}
 use Rattle.lf_orient.specs.declared.Orient.TheVariants.{N, W, S, E, FN, FW, FS, FE}
 use Rattle.lf_floorplan.specs.declared.place.Place.{Place}
-use Rattle.lf_proto.specs.Lines.{fields, is_line_byte, IsName}
-use Rattle.lf_proto.specs.Numbers.{◌>>=◌, session_number, shown, padding, coordinate}
+use Rattle.lf_proto.specs.Lines.{fields, is_line_byte, IsLineName}
+use Rattle.lf_proto.specs.Numbers.{◌>>=◌, session_number, shown_by_test, padding, coordinate}
 use Rattle.lf_proto.specs.declared.request.Command.{Command}
 use Rattle.lf_proto.specs.declared.request.Command.TheVariants.{Bye, To}
 use Rattle.lf_proto.specs.declared.request.TeamCommand.TheVariants.{Open, Within}
@@ -35,7 +35,7 @@ orient_named text =
 
 -- a proof that the coordinate is above -2147483648, which no DEF text has
 abbrev pub in_def : (z : ℤ) → Option (negsuc 2147483647 <ℤ z)
-in_def z = shown (lt_z (negsuc 2147483647) z) lt_z_yes
+in_def z = shown_by_test (lt_z (negsuc 2147483647) z) lt_z_yes
 
 -- the place of a cell whose lower left corner is at x and y
 abbrev pub place_at : ℤ → ℤ → Orient → Option Place
@@ -53,17 +53,17 @@ place_written x_text y_text orient_text = do
   place_at x y orient
 
 -- X Y O, and no more fields
-abbrev pub place_of : List (List ℕ) → Option Place
-place_of (x ∷ y ∷ orient ∷ []) = place_written x y orient
-place_of _ = None
+abbrev pub place_of_words : List (List ℕ) → Option Place
+place_of_words (x ∷ y ∷ orient ∷ []) = place_written x y orient
+place_of_words _ = None
 
 -- X Y, and no more fields
-abbrev pub target_of : List (List ℕ) → Option Point
-target_of (x_text ∷ y_text ∷ []) = do
+abbrev pub target_of_words : List (List ℕ) → Option Point
+target_of_words (x_text ∷ y_text ∷ []) = do
   x ← coordinate x_text
   y ← coordinate y_text
   Some (record { x = x; y = y })
-target_of _ = None
+target_of_words _ = None
 
 -- ---- a verb's own fields
 
@@ -73,28 +73,28 @@ alone_of [] = Some NoField
 alone_of _ = None
 
 -- CELL
-abbrev pub cell_of : List (List ℕ) → Option (Operands (List ℕ) Place)
-cell_of (cell ∷ []) = Some (OneCell cell)
-cell_of _ = None
+abbrev pub one_cell_operands : List (List ℕ) → Option (Operands (List ℕ) Place)
+one_cell_operands (cell ∷ []) = Some (OneCell cell)
+one_cell_operands _ = None
 
 -- CELL X Y O
 abbrev pub cell_at_of : List (List ℕ) → Option (Operands (List ℕ) Place)
 cell_at_of (cell ∷ fields) = do
-  place ← place_of fields
+  place ← place_of_words fields
   Some (CellThere cell place)
 cell_at_of _ = None
 
 -- CELL X Y
 abbrev pub cell_to_of : List (List ℕ) → Option (Operands (List ℕ) Place)
 cell_to_of (cell ∷ fields) = do
-  target ← target_of fields
+  target ← target_of_words fields
   Some (CellTowards cell target)
 cell_to_of _ = None
 
 -- CELL CELL
-abbrev pub cells_of : List (List ℕ) → Option (Operands (List ℕ) Place)
-cells_of (first ∷ second ∷ []) = Some (TwoCells first second)
-cells_of _ = None
+abbrev pub two_cell_operands : List (List ℕ) → Option (Operands (List ℕ) Place)
+two_cell_operands (first ∷ second ∷ []) = Some (TwoCells first second)
+two_cell_operands _ = None
 
 -- P
 abbrev pub sites_of : List (List ℕ) → Option (Operands (List ℕ) Place)
@@ -106,10 +106,10 @@ sites_of _ = None
 -- the fields of that shape, and no more
 abbrev pub operands_by : Shape → List (List ℕ) → Option (Operands (List ℕ) Place)
 operands_by Alone = alone_of
-operands_by Cell = cell_of
+operands_by Cell = one_cell_operands
 operands_by CellAt = cell_at_of
 operands_by CellTo = cell_to_of
-operands_by Cells = cells_of
+operands_by Cells = two_cell_operands
 operands_by Sites = sites_of
 
 -- a session's action, from its verb and the fields after its number
@@ -177,10 +177,10 @@ pub record IsTarget (target : Point) : Type 0 where
 -- a verb's own fields that a line can have
 abbrev pub ArePlain : Operands (List ℕ) Place → Type 0
 ArePlain NoField = Unit {0}
-ArePlain (OneCell cell) = IsName cell
-ArePlain (CellThere cell place) = IsName cell × IsInRange place
-ArePlain (CellTowards cell target) = IsName cell × IsTarget target
-ArePlain (TwoCells first second) = IsName first × IsName second
+ArePlain (OneCell cell) = IsLineName cell
+ArePlain (CellThere cell place) = IsLineName cell × IsInRange place
+ArePlain (CellTowards cell target) = IsLineName cell × IsTarget target
+ArePlain (TwoCells first second) = IsLineName first × IsLineName second
 ArePlain (SitesApart padding) = Unit {0}
 
 -- an action that a line can write
@@ -190,5 +190,5 @@ IsPlainAction action = ArePlain (parts_of action).1
 -- a request that a line can write: its names have visible bytes alone, and its numbers have 32 bits
 abbrev pub IsPlain : Command (List ℕ) Place → Type 0
 IsPlain Bye = Unit {0}
-IsPlain (To team Open) = IsName team
-IsPlain (To team (Within session action)) = IsName team × (session < 2 ^ 32) × IsPlainAction action
+IsPlain (To team Open) = IsLineName team
+IsPlain (To team (Within session action)) = IsLineName team × (session < 2 ^ 32) × IsPlainAction action

@@ -3,7 +3,7 @@
 use Rattle.std.specs.Prelude.{◌≡◌, ℕ, List, Option, Some, None, codes, bytes_eq, position, slice_get, option_and_then, option_map}
 use denote.Ref.{Bor}
 use Rattle.lf_floorplan.specs.declared.place.Place.{Place as Placed}
-use Rattle.lf_proto.specs.Lines.{IsName}
+use Rattle.lf_proto.specs.Lines.{IsLineName}
 use Rattle.lf_proto.specs.declared.verb.Verb.{Verb}
 use Rattle.lf_proto.specs.declared.verb.Verb.TheVariants.{Close, Sync, Check, Def, Where, Find, Place, Legalize, Tidy, Unplace, Swap, Undo, Commit, Revert, Pad}
 use Rattle.lf_proto.specs.declared.verb.TheConstants.{VERBS}
@@ -17,22 +17,22 @@ use Rattle.lf_proto.specs.declared.verb.Change.{Change}
 use Rattle.lf_proto.specs.declared.verb.Change.TheVariants.{Place as Placing, Legalize as Legalizing, Tidy as Tidying, Unplace as Unplacing, Swap as Swapping, Undo as Undoing, Commit as Committing, Revert as Reverting, Pad as Padding}
 
 -- a verb's name: the first word of its line
-abbrev pub name_of : Verb → List ℕ
-name_of Close = codes "close"
-name_of Sync = codes "sync"
-name_of Check = codes "check"
-name_of Def = codes "def"
-name_of Where = codes "where"
-name_of Find = codes "find"
-name_of Place = codes "place"
-name_of Legalize = codes "legalize"
-name_of Tidy = codes "tidy"
-name_of Unplace = codes "unplace"
-name_of Swap = codes "swap"
-name_of Undo = codes "undo"
-name_of Commit = codes "commit"
-name_of Revert = codes "revert"
-name_of Pad = codes "pad"
+abbrev pub verb_name : Verb → List ℕ
+verb_name Close = codes "close"
+verb_name Sync = codes "sync"
+verb_name Check = codes "check"
+verb_name Def = codes "def"
+verb_name Where = codes "where"
+verb_name Find = codes "find"
+verb_name Place = codes "place"
+verb_name Legalize = codes "legalize"
+verb_name Tidy = codes "tidy"
+verb_name Unplace = codes "unplace"
+verb_name Swap = codes "swap"
+verb_name Undo = codes "undo"
+verb_name Commit = codes "commit"
+verb_name Revert = codes "revert"
+verb_name Pad = codes "pad"
 
 -- the shape of a verb's own fields
 abbrev pub shape_of : Verb → Shape
@@ -54,7 +54,7 @@ shape_of Pad = Sites
 
 -- a verb by its name
 abbrev pub verb_named : List ℕ → Option Verb
-verb_named word = option_and_then (slice_get VERBS) (position (λ v. bytes_eq (name_of v) word) VERBS)
+verb_named word = option_and_then (slice_get VERBS) (position (λ v. bytes_eq (verb_name v) word) VERBS)
 
 module _ {N P : Type 0} where
   -- an action, as its verb and that verb's own fields
@@ -137,7 +137,7 @@ action_of (Changing change) = Changing (change_of change)
 
 -- each verb is found by its name, which can be a field of a line
 abbrev pub NamesReadBack : Type 0
-NamesReadBack = (v : Verb) → (verb_named (name_of v) ≡ Some v) × IsName (name_of v)
+NamesReadBack = (v : Verb) → (verb_named (verb_name v) ≡ Some v) × IsLineName (verb_name v)
 
 -- an action that is split has fields of its verb's shape, and joined again it is the same; N is the
 -- type of names

@@ -12,5 +12,5 @@ word_text (Length n) = decimal n
 word_text (Signed z) = signed_decimal z
 
 -- a word with a space in front
-abbrev pub spaced : Word → List ℕ
-spaced word = 32 ∷ word_text word
+abbrev pub spaced_word : Word → List ℕ
+spaced_word word = 32 ∷ word_text word

@@ -3,7 +3,7 @@
 ghost use Rattle.std.specs.Prelude.{◌≡◌, ◌<◌, ◌≤◌, Some, [], IfOk, IfSome, length, position, vec_len, vec_capacity};
 ghost use Rattle.lf_proto.specs.Framing.{held_of, with_more};
 ghost use Rattle.lf_proto.specs.Feeds.{Feeds, FinishesAt, FramingKeepsLines};
-ghost use Rattle.lf_proto.specs.Stream.{is_line_feed, limit, without_return};
+ghost use Rattle.lf_proto.specs.Stream.{is_end_of_line, line_limit, without_return};
 
 use std::alloc::{AllocError, Global};
 use std::marker::Model;
@@ -41,22 +41,22 @@ pub struct LineFramer {
 impl Model for LineFramer {
     ghost use Rattle.std.specs.Prelude.{◌≤◌, cond, Some, [], vec_len, vec_capacity};
     ghost use Rattle.lf_proto.specs.Framing.{Framing, held_of};
-    ghost use Rattle.lf_proto.specs.Stream.{limit};
+    ghost use Rattle.lf_proto.specs.Stream.{line_limit};
 
     ghost Value = { Framing };
 
     ghost view = { λ f. record { pending = cond f.ended (Some []) (held_of f.too_long f.buffer.items); line = f.buffer.items } };
 
-    ghost invariant = { λ f. (limit ≤ vec_capacity f.buffer) × (vec_len f.buffer ≤ limit) };
+    ghost invariant = { λ f. (line_limit ≤ vec_capacity f.buffer) × (vec_len f.buffer ≤ line_limit) };
 }
 
 /// Adds the bytes if they fit, and returns true if the line exceeds the limit.
 fn take_in(buffer: &mut Vec<u8>, too_long: bool, bytes: &[u8]) -> bool
-    requires room { limit ≤ vec_capacity buffer.old }
-    requires within { vec_len buffer.old ≤ limit }
+    requires room { line_limit ≤ vec_capacity buffer.old }
+    requires within { vec_len buffer.old ≤ line_limit }
     ensures held { held_of result buffer.new.items ≡ with_more (held_of too_long buffer.old.items) bytes.now }
-    ensures room { limit ≤ vec_capacity buffer.new }
-    ensures within { vec_len buffer.new ≤ limit }
+    ensures room { line_limit ≤ vec_capacity buffer.new }
+    ensures within { vec_len buffer.new ≤ line_limit }
 {
     if too_long || bytes.len() > LIMIT - buffer.len() {
         return true;
@@ -66,7 +66,7 @@ fn take_in(buffer: &mut Vec<u8>, too_long: bool, bytes: &[u8]) -> bool
 
 /// The position of the first line feed.
 fn first_line_feed(piece: &[u8]) -> Option<usize>
-    ensures at { result ≡ position is_line_feed piece.now }
+    ensures at { result ≡ position is_end_of_line piece.now }
     ensures below { IfSome result (λ at. at < length piece.now) }
 {
     piece.iter().position(|byte| *byte == b'\n')
@@ -74,11 +74,11 @@ fn first_line_feed(piece: &[u8]) -> Option<usize>
 
 /// Drops one carriage return at the end, if there is one.
 fn drop_return(buffer: &mut Vec<u8>)
-    requires room { limit ≤ vec_capacity buffer.old }
-    requires within { vec_len buffer.old ≤ limit }
+    requires room { line_limit ≤ vec_capacity buffer.old }
+    requires within { vec_len buffer.old ≤ line_limit }
     ensures items { buffer.new.items ≡ without_return buffer.old.items }
-    ensures room { limit ≤ vec_capacity buffer.new }
-    ensures within { vec_len buffer.new ≤ limit }
+    ensures room { line_limit ≤ vec_capacity buffer.new }
+    ensures within { vec_len buffer.new ≤ line_limit }
 {
     if buffer.last() == Some(&b'\r') {
         buffer.truncate(buffer.len() - 1);
@@ -146,7 +146,7 @@ impl LineFramer {
     pub fn finish(&mut self) -> Got
         ensures given { FinishesAt self.old.pending result self.new.line }
         ensures pending { self.new.pending ≡ Some [] }
-        ensures within { IfSome self.old.pending (λ bytes. length bytes ≤ limit) }
+        ensures within { IfSome self.old.pending (λ bytes. length bytes ≤ line_limit) }
     {
         if self.ended || (self.buffer.is_empty() && !self.too_long) {
             return Got::More;

@@ -2,13 +2,13 @@
 
 ghost use Rattle.std.specs.Prelude.{◌≡◌, MatchResult, None, Some, true, option_map};
 ghost use Rattle.std.specs.List.{list_all};
-ghost use Rattle.lf_proto.specs.Commands.{command_of};
+ghost use Rattle.lf_proto.specs.Commands.{command_with_names};
 ghost use Rattle.lf_proto.specs.Lines.{fields, is_line_byte};
-ghost use Rattle.lf_proto.specs.Requests.{command_in, command_on, orient_named, place_of, place_written, target_of};
-ghost use Rattle.lf_proto.specs.Requests.{action_by, alone_of, bye_of, cell_at_of, cell_of, cell_to_of, cells_of, open_of};
+ghost use Rattle.lf_proto.specs.Requests.{command_in, command_on, orient_named, place_of_words, place_written, target_of_words};
+ghost use Rattle.lf_proto.specs.Requests.{action_by, alone_of, bye_of, cell_at_of, one_cell_operands, cell_to_of, two_cell_operands, open_of};
 ghost use Rattle.lf_proto.specs.Requests.{operands_by, outside_of, sites_of, within_of};
 ghost use Rattle.lf_proto.specs.Verbs.{action_of, operands_of};
-ghost use Rattle.lf_proto.specs.Printed.{PassesBlanksAround, PassesBlanksBetween, ReadsBack};
+ghost use Rattle.lf_proto.specs.Printed.{PassesBlanksAround, PassesBlanksBetween, RequestReadsBack};
 
 use crate::numbers::{coordinate_of, padding_of, session_of};
 use crate::request::{Command, Request, TeamCommand};
@@ -53,7 +53,7 @@ fn read_place(x: &[u8], y: &[u8], orient: &[u8]) -> Option<Place>
 
 /// Reads the place `X Y O` from the last fields.
 fn last_place(mut fields: Fields<'_>) -> Option<Place>
-    ensures { result ≡ place_of fields.entry }
+    ensures { result ≡ place_of_words fields.entry }
 {
     let x = fields.next()?;
     let y = fields.next()?;
@@ -66,7 +66,7 @@ fn last_place(mut fields: Fields<'_>) -> Option<Place>
 
 /// Reads the target `X Y` from the last fields.
 fn last_target(mut fields: Fields<'_>) -> Option<Point>
-    ensures { result ≡ target_of fields.entry }
+    ensures { result ≡ target_of_words fields.entry }
 {
     let x = fields.next()?;
     let y = fields.next()?;
@@ -93,7 +93,7 @@ fn alone<'a>(mut fields: Fields<'a>) -> Option<Operands<&'a [u8]>>
 
 /// Reads the field `CELL`.
 fn cell<'a>(mut fields: Fields<'a>) -> Option<Operands<&'a [u8]>>
-    ensures { option_map operands_of result ≡ cell_of fields.entry }
+    ensures { option_map operands_of result ≡ one_cell_operands fields.entry }
 {
     let cell = fields.next()?;
     if fields.next().is_some() {
@@ -122,7 +122,7 @@ fn cell_to<'a>(mut fields: Fields<'a>) -> Option<Operands<&'a [u8]>>
 
 /// Reads the fields `CELL CELL`.
 fn cells<'a>(mut fields: Fields<'a>) -> Option<Operands<&'a [u8]>>
-    ensures { option_map operands_of result ≡ cells_of fields.entry }
+    ensures { option_map operands_of result ≡ two_cell_operands fields.entry }
 {
     let first = fields.next()?;
     let second = fields.next()?;
@@ -169,7 +169,7 @@ fn action_in<'a>(verb: Verb, fields: Fields<'a>) -> Option<Action<&'a [u8]>>
 
 /// Reads the request `bye`, given the fields after the verb.
 fn bye_request<'a>(mut fields: Fields<'a>) -> Option<Request<'a>>
-    ensures { option_map command_of result ≡ bye_of fields.entry }
+    ensures { option_map command_with_names result ≡ bye_of fields.entry }
 {
     if fields.next().is_some() {
         return None;
@@ -179,7 +179,7 @@ fn bye_request<'a>(mut fields: Fields<'a>) -> Option<Request<'a>>
 
 /// Reads the request `open TEAM`, given the fields after the verb.
 fn open_request<'a>(mut fields: Fields<'a>) -> Option<Request<'a>>
-    ensures { option_map command_of result ≡ open_of fields.entry }
+    ensures { option_map command_with_names result ≡ open_of fields.entry }
 {
     let team = fields.next()?;
     if fields.next().is_some() {
@@ -194,7 +194,7 @@ fn open_request<'a>(mut fields: Fields<'a>) -> Option<Request<'a>>
 /// Reads the request of a session's verb: `TEAM N` and the verb's own fields, given the fields
 /// after the verb.
 fn session_request<'a>(verb: Verb, mut fields: Fields<'a>) -> Option<Request<'a>>
-    ensures { option_map command_of result ≡ within_of verb fields.entry }
+    ensures { option_map command_with_names result ≡ within_of verb fields.entry }
 {
     let team = fields.next()?;
     let session = session_of(fields.next()?)?;
@@ -207,7 +207,7 @@ fn session_request<'a>(verb: Verb, mut fields: Fields<'a>) -> Option<Request<'a>
 
 /// Reads the request `bye` or `open`, given that word and the fields after it.
 fn outside_request<'a>(word: &[u8], fields: Fields<'a>) -> Option<Request<'a>>
-    ensures { option_map command_of result ≡ outside_of word.now fields.entry }
+    ensures { option_map command_with_names result ≡ outside_of word.now fields.entry }
 {
     match word {
         b"bye" => bye_request(fields),
@@ -218,7 +218,7 @@ fn outside_request<'a>(word: &[u8], fields: Fields<'a>) -> Option<Request<'a>>
 
 /// Reads the request in the fields of a line.
 fn request_in<'a>(mut fields: Fields<'a>) -> Option<Request<'a>>
-    ensures { option_map command_of result ≡ command_in fields.entry }
+    ensures { option_map command_with_names result ≡ command_in fields.entry }
 {
     let word = fields.next()?;
     match verb_of(word) {
@@ -248,7 +248,7 @@ fn fields_of<'a>(line: &'a [u8]) -> Fields<'a>
 ///
 /// `Err(BadRequest)` if and only if the line is not a request.
 pub fn parse_line<'a>(line: &'a [u8]) -> Result<Request<'a>, BadRequest>
-    ensures { MatchResult result (λ request. command_on line.now ≡ Some (command_of request)) (λ _. command_on line.now ≡ None) }
+    ensures { MatchResult result (λ request. command_on line.now ≡ Some (command_with_names request)) (λ _. command_on line.now ≡ None) }
 {
     if !is_line(line) {
         return Err(BadRequest);
@@ -260,7 +260,7 @@ pub fn parse_line<'a>(line: &'a [u8]) -> Result<Request<'a>, BadRequest>
 /// `parse_line` returns that request. This holds for every request whose names have visible bytes
 /// alone and whose numbers have 32 bits.
 pub fn printed_reads_back()
-    ensures { ReadsBack }
+    ensures { RequestReadsBack }
 {
     names_read_back();
     parts_join();

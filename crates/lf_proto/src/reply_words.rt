@@ -2,8 +2,8 @@
 
 ghost use Rattle.std.specs.Prelude.{◌≡◌, ◌<◌, ◌≤◌, ◌+◌, ◌++◌, [], ◌∷◌, OnOk, OnErr, IsOk, codes, length, map, take, vec_len, vec_capacity};
 ghost use Rattle.std.specs.List.{flat_map};
-ghost use Rattle.lf_proto.specs.ReplyText.{illegal_words, line_text, refusal_words, reply_line, reply_text, text_behind};
-ghost use Rattle.lf_proto.specs.Words.{spaced, word_text};
+ghost use Rattle.lf_proto.specs.ReplyText.{illegal_words, reply_words_line, refusal_words, reply_line, reply_text, text_after};
+ghost use Rattle.lf_proto.specs.Words.{spaced_word, word_text};
 
 use crate::reply::{Refusal, Reply};
 use itoa::Buffer;
@@ -48,9 +48,9 @@ fn put_word(out: &mut Vec<u8>, word: &Word<'_>) -> Result<(), AllocError>
 
 /// Appends a space and the word. An `Err` may leave a part of them appended.
 fn put_spaced(out: &mut Vec<u8>, word: &Word<'_>) -> Result<(), AllocError>
-    ensures ok { OnOk result (out.new.items ≡ out.old.items ++ spaced word.now) }
+    ensures ok { OnOk result (out.new.items ≡ out.old.items ++ spaced_word word.now) }
     ensures kept { take (vec_len out.old) out.new.items ≡ out.old.items }
-    ensures full { OnErr result (vec_capacity out.old < vec_len out.old + length (spaced word.now)) }
+    ensures full { OnErr result (vec_capacity out.old < vec_len out.old + length (spaced_word word.now)) }
     ensures capacity { vec_capacity out.old ≤ vec_capacity out.new }
 {
     put(out, b" ")?;
@@ -59,10 +59,10 @@ fn put_spaced(out: &mut Vec<u8>, word: &Word<'_>) -> Result<(), AllocError>
 
 /// Appends the words, each after a space. An `Err` may leave a part of them appended.
 fn put_words(out: &mut Vec<u8>, words: &[Word<'_>]) -> Result<(), AllocError>
-    ensures ok { OnOk result (out.new.items ≡ out.old.items ++ flat_map spaced words.now) }
-    ensures len { OnOk result (vec_len out.new ≡ vec_len out.old + length (flat_map spaced words.now)) }
+    ensures ok { OnOk result (out.new.items ≡ out.old.items ++ flat_map spaced_word words.now) }
+    ensures len { OnOk result (vec_len out.new ≡ vec_len out.old + length (flat_map spaced_word words.now)) }
     ensures kept { take (vec_len out.old) out.new.items ≡ out.old.items }
-    ensures full { OnErr result (vec_capacity out.old < vec_len out.old + length (flat_map spaced words.now)) }
+    ensures full { OnErr result (vec_capacity out.old < vec_len out.old + length (flat_map spaced_word words.now)) }
     ensures capacity { vec_capacity out.old ≤ vec_capacity out.new }
 {
     for word in words {
@@ -75,9 +75,9 @@ fn put_words(out: &mut Vec<u8>, words: &[Word<'_>]) -> Result<(), AllocError>
 /// appended.
 #[tactic(auto, using(crate::proofs::Fronts::line_is))]
 fn put_line(out: &mut Vec<u8>, first: &[u8], words: &[Word<'_>]) -> Result<(), AllocError>
-    ensures ok { OnOk result (out.new.items ≡ out.old.items ++ line_text (first.now ∷ map word_text words.now)) }
+    ensures ok { OnOk result (out.new.items ≡ out.old.items ++ reply_words_line (first.now ∷ map word_text words.now)) }
     ensures kept { take (vec_len out.old) out.new.items ≡ out.old.items }
-    ensures full { OnErr result (vec_capacity out.old < vec_len out.old + length (line_text (first.now ∷ map word_text words.now))) }
+    ensures full { OnErr result (vec_capacity out.old < vec_len out.old + length (reply_words_line (first.now ∷ map word_text words.now))) }
     ensures capacity { vec_capacity out.old ≤ vec_capacity out.new }
 {
     put(out, first)?;
@@ -87,9 +87,9 @@ fn put_line(out: &mut Vec<u8>, first: &[u8], words: &[Word<'_>]) -> Result<(), A
 
 /// Appends the line of a refusal that names no cell. An `Err` may leave a part of it appended.
 fn put_plain<'x>(out: &mut Vec<u8>, number: &'x [u8], name: &'x [u8]) -> Result<(), AllocError>
-    ensures ok { OnOk result (out.new.items ≡ out.old.items ++ line_text (codes "no" ∷ number.now ∷ name.now ∷ [])) }
+    ensures ok { OnOk result (out.new.items ≡ out.old.items ++ reply_words_line (codes "no" ∷ number.now ∷ name.now ∷ [])) }
     ensures kept { take (vec_len out.old) out.new.items ≡ out.old.items }
-    ensures full { OnErr result (vec_capacity out.old < vec_len out.old + length (line_text (codes "no" ∷ number.now ∷ name.now ∷ []))) }
+    ensures full { OnErr result (vec_capacity out.old < vec_len out.old + length (reply_words_line (codes "no" ∷ number.now ∷ name.now ∷ []))) }
     ensures capacity { vec_capacity out.old ≤ vec_capacity out.new }
 {
     put_line(out, b"no", &[Word::Text(number), Word::Text(name)])
@@ -104,9 +104,9 @@ fn put_illegal<'x>(
     other_name: &'x [u8],
     out: &mut Vec<u8>,
 ) -> Result<(), AllocError>
-    ensures ok { OnOk result (out.new.items ≡ out.old.items ++ line_text (codes "no" ∷ illegal_words rule other cell_name.now other_name.now)) }
+    ensures ok { OnOk result (out.new.items ≡ out.old.items ++ reply_words_line (codes "no" ∷ illegal_words rule other cell_name.now other_name.now)) }
     ensures kept { take (vec_len out.old) out.new.items ≡ out.old.items }
-    ensures full { OnErr result (vec_capacity out.old < vec_len out.old + length (line_text (codes "no" ∷ illegal_words rule other cell_name.now other_name.now))) }
+    ensures full { OnErr result (vec_capacity out.old < vec_len out.old + length (reply_words_line (codes "no" ∷ illegal_words rule other cell_name.now other_name.now))) }
     ensures capacity { vec_capacity out.old ≤ vec_capacity out.new }
 {
     let number = Word::Number(rule.number());
@@ -142,9 +142,9 @@ fn put_refusal<'x>(
     other_name: &'x [u8],
     out: &mut Vec<u8>,
 ) -> Result<(), AllocError>
-    ensures ok { OnOk result (out.new.items ≡ out.old.items ++ line_text (codes "no" ∷ refusal_words refusal.now cell_name.now other_name.now)) }
+    ensures ok { OnOk result (out.new.items ≡ out.old.items ++ reply_words_line (codes "no" ∷ refusal_words refusal.now cell_name.now other_name.now)) }
     ensures kept { take (vec_len out.old) out.new.items ≡ out.old.items }
-    ensures full { OnErr result (vec_capacity out.old < vec_len out.old + length (line_text (codes "no" ∷ refusal_words refusal.now cell_name.now other_name.now))) }
+    ensures full { OnErr result (vec_capacity out.old < vec_len out.old + length (reply_words_line (codes "no" ∷ refusal_words refusal.now cell_name.now other_name.now))) }
     ensures capacity { vec_capacity out.old ≤ vec_capacity out.new }
 {
     match refusal {
@@ -243,8 +243,8 @@ fn put_reply_line(
 }
 
 /// The text after the line of a reply.
-fn text_behind(reply: &Reply) -> &[u8]
-    ensures { result.now ≡ text_behind reply.now }
+fn text_after(reply: &Reply) -> &[u8]
+    ensures { result.now ≡ text_after reply.now }
 {
     match reply {
         Reply::Def(text) => text.as_bytes(),
@@ -265,7 +265,7 @@ fn put_reply(
     ensures capacity { vec_capacity out.old ≤ vec_capacity out.new }
 {
     put_reply_line(reply, cell_name, other_name, out)?;
-    put(out, text_behind(reply))
+    put(out, text_after(reply))
 }
 
 /// Appends the text of a reply: its line with the line feed, and the text after it. `cell_name` is

@@ -4,7 +4,7 @@ ghost use Rattle.std.specs.Prelude.{◌≡◌, ◌++◌, [], ◌∷◌, All, IfO
 ghost use Rattle.serde_json.specs.Data.{no_items};
 ghost use Rattle.serde_json.specs.View.{view};
 ghost use Rattle.serde_json.specs.Written.{compact_text};
-ghost use Rattle.lf_floorplan.specs.Bounds.{IsName};
+ghost use Rattle.lf_floorplan.specs.Bounds.{IsDesignName};
 ghost use Rattle.lf_rules.specs.declared.report_types.Violation.{Violation};
 ghost use Rattle.lf_rules.specs.Reports.{HasPrintableNames};
 ghost use Rattle.lf_proto.specs.ReportText.{report_by, report_front, report_text, violation_data, violations_text};
@@ -18,7 +18,7 @@ use std::str;
 
 /// Returns the name as a string; each of its bytes is a visible character.
 fn name_text(name: &Name) -> &str
-    requires { IsName name.now }
+    requires { IsDesignName name.now }
     ensures { result.now ≡ name.now }
 {
     match str::from_utf8(name.as_bytes()) {

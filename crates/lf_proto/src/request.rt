@@ -1,7 +1,7 @@
 //! Commands.
 
 ghost use Rattle.std.specs.Prelude.{◌≡◌, IfOk};
-ghost use Rattle.lf_proto.specs.Commands.{command_of, order_of};
+ghost use Rattle.lf_proto.specs.Commands.{command_with_names, order_of};
 
 use crate::verb::Action;
 use lf_floorplan::Place;
@@ -57,7 +57,7 @@ impl Command<&[u8]> {
     ///
     /// `Err` if an allocation fails.
     pub fn to_owned(&self, alloc: Global) -> Result<Command<Name>, AllocError>
-        ensures { IfOk result (λ command. command ≡ command_of self.now) }
+        ensures { IfOk result (λ command. command ≡ command_with_names self.now) }
     {
         Ok(match self {
             Command::Bye => Command::Bye,
@@ -87,7 +87,7 @@ impl TeamCommand<Name> {
 impl Command<Name> {
     /// Returns the same command with borrowed names.
     pub fn borrowed(&self) -> Request<'_>
-        ensures { command_of result ≡ self.now }
+        ensures { command_with_names result ≡ self.now }
     {
         match self {
             Command::Bye => Command::Bye,

@@ -1,7 +1,7 @@
 //! Lists of requests that own their names.
 
 ghost use Rattle.std.specs.Prelude.{◌≡◌, [], ◌∷◌, ◌++◌, ◌↔◌, IsTrue, OnOk, OnErr, length, slice_get, option_map};
-ghost use Rattle.lf_proto.specs.Commands.{command_of};
+ghost use Rattle.lf_proto.specs.Commands.{command_with_names};
 
 use crate::request::{Command, Request};
 use lf_units::Name;
@@ -41,7 +41,7 @@ impl RequestList {
     ///
     /// `Err` if an allocation fails; then the list is unchanged.
     pub fn push(&mut self, request: &Request) -> Result<(), AllocError>
-        ensures ok { OnOk result (self.new ≡ self.old ++ command_of request.now ∷ []) }
+        ensures ok { OnOk result (self.new ≡ self.old ++ command_with_names request.now ∷ []) }
         ensures err { OnErr result (self.new ≡ self.old) }
     {
         let command = request.to_owned(self.alloc)?;
@@ -65,7 +65,7 @@ impl RequestList {
 
     /// Returns the request at a position, the first at 0. `None` if the position is `len` or more.
     pub fn request(&self, position: usize) -> Option<Request<'_>>
-        ensures { option_map command_of result ≡ slice_get self.now position }
+        ensures { option_map command_with_names result ≡ slice_get self.now position }
     {
         match self.commands.get(position) {
             Some(command) => Some(command.borrowed()),

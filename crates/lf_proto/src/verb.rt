@@ -4,7 +4,7 @@
 ghost use Rattle.std.specs.Prelude.{◌≡◌, ℕ, IfOk, List, bytes_eq, position};
 ghost use denote.Ref.{Bor};
 ghost use Rattle.lf_proto.specs.Verbs.{CopiesJoin, NamesReadBack, PartsJoin};
-ghost use Rattle.lf_proto.specs.Verbs.{action_of, joined, name_of, operands_of, parts_of, shape_of, verb_named};
+ghost use Rattle.lf_proto.specs.Verbs.{action_of, joined, verb_name, operands_of, parts_of, shape_of, verb_named};
 
 use lf_floorplan::Place;
 use lf_rules::Padding;
@@ -155,7 +155,7 @@ pub(crate) enum Operands<N, P = Place> {
 impl Verb {
     /// Returns its name: the first word of its line.
     fn name(self) -> &'static [u8]
-        ensures { result.now ≡ name_of self }
+        ensures { result.now ≡ verb_name self }
     {
         match self {
             Verb::Close => b"close",
@@ -202,7 +202,7 @@ impl Verb {
 
 /// Returns the position of the verb of that name in the list. `None` if there is no such verb.
 fn position_of(verbs: &[Verb], word: &[u8]) -> Option<usize>
-    ensures { result ≡ position (λ v. bytes_eq (name_of v) word.now) verbs.now }
+    ensures { result ≡ position (λ v. bytes_eq (verb_name v) word.now) verbs.now }
 {
     verbs.iter().position(|verb| verb.name() == word)
 }
@@ -257,7 +257,7 @@ pub(crate) fn names_read_back()
 /// A law: an action that is split into parts and joined again is the same.
 pub(crate) fn parts_join()
     ensures listed { PartsJoin (List ℕ) }
-    ensures lent { PartsJoin (Bor (List ℕ)) }
+    ensures borrowed_view { PartsJoin (Bor (List ℕ)) }
 {}
 
 /// A law: copying the names and joining a verb with its fields can be done in either order.

@@ -2,7 +2,7 @@
 
 ghost use Rattle.std.specs.Prelude.{◌≡◌, ◌++◌, ℕ, All, IfOk, List, option_and_then, option_map, slice_get};
 ghost use Rattle.std.specs.List.{cons_option};
-ghost use Rattle.lf_floorplan.specs.Bounds.{IsName};
+ghost use Rattle.lf_floorplan.specs.Bounds.{IsDesignName};
 ghost use Rattle.lf_rules.specs.declared.report_types.Violation.{Violation};
 ghost use Rattle.lf_proto.specs.ReportText.{violation_in, violations_text};
 
@@ -103,7 +103,7 @@ pub fn put_verdict<N: Names>(
     text: &mut Vec<u8>,
     later: bool,
 ) -> Result<bool, AllocError>
-    requires { All IsName (N.names names.now) }
+    requires { All IsDesignName (N.names names.now) }
     ensures { (rest : List Violation) → IfOk result (λ now. text.new.items ++ violations_text now rest
         ≡ text.old.items ++ violations_text later (cons_option (option_and_then (violation_in (N.names names.now) own) verdict) rest)) }
 {

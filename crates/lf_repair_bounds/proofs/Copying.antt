@@ -5,7 +5,7 @@ use Rattle.std.proofs.lemmas.List.{length-map}
 use Rattle.std.proofs.lemmas.List.Elements.{All-cons, All-head, All-map, All-nil, All-tail}
 use Rattle.std.proofs.lemmas.List.Kept.{AllPairs-cons}
 use Rattle.lf_floorplan.specs.declared.frame.Frame.{Frame}
-use Rattle.lf_floorplan.specs.declared.loaded.Cell.{Cell}
+use Rattle.lf_floorplan.specs.declared.loaded.LoadedCell.{LoadedCell}
 use Rattle.lf_floorplan.specs.declared.macros.Macro.{Macro}
 use Rattle.lf_floorplan.specs.Boxes.{IsSized}
 use Rattle.lf_floorplan.specs.Design.{CellsNamed, IsCell, MakeDesign}
@@ -70,13 +70,13 @@ pairs_map R S f gives (x ∷ xs) pairs =
 -- ---- cells at other places
 
 -- two cells differ only in their place
-pub record AreOneCell (c d : Cell) : Type 0 where
+pub record AreOneCell (c d : LoadedCell) : Type 0 where
   pub name : d.name ≡ c.name
   pub team : d.team ≡ c.team
   pub mac : d.mac ≡ c.mac
   pub component : d.component ≡ c.component
 
-pub one_known : (f : Frame) (c d : Cell) → AreOneCell c d → IsCell f c → IsCell f d
+pub one_known : (f : Frame) (c d : LoadedCell) → AreOneCell c d → IsCell f c → IsCell f d
 one_known f c d same is = record {
   team_known = rw same.team is.team_known;
   mac_known = rw same.mac is.mac_known;
@@ -84,12 +84,12 @@ one_known f c d same is = record {
   name_printed = rw same.name is.name_printed;
 }
 
-pub named_apart : (h : Cell → Cell) → ((c : Cell) → AreOneCell c (h c)) → (cells : List Cell) → CellsNamed cells → CellsNamed (map h cells)
+pub named_apart : (h : LoadedCell → LoadedCell) → ((c : LoadedCell) → AreOneCell c (h c)) → (cells : List LoadedCell) → CellsNamed cells → CellsNamed (map h cells)
 named_apart h kept cells named =
     pairs_map (λ a b. a.name ≢ b.name) (λ a b. a.name ≢ b.name) h (λ a b differ same. differ (sym (kept a).name ∙ same ∙ (kept b).name)) cells named
 
 -- cells that make a design make one wherever they are placed
-pub design_moved : (f : Frame) (h : Cell → Cell) → ((c : Cell) → AreOneCell c (h c)) → (cells : List Cell) → MakeDesign f cells → MakeDesign f (map h cells)
+pub design_moved : (f : Frame) (h : LoadedCell → LoadedCell) → ((c : LoadedCell) → AreOneCell c (h c)) → (cells : List LoadedCell) → MakeDesign f cells → MakeDesign f (map h cells)
 design_moved f h kept cells is = record {
   few_cells = subst (λ (n : ℕ). n ≤ 4000000) (sym (length-map cells h)) is.few_cells;
   cells_known = All-map (IsCell f) h cells (λ i d within. one_known f _ _ (kept _) (is.cells_known i d within));
@@ -109,7 +109,7 @@ sized_twin f g m twins is = record {
   high = rw twins.header is.high;
 }
 
-cell_twin : (f g : Frame) (c : Cell) → AreCopies f g → IsCell f c → IsCell g c
+cell_twin : (f g : Frame) (c : LoadedCell) → AreCopies f g → IsCell f c → IsCell g c
 cell_twin f g c twins is = record {
   team_known = rw twins.teams is.team_known;
   mac_known = rw twins.macros is.mac_known;
@@ -118,7 +118,7 @@ cell_twin f g c twins is = record {
 }
 
 -- cells that make a design on a frame make one on its copy
-pub design_twin : (f g : Frame) (cells : List Cell) → AreCopies f g → MakeDesign f cells → MakeDesign g cells
+pub design_twin : (f g : Frame) (cells : List LoadedCell) → AreCopies f g → MakeDesign f cells → MakeDesign g cells
 design_twin f g cells twins is = record {
   few_cells = is.few_cells;
   cells_known = λ i d within. cell_twin f g _ twins (is.cells_known i d within);

@@ -5,7 +5,7 @@ use Rattle.std.proofs.lemmas.List.Elements.{All-filter, All-head, All-map, All-n
 use Rattle.lf_units.specs.declared.geometry.Point.{Point}
 use Rattle.lf_floorplan.specs.declared.frame.Frame.{Frame}
 use Rattle.lf_floorplan.specs.declared.macros.Macro.{Macro}
-use Rattle.lf_floorplan.specs.declared.loaded.Cell.{Cell as LoadedCell}
+use Rattle.lf_floorplan.specs.declared.loaded.LoadedCell.{LoadedCell}
 use Rattle.lf_floorplan.specs.declared.loaded.Loaded.{Loaded}
 use Rattle.lf_floorplan.specs.Boxes.{IsSized, macro_of, no_macro}
 use Rattle.lf_rtree.specs.declared.placed.Placed.{Placed}
@@ -14,12 +14,12 @@ use Rattle.lf_rules.specs.Legalizer.{Legalizer}
 use Rattle.lf_rules.specs.Team.{boxes_beside, boxes_from, query_from, with_box}
 use Rattle.lf_cells.specs.declared.cell.Cell.{Cell}
 use Rattle.lf_cells.specs.Cells.{Cells, cells_of}
-use Rattle.lf_cells.specs.Openings.{initial_cell, initial_cells, own_cells, team_numbers}
+use Rattle.lf_cells.specs.Initial.{initial_cell, initial_cells, own_cells, team_numbers}
 use Rattle.lf_legalize.specs.Members.{best_of, member_of}
 use Rattle.lf_occupancy.specs.Floorplans.{HasSize}
 use Rattle.lf_placement.proofs.Keeping.{few_opening, sized_opening}
-use Rattle.lf_repair_bounds.specs.Alone.{alone}
-use Rattle.lf_repair_bounds.specs.Bare.{AreUnplaced, IsEmptyTable}
+use Rattle.lf_repair_bounds.specs.MinDisplacements.{query_alone}
+use Rattle.lf_repair_bounds.specs.EmptyFloors.{AreUnplaced, IsEmptyTable}
 use Rattle.lf_repair_bounds.specs.Copies.{AreCopies}
 use Rattle.lf_repair_bounds.proofs.Copying.{sized_twin}
 
@@ -72,7 +72,7 @@ none_beside f own cells are = ap (λ (boxes : List Placed). beside own boxes) (n
 -- the best place of a cell of its team and macro among unplaced cells is its nearest place alone
 pub alone_best : (l : Legalizer) (f : Frame) (cells : List Cell) (own : ℕ) (c : LoadedCell) (target : Point) (found : Option SpotPlace)
     → IsSized f (macro_of f c.mac) → All (λ d. d.working ≡ None) cells → option_map (λ d. d.mac) (slice_get cells own) ≡ Some c.mac
-    → found ≡ best_of l f c.team 0 cells own target → IsChoice (alone f c) target found
+    → found ≡ best_of l f c.team 0 cells own target → IsChoice (query_alone f c) target found
 alone_best l f cells own c target found sized are mac is = go (slice_get cells own) refl where
   best_at : Option Cell → Option SpotPlace
   best_at o = option_and_then (λ d. l.best_place (query_from f c.team 0 (map member_of cells) own d.mac) target) o
@@ -80,16 +80,16 @@ alone_best l f cells own c target found sized are mac is = go (slice_get cells o
   with_others : List Placed → PlacementQuery
   with_others boxes = record { frame = f; team = c.team; padding = 0; mac = macro_of f c.mac; others = boxes }
 
-  go : (o : Option Cell) → slice_get cells own ≡ o → IsChoice (alone f c) target found
+  go : (o : Option Cell) → slice_get cells own ≡ o → IsChoice (query_alone f c) target found
   go None none = absurd (one (ap (option_map (λ (d : Cell). d.mac)) (sym none) ∙ mac)) where
     one : None ≡ Some c.mac → ⊥
     one same = cc
   go (Some d) some =
       let same : d.mac ≡ c.mac = the_mac (ap (option_map (λ (x : Cell). x.mac)) (sym some) ∙ mac) in
-      let lift : query_from f c.team 0 (map member_of cells) own d.mac ≡ alone f c =
+      let lift : query_from f c.team 0 (map member_of cells) own d.mac ≡ query_alone f c =
       ap (λ (n : ℕ). query_from f c.team 0 (map member_of cells) own n) same ∙ ap (λ (boxes : List Placed). with_others boxes) (none_beside f own cells are) in
-      subst (IsChoice (alone f c) target)
+      subst (IsChoice (query_alone f c) target)
       (sym (is ∙ ap (λ (o : Option Cell). best_at o) some ∙ ap (λ x. l.best_place x target) lift))
-      (l.finds_best_place (alone f c) target sized) where
+      (l.finds_best_place (query_alone f c) target sized) where
         the_mac : Some d.mac ≡ Some c.mac → d.mac ≡ c.mac
         the_mac e = cc

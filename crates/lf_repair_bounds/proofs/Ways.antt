@@ -7,15 +7,15 @@ use Rattle.std.proofs.lemmas.List.{length-replicate}
 use Rattle.std.proofs.lemmas.List.Elements.{All-append, All-cons, All-weaker}
 use Rattle.lf_units.specs.declared.geometry.Point.{Point}
 use Rattle.lf_floorplan.specs.declared.frame.Frame.{Frame}
-use Rattle.lf_floorplan.specs.declared.loaded.Cell.{Cell}
+use Rattle.lf_floorplan.specs.declared.loaded.LoadedCell.{LoadedCell}
 use Rattle.lf_floorplan.specs.declared.place.Place.{Place}
 use Rattle.lf_floorplan.specs.Boxes.{macro_of}
 use Rattle.lf_rtree.specs.declared.placed.Placed.{Placed}
 use Rattle.lf_rules.specs.Choice.{IsBest, IsChoice, PlacementQuery, IsAllowedPlace, Precedes, SpotPlace, distance, spot_of, candidate_at}
 use Rattle.lf_rules.specs.Legality.{IsFrameRuleVerdict, IsTeamLegal, Candidate, candidate_of}
 use Rattle.lf_rules.proofs.LegalParts.{frame_beside, frame_padded, legal_by_parts}
-use Rattle.lf_repair_bounds.specs.Alone.{IsDisplacedAsFar, IsMaxMinDisplacement, IsMinDisplacement, IsMinDisplacementOrNone, AreMaxMinDisplacements, IsNearestDisplacement, NoRepairDoesBetter, alone, corner, query_beside}
-use Rattle.lf_repair_bounds.specs.Bare.{IsRaised, raised}
+use Rattle.lf_repair_bounds.specs.MinDisplacements.{IsDisplacedAsFar, IsMaxMinDisplacement, IsMinDisplacement, IsMinDisplacementOrNone, AreMaxMinDisplacements, IsNearestDisplacement, NoRepairDoesBetter, query_alone, corner, query_beside}
+use Rattle.lf_repair_bounds.specs.EmptyFloors.{IsRaised, raised}
 
 -- ---- one displacement
 
@@ -32,43 +32,43 @@ nearest_best c from best is = record {
   ahead a b (inl less) = omega (arith, less)
   ahead a b (inr both) = let same = both.0 in omega (arith, same)
 
-least_found : (f : Frame) (c : Cell) (home : Place) (place : SpotPlace) → c.place ≡ Some home → IsChoice (alone f c) (corner home) (Some place)
-    → IsMinDisplacement f c (distance (corner home) place)
-least_found f c home place is best =
-    subst (λ (o : Option Place). MatchOption o ⊥ (λ h. IsNearestDisplacement (alone f c) (corner h) (distance (corner home) place))) (sym is)
-    (nearest_best (alone f c) (corner home) place best)
+least_found : (f : Frame) (c : LoadedCell) (wanted_place : Place) (place : SpotPlace) → c.place ≡ Some wanted_place → IsChoice (query_alone f c) (corner wanted_place) (Some place)
+    → IsMinDisplacement f c (distance (corner wanted_place) place)
+least_found f c wanted_place place is best =
+    subst (λ (o : Option Place). MatchOption o ⊥ (λ h. IsNearestDisplacement (query_alone f c) (corner h) (distance (corner wanted_place) place))) (sym is)
+    (nearest_best (query_alone f c) (corner wanted_place) place best)
 
-nowhere_found : (f : Frame) (c : Cell) (home : Place) → c.place ≡ Some home → IsChoice (alone f c) (corner home) None → (way : ℕ) → IsMinDisplacement f c way → ⊥
-nowhere_found f c home placed nowhere way is =
-    let least : IsNearestDisplacement (alone f c) (corner home) way =
-    subst (λ (o : Option Place). MatchOption o ⊥ (λ h. IsNearestDisplacement (alone f c) (corner h) way)) placed is in
+nowhere_found : (f : Frame) (c : LoadedCell) (wanted_place : Place) → c.place ≡ Some wanted_place → IsChoice (query_alone f c) (corner wanted_place) None → (way : ℕ) → IsMinDisplacement f c way → ⊥
+nowhere_found f c wanted_place placed nowhere way is =
+    let least : IsNearestDisplacement (query_alone f c) (corner wanted_place) way =
+    subst (λ (o : Option Place). MatchOption o ⊥ (λ h. IsNearestDisplacement (query_alone f c) (corner h) way)) placed is in
     nowhere least.place least.may_go
 
-pub way_found : (f : Frame) (c : Cell) (home : Place) (found : Option Place) → c.place ≡ Some home → IsChoice (alone f c) (corner home) (option_map spot_of found)
-    → IsMinDisplacementOrNone f c (option_map (λ (place : Place). distance (corner home) (spot_of place)) found)
-way_found f c home (Some place) is choice = least_found f c home (spot_of place) is choice
-way_found f c home None is choice = nowhere_found f c home is choice
+pub way_found : (f : Frame) (c : LoadedCell) (wanted_place : Place) (found : Option Place) → c.place ≡ Some wanted_place → IsChoice (query_alone f c) (corner wanted_place) (option_map spot_of found)
+    → IsMinDisplacementOrNone f c (option_map (λ (place : Place). distance (corner wanted_place) (spot_of place)) found)
+way_found f c wanted_place (Some place) is choice = least_found f c wanted_place (spot_of place) is choice
+way_found f c wanted_place None is choice = nowhere_found f c wanted_place is choice
 
-pub unplaced_none : (f : Frame) (c : Cell) → c.place ≡ None → (way : ℕ) → IsMinDisplacement f c way → ⊥
-unplaced_none f c none way is = subst (λ (o : Option Place). MatchOption o ⊥ (λ h. IsNearestDisplacement (alone f c) (corner h) way)) none is
+pub unplaced_none : (f : Frame) (c : LoadedCell) → c.place ≡ None → (way : ℕ) → IsMinDisplacement f c way → ⊥
+unplaced_none f c none way is = subst (λ (o : Option Place). MatchOption o ⊥ (λ h. IsNearestDisplacement (query_alone f c) (corner h) way)) none is
 
 none_apart : (z : ℤ) → unsigned_abs (z -ℤ z) ≡ 0
 none_apart z =
     let same : z -ℤ z ≡ pos 0 = omega (arith, ints) in
     ap unsigned_abs same
 
-no_way : (home : Place) → distance (corner home) (spot_of home) ≡ 0
-no_way home = omega (arith, none_apart home.x, none_apart home.y)
+no_way : (wanted_place : Place) → distance (corner wanted_place) (spot_of wanted_place) ≡ 0
+no_way wanted_place = omega (arith, none_apart wanted_place.x, none_apart wanted_place.y)
 
-pub least_stays : (f : Frame) (c : Cell) (home : Place) → c.place ≡ Some home → IsAllowedPlace (alone f c) (spot_of home) → IsMinDisplacement f c 0
-least_stays f c home is may =
-    subst (λ (o : Option Place). MatchOption o ⊥ (λ h. IsNearestDisplacement (alone f c) (corner h) 0)) (sym is)
-    record { place = spot_of home; may_go = may; is = no_way home; nearest = λ p goes. omega arith }
+pub least_stays : (f : Frame) (c : LoadedCell) (wanted_place : Place) → c.place ≡ Some wanted_place → IsAllowedPlace (query_alone f c) (spot_of wanted_place) → IsMinDisplacement f c 0
+least_stays f c wanted_place is may =
+    subst (λ (o : Option Place). MatchOption o ⊥ (λ h. IsNearestDisplacement (query_alone f c) (corner h) 0)) (sym is)
+    record { place = spot_of wanted_place; may_go = may; is = no_way wanted_place; nearest = λ p goes. omega arith }
 
 -- a cell has one least displacement
-no_longer : (f : Frame) (c : Cell) (a b : ℕ) → IsMinDisplacement f c a → IsMinDisplacement f c b → b ≤ a
+no_longer : (f : Frame) (c : LoadedCell) (a b : ℕ) → IsMinDisplacement f c a → IsMinDisplacement f c b → b ≤ a
 no_longer f c a b one other = go c.place one other where
-  go : (o : Option Place) → MatchOption o ⊥ (λ h. IsNearestDisplacement (alone f c) (corner h) a) → MatchOption o ⊥ (λ h. IsNearestDisplacement (alone f c) (corner h) b) → b ≤ a
+  go : (o : Option Place) → MatchOption o ⊥ (λ h. IsNearestDisplacement (query_alone f c) (corner h) a) → MatchOption o ⊥ (λ h. IsNearestDisplacement (query_alone f c) (corner h) b) → b ≤ a
   go None one other = absurd one
   go (Some h) one other = subst (λ (n : ℕ). b ≤ n) one.is (other.nearest one.place one.may_go)
 
@@ -101,7 +101,7 @@ pub none_largest : (f : Frame) (team : ℕ) → IsMaxMinDisplacement f [] team 0
 none_largest f team = record { no_larger = λ i d within. absurd (omega (arith, within)); is_one = inl refl }
 
 -- a cell of another team makes no difference
-other_cell : (f : Frame) (cells : List Cell) (c : Cell) (team largest : ℕ) → c.team ≢ team → IsMaxMinDisplacement f cells team largest
+other_cell : (f : Frame) (cells : List LoadedCell) (c : LoadedCell) (team largest : ℕ) → c.team ≢ team → IsMaxMinDisplacement f cells team largest
     → IsMaxMinDisplacement f (cells ++ c ∷ []) team largest
 other_cell f cells c team largest other is = record {
   no_larger = All-append (λ d. d.team ≡ team → (way : ℕ) → IsMinDisplacement f d way → way ≤ largest) cells (c ∷ []) is.no_larger
@@ -111,7 +111,7 @@ other_cell f cells c team largest other is = record {
 }
 
 -- a cell of the team raises it to its own
-own_cell : (f : Frame) (cells : List Cell) (c : Cell) (largest : ℕ) (way : Option ℕ) → IsMinDisplacementOrNone f c way → IsMaxMinDisplacement f cells c.team largest
+own_cell : (f : Frame) (cells : List LoadedCell) (c : LoadedCell) (largest : ℕ) (way : Option ℕ) → IsMinDisplacementOrNone f c way → IsMaxMinDisplacement f cells c.team largest
     → IsMaxMinDisplacement f (cells ++ c ∷ []) c.team (raised largest way)
 own_cell f cells c largest None none is = record {
   no_larger = All-append (λ d. d.team ≡ c.team → (way : ℕ) → IsMinDisplacement f d way → way ≤ largest) cells (c ∷ []) is.no_larger
@@ -127,10 +127,10 @@ own_cell f cells c largest (Some far) least is = record {
       (λ (less : largest < far). subst (λ (n : ℕ). (n ≡ 0) ⊎ Any (Goes n) (cells ++ c ∷ [])) (sym (grows less)) (inr (any_last (Goes far) cells c (refl, least))))
       (either far largest);
 } where
-  Bounded : ℕ → Cell → Type 0
+  Bounded : ℕ → LoadedCell → Type 0
   Bounded most d = d.team ≡ c.team → (way : ℕ) → IsMinDisplacement f d way → way ≤ most
 
-  Goes : ℕ → Cell → Type 0
+  Goes : ℕ → LoadedCell → Type 0
   Goes n d = (d.team ≡ c.team) × IsMinDisplacement f d n
 
   upto : (way : ℕ) → way ≤ largest → way ≤ max largest far
@@ -157,7 +157,7 @@ own_cell f cells c largest (Some far) least is = record {
   either (suc a) (suc b) = ⊎_elim (λ (few : a ≤ b). inl (omega (arith, few))) (λ (more : b < a). inr (omega (arith, more))) (either a b)
 
 -- one cell more
-pub one_raised : (f : Frame) (cells : List Cell) (c : Cell) (way : Option ℕ) (old new : List ℕ) → IsMinDisplacementOrNone f c way → IsRaised c.team way old new
+pub one_raised : (f : Frame) (cells : List LoadedCell) (c : LoadedCell) (way : Option ℕ) (old new : List ℕ) → IsMinDisplacementOrNone f c way → IsRaised c.team way old new
     → AreMaxMinDisplacements f cells old → AreMaxMinDisplacements f (cells ++ c ∷ []) new
 one_raised f cells c way old new least are each team largest there = ⊎_elim (λ (same : team ≡ c.team). here same) (λ (other : team ≢ c.team). apart other) (same_or team c.team) where
   past : (xs ys : List ℕ) (k : ℕ) → length ys ≡ length xs → slice_get xs k ≡ None → slice_get ys k ≡ Some largest → ⊥
@@ -214,17 +214,17 @@ take_more {X} (y ∷ ys) (suc k) x e =
 -- ---- the place of a cell
 
 -- a cell that breaks no rule is allowed at its place, if there are no soft blockages
-pub may_stay : (f : Frame) (c : Cell) (home : Place) → length f.soft ≡ 0 → IsFrameRuleVerdict (candidate_of f c.team 0 (macro_of f c.mac) home []) None
-    → IsAllowedPlace (alone f c) (spot_of home)
-may_stay f c home none keeps = record {
-  legal = (legal_by_parts (candidate_at (alone f c) (spot_of home))).1 (keeps, λ i d within. absurd (omega (arith, within)));
-  off_soft = λ meets. let within = meets.2 in absurd (omega (arith, within, none));
+pub may_stay : (f : Frame) (c : LoadedCell) (wanted_place : Place) → length f.soft ≡ 0 → IsFrameRuleVerdict (candidate_of f c.team 0 (macro_of f c.mac) wanted_place []) None
+    → IsAllowedPlace (query_alone f c) (spot_of wanted_place)
+may_stay f c wanted_place none keeps = record {
+  legal = (legal_by_parts (candidate_at (query_alone f c) (spot_of wanted_place))).1 (keeps, λ i d within. absurd (omega (arith, within)));
+  off_soft = λ does_overlap. let within = does_overlap.2 in absurd (omega (arith, within, none));
 }
 
 -- ---- what it means for any repair
 
 -- a place that is allowed for a cell with any other cells is allowed for it alone
-alone_too : (f : Frame) (c : Cell) (padding : ℕ) (others : List Placed) (p : SpotPlace) → IsAllowedPlace (query_beside f c padding others) p → IsAllowedPlace (alone f c) p
+alone_too : (f : Frame) (c : LoadedCell) (padding : ℕ) (others : List Placed) (p : SpotPlace) → IsAllowedPlace (query_beside f c padding others) p → IsAllowedPlace (query_alone f c) p
 alone_too f c padding others p may = record { legal = legal; off_soft = may.off_soft } where
   t : Candidate
   t = candidate_at (query_beside f c padding others) p
@@ -232,15 +232,15 @@ alone_too f c padding others p may = record { legal = legal; off_soft = may.off_
   bare : Candidate
   bare = candidate_at (query_beside f c padding []) p
 
-  legal : IsTeamLegal (candidate_at (alone f c) p)
-  legal = (legal_by_parts (candidate_at (alone f c) p)).1 (
+  legal : IsTeamLegal (candidate_at (query_alone f c) p)
+  legal = (legal_by_parts (candidate_at (query_alone f c) p)).1 (
     frame_padded bare 0 (frame_beside t [] ((legal_by_parts t).0 may.legal).0),
     λ i d within. absurd (omega (arith, within)),
   )
 
-goes_as_far : (f : Frame) (c : Cell) (way : ℕ) → IsMinDisplacement f c way → IsDisplacedAsFar f c way
+goes_as_far : (f : Frame) (c : LoadedCell) (way : ℕ) → IsMinDisplacement f c way → IsDisplacedAsFar f c way
 goes_as_far f c way is = go c.place is where
-  go : (o : Option Place) → MatchOption o ⊥ (λ h. IsNearestDisplacement (alone f c) (corner h) way)
+  go : (o : Option Place) → MatchOption o ⊥ (λ h. IsNearestDisplacement (query_alone f c) (corner h) way)
       → MatchOption o ⊥ (λ h. (padding : ℕ) (others : List Placed) (p : SpotPlace) → IsAllowedPlace (query_beside f c padding others) p → way ≤ distance (corner h) p)
   go None is = is
   go (Some h) is = λ padding others p may. is.nearest p (alone_too f c padding others p may)

@@ -1,3 +1,3 @@
 pub mod Copies
-pub mod Alone
-pub mod Bare
+pub mod MinDisplacements
+pub mod EmptyFloors

@@ -5,7 +5,7 @@ ghost use Rattle.lf_floorplan.specs.Design.{MakeDesign};
 ghost use Rattle.lf_floorplan.specs.LoadedCells.{borrowed_cell, with_name};
 ghost use Rattle.lf_cells.specs.Cells.{cell_at};
 ghost use Rattle.lf_repair_bounds.specs.Copies.{AreCopies};
-ghost use Rattle.lf_repair_bounds.specs.Bare.{AreUnplaced, IsEmptyFloorOf, IsEmptyTable, IsKeptOr, unplaced};
+ghost use Rattle.lf_repair_bounds.specs.EmptyFloors.{AreUnplaced, IsEmptyFloorOf, IsEmptyTable, IsKeptOr, unplaced_cell_at};
 
 use crate::frame_copy::clone_frame;
 use lf_cells::{CellId, CellTable};
@@ -64,7 +64,7 @@ fn is_new(firsts: &mut Firsts, team: usize, mac: usize) -> Result<bool, AllocErr
 /// The cell, unplaced, as the entry at position `at`. `None` if a number of it exceeds the limits
 /// of a design.
 fn plain_of(cell: &CellRef<'_>, at: usize) -> Option<UnnamedCell>
-    ensures { IfSome result (λ plain. with_name cell.now.name.now plain ≡ unplaced at (borrowed_cell cell.now)) }
+    ensures { IfSome result (λ plain. with_name cell.now.name.now plain ≡ unplaced_cell_at at (borrowed_cell cell.now)) }
 {
     Some(UnnamedCell {
         team: u32::try_from(cell.team).ok()?,

@@ -4,8 +4,8 @@ ghost use Rattle.std.specs.Prelude.{◌≡◌, ◌+◌, IfOk, Some, length, opti
 ghost use Rattle.lf_floorplan.specs.Design.{IsCell};
 ghost use Rattle.lf_floorplan.specs.LoadedCells.{borrowed_cell};
 ghost use Rattle.lf_rules.specs.Choice.{distance, spot_of};
-ghost use Rattle.lf_repair_bounds.specs.Alone.{AreMaxMinDisplacements, IsMinDisplacementOrNone, corner as corner_of};
-ghost use Rattle.lf_repair_bounds.specs.Bare.{IsEmptyFloorOf, IsRaised};
+ghost use Rattle.lf_repair_bounds.specs.MinDisplacements.{AreMaxMinDisplacements, IsMinDisplacementOrNone, corner as corner_of};
+ghost use Rattle.lf_repair_bounds.specs.EmptyFloors.{IsEmptyFloorOf, IsRaised};
 
 use crate::empty_floor::{EmptyFloor, empty_floor};
 use crate::nearest_place::{is_legal_alone, nearest};
@@ -31,11 +31,11 @@ fn displacement(from: &Place, to: &Place) -> u64
 }
 
 /// The distance to the place that was found. `None` if no place was found.
-fn displacement_to(home: &Place, found: &Option<Place>) -> Option<u64>
-    ensures { result ≡ option_map (λ place. distance (corner_of home.now) (spot_of place)) found.now }
+fn displacement_to(wanted_place: &Place, found: &Option<Place>) -> Option<u64>
+    ensures { result ≡ option_map (λ place. distance (corner_of wanted_place.now) (spot_of place)) found.now }
 {
     match found {
-        Some(place) => Some(displacement(home, place)),
+        Some(place) => Some(displacement(wanted_place, place)),
         None => None,
     }
 }
@@ -46,19 +46,19 @@ fn min_displacement_from(
     frame: &Frame,
     bare: &EmptyFloor,
     cell: &CellRef<'_>,
-    home: &Place,
+    wanted_place: &Place,
 ) -> Result<Option<u64>, AllocError>
     requires bare { IsEmptyFloorOf frame.now bare.now }
     requires cell { IsCell frame.now (borrowed_cell cell.now) }
-    requires home { cell.now.place ≡ Some home.now }
+    requires wanted_place { cell.now.place ≡ Some wanted_place.now }
     ensures { IfOk result (IsMinDisplacementOrNone frame.now (borrowed_cell cell.now)) }
 {
-    if is_legal_alone(frame, bare, cell, home) {
+    if is_legal_alone(frame, bare, cell, wanted_place) {
         return Ok(Some(0));
     }
-    let from = corner(home);
+    let from = corner(wanted_place);
     let found = nearest(alloc, frame, bare, cell, &from)?;
-    Ok(displacement_to(home, &found))
+    Ok(displacement_to(wanted_place, &found))
 }
 
 /// The cell's least displacement. `None` if it is unplaced, or no place is allowed for it.
@@ -73,7 +73,7 @@ fn min_displacement(
     ensures { IfOk result (IsMinDisplacementOrNone frame.now (borrowed_cell cell.now)) }
 {
     match cell.place {
-        Some(home) => min_displacement_from(alloc, frame, bare, cell, &home),
+        Some(wanted_place) => min_displacement_from(alloc, frame, bare, cell, &wanted_place),
         None => Ok(None),
     }
 }

@@ -7,8 +7,8 @@ ghost use Rattle.lf_floorplan.specs.LoadedCells.{borrowed_cell};
 ghost use Rattle.lf_cells.specs.Cells.{cell_at};
 ghost use Rattle.lf_rules.specs.Choice.{IsChoice, IsAllowedPlace, spot_of};
 ghost use Rattle.lf_rules.specs.Legality.{IsFrameRuleVerdict, candidate_of};
-ghost use Rattle.lf_repair_bounds.specs.Alone.{alone};
-ghost use Rattle.lf_repair_bounds.specs.Bare.{IsEmptyFloorOf};
+ghost use Rattle.lf_repair_bounds.specs.MinDisplacements.{query_alone};
+ghost use Rattle.lf_repair_bounds.specs.EmptyFloors.{IsEmptyFloorOf};
 
 use crate::empty_floor::{EmptyFloor, id_of};
 use lf_cells::CellId;
@@ -32,7 +32,7 @@ fn nearest_of(
     requires sized { IsSized frame.now (macro_of frame.now cell.now.mac) }
     requires team { id.team ≡ cell.now.team }
     requires mac { option_map (λ c. c.mac) (cell_at bare.now.table id) ≡ Some cell.now.mac }
-    ensures { IfOk result (λ found. IsChoice (alone frame.now (borrowed_cell cell.now)) target.now (option_map spot_of found)) }
+    ensures { IfOk result (λ found. IsChoice (query_alone frame.now (borrowed_cell cell.now)) target.now (option_map spot_of found)) }
 {
     legalizer_exists();
     let filled = bare.occupancy.with_boxes(frame, &bare.table);
@@ -58,7 +58,7 @@ pub(crate) fn nearest(
 ) -> Result<Option<Place>, AllocError>
     requires bare { IsEmptyFloorOf frame.now bare.now }
     requires cell { IsCell frame.now (borrowed_cell cell.now) }
-    ensures { IfOk result (λ found. IsChoice (alone frame.now (borrowed_cell cell.now)) target.now (option_map spot_of found)) }
+    ensures { IfOk result (λ found. IsChoice (query_alone frame.now (borrowed_cell cell.now)) target.now (option_map spot_of found)) }
 {
     if let Some(id) = id_of(bare, cell.team, cell.mac) {
         return nearest_of(alloc, frame, bare, id, cell, target);
@@ -75,14 +75,14 @@ fn has_no_soft(frame: &Frame) -> bool
 }
 
 /// Whether the cell alone breaks no rule at this place.
-fn keeps_rules(frame: &Frame, bare: &EmptyFloor, cell: &CellRef<'_>, home: &Place) -> bool
+fn keeps_rules(frame: &Frame, bare: &EmptyFloor, cell: &CellRef<'_>, wanted_place: &Place) -> bool
     requires bare { IsEmptyFloorOf frame.now bare.now }
     requires cell { IsCell frame.now (borrowed_cell cell.now) }
-    ensures { IsTrue result → IsFrameRuleVerdict (candidate_of frame.now cell.now.team 0 (macro_of frame.now cell.now.mac) home.now []) None }
+    ensures { IsTrue result → IsFrameRuleVerdict (candidate_of frame.now cell.now.team 0 (macro_of frame.now cell.now.mac) wanted_place.now []) None }
 {
     let plan = IndexedFrame::new(frame, bare.occupancy.index());
     let mac = mac_at(frame, cell.mac);
-    match broken_frame_rule(&plan, cell.team, mac, home) {
+    match broken_frame_rule(&plan, cell.team, mac, wanted_place) {
         Some(_) => false,
         None => true,
     }
@@ -94,14 +94,14 @@ pub(crate) fn is_legal_alone(
     frame: &Frame,
     bare: &EmptyFloor,
     cell: &CellRef<'_>,
-    home: &Place,
+    wanted_place: &Place,
 ) -> bool
     requires bare { IsEmptyFloorOf frame.now bare.now }
     requires cell { IsCell frame.now (borrowed_cell cell.now) }
-    ensures { IsTrue result → IsAllowedPlace (alone frame.now (borrowed_cell cell.now)) (spot_of home.now) }
+    ensures { IsTrue result → IsAllowedPlace (query_alone frame.now (borrowed_cell cell.now)) (spot_of wanted_place.now) }
 {
     if !has_no_soft(frame) {
         return false;
     }
-    keeps_rules(frame, bare, cell, home)
+    keeps_rules(frame, bare, cell, wanted_place)
 }

@@ -1,10 +1,10 @@
 -- The invariant of a packed span.
 use Rattle.std.specs.Prelude.{◌≡◌, ℕ, ◌≤◌, List}
-use Rattle.lf_repair_packing.specs.declared.cells.Cell.{Cell}
+use Rattle.lf_repair_packing.specs.declared.cells.PackedCell.{PackedCell}
 use Rattle.lf_repair_packing.specs.Packing.{IsPacked, total_width}
 
 -- the cells are packed in the room, and `taken` is the number of sites that they take
-pub record IsSegment (room taken : ℕ) (cells : List Cell) : Type 0 where
+pub record IsPackedSpan (room taken : ℕ) (cells : List PackedCell) : Type 0 where
   pub packed : IsPacked room cells
   pub counted : taken ≡ total_width cells
   pub short : taken ≤ room

@@ -2,24 +2,24 @@
 -- the others stay.
 use Rattle.std.specs.Prelude.{◌≡◌, ℕ, ◌+◌, ◌≤◌, List, All, drop, take, length}
 use Rattle.std.specs.List.{between}
-use Rattle.lf_repair_packing.specs.declared.cells.Cell.{Cell}
+use Rattle.lf_repair_packing.specs.declared.cells.PackedCell.{PackedCell}
 use Rattle.lf_repair_packing.specs.declared.window.Window.{Window}
 use Rattle.lf_repair_packing.specs.Packing.{AreSameCells, IsPackedWithin, total_width}
 
 -- the least site at which all of the cells have ended
-pub record IsFrontEnd (cells : List Cell) (site : ℕ) : Type 0 where
+pub record IsFrontEnd (cells : List PackedCell) (site : ℕ) : Type 0 where
   pub ends : All (λ c. c.at + c.width ≤ site) cells
   pub least : (limit : ℕ) → All (λ c. c.at + c.width ≤ limit) cells → site ≤ limit
 
 -- the greatest site, within the room, with all of the cells at it or to its right
-pub record IsBackStart (room : ℕ) (cells : List Cell) (site : ℕ) : Type 0 where
+pub record IsBackStart (room : ℕ) (cells : List PackedCell) (site : ℕ) : Type 0 where
   pub begins : All (λ c. site ≤ c.at) cells
   pub short : site ≤ room
   pub greatest : (limit : ℕ) → limit ≤ room → All (λ c. limit ≤ c.at) cells → limit ≤ site
 
 -- the cells of the window have room between its sites with one more of this width, and all other
 -- cells are on either side
-pub record IsWindow (room : ℕ) (cells : List Cell) (width : ℕ) (window : Window) : Type 0 where
+pub record IsWindow (room : ℕ) (cells : List PackedCell) (width : ℕ) (window : Window) : Type 0 where
   pub order : window.first ≤ window.last
   pub within : window.last ≤ length cells
   pub front : IsFrontEnd (take window.first cells) window.start
@@ -28,7 +28,7 @@ pub record IsWindow (room : ℕ) (cells : List Cell) (width : ℕ) (window : Win
 
 -- the cells of the window are packed between its sites, they do not move if they were packed
 -- already, and all other cells do not move
-pub record MovesWithin (window : Window) (old new : List Cell) : Type 0 where
+pub record MovesWithin (window : Window) (old new : List PackedCell) : Type 0 where
   pub front : take window.first new ≡ take window.first old
   pub back : drop window.last new ≡ drop window.last old
   pub packed : IsPackedWithin window.start window.end (between window.first window.last new)

@@ -1,11 +1,11 @@
 //! A cell in a span.
 
 ghost use Rattle.std.specs.Prelude.{◌≡◌, ◌+◌, ◌<◌, ◌≤◌, ◌^◌, ◌↔◌, IsTrue, length};
-ghost use Rattle.lf_repair_packing.specs.Packing.{total_displacement, total_width};
+ghost use Rattle.lf_repair_packing.specs.Packing.{total_site_displacement, total_width};
 
 /// A cell of one row's height. Sites are counted from the first one of its span.
 #[derive(Clone, Copy, Debug, PartialEq, Eq)]
-pub struct Cell {
+pub struct PackedCell {
     /// The caller's number for the cell.
     pub number: u32,
     /// The width in sites.
@@ -17,7 +17,7 @@ pub struct Cell {
 }
 
 /// The total width of the cells, in sites.
-pub(crate) fn width_of(cells: &[Cell]) -> u32
+pub(crate) fn width_of(cells: &[PackedCell]) -> u32
     requires { total_width cells.now < 2 ^ 32 }
     ensures { result ≡ total_width cells.now }
 {
@@ -29,7 +29,7 @@ pub(crate) fn width_of(cells: &[Cell]) -> u32
 }
 
 /// Whether the cells fit between two sites, next to each other.
-pub(crate) fn have_room(cells: &[Cell], start: u64, end: u64) -> bool
+pub(crate) fn have_room(cells: &[PackedCell], start: u64, end: u64) -> bool
     requires { end < 2 ^ 63 }
     ensures { IsTrue result ↔ start + total_width cells.now ≤ end }
 {
@@ -44,9 +44,9 @@ pub(crate) fn have_room(cells: &[Cell], start: u64, end: u64) -> bool
 }
 
 /// The total displacement of the cells from their targets, in sites.
-pub(crate) fn total_displacement(cells: &[Cell]) -> u64
+pub(crate) fn total_displacement(cells: &[PackedCell]) -> u64
     requires { length cells.now ≤ 2 ^ 30 }
-    ensures way { result ≡ total_displacement cells.now }
+    ensures way { result ≡ total_site_displacement cells.now }
     ensures far { result < 2 ^ 63 }
 {
     let mut way = 0;

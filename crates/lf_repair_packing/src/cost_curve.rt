@@ -2,7 +2,7 @@
 
 ghost use Rattle.std.specs.Prelude.{◌≡◌, ◌≤◌, ◌<◌};
 
-use crate::cells::Cell;
+use crate::cells::PackedCell;
 use std::alloc::{AllocError, Global};
 
 /// A site at which the slope changes, and the change.
@@ -125,7 +125,7 @@ impl CostCurve {
     }
 
     /// Adds a cell that is pushed to the left if the moved one comes nearer than this distance.
-    pub(crate) fn add_left(&mut self, cell: &Cell, distance: u32) -> Result<(), AllocError> {
+    pub(crate) fn add_left(&mut self, cell: &PackedCell, distance: u32) -> Result<(), AllocError> {
         let (at, wanted, distance) = (cell.at as i64, cell.wanted as i64, distance as i64);
         let pushed = at.min(self.low as i64 - distance);
         self.raise((pushed - wanted).abs() - (at - wanted).abs(), -1);
@@ -137,7 +137,7 @@ impl CostCurve {
     }
 
     /// Adds a cell that is pushed to the right if the moved one comes nearer than this distance.
-    pub(crate) fn add_right(&mut self, cell: &Cell, distance: u32) -> Result<(), AllocError> {
+    pub(crate) fn add_right(&mut self, cell: &PackedCell, distance: u32) -> Result<(), AllocError> {
         let (at, wanted, distance) = (cell.at as i64, cell.wanted as i64, distance as i64);
         let pushed = at.max(self.low as i64 + distance);
         self.raise((pushed - wanted).abs() - (at - wanted).abs(), 0);

@@ -2,7 +2,7 @@
 
 ghost use Rattle.std.specs.Prelude.{◌≡◌, ◌≤◌, ◌<◌, ◌↔◌, IfOk, IfSome, length};
 
-use crate::cells::Cell;
+use crate::cells::PackedCell;
 use crate::cost_curve::CostCurve;
 use std::alloc::AllocError;
 
@@ -39,7 +39,7 @@ struct Side {
 }
 
 /// The cells on the left of a gap that conflict with a cell as far left as site `lowest`.
-fn left_side(cells: &[Cell], gap: usize, lowest: i64, most: usize) -> Side
+fn left_side(cells: &[PackedCell], gap: usize, lowest: i64, most: usize) -> Side
     requires { gap ≤ length cells.now }
     ensures { result.count ≤ gap }
 {
@@ -69,7 +69,7 @@ fn left_side(cells: &[Cell], gap: usize, lowest: i64, most: usize) -> Side
 
 /// The cells on the right of a gap that conflict with a cell of this width as far right as site
 /// `highest`.
-fn right_side(cells: &[Cell], width: u32, highest: i64, most: usize, room: u32) -> Side
+fn right_side(cells: &[PackedCell], width: u32, highest: i64, most: usize, room: u32) -> Side
     ensures { result.count ≤ length cells.now }
 {
     let mut distance = width;
@@ -96,7 +96,11 @@ fn right_side(cells: &[Cell], width: u32, highest: i64, most: usize, room: u32) 
 }
 
 /// Adds the cells of a gap's left side, which has this extent, to the curve, from left to right.
-fn add_left_side(curve: &mut CostCurve, cells: &[Cell], extent: u32) -> Result<(), AllocError> {
+fn add_left_side(
+    curve: &mut CostCurve,
+    cells: &[PackedCell],
+    extent: u32,
+) -> Result<(), AllocError> {
     let mut distance = extent;
     for cell in cells {
         curve.add_left(cell, distance)?;
@@ -106,7 +110,11 @@ fn add_left_side(curve: &mut CostCurve, cells: &[Cell], extent: u32) -> Result<(
 }
 
 /// Adds the cells on the right side of a gap with a cell of this width to the curve.
-fn add_right_side(curve: &mut CostCurve, cells: &[Cell], width: u32) -> Result<(), AllocError> {
+fn add_right_side(
+    curve: &mut CostCurve,
+    cells: &[PackedCell],
+    width: u32,
+) -> Result<(), AllocError> {
     let mut distance = width;
     for cell in cells {
         curve.add_right(cell, distance)?;
@@ -119,15 +127,15 @@ fn add_right_side(curve: &mut CostCurve, cells: &[Cell], width: u32) -> Result<(
 /// grow least. `None` if it finds no room within the limits of the search. `Err` if an allocation
 /// fails.
 pub(crate) fn try_gap(
-    cells: &[Cell],
+    cells: &[PackedCell],
     room: u32,
     gap: usize,
-    cell: &Cell,
+    cell: &PackedCell,
     effort: &SearchEffort,
     curve: &mut CostCurve,
 ) -> Result<Option<Insertion>, AllocError>
     requires gap { gap ≤ length cells.now }
-    ensures gap { IfOk result (λ found. IfSome found (λ trial. trial.gap ≡ gap)) }
+    ensures gap { IfOk result (λ found. IfSome found (λ candidate_cell. candidate_cell.gap ≡ gap)) }
 {
     let (wanted, reach) = (cell.wanted as i64, effort.reach as i64);
     let left = left_side(cells, gap, wanted - reach, effort.most);

@@ -35,7 +35,7 @@ mod packed_span;
 mod push_apart;
 mod window;
 
-pub use cells::Cell;
+pub use cells::PackedCell;
 pub use cost_curve::CostCurve;
 pub use insertion::{Insertion, SearchEffort};
 pub use packed_span::PackedSpan;

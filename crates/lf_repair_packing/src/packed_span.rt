@@ -2,10 +2,10 @@
 
 ghost use Rattle.std.specs.Prelude.{◌≡◌, ◌+◌, ◌≤◌, ◌<◌, ◌^◌, ◌+ℤ◌, ◌↔◌, pos, []};
 ghost use Rattle.std.specs.Prelude.{IfOk, IfSome, IsTrue, OnOk, OnErr, insert, length, remove, set, slice_index_or, vec_len};
-ghost use Rattle.lf_repair_packing.specs.declared.cells.Cell.{Cell};
-ghost use Rattle.lf_repair_packing.specs.Packing.{AreSameCells, IsPacked, at_place_of, total_displacement, total_width};
+ghost use Rattle.lf_repair_packing.specs.declared.cells.PackedCell.{PackedCell};
+ghost use Rattle.lf_repair_packing.specs.Packing.{AreSameCells, IsPacked, at_place_of, total_site_displacement, total_width};
 
-use crate::cells::{Cell, total_displacement};
+use crate::cells::{PackedCell, total_displacement};
 use crate::cost_curve::CostCurve;
 use crate::insertion::{Insertion, SearchEffort, try_gap};
 use crate::window::insert_cell;
@@ -18,7 +18,7 @@ use std::marker::Model;
 pub struct PackedSpan {
     room: u32,
     taken: u32,
-    cells: Vec<Cell>,
+    cells: Vec<PackedCell>,
 }
 
 impl Model for PackedSpan {
@@ -28,13 +28,13 @@ impl Model for PackedSpan {
 
     ghost view = { λ s. record { room = s.room; cells = s.cells.items } };
 
-    ghost use Rattle.lf_repair_packing.specs.Segments.{IsSegment};
+    ghost use Rattle.lf_repair_packing.specs.Segments.{IsPackedSpan};
 
-    ghost invariant = { λ s. IsSegment s.room s.taken s.cells.items };
+    ghost invariant = { λ s. IsPackedSpan s.room s.taken s.cells.items };
 }
 
 /// The gap in front of the first cell whose middle lies right of that of a cell at its target.
-fn gap_near(cells: &[Cell], wanted: u32, width: u32) -> usize
+fn gap_near(cells: &[PackedCell], wanted: u32, width: u32) -> usize
     ensures { result ≤ length cells.now }
 {
     let middle = 2 * wanted as u64 + width as u64;
@@ -42,9 +42,9 @@ fn gap_near(cells: &[Cell], wanted: u32, width: u32) -> usize
 }
 
 /// Whether the cell at position `own` has this number.
-fn is_numbered(cells: &[Cell], own: usize, number: u32) -> bool
+fn is_numbered(cells: &[PackedCell], own: usize, number: u32) -> bool
     ensures within { IsTrue result → own < length cells.now }
-    ensures number { (d : Cell) → IsTrue result → (slice_index_or cells.now own d).number ≡ number }
+    ensures number { (d : PackedCell) → IsTrue result → (slice_index_or cells.now own d).number ≡ number }
 {
     match cells.get(own) {
         Some(cell) => cell.number == number,
@@ -53,9 +53,9 @@ fn is_numbered(cells: &[Cell], own: usize, number: u32) -> bool
 }
 
 /// The position of the cell with this number, searched outward from site `near`.
-fn find_near(cells: &[Cell], number: u32, near: u32) -> Option<usize>
+fn find_near(cells: &[PackedCell], number: u32, near: u32) -> Option<usize>
     ensures within { IfSome result (λ own. own < length cells.now) }
-    ensures number { (d : Cell) → IfSome result (λ own. (slice_index_or cells.now own d).number ≡ number) }
+    ensures number { (d : PackedCell) → IfSome result (λ own. (slice_index_or cells.now own d).number ≡ number) }
 {
     let middle = cells.partition_point(|cell| cell.at < near);
     for away in 0..cells.len() {
@@ -70,12 +70,12 @@ fn find_near(cells: &[Cell], number: u32, near: u32) -> Option<usize>
 }
 
 /// Replaces the cell at position `own` by another one, at the same site.
-fn replace_cell(cells: &mut Vec<Cell>, own: usize, cell: Cell)
+fn replace_cell(cells: &mut Vec<PackedCell>, own: usize, cell: PackedCell)
     requires { own < vec_len cells.old }
     ensures { cells.new.items ≡ set cells.old.items own (at_place_of (slice_index_or cells.old.items own cell) cell) }
 {
     let at = cells[own].at;
-    cells[own] = Cell { at, ..cell };
+    cells[own] = PackedCell { at, ..cell };
 }
 
 impl PackedSpan {
@@ -98,7 +98,7 @@ impl PackedSpan {
     }
 
     /// The cells, from left to right.
-    pub fn as_slice(&self) -> &[Cell]
+    pub fn as_slice(&self) -> &[PackedCell]
         ensures cells { result.now ≡ self.now.cells }
         ensures packed { IsPacked self.now.room result.now }
     {
@@ -116,7 +116,7 @@ impl PackedSpan {
     /// when it is `None`.
     pub fn find(&self, number: u32, near: u32) -> Option<usize>
         ensures within { IfSome result (λ own. own < length self.now.cells) }
-        ensures number { (d : Cell) → IfSome result (λ own. (slice_index_or self.now.cells own d).number ≡ number) }
+        ensures number { (d : PackedCell) → IfSome result (λ own. (slice_index_or self.now.cells own d).number ≡ number) }
     {
         find_near(self.cells.as_slice(), number, near)
     }
@@ -124,14 +124,14 @@ impl PackedSpan {
     /// The total displacement of the cells from their targets, in sites.
     pub fn displacement(&self) -> u64
         requires few { length self.now.cells ≤ 2 ^ 30 }
-        ensures way { result ≡ total_displacement self.now.cells }
+        ensures way { result ≡ total_site_displacement self.now.cells }
     {
         total_displacement(self.cells.as_slice())
     }
 
     /// The gap to search first: in front of the first cell whose middle lies right of the given
     /// cell's middle at its target.
-    pub fn gap_near(&self, cell: &Cell) -> usize
+    pub fn gap_near(&self, cell: &PackedCell) -> usize
         ensures { result ≤ length self.now.cells }
     {
         gap_near(self.cells.as_slice(), cell.wanted, cell.width)
@@ -142,12 +142,12 @@ impl PackedSpan {
     pub fn try_insertion(
         &self,
         gap: usize,
-        cell: &Cell,
+        cell: &PackedCell,
         effort: &SearchEffort,
         curve: &mut CostCurve,
     ) -> Result<Option<Insertion>, AllocError>
         requires gap { gap ≤ length self.now.cells }
-        ensures gap { IfOk result (λ found. IfSome found (λ trial. trial.gap ≡ gap)) }
+        ensures gap { IfOk result (λ found. IfSome found (λ candidate_cell. candidate_cell.gap ≡ gap)) }
     {
         try_gap(self.cells.as_slice(), self.room, gap, cell, effort, curve)
     }
@@ -155,14 +155,14 @@ impl PackedSpan {
     /// Inserts a cell at position `gap`, at its own site if that is free, otherwise near it. The
     /// others make room. Returns by how much the total displacement of the cells grows. `Err` if an
     /// allocation fails; then nothing is changed.
-    pub fn insert(&mut self, gap: usize, cell: Cell) -> Result<i64, AllocError>
+    pub fn insert(&mut self, gap: usize, cell: PackedCell) -> Result<i64, AllocError>
         requires gap { gap ≤ length self.old.cells }
         requires few { length self.old.cells < 2 ^ 30 }
         requires fits { total_width self.old.cells + cell.width ≤ self.old.room }
         ensures room { self.new.room ≡ self.old.room }
         ensures cells { OnOk result (AreSameCells (insert self.old.cells gap cell) self.new.cells) }
         ensures free { OnOk result (IsPacked self.old.room (insert self.old.cells gap cell) → self.new.cells ≡ insert self.old.cells gap cell) }
-        ensures cost { IfOk result (λ cost. pos (total_displacement self.new.cells) ≡ (pos (total_displacement self.old.cells) +ℤ cost)) }
+        ensures cost { IfOk result (λ cost. pos (total_site_displacement self.new.cells) ≡ (pos (total_site_displacement self.old.cells) +ℤ cost)) }
         ensures failed { OnErr result (self.new ≡ self.old) }
     {
         let cost = insert_cell(&mut self.cells, gap, cell, self.room)?;
@@ -171,7 +171,7 @@ impl PackedSpan {
     }
 
     /// Removes the cell at position `own`. The others stay.
-    pub fn remove(&mut self, own: usize) -> Cell
+    pub fn remove(&mut self, own: usize) -> PackedCell
         requires { own < length self.old.cells }
         ensures cell { result ≡ slice_index_or self.old.cells own result }
         ensures room { self.new.room ≡ self.old.room }
@@ -183,7 +183,7 @@ impl PackedSpan {
     }
 
     /// Replaces the cell at position `own` by another one of the same width, at the same site.
-    pub fn replace(&mut self, own: usize, cell: Cell)
+    pub fn replace(&mut self, own: usize, cell: PackedCell)
         requires own { own < length self.old.cells }
         requires width { (slice_index_or self.old.cells own cell).width ≡ cell.width }
         ensures room { self.new.room ≡ self.old.room }

@@ -2,10 +2,10 @@
 
 ghost use Rattle.std.specs.Prelude.{◌≡◌, ◌+◌, ◌≤◌, ◌<◌, ◌^◌, ◌+ℤ◌, IfOk, OnErr, OnOk, drop, insert, length, pos, take, vec_len};
 ghost use Rattle.std.specs.List.{between};
-ghost use Rattle.lf_repair_packing.specs.Packing.{AreSameCells, IsPacked, total_displacement, total_width};
+ghost use Rattle.lf_repair_packing.specs.Packing.{AreSameCells, IsPacked, total_site_displacement, total_width};
 ghost use Rattle.lf_repair_packing.specs.Windows.{IsBackStart, IsFrontEnd, IsWindow, MovesWithin};
 
-use crate::cells::{Cell, have_room, total_displacement};
+use crate::cells::{PackedCell, have_room, total_displacement};
 use crate::push_apart::settle_around;
 use std::alloc::AllocError;
 
@@ -23,7 +23,7 @@ struct Window {
 
 /// The first cell that must be pushed left if a cell is inserted at position `gap` and begins at
 /// site `at`.
-fn first_pushed(cells: &[Cell], gap: usize, at: u32) -> usize
+fn first_pushed(cells: &[PackedCell], gap: usize, at: u32) -> usize
     requires { gap ≤ length cells.now }
     ensures { result ≤ gap }
 {
@@ -45,7 +45,7 @@ fn first_pushed(cells: &[Cell], gap: usize, at: u32) -> usize
 
 /// The position after the last cell that must be pushed right if a cell is inserted at position
 /// `gap` and ends at site `end`.
-fn last_pushed(cells: &[Cell], gap: usize, end: u32) -> usize
+fn last_pushed(cells: &[PackedCell], gap: usize, end: u32) -> usize
     requires { gap ≤ length cells.now }
     ensures from { gap ≤ result }
     ensures within { result ≤ length cells.now }
@@ -64,7 +64,7 @@ fn last_pushed(cells: &[Cell], gap: usize, end: u32) -> usize
 }
 
 /// The site where the cells in front of position `first` end.
-fn front_end(cells: &[Cell], first: usize, room: u32) -> u32
+fn front_end(cells: &[PackedCell], first: usize, room: u32) -> u32
     requires first { first ≤ length cells.now }
     requires packed { IsPacked room cells.now }
     ensures { IsFrontEnd (take first cells.now) result }
@@ -77,7 +77,7 @@ fn front_end(cells: &[Cell], first: usize, room: u32) -> u32
 }
 
 /// The site where the cells from position `last` on begin, or the end of the span.
-fn back_start(cells: &[Cell], last: usize, room: u32) -> u32
+fn back_start(cells: &[PackedCell], last: usize, room: u32) -> u32
     requires last { last ≤ length cells.now }
     requires packed { IsPacked room cells.now }
     ensures { IsBackStart room (drop last cells.now) result }
@@ -90,7 +90,7 @@ fn back_start(cells: &[Cell], last: usize, room: u32) -> u32
 
 /// The cells that make room for a cell inserted at position `gap`. These are the ones that must be
 /// pushed, if they have room; otherwise all cells.
-fn window_at(cells: &[Cell], gap: usize, cell: &Cell, room: u32) -> Window
+fn window_at(cells: &[PackedCell], gap: usize, cell: &PackedCell, room: u32) -> Window
     requires gap { gap ≤ length cells.now }
     requires packed { IsPacked room cells.now }
     requires fits { total_width cells.now + cell.now.width ≤ room }
@@ -141,7 +141,7 @@ fn growth(before: u64, after: u64) -> i64
 
 /// Moves the cells of a window apart between its sites. Those in front of position `own` make room
 /// for its cell first.
-fn move_cells(cells: &mut [Cell], own: usize, window: &Window)
+fn move_cells(cells: &mut [PackedCell], own: usize, window: &Window)
     requires first { window.now.first ≤ own }
     requires own { own < window.now.last }
     requires last { window.now.last ≤ length cells.old }
@@ -157,7 +157,7 @@ fn move_cells(cells: &mut [Cell], own: usize, window: &Window)
 }
 
 /// Moves the cells of a window as `move_cells` does, in a vector.
-fn move_list(cells: &mut Vec<Cell>, own: usize, window: &Window)
+fn move_list(cells: &mut Vec<PackedCell>, own: usize, window: &Window)
     requires first { window.now.first ≤ own }
     requires own { own < window.now.last }
     requires last { window.now.last ≤ vec_len cells.old }
@@ -172,9 +172,9 @@ fn move_list(cells: &mut Vec<Cell>, own: usize, window: &Window)
 /// overlap it make room. Returns by how much the total displacement of the cells grows. `Err` if an
 /// allocation fails; then nothing is changed.
 pub(crate) fn insert_cell(
-    cells: &mut Vec<Cell>,
+    cells: &mut Vec<PackedCell>,
     gap: usize,
-    cell: Cell,
+    cell: PackedCell,
     room: u32,
 ) -> Result<i64, AllocError>
     requires gap { gap ≤ vec_len cells.old }
@@ -184,7 +184,7 @@ pub(crate) fn insert_cell(
     ensures packed { OnOk result (IsPacked room cells.new.items) }
     ensures same { OnOk result (AreSameCells (insert cells.old.items gap cell) cells.new.items) }
     ensures free { OnOk result (IsPacked room (insert cells.old.items gap cell) → cells.new.items ≡ insert cells.old.items gap cell) }
-    ensures cost { IfOk result (λ cost. pos (total_displacement cells.new.items) ≡ (pos (total_displacement cells.old.items) +ℤ cost)) }
+    ensures cost { IfOk result (λ cost. pos (total_site_displacement cells.new.items) ≡ (pos (total_site_displacement cells.old.items) +ℤ cost)) }
     ensures failed { OnErr result (cells.new.items ≡ cells.old.items) }
 {
     let window = window_at(cells.as_slice(), gap, &cell, room);

@@ -30,7 +30,7 @@ pub one_more : (spans : List FreeSpan) (wishes : List PlannerCell) (span own fre
     → slice_get spans span ≡ Some sites → slice_get wishes own ≡ Some wish → slice_get spots own ≡ Some None
     → span < length spans → own < length spots → free ≤ at * sites.step → at * sites.step + wish.width ≤ sites.count * sites.step
     → IsFilledTo spans wishes span (at * sites.step + wish.width) (set spots own (Some (record { span = span; at = at })))
-one_more spans wishes span own free at sites wish spots filled span_is wish_is none spanned within behind ends = record {
+one_more spans wishes span own free at sites wish spots filled span_is wish_is none spanned within after_it ends = record {
   plan = record { spanned = new_spanned; within = new_within; apart = new_apart };
   before = new_before;
 } where
@@ -84,7 +84,7 @@ one_more spans wishes span own free at sites wish spots filled span_is wish_is n
   ends_before : (j : ℕ) (spot : PlannedSite) → slice_get spots j ≡ Some (Some spot) → spot.span ≡ span → end_at spans wishes j spot ≤ start_at spans here
   ends_before j spot is same = elim (filled.before j spot is) [
     | inl less ↦ absurd (omega (arith, less, same))
-    | inr by ↦ omega (arith, by.1, behind, start_is)
+    | inr by ↦ omega (arith, by.1, after_it, start_is)
   ]
 
   Apart : ℕ → ℕ → PlannedSite → PlannedSite → Type 0
@@ -113,6 +113,6 @@ one_more spans wishes span own free at sites wish spots filled span_is wish_is n
     )
     | inr old ↦ elim (filled.before j spot old.1) [
       | inl less ↦ inl less
-      | inr by ↦ inr (by.0, omega (arith, by.1, behind))
+      | inr by ↦ inr (by.0, omega (arith, by.1, after_it))
     ]
   ]

@@ -8,7 +8,7 @@ use crate::order::{order_of, widest_first};
 use crate::passes::{PlanCost, PlannerInput, nearest_alone};
 use crate::plan_state::PlanState;
 use crate::scored_plan::{ScoredPlan, initial_limits, try_order};
-use lf_repair_packing::{Cell, CostCurve, PackedSpan};
+use lf_repair_packing::{CostCurve, PackedCell, PackedSpan};
 use std::alloc::{AllocError, Global};
 
 /// A cell: its target and its width, in database units, and the rows on which it may be placed.
@@ -71,7 +71,7 @@ fn note_cell(
     spots: &mut Vec<Option<PlannedSite>>,
     given: &PlannerInput,
     span: usize,
-    cell: &Cell,
+    cell: &PackedCell,
     free: u64,
 ) -> u64
     requires { IsFilledTo given.now.land.now.spans.items given.now.wishes.now span free spots.old.items }
@@ -96,7 +96,7 @@ fn note_span(
     spots: &mut Vec<Option<PlannedSite>>,
     given: &PlannerInput,
     span: usize,
-    cells: &[Cell],
+    cells: &[PackedCell],
 )
     requires { IsFilledTo given.now.land.now.spans.items given.now.wishes.now span 0 spots.old.items }
     ensures filled { IsFilledTo given.now.land.now.spans.items given.now.wishes.now (span + 1) 0 spots.new.items }

@@ -2,7 +2,7 @@
 
 use crate::free_rows::FreeRows;
 use crate::search_limits::number_of;
-use lf_repair_packing::{Cell, PackedSpan};
+use lf_repair_packing::{PackedCell, PackedSpan};
 use std::alloc::{AllocError, Global};
 
 /// A place in the free rows: the span, the gap between the cells there, and the cell with its site.
@@ -10,7 +10,7 @@ use std::alloc::{AllocError, Global};
 pub(crate) struct Gap {
     pub(crate) span: usize,
     pub(crate) gap: usize,
-    pub(crate) cell: Cell,
+    pub(crate) cell: PackedCell,
 }
 
 /// The span of a placed cell, and a site near its own.
@@ -24,7 +24,7 @@ pub(crate) struct CellSpan {
 #[derive(Drop)]
 pub(crate) struct PlanState {
     pub(crate) segments: Vec<PackedSpan>,
-    pub(crate) stands: Vec<Option<CellSpan>>,
+    pub(crate) is_in_place: Vec<Option<CellSpan>>,
 }
 
 /// The greatest number of cells in one span.
@@ -43,7 +43,7 @@ pub(crate) fn empty_segments(
 }
 
 /// Inserts a cell. Returns false if it has no room there.
-fn put_in(segment: &mut PackedSpan, gap: usize, cell: Cell) -> Result<bool, AllocError> {
+fn put_in(segment: &mut PackedSpan, gap: usize, cell: PackedCell) -> Result<bool, AllocError> {
     if segment.len() < gap || MOST <= segment.len() || !segment.has_room(cell.width) {
         return Ok(false);
     }
@@ -52,7 +52,7 @@ fn put_in(segment: &mut PackedSpan, gap: usize, cell: Cell) -> Result<bool, Allo
 }
 
 /// The cell with this number, as it is placed in the segment, and its position there.
-fn find_in(segment: &PackedSpan, number: u32, near: u32) -> Option<(usize, Cell)> {
+fn find_in(segment: &PackedSpan, number: u32, near: u32) -> Option<(usize, PackedCell)> {
     let own = segment.find(number, near)?;
     Some((own, segment.as_slice()[own]))
 }
@@ -66,7 +66,7 @@ impl PlanState {
     ) -> Result<PlanState, AllocError> {
         Ok(PlanState {
             segments: empty_segments(alloc, land)?,
-            stands: vec![in alloc; None; count]?,
+            is_in_place: vec![in alloc; None; count]?,
         })
     }
 
@@ -78,8 +78,8 @@ impl PlanState {
         if !put_in(segment, gap.gap, gap.cell)? {
             return Ok(());
         }
-        if let Some(stand) = self.stands.get_mut(gap.cell.number as usize) {
-            *stand = Some(CellSpan {
+        if let Some(are_placed) = self.is_in_place.get_mut(gap.cell.number as usize) {
+            *are_placed = Some(CellSpan {
                 span: number_of(gap.span),
                 near: gap.cell.at,
             });
@@ -89,10 +89,10 @@ impl PlanState {
 
     /// The gap that a cell would leave. `None` if it has no place.
     pub(crate) fn place_of(&self, number: u32) -> Option<Gap> {
-        let stand = (*self.stands.get(number as usize)?)?;
-        let span = stand.span as usize;
+        let are_placed = (*self.is_in_place.get(number as usize)?)?;
+        let span = are_placed.span as usize;
         let segment = self.segments.get(span)?;
-        let (gap, cell) = find_in(segment, number, stand.near)?;
+        let (gap, cell) = find_in(segment, number, are_placed.near)?;
         Some(Gap { span, gap, cell })
     }
 

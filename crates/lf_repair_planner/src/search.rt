@@ -7,7 +7,7 @@ use crate::free_rows::{FreeRows, FreeSpan, PlannerRow};
 use crate::plan::PlannerCell;
 use crate::plan_state::Gap;
 use crate::search_limits::{SearchLimits, apart, cost_of};
-use lf_repair_packing::{Cell, CostCurve, PackedSpan, SearchEffort};
+use lf_repair_packing::{CostCurve, PackedCell, PackedSpan, SearchEffort};
 use std::alloc::AllocError;
 
 /// A cell to place, and the spans to search.
@@ -30,9 +30,9 @@ pub(crate) struct Best {
 /// The cell as it is tried in a span, and its cost there when it is at the span's site nearest to
 /// its target.
 #[derive(Clone, Copy)]
-struct SpanTrial {
+struct SpanCandidate {
     span: usize,
-    cell: Cell,
+    cell: PackedCell,
     effort: SearchEffort,
     pitch: i64,
     base: i64,
@@ -51,8 +51,8 @@ fn site_at(sites: &FreeSpan, x: i32) -> i64 {
 }
 
 /// A cell with this number and width, at its target.
-fn cell_at(number: u32, width: u32, wanted: u32) -> Cell {
-    Cell {
+fn cell_at(number: u32, width: u32, wanted: u32) -> PackedCell {
+    PackedCell {
         number,
         width,
         wanted,
@@ -68,7 +68,7 @@ fn try_of(
     sites: &FreeSpan,
     dy: i64,
     best: &Best,
-) -> Option<SpanTrial> {
+) -> Option<SpanCandidate> {
     let pitch = sites.pitch();
     let width = (search.wish.width as i64 + pitch - 1) / pitch;
     let last = sites.count as i64 - width;
@@ -99,7 +99,7 @@ fn try_of(
         near: clipped(near.saturating_sub(outside)),
         weight: search.how.weight,
     };
-    Some(SpanTrial {
+    Some(SpanCandidate {
         span,
         cell: cell_at(search.number, clipped(width), clipped(wanted)),
         effort,
@@ -112,22 +112,22 @@ fn try_of(
 fn try_gap(
     segment: &PackedSpan,
     gap: usize,
-    tried: &SpanTrial,
+    tried: &SpanCandidate,
     best: &mut Best,
     curve: &mut CostCurve,
 ) -> Result<(), AllocError> {
     if segment.len() < gap {
         return Ok(());
     }
-    let Some(trial) = segment.try_insertion(gap, &tried.cell, &tried.effort, curve)? else {
+    let Some(candidate_cell) = segment.try_insertion(gap, &tried.cell, &tried.effort, curve)? else {
         return Ok(());
     };
     let cost = tried
         .base
-        .saturating_add(trial.cost.saturating_mul(tried.pitch));
+        .saturating_add(candidate_cell.cost.saturating_mul(tried.pitch));
     if cost < best.cost {
-        let cell = Cell {
-            at: trial.at,
+        let cell = PackedCell {
+            at: candidate_cell.at,
             ..tried.cell
         };
         *best = Best {
@@ -147,7 +147,7 @@ fn try_gap(
 fn try_gaps(
     segment: &PackedSpan,
     gaps: usize,
-    tried: &SpanTrial,
+    tried: &SpanCandidate,
     best: &mut Best,
     curve: &mut CostCurve,
 ) -> Result<(), AllocError> {

@@ -6,13 +6,13 @@ use Rattle.serde_json.specs.Written.{has_float, items_have_float}
 use Rattle.lf_describe.proofs.NoFloat.{neither, text}
 use Rattle.lf_floor_model.specs.States.{FloorState}
 use Rattle.lf_repair_strategy.specs.declared.stats.RepairStats.{RepairStats}
-use Rattle.lf_repair_report.specs.Told.{IsTeamData, cell_names, count_data, text_data}
+use Rattle.lf_repair_report.specs.RepairReports.{IsTeamData, cell_names, report_number, report_text_value}
 
-names : (list : List (List ℕ)) → items_have_float (items_of (map text_data list)) ≡ false
+names : (list : List (List ℕ)) → items_have_float (items_of (map report_text_value list)) ≡ false
 names [] = refl
 names (n ∷ ns) = neither _ _ (text n) (names ns)
 
-counts : (list : List ℕ) → items_have_float (items_of (map count_data list)) ≡ false
+counts : (list : List ℕ) → items_have_float (items_of (map report_number list)) ≡ false
 counts [] = refl
 counts (n ∷ ns) = counts ns
 

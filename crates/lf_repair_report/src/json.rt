@@ -3,7 +3,7 @@
 ghost use Rattle.std.specs.Prelude.{◌≡◌, ◌++◌, IfOk, OnOk, map};
 ghost use Rattle.serde_json.specs.Data.{array};
 ghost use Rattle.serde_json.specs.View.{items_of, view};
-ghost use Rattle.lf_repair_report.specs.Told.{all_data, cell_names, count_data, name_of_cell, text_data, team_data};
+ghost use Rattle.lf_repair_report.specs.RepairReports.{all_data, cell_names, report_number, name_of_cell, report_text_value, team_data};
 
 use crate::totals::{Totals, mean_displacement};
 use lf_describe::name_value;
@@ -21,7 +21,7 @@ fn push_name<S: Seeker + Drop>(
     own: u32,
     names: &mut Vec<Value>,
 ) -> Result<(), AllocError>
-    ensures { OnOk result (map view names.new.items ≡ map view names.old.items ++ map text_data (name_of_cell floor.now team.now own)) }
+    ensures { OnOk result (map view names.new.items ≡ map view names.old.items ++ map report_text_value (name_of_cell floor.now team.now own)) }
 {
     let Some(name) = floor.name_of(team, own as usize) else {
         return Ok(());
@@ -38,7 +38,7 @@ pub(crate) fn name_values<S: Seeker + Drop>(
     team: &[u8],
     owns: &[u32],
 ) -> Result<Vec<Value>, AllocError>
-    ensures { IfOk result (λ values. map view values.items ≡ map text_data (cell_names floor.now team.now owns.now)) }
+    ensures { IfOk result (λ values. map view values.items ≡ map report_text_value (cell_names floor.now team.now owns.now)) }
 {
     let mut names = Vec::with_capacity(alloc, owns.len())?;
     for own in owns {
@@ -49,14 +49,14 @@ pub(crate) fn name_values<S: Seeker + Drop>(
 
 /// A whole number.
 fn count_value(count: u64) -> Value
-    ensures { view result ≡ count_data count }
+    ensures { view result ≡ report_number count }
 {
     Value::from(count)
 }
 
 /// The numbers, in their order.
 pub(crate) fn count_values(alloc: Global, counts: &[u64]) -> Result<Vec<Value>, AllocError>
-    ensures { IfOk result (λ values. map view values.items ≡ map count_data counts.now) }
+    ensures { IfOk result (λ values. map view values.items ≡ map report_number counts.now) }
 {
     let mut values = Vec::with_capacity(alloc, counts.len())?;
     for count in counts {

@@ -3,7 +3,7 @@
 ghost use Rattle.std.specs.Prelude.{◌≡◌, ◌++◌, [], IfOk, OnOk, false};
 ghost use Rattle.serde_json.specs.View.{view};
 ghost use Rattle.serde_json.specs.Written.{has_float};
-ghost use Rattle.lf_repair_report.specs.Told.{IsOneMore, IsTeamData, all_line, least_for, line_text, no_sums};
+ghost use Rattle.lf_repair_report.specs.RepairReports.{IsOneMore, IsTeamData, all_line, least_for, report_line_text, no_sums};
 
 use crate::gaps::gaps_near;
 use crate::json::{all_value, array_value, count_values, name_values, team_value};
@@ -43,7 +43,7 @@ fn least_at(least: &[u64], number: Option<usize>) -> u64
 /// Appends the value as a line.
 fn push_line(alloc: Global, text: &mut Vec<u8>, value: &Value) -> Result<(), AllocError>
     requires { has_float (view value.now) ≡ false }
-    ensures { OnOk result (text.new.items ≡ text.old.items ++ line_text (view value.now)) }
+    ensures { OnOk result (text.new.items ≡ text.old.items ++ report_line_text (view value.now)) }
 {
     let line = value.to_string(alloc)?;
     text.extend_from_slice(line.as_bytes())?;

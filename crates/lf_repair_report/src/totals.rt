@@ -1,7 +1,7 @@
 //! Sums over the teams of a repair.
 
 ghost use Rattle.std.specs.Prelude.{◌≡◌};
-ghost use Rattle.lf_repair_report.specs.Told.{mean_displacement, no_sums, with_team};
+ghost use Rattle.lf_repair_report.specs.RepairReports.{mean_displacement, no_sums, totals_with_team};
 
 use lf_repair_strategy::RepairStats;
 
@@ -54,7 +54,7 @@ pub(crate) fn none() -> Totals
 
 /// The sums with those of one more team, given the largest of the least displacements of its cells.
 pub(crate) fn with_one(sums: &Totals, repaired: &RepairStats, least: u64) -> Totals
-    ensures { result ≡ with_team sums.now repaired.now least }
+    ensures { result ≡ totals_with_team sums.now repaired.now least }
 {
     Totals {
         teams: sums.teams.saturating_add(1),

@@ -1,3 +1,3 @@
-mod Homes
+mod WantedPlaces
 pub mod Ids
 pub mod Lists

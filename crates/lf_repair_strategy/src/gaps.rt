@@ -70,8 +70,8 @@ pub fn free_widths(
     let far = placement.frame().pitch.y.saturating_mul(FAR);
     for own in cells {
         let gap = match committed_at(placement, owner.team, *own) {
-            Some((id, home)) => {
-                let point = point_of(placement.frame(), id, home, &bounds);
+            Some((id, wanted_place)) => {
+                let point = point_of(placement.frame(), id, wanted_place, &bounds);
                 widest_near(&land, point.y, far)
             }
             None => 0,

@@ -31,7 +31,7 @@ pub enum Neighborhood {
 /// without a place and of problem cells at that time.
 #[derive(Drop)]
 pub struct LocalPass {
-    pub go: Pass,
+    pub pass: Pass,
     before: Vec<Option<Place>>,
     left: usize,
     needy: usize,
@@ -100,11 +100,16 @@ pub(crate) fn bounds_of(placement: &Placement, number: usize) -> Bounds {
 
 /// The target of a cell: its original place, moved into the box around its team's segments, or the
 /// team's anchor if it had no place.
-pub(crate) fn point_of(frame: &Frame, id: CellId, home: Option<Place>, bounds: &Bounds) -> Point {
-    match home {
-        Some(home) => Point {
-            x: (home.x as i64).max(bounds.low.x).min(bounds.high.x),
-            y: (home.y as i64).max(bounds.low.y).min(bounds.high.y),
+pub(crate) fn point_of(
+    frame: &Frame,
+    id: CellId,
+    wanted_place: Option<Place>,
+    bounds: &Bounds,
+) -> Point {
+    match wanted_place {
+        Some(wanted_place) => Point {
+            x: (wanted_place.x as i64).max(bounds.low.x).min(bounds.high.x),
+            y: (wanted_place.y as i64).max(bounds.low.y).min(bounds.high.y),
         },
         None => anchor(frame, id.team as usize),
     }
@@ -122,16 +127,16 @@ fn displacement(place: &Place, point: &Point) -> i64 {
 fn note_cell(
     placement: &Placement,
     id: CellId,
-    home: Option<Place>,
+    wanted_place: Option<Place>,
     bounds: &Bounds,
     need: &mut ProblemCells,
 ) -> Result<(), AllocError> {
     let frame = placement.frame();
-    let point = point_of(frame, id, home, bounds);
+    let point = point_of(frame, id, wanted_place, bounds);
     match placement.cells().working(id) {
         Some(place) => {
             let far = frame.pitch.y.saturating_mul(FAR);
-            if home.is_none() || displacement(&place, &point) <= far {
+            if wanted_place.is_none() || displacement(&place, &point) <= far {
                 return Ok(());
             }
         }
@@ -147,7 +152,7 @@ fn problem_cells(
     alloc: Global,
     placement: &Placement,
     number: usize,
-    homes: &[Option<Place>],
+    wanted_places: &[Option<Place>],
     bounds: &Bounds,
 ) -> Result<ProblemCells, AllocError> {
     let mut need = ProblemCells {
@@ -155,8 +160,13 @@ fn problem_cells(
         widest: 0,
         points: Vec::new(alloc),
     };
-    for (id, home) in placement.cells().cells_of(number).iter().zip(homes.iter()) {
-        note_cell(placement, *id, *home, bounds, &mut need)?;
+    for (id, wanted_place) in placement
+        .cells()
+        .cells_of(number)
+        .iter()
+        .zip(wanted_places.iter())
+    {
+        note_cell(placement, *id, *wanted_place, bounds, &mut need)?;
     }
     Ok(need)
 }
@@ -262,11 +272,11 @@ fn is_near(place: &Place, wanted: &Point, near: &NearRegion) -> bool {
     let Some(tiles) = &near.tiles else {
         return true;
     };
-    let stands = Point {
+    let is_in_place = Point {
         x: place.x as i64,
         y: place.y as i64,
     };
-    is_among(tiles.as_slice(), &tile_of(&stands, &near.size))
+    is_among(tiles.as_slice(), &tile_of(&is_in_place, &near.size))
         || is_among(tiles.as_slice(), &tile_of(wanted, &near.size))
 }
 
@@ -296,13 +306,13 @@ fn locked_cells(
 ) -> Result<Vec<bool>, AllocError> {
     let frame = placement.frame();
     let mut marks = Vec::with_capacity(alloc, start.legal.len())?;
-    for (id, (home, legal)) in placement
+    for (id, (wanted_place, legal)) in placement
         .cells()
         .cells_of(number)
         .iter()
-        .zip(start.go.homes.iter().zip(start.legal.iter()))
+        .zip(start.pass.wanted_places.iter().zip(start.legal.iter()))
     {
-        let wanted = point_of(frame, *id, *home, bounds);
+        let wanted = point_of(frame, *id, *wanted_place, bounds);
         marks.push(is_locked(placement, *id, *legal, &wanted, near))?;
     }
     Ok(marks)
@@ -310,9 +320,9 @@ fn locked_cells(
 
 /// The target place of a cell in a local pass: its original place if it had one, otherwise its
 /// present place, otherwise the team's anchor.
-fn target_place(placement: &Placement, id: CellId, home: Option<Place>) -> Place {
-    if let Some(home) = home {
-        return home;
+fn target_place(placement: &Placement, id: CellId, wanted_place: Option<Place>) -> Place {
+    if let Some(wanted_place) = wanted_place {
+        return wanted_place;
     }
     if let Some(place) = placement.cells().working(id) {
         return place;
@@ -326,11 +336,16 @@ fn all_wanted(
     alloc: Global,
     placement: &Placement,
     number: usize,
-    homes: &[Option<Place>],
+    wanted_places: &[Option<Place>],
 ) -> Result<Vec<Option<Place>>, AllocError> {
-    let mut wanted = Vec::with_capacity(alloc, homes.len())?;
-    for (id, home) in placement.cells().cells_of(number).iter().zip(homes.iter()) {
-        wanted.push(Some(target_place(placement, *id, *home)))?;
+    let mut wanted = Vec::with_capacity(alloc, wanted_places.len())?;
+    for (id, wanted_place) in placement
+        .cells()
+        .cells_of(number)
+        .iter()
+        .zip(wanted_places.iter())
+    {
+        wanted.push(Some(target_place(placement, *id, *wanted_place)))?;
     }
     Ok(wanted)
 }
@@ -363,7 +378,13 @@ pub fn plan_local_pass(
     reach: &Neighborhood,
 ) -> Result<Option<LocalPass>, AllocError> {
     let bounds = bounds_of(placement, number);
-    let need = problem_cells(alloc, placement, number, start.go.homes.as_slice(), &bounds)?;
+    let need = problem_cells(
+        alloc,
+        placement,
+        number,
+        start.pass.wanted_places.as_slice(),
+        &bounds,
+    )?;
     if has_no_work(&need, reach) {
         return Ok(None);
     }
@@ -372,10 +393,18 @@ pub fn plan_local_pass(
     if !frees_legal(start.legal.as_slice(), marks.as_slice()) {
         return Ok(None);
     }
-    let homes = all_wanted(alloc, placement, number, start.go.homes.as_slice())?;
+    let wanted_places = all_wanted(
+        alloc,
+        placement,
+        number,
+        start.pass.wanted_places.as_slice(),
+    )?;
     let before = working_places(alloc, placement, number)?;
     Ok(Some(LocalPass {
-        go: Pass { marks, homes },
+        pass: Pass {
+            marks,
+            wanted_places,
+        },
         before,
         left: need.left,
         needy: need.points.len(),
@@ -384,8 +413,9 @@ pub fn plan_local_pass(
 
 /// Whether there are fewer problem cells than at the start of the local pass. Cells without a place
 /// count first.
-fn is_better(need: &ProblemCells, aim: &LocalPass) -> bool {
-    need.left < aim.left || (need.left == aim.left && need.points.len() < aim.needy)
+fn is_better(need: &ProblemCells, local_plan: &LocalPass) -> bool {
+    need.left < local_plan.left
+        || (need.left == local_plan.left && need.points.len() < local_plan.needy)
 }
 
 /// The edits that undo a local pass which has improved nothing. All cells that it moved are
@@ -396,29 +426,35 @@ pub fn undo_edits(
     placement: &Placement,
     number: usize,
     start: &RepairInput,
-    aim: &LocalPass,
+    local_plan: &LocalPass,
 ) -> Result<Vec<CellEdit>, AllocError> {
-    let mut deeds = Vec::new(alloc);
+    let mut cell_edits = Vec::new(alloc);
     let bounds = bounds_of(placement, number);
-    let need = problem_cells(alloc, placement, number, start.go.homes.as_slice(), &bounds)?;
-    if is_better(&need, aim) {
-        return Ok(deeds);
+    let need = problem_cells(
+        alloc,
+        placement,
+        number,
+        start.pass.wanted_places.as_slice(),
+        &bounds,
+    )?;
+    if is_better(&need, local_plan) {
+        return Ok(cell_edits);
     }
     let mut places = Vec::new(alloc);
     for (id, before) in placement
         .cells()
         .cells_of(number)
         .iter()
-        .zip(aim.before.iter())
+        .zip(local_plan.before.iter())
     {
         let now = placement.cells().working(*id);
         if same_place(now, *before) {
             continue;
         }
-        push_undo(id.own, now, *before, &mut deeds, &mut places)?;
+        push_undo(id.own, now, *before, &mut cell_edits, &mut places)?;
     }
-    deeds.extend_from_slice(places.as_slice())?;
-    Ok(deeds)
+    cell_edits.extend_from_slice(places.as_slice())?;
+    Ok(cell_edits)
 }
 
 /// Adds the edits that undo a cell's move. It is unplaced if it has a place, and placed at its old

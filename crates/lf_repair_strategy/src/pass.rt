@@ -2,7 +2,7 @@
 
 ghost use Rattle.std.specs.Prelude.{◌≡◌, IfOk};
 ghost use Rattle.lf_cells.specs.Cells.{cells_of};
-ghost use Rattle.lf_repair_strategy.specs.Homes.{AreWorkingPlaces};
+ghost use Rattle.lf_repair_strategy.specs.WantedPlaces.{AreWorkingPlaces};
 ghost use Rattle.lf_repair_strategy.specs.declared.pass.MovePolicy.TheVariants.{Keep};
 
 use lf_cells::CellId;
@@ -22,12 +22,12 @@ pub enum MovePolicy {
     All,
 }
 
-/// One pass over a team. `marks` says whether each cell is locked, and `homes` has its target. Both
+/// One pass over a team. `marks` says whether each cell is locked, and `wanted_places` has its target. Both
 /// lists are indexed by the cell's position in loading order.
 #[derive(Drop)]
 pub struct Pass {
     pub marks: Vec<bool>,
-    pub homes: Vec<Option<Place>>,
+    pub wanted_places: Vec<Option<Place>>,
 }
 
 /// A team at the start of its repair: the cells that may move, whether each cell is legal, and the
@@ -36,7 +36,7 @@ pub struct Pass {
 pub struct RepairInput {
     pub how: MovePolicy,
     pub legal: Vec<bool>,
-    pub go: Pass,
+    pub pass: Pass,
 }
 
 /// Whether the cell covers several rows.
@@ -68,8 +68,8 @@ fn tall_of(
     legal: &[bool],
 ) -> Result<Vec<bool>, AllocError> {
     let mut marks = Vec::with_capacity(alloc, legal.len())?;
-    for (id, stands) in placement.cells().cells_of(number).iter().zip(legal.iter()) {
-        marks.push(*stands && is_tall(placement, *id))?;
+    for (id, is_in_place) in placement.cells().cells_of(number).iter().zip(legal.iter()) {
+        marks.push(*is_in_place && is_tall(placement, *id))?;
     }
     Ok(marks)
 }
@@ -99,11 +99,11 @@ pub fn working_places(
     placement: &Placement,
     number: usize,
 ) -> Result<Vec<Option<Place>>, AllocError>
-    ensures { IfOk result (λ homes. AreWorkingPlaces (cells_of placement.now.cells number) homes.items) }
+    ensures { IfOk result (λ wanted_places. AreWorkingPlaces (cells_of placement.now.cells number) wanted_places.items) }
 {
-    let mut homes = Vec::new(alloc);
+    let mut wanted_places = Vec::new(alloc);
     for id in placement.cells().cells_of(number) {
-        homes.push(placement.cells().working(*id))?;
+        wanted_places.push(placement.cells().working(*id))?;
     }
-    Ok(homes)
+    Ok(wanted_places)
 }

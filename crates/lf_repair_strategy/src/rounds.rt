@@ -30,13 +30,13 @@ fn steps_of(placement: &Placement, team: usize, loose: usize) -> PlanOptions {
 #[derive(Clone, Copy)]
 pub enum Phase {
     /// Unplaces each cell that may move.
-    Lift,
+    UnplaceMovable,
     /// Moves those that cover several rows to their best places, the largest area first.
-    Tall,
+    PlaceTall,
     /// Places those of one row as planned, row by row from left to right.
-    Plan,
+    PlacePlanned,
     /// Moves those that are still unplaced to their best places, the largest area first.
-    Rest,
+    PlaceRemaining,
 }
 
 /// A cell that may move: its id, its target place, and its macro with the macro's size in database
@@ -44,7 +44,7 @@ pub enum Phase {
 #[derive(Clone, Copy)]
 struct MovableCell<'a> {
     id: CellId,
-    home: Option<Place>,
+    wanted_place: Option<Place>,
     mac: &'a Macro,
     width: i64,
     height: i64,
@@ -68,17 +68,17 @@ pub(crate) fn width_of(placement: &Placement, id: CellId) -> i64 {
 }
 
 /// The cell as one that may move. `None` if it is locked, or there is no such cell.
-fn movable_cell<'a>(placement: &'a Placement, go: &Pass, id: CellId) -> Option<MovableCell<'a>> {
+fn movable_cell<'a>(placement: &'a Placement, pass: &Pass, id: CellId) -> Option<MovableCell<'a>> {
     let frame = placement.frame();
-    if *go.marks.get(id.own as usize)? {
+    if *pass.marks.get(id.own as usize)? {
         return None;
     }
-    let home = *go.homes.get(id.own as usize)?;
+    let wanted_place = *pass.wanted_places.get(id.own as usize)?;
     let facts = placement.cells().cell(id)?;
     let mac = frame.macros.as_slice().get(facts.mac)?;
     Some(MovableCell {
         id,
-        home,
+        wanted_place,
         mac,
         width: length_of(frame, mac.size.x),
         height: length_of(frame, mac.size.y),
@@ -86,9 +86,9 @@ fn movable_cell<'a>(placement: &'a Placement, go: &Pass, id: CellId) -> Option<M
 }
 
 /// The number of cells that may move.
-fn movable_count(go: &Pass) -> usize {
+fn movable_count(pass: &Pass) -> usize {
     let mut count = 0usize;
-    for held in &go.marks {
+    for held in &pass.marks {
         if !*held {
             count = count.saturating_add(1);
         }
@@ -98,7 +98,7 @@ fn movable_count(go: &Pass) -> usize {
 
 /// The target of a cell: its target place, or the team's anchor if it has no target place.
 fn target_of(frame: &Frame, cell: &MovableCell<'_>) -> Point {
-    match cell.home {
+    match cell.wanted_place {
         Some(place) => Point {
             x: place.x as i64,
             y: place.y as i64,
@@ -130,14 +130,14 @@ fn key_of(frame: &Frame, cell: &MovableCell<'_>) -> Key {
 /// Edits that move these cells to their best places, in the order of their keys.
 fn best_places(alloc: Global, keys: &mut Vec<Key>) -> Result<Vec<CellEdit>, AllocError> {
     keys.sort_unstable();
-    let mut deeds = Vec::with_capacity(alloc, keys.len())?;
+    let mut cell_edits = Vec::with_capacity(alloc, keys.len())?;
     for key in keys.iter() {
-        deeds.push(CellEdit {
+        cell_edits.push(CellEdit {
             own: key.own,
             step: Edit::Legalize(Point { x: key.x, y: key.y }),
         })?;
     }
-    Ok(deeds)
+    Ok(cell_edits)
 }
 
 /// Edits that unplace all cells that may move.
@@ -145,20 +145,20 @@ fn unplace_movable(
     alloc: Global,
     placement: &Placement,
     number: usize,
-    go: &Pass,
+    pass: &Pass,
 ) -> Result<Vec<CellEdit>, AllocError> {
-    let mut deeds = Vec::with_capacity(alloc, movable_count(go))?;
+    let mut cell_edits = Vec::with_capacity(alloc, movable_count(pass))?;
     for id in placement.cells().cells_of(number) {
-        if let Some(cell) = movable_cell(placement, go, *id) {
+        if let Some(cell) = movable_cell(placement, pass, *id) {
             if placement.cells().working(*id).is_some() {
-                deeds.push(CellEdit {
+                cell_edits.push(CellEdit {
                     own: cell.id.own,
                     step: Edit::Unplace,
                 })?;
             }
         }
     }
-    Ok(deeds)
+    Ok(cell_edits)
 }
 
 /// Edits that move the cells that cover several rows to their best places.
@@ -166,12 +166,12 @@ fn legalize_tall(
     alloc: Global,
     placement: &Placement,
     number: usize,
-    go: &Pass,
+    pass: &Pass,
 ) -> Result<Vec<CellEdit>, AllocError> {
     let frame = placement.frame();
     let mut keys = Vec::new(alloc);
     for id in placement.cells().cells_of(number) {
-        if let Some(cell) = movable_cell(placement, go, *id) {
+        if let Some(cell) = movable_cell(placement, pass, *id) {
             if frame.pitch.y < cell.height {
                 keys.push(key_of(frame, &cell))?;
             }
@@ -185,12 +185,12 @@ fn legalize_unplaced(
     alloc: Global,
     placement: &Placement,
     number: usize,
-    go: &Pass,
+    pass: &Pass,
 ) -> Result<Vec<CellEdit>, AllocError> {
     let frame = placement.frame();
     let mut keys = Vec::new(alloc);
     for id in placement.cells().cells_of(number) {
-        if let Some(cell) = movable_cell(placement, go, *id) {
+        if let Some(cell) = movable_cell(placement, pass, *id) {
             if placement.cells().working(*id).is_none() {
                 keys.push(key_of(frame, &cell))?;
             }
@@ -258,9 +258,9 @@ fn fits_on(frame: &Frame, mac: &Macro, orient: Orient, row: Orient) -> bool {
 
 /// The orientation of a cell on a row of this orientation: its own if allowed, otherwise the first
 /// allowed one of N, S, FN and FS.
-fn orient_on(frame: &Frame, mac: &Macro, home: Orient, row: Orient) -> Option<Orient> {
-    if fits_on(frame, mac, home, row) {
-        return Some(home);
+fn orient_on(frame: &Frame, mac: &Macro, wanted_place: Orient, row: Orient) -> Option<Orient> {
+    if fits_on(frame, mac, wanted_place, row) {
+        return Some(wanted_place);
     }
     for orient in [Orient::N, Orient::S, Orient::FN, Orient::FS] {
         if fits_on(frame, mac, orient, row) {
@@ -296,10 +296,15 @@ struct PlannerCells {
 }
 
 /// The planner's input for a cell with this target place.
-fn planner_cell(frame: &Frame, cell: &MovableCell<'_>, home: &Place, pad: i64) -> PlannerCell {
+fn planner_cell(
+    frame: &Frame,
+    cell: &MovableCell<'_>,
+    wanted_place: &Place,
+    pad: i64,
+) -> PlannerCell {
     PlannerCell {
-        x: home.x,
-        y: home.y,
+        x: wanted_place.x,
+        y: wanted_place.y,
         width: cell.width.saturating_add(pad).clamp(0, 4_294_967_295) as u32,
         kinds: kinds_of(frame, cell.mac),
     }
@@ -310,22 +315,22 @@ fn planner_cells(
     alloc: Global,
     placement: &Placement,
     owner: &PaddedTeam,
-    go: &Pass,
+    pass: &Pass,
 ) -> Result<PlannerCells, AllocError> {
     let frame = placement.frame();
-    let most = movable_count(go);
+    let most = movable_count(pass);
     let mut owns = Vec::with_capacity(alloc, most)?;
     let mut wishes = Vec::with_capacity(alloc, most)?;
     for id in placement.cells().cells_of(owner.team) {
-        let Some(cell) = movable_cell(placement, go, *id) else {
+        let Some(cell) = movable_cell(placement, pass, *id) else {
             continue;
         };
-        let Some(home) = cell.home else {
+        let Some(wanted_place) = cell.wanted_place else {
             continue;
         };
         if cell.height <= frame.pitch.y {
             owns.push(id.own)?;
-            wishes.push(planner_cell(frame, &cell, &home, owner.pad))?;
+            wishes.push(planner_cell(frame, &cell, &wanted_place, owner.pad))?;
         }
     }
     Ok(PlannerCells { owns, wishes })
@@ -368,12 +373,12 @@ fn place_at(
     stop: &PlannedCell,
     cell: &MovableCell<'_>,
 ) -> Option<Place> {
-    let home = cell.home?;
+    let wanted_place = cell.wanted_place?;
     let span = stop.span as usize;
     let sites = land.spans.get(span)?;
     let after = land.rows.partition_point(|row| row.first <= span);
     let row = land.rows.get(after.checked_sub(1)?)?;
-    let orient = orient_on(frame, cell.mac, home.orient, orient_of(row.kind))?;
+    let orient = orient_on(frame, cell.mac, wanted_place.orient, orient_of(row.kind))?;
     let x = (sites.first as i64).saturating_add((sites.step as i64).saturating_mul(stop.at as i64));
     Some(Place::new(coordinate(x), coordinate(row.y as i64), orient))
 }
@@ -384,10 +389,10 @@ fn all_planned_cells(
     alloc: Global,
     placement: &Placement,
     owner: &PaddedTeam,
-    go: &Pass,
+    pass: &Pass,
     land: &FreeRows,
 ) -> Result<Vec<PlannedCell>, AllocError> {
-    let PlannerCells { owns, wishes } = planner_cells(alloc, placement, owner, go)?;
+    let PlannerCells { owns, wishes } = planner_cells(alloc, placement, owner, pass)?;
     let steps = steps_of(placement, owner.team, owns.as_slice().len());
     let spots = plan_cells(alloc, land, wishes.as_slice(), &steps)?;
     planned_cells(alloc, owns.as_slice(), spots.as_slice())
@@ -398,27 +403,27 @@ fn place_by_plan(
     alloc: Global,
     placement: &Placement,
     owner: &PaddedTeam,
-    go: &Pass,
+    pass: &Pass,
 ) -> Result<Vec<CellEdit>, AllocError> {
     let frame = placement.frame();
     let land = free_rows(alloc, placement, owner)?;
-    let stops = all_planned_cells(alloc, placement, owner, go, &land)?;
-    let mut deeds = Vec::with_capacity(alloc, stops.len())?;
+    let stops = all_planned_cells(alloc, placement, owner, pass, &land)?;
+    let mut cell_edits = Vec::with_capacity(alloc, stops.len())?;
     for stop in &stops {
         let Some(id) = placement.cells().cell_of(owner.team, stop.own as usize) else {
             continue;
         };
-        let Some(cell) = movable_cell(placement, go, id) else {
+        let Some(cell) = movable_cell(placement, pass, id) else {
             continue;
         };
         if let Some(place) = place_at(frame, &land, stop, &cell) {
-            deeds.push(CellEdit {
+            cell_edits.push(CellEdit {
                 own: stop.own,
                 step: Edit::Place(place),
             })?;
         }
     }
-    Ok(deeds)
+    Ok(cell_edits)
 }
 
 /// The edits of a phase for the cells of the team. Locked cells have no edits. `Err` if an
@@ -427,13 +432,13 @@ pub fn edits_for(
     alloc: Global,
     placement: &Placement,
     owner: &PaddedTeam,
-    go: &Pass,
+    pass: &Pass,
     phase: Phase,
 ) -> Result<Vec<CellEdit>, AllocError> {
     match phase {
-        Phase::Lift => unplace_movable(alloc, placement, owner.team, go),
-        Phase::Tall => legalize_tall(alloc, placement, owner.team, go),
-        Phase::Plan => place_by_plan(alloc, placement, owner, go),
-        Phase::Rest => legalize_unplaced(alloc, placement, owner.team, go),
+        Phase::UnplaceMovable => unplace_movable(alloc, placement, owner.team, pass),
+        Phase::PlaceTall => legalize_tall(alloc, placement, owner.team, pass),
+        Phase::PlacePlanned => place_by_plan(alloc, placement, owner, pass),
+        Phase::PlaceRemaining => legalize_unplaced(alloc, placement, owner.team, pass),
     }
 }

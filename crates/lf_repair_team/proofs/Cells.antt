@@ -23,13 +23,13 @@ use Rattle.lf_floor_model.specs.States.{FloorState, TeamState}
 use Rattle.lf_floor_model.specs.Teams.{TeamRules, broken_at, team_rules, state_of}
 use Rattle.lf_floor_model.specs.Outcomes.{Outcome, name_at, refused}
 use Rattle.lf_floor_model.specs.Sessions.{seen_at}
-use Rattle.lf_floor_model.specs.Looks.{best_at}
+use Rattle.lf_floor_model.specs.Queries.{best_at}
 use Rattle.lf_floor_model.specs.Changes.{placed, placed_own, placed_unless, unplaced, unplaced_own, unplaced_from, legalized, legalized_own, legalized_at, committed, committed_unless, first_unplaced, broken_cells, outcome_of_change}
 use Rattle.lf_floor_model.specs.Verbs.{unless_spent, outcome_by_slot}
 use Rattle.lf_floor_model.specs.VerbLaws.{is_commit, outcome_of_asking}
 use Rattle.lf_floor_model.proofs.Standing.{moved_there}
-use Rattle.lf_repair_team.specs.Deeds.{IsUnchangedOrStepped, IsOfCell, KeepsPlaces}
-use Rattle.lf_repair_team.specs.Mending.{place_in}
+use Rattle.lf_repair_team.specs.CellEdits.{IsUnchangedOrStepped, IsOfCell, KeepsPlaces}
+use Rattle.lf_repair_team.specs.TeamRepairs.{place_of_cell_in}
 use Rattle.lf_repair_team.proofs.Steps.{place_stays}
 
 -- ---- the rules
@@ -89,9 +89,9 @@ module _ (s : TeamState) (cell : List ℕ) (other : ℕ) (differ : cell_named ce
 
 -- what holds for the outcome of a change if it is made, and for the unchanged team, holds for the
 -- outcome in any case
-asked_of : (P : List Cell → Type 0) (t : TeamRules) (session : ℕ) (change : Change (List ℕ) Place) (s : TeamState) → P s.cells
+requested_of : (P : List Cell → Type 0) (t : TeamRules) (session : ℕ) (change : Change (List ℕ) Place) (s : TeamState) → P s.cells
     → P (outcome_of_change t session change s).team.cells → P (outcome_of_asking t session change s).team.cells
-asked_of P t session change s before done = slot (seen_at s.slots session) where
+requested_of P t session change s before done = slot (seen_at s.slots session) where
   spent : (b : Bool) → P (cond b (outcome_of_change t session change s) (refused RevisionsSpent s)).team.cells
   spent true = done
   spent false = before
@@ -177,10 +177,10 @@ no_commit session cell (Pad padding) is = refl
 pub others_stay : (l : Legalizer) (old new : FloorState) (team cell : List ℕ) (session : ℕ) (change : Change (List ℕ) Place) (other : ℕ)
     → IsOfCell cell change → IsUnchangedOrStepped l old (To team (Within session (Changing change))) new
     → ((s : TeamState) → state_of old team ≡ Some s → cell_named cell s.cells ≡ Some other → ⊥)
-    → place_in new team other ≡ place_in old team other
-others_stay l old new team cell session change other is asked differ =
-    place_stays l old new team (Within session (Changing change)) other asked
-    (λ number s there. asked_of (λ cells. working_at cells other ≡ working_at s.cells other) (team_rules l old.frame number s.padding) session change s refl
+    → place_of_cell_in new team other ≡ place_of_cell_in old team other
+others_stay l old new team cell session change other is requested differ =
+    place_stays l old new team (Within session (Changing change)) other requested
+    (λ number s there. requested_of (λ cells. working_at cells other ≡ working_at s.cells other) (team_rules l old.frame number s.padding) session change s refl
     (change_stays s cell other (differ s there) (team_rules l old.frame number s.padding) session change is))
 
 committed_working : (cells : List Cell) (own : ℕ) → working_at (map as_committed cells) own ≡ working_at cells own
@@ -199,7 +199,7 @@ commit_done t session own s = go (first_unplaced s.cells) (broken_cells t s.cell
 -- a commit leaves all places unchanged
 pub commit_stays : (l : Legalizer) (old new : FloorState) (team : List ℕ) (session : ℕ) → IsUnchangedOrStepped l old (To team (Within session (Changing Commit))) new
     → KeepsPlaces team old new
-commit_stays l old new team session asked own =
-    place_stays l old new team (Within session (Changing Commit)) own asked
-    (λ number s there. asked_of (λ cells. working_at cells own ≡ working_at s.cells own) (team_rules l old.frame number s.padding) session Commit s refl
+commit_stays l old new team session requested own =
+    place_stays l old new team (Within session (Changing Commit)) own requested
+    (λ number s there. requested_of (λ cells. working_at cells own ≡ working_at s.cells own) (team_rules l old.frame number s.padding) session Commit s refl
     (commit_done (team_rules l old.frame number s.padding) session own s))

@@ -16,8 +16,8 @@ use Rattle.lf_floor_model.specs.Outcomes.{places_of}
 use Rattle.lf_floor_model.specs.Steps.{AllCommittedIn}
 use Rattle.lf_floor_model.specs.VerbLaws.{AreLegal, KeepsCells, committed_places}
 use Rattle.lf_floor_model.proofs.Standing.{some_one}
-use Rattle.lf_repair_team.specs.Deeds.{AreLegalFlags, KeepsCommittedPlaces, KeepsLockedPlaces, KeepsPlaces, SameCells}
-use Rattle.lf_repair_team.specs.Mending.{AreLegalExcept, IsIllegalIn, IsLegalIn, KeepsLegalPlaces}
+use Rattle.lf_repair_team.specs.CellEdits.{AreLegalFlags, KeepsCommittedPlaces, KeepsLockedPlaces, KeepsPlaces, SameCells}
+use Rattle.lf_repair_team.specs.TeamRepairs.{AreLegalExcept, IsIllegalIn, IsLegalIn, KeepsLegalPlaces}
 
 -- the state of the team with this number
 pub state_there : (floor : FloorState) (team : List ℕ) (number : ℕ) (s : TeamState) → team_number floor.frame team ≡ Some number → state_of floor team ≡ Some s
@@ -26,9 +26,9 @@ state_there floor team number s named there = ap (λ (o : Option ℕ). state_at 
 
 -- ---- through commands that leave the cells unchanged
 
-stands_same : (f g : Frame) (number : ℕ) (s t : TeamState) (own : ℕ) → g ≡ f → KeepsCells s t
+is_placed_same : (f g : Frame) (number : ℕ) (s t : TeamState) (own : ℕ) → g ≡ f → KeepsCells s t
     → IsLegalCell f number s.padding (map member_of s.cells) own → IsLegalCell g number t.padding (map member_of t.cells) own
-stands_same f g number s t own frame keeps legal =
+is_placed_same f g number s t own frame keeps legal =
     subst (λ (h : Frame). IsLegalCell h number t.padding (map member_of t.cells) own) (sym frame)
     (subst (λ (n : ℕ). IsLegalCell f number n (map member_of t.cells) own) (sym keeps.padding)
     (subst (λ (cells : List Cell). IsLegalCell f number s.padding (map member_of cells) own) (sym keeps.cells) legal))
@@ -52,7 +52,7 @@ legal_through team old new own frame same legal = elim same [
         named = ap (λ (f : Frame). team_number f team) frame ∙ legal.named;
         there = has.is;
         within = subst (λ (cells : List Cell). own < length cells) (ap (λ (x : TeamState). x.cells) is ∙ sym has.keeps.cells) legal.within;
-        legal = stands_same old.frame new.frame legal.number has.before has.after own frame has.keeps
+        legal = is_placed_same old.frame new.frame legal.number has.before has.after own frame has.keeps
             (subst (λ (x : TeamState). IsLegalCell old.frame legal.number x.padding (map member_of x.cells) own) is legal.legal);
       }
 ]
@@ -91,7 +91,7 @@ committed_through l team old new frame same all = elim same [
         state = has.after;
         named = ap (λ (f : Frame). team_number f team) frame ∙ all.named;
         there = has.is;
-        legal = λ own. stands_same old.frame new.frame all.number s has.after own frame has.keeps (legal own);
+        legal = λ own. is_placed_same old.frame new.frame all.number s has.after own frame has.keeps (legal own);
         committed = ap (λ (cells : List Cell). map (λ (c : Cell). c.committed) cells) has.keeps.cells ∙ committed
             ∙ ap (λ (cells : List Cell). places_of cells) (sym has.keeps.cells);
       }
@@ -170,18 +170,18 @@ pub legal_stay : (team : List ℕ) (marks : List Bool) (old new : FloorState) �
 legal_stay team marks old new marked stay own legal = stay own (marked.legal own legal)
 
 -- a cell that the floor reports as legal is legal
-pub told_legal : (team : List ℕ) (floor : FloorState) (number own : ℕ) (s : TeamState) → team_number floor.frame team ≡ Some number → state_of floor team ≡ Some s
+pub reported_legal : (team : List ℕ) (floor : FloorState) (number own : ℕ) (s : TeamState) → team_number floor.frame team ≡ Some number → state_of floor team ≡ Some s
     → own < length s.cells → IsLegalCell floor.frame number s.padding (map member_of s.cells) own → IsLegalIn floor team own
-told_legal team floor number own s named there within legal =
+reported_legal team floor number own s named there within legal =
     record { number = number; state = s; named = named; there = there; within = within; legal = legal }
 
 -- a cell that the floor does not report as legal is not
-pub legal_is_told : (team : List ℕ) (floor : FloorState) (number own : ℕ) (Told : Type 0) → team_number floor.frame team ≡ Some number
-    → ((s : TeamState) → slice_get floor.teams number ≡ Some s → own < length s.cells → IsLegalCell floor.frame number s.padding (map member_of s.cells) own → Told)
-    → IsLegalIn floor team own → Told
-legal_is_told team floor number own Told named told legal =
+pub legal_is_reported : (team : List ℕ) (floor : FloorState) (number own : ℕ) (Reported : Type 0) → team_number floor.frame team ≡ Some number
+    → ((s : TeamState) → slice_get floor.teams number ≡ Some s → own < length s.cells → IsLegalCell floor.frame number s.padding (map member_of s.cells) own → Reported)
+    → IsLegalIn floor team own → Reported
+legal_is_reported team floor number own Reported named reported legal =
     let is : legal.number ≡ number = some_one (sym legal.named ∙ named) in
-    told legal.state (state_there floor team number legal.state named legal.there) legal.within
+    reported legal.state (state_there floor team number legal.state named legal.there) legal.within
     (subst (λ (n : ℕ). IsLegalCell floor.frame n legal.state.padding (map member_of legal.state.cells) own) is legal.legal)
 
 -- ---- a commit if no cell is unrepaired, and otherwise no command

@@ -6,7 +6,7 @@ use Rattle.std.proofs.lemmas.Bool.{cases_eq}
 use Rattle.std.proofs.lemmas.List.Elements.{All-push, All-same}
 use Rattle.std.proofs.lemmas.Option.{get_or_from_slice_get, unwrap_or-slice_get}
 use Rattle.lf_repair_strategy.proofs.Lists.{before_last, last_is, one_longer}
-use Rattle.lf_repair_team.specs.Deeds.{HoldsOrIsListed}
+use Rattle.lf_repair_team.specs.CellEdits.{HoldsOrIsListed}
 
 -- for each of the first `count` positions it is so, or it is listed
 abbrev pub AreNamedTo : (ℕ → Type 0) → ℕ → List ℕ → Type 0

@@ -10,9 +10,9 @@ use Rattle.lf_legalize.specs.Members.{member_of}
 use Rattle.lf_floor_model.specs.States.{FloorState, TeamState}
 use Rattle.lf_floor_model.specs.Teams.{state_of, team_number}
 use Rattle.lf_floor_model.proofs.Standing.{some_one}
-use Rattle.lf_repair_team.specs.Deeds.{AreLegalFlags, AddsLegalFlag}
-use Rattle.lf_repair_team.specs.Mending.{IsLegalIn}
-use Rattle.lf_repair_team.proofs.Legal.{state_there, told_legal}
+use Rattle.lf_repair_team.specs.CellEdits.{AreLegalFlags, AddsLegalFlag}
+use Rattle.lf_repair_team.specs.TeamRepairs.{IsLegalIn}
+use Rattle.lf_repair_team.proofs.Legal.{state_there, reported_legal}
 use Rattle.lf_repair_strategy.proofs.Lists.{before_last, last_is, one_longer}
 
 -- the first `count` flags are right
@@ -54,7 +54,7 @@ one_more_marked team floor number own old new named short marked more = record {
           let mark : more.mark ≡ true =
           some_one (sym (last_is old more.mark) ∙ ap (λ (j : ℕ). slice_get (old ++ more.mark ∷ []) j) (marked.many ∙ sym same) ∙ sym (by_more k) ∙ is) in
           subst (λ (j : ℕ). IsLegalIn floor team j) (sym same)
-          (told_legal team floor number own s named there (short s there) (more.legal s (state_there floor team number s named there) mark))
+          (reported_legal team floor number own s named there (short s there) (more.legal s (state_there floor team number s named there) mark))
 
       past : k ≢ own → IsLegalIn floor team k
       past differ =
@@ -67,7 +67,7 @@ one_more_marked team floor number own old new named short marked more = record {
       let legal' : IsLegalCell floor.frame number legal.state.padding (map member_of legal.state.cells) own =
       subst (λ (n : ℕ). IsLegalCell floor.frame n legal.state.padding (map member_of legal.state.cells) own) is
       (subst (λ (j : ℕ). IsLegalCell floor.frame legal.number legal.state.padding (map member_of legal.state.cells) j) same legal.legal) in
-      let mark : more.mark ≡ true = more.told legal.state (state_there floor team number legal.state named legal.there)
+      let mark : more.mark ≡ true = more.reported legal.state (state_there floor team number legal.state named legal.there)
       (subst (λ (j : ℕ). j < length legal.state.cells) same legal.within) legal' in
       ap (λ (xs : List Bool). slice_get xs k) more.more ∙ ap (λ (j : ℕ). slice_get (old ++ more.mark ∷ []) j) (same ∙ sym marked.many) ∙ last_is old more.mark
       ∙ ap (λ (b : Bool). Some b) mark

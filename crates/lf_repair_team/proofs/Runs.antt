@@ -4,7 +4,7 @@ use Rattle.std.specs.Io.KnownBytes.{Appends, Keeps}
 use Rattle.std.proofs.lemmas.List.Elements.{All-append, All-cons, All-nil}
 use Rattle.std.proofs.lemmas.List.Concat.{flat_map-append}
 use Rattle.lf_floorplan.specs.declared.place.Place.{Place}
-use Rattle.lf_proto.specs.Lines.{IsName}
+use Rattle.lf_proto.specs.Lines.{IsLineName}
 use Rattle.lf_rules.specs.Legalizer.{Legalizer}
 use Rattle.lf_proto.specs.declared.request.Command.{Command}
 use Rattle.lf_proto.specs.declared.request.Command.TheVariants.{Bye, To}
@@ -17,9 +17,9 @@ use Rattle.lf_floor_model.specs.Steps.{IsTo, KeepsIfRefused, Step}
 use Rattle.lf_floor_model.specs.Runs.{Run}
 use Rattle.lf_floor_model.specs.VerbLaws.{is_ok}
 use Rattle.lf_floor_model.specs.Committed.{IsCommittedLegal}
-use Rattle.lf_repair_team.specs.Runs.{AppendsFront, IsRunWithCutLine, IsRunBy, IsWrittenRun, line_of, lines_of}
-use Rattle.lf_repair_team.specs.Deeds.{KeepsLockedPlaces}
-use Rattle.lf_repair_team.specs.Mending.{ChangesOnly, names_in}
+use Rattle.lf_repair_team.specs.Runs.{AppendsSomeOf, IsRunWithCutLine, IsRunBy, IsWrittenRun, request_line, request_lines}
+use Rattle.lf_repair_team.specs.CellEdits.{KeepsLockedPlaces}
+use Rattle.lf_repair_team.specs.TeamRepairs.{ChangesOnly, team_cell_names}
 
 -- ---- runs
 
@@ -34,7 +34,7 @@ none_run : (l : Legalizer) (team : List ℕ) (a b : FloorState) → b ≡ a → 
 none_run l team a b same = record { replies = []; run = same; granted = All-nil (λ (r : Reply). is_ok r ≡ true); own = All-nil (IsTo team); plain = λ name. All-nil IsPlain }
 
 one_run : (l : Legalizer) (team : List ℕ) (a b : FloorState) (command : Command (List ℕ) Place) (reply : Reply) → IsTo team command
-    → (IsName team → IsPlain command) → Step l a command reply b → is_ok reply ≡ true → IsRunBy (command ∷ []) l team a b
+    → (IsLineName team → IsPlain command) → Step l a command reply b → is_ok reply ≡ true → IsRunBy (command ∷ []) l team a b
 one_run l team a b command reply to plain step granted = record {
   replies = reply ∷ [];
   run = (b, step, refl);
@@ -70,12 +70,12 @@ left_out l team old new bytes reply keeps refused = ([], none_run l team old new
 
 -- one command, and its line
 pub one_written : (l : Legalizer) (team : List ℕ) (old new : FloorState) (before after : Option (List ℕ)) (line : List ℕ) (command : Command (List ℕ) Place) (reply : Reply)
-    → IsTo team command → (IsName team → IsPlain command) → Step l old command reply new → is_ok reply ≡ true → line ≡ line_of command → Appends before after line
+    → IsTo team command → (IsLineName team → IsPlain command) → Step l old command reply new → is_ok reply ≡ true → line ≡ request_line command → Appends before after line
     → IsWrittenRun l team old before after new
 one_written l team old new before after line command reply to plain step granted is appends = (
   command ∷ [],
   one_run l team old new command reply to plain step granted,
-  Appends-same before after line (lines_of (command ∷ [])) (is ∙ sym (append-nil (line_of command))) appends,
+  Appends-same before after line (request_lines (command ∷ [])) (is ∙ sym (append-nil (request_line command))) appends,
 )
 
 -- one after the other
@@ -84,17 +84,17 @@ pub then_written : (l : Legalizer) (team : List ℕ) (a b c : FloorState) (x y z
 then_written l team a b c x y z first second = (
   first.0 ++ second.0,
   then_run l team a b c first.0 second.0 first.1 second.1,
-  Appends-same x z (lines_of first.0 ++ lines_of second.0) (lines_of (first.0 ++ second.0)) (sym (flat_map-append line_of first.0 second.0))
-      (Appends-more x y z (lines_of first.0) (lines_of second.0) first.2 second.2),
+  Appends-same x z (request_lines first.0 ++ request_lines second.0) (request_lines (first.0 ++ second.0)) (sym (flat_map-append request_line first.0 second.0))
+      (Appends-more x y z (request_lines first.0) (request_lines second.0) first.2 second.2),
 )
 
 -- ---- runs that stopped early
 
-pub kept_behind : (a b c : Option (List ℕ)) (bs : List ℕ) → Appends a b bs → Keeps b c → Appends a c bs
-kept_behind None b c bs p q = tt
-kept_behind (Some x) None c bs p q = absurd p
-kept_behind (Some x) (Some y) None bs p q = absurd q
-kept_behind (Some x) (Some y) (Some z) bs p q = q ∙ p
+pub kept_after : (a b c : Option (List ℕ)) (bs : List ℕ) → Appends a b bs → Keeps b c → Appends a c bs
+kept_after None b c bs p q = tt
+kept_after (Some x) None c bs p q = absurd p
+kept_after (Some x) (Some y) None bs p q = absurd q
+kept_after (Some x) (Some y) (Some z) bs p q = q ∙ p
 
 -- all was written
 pub uncut : (l : Legalizer) (team : List ℕ) (old new : FloorState) (x y : Option (List ℕ)) → IsWrittenRun l team old x y new → IsRunWithCutLine l team old x y new
@@ -104,7 +104,7 @@ uncut l team old new x y run = record {
   one = omega arith;
   run = subst (λ (cs : List (Command (List ℕ) Place)). IsRunBy cs l team old new) (sym (append-nil run.0)) run.1;
   count = 0;
-  written = Appends-same x y (lines_of run.0) (lines_of run.0 ++ []) (sym (append-nil (lines_of run.0))) run.2;
+  written = Appends-same x y (request_lines run.0) (request_lines run.0 ++ []) (sym (append-nil (request_lines run.0))) run.2;
 }
 
 pub none_cut : (l : Legalizer) (team : List ℕ) (floor : FloorState) (bytes : Option (List ℕ)) → IsRunWithCutLine l team floor bytes bytes floor
@@ -112,22 +112,22 @@ none_cut l team floor bytes = uncut l team floor floor bytes bytes (nothing l te
 
 -- one command, and a prefix of its line
 pub one_cut : (l : Legalizer) (team : List ℕ) (old new : FloorState) (before after : Option (List ℕ)) (line : List ℕ) (command : Command (List ℕ) Place) (reply : Reply)
-    → IsTo team command → (IsName team → IsPlain command) → Step l old command reply new → is_ok reply ≡ true → line ≡ line_of command
-    → AppendsFront before after line → IsRunWithCutLine l team old before after new
+    → IsTo team command → (IsLineName team → IsPlain command) → Step l old command reply new → is_ok reply ≡ true → line ≡ request_line command
+    → AppendsSomeOf before after line → IsRunWithCutLine l team old before after new
 one_cut l team old new before after line command reply to plain step granted is front = record {
   commands = [];
   last = command ∷ [];
   one = omega arith;
   run = one_run l team old new command reply to plain step granted;
   count = front.0;
-  written = Appends-same before after (take front.0 line) (take front.0 (lines_of (command ∷ []))) (ap (take front.0) (is ∙ sym (append-nil (line_of command)))) front.1;
+  written = Appends-same before after (take front.0 line) (take front.0 (request_lines (command ∷ []))) (ap (take front.0) (is ∙ sym (append-nil (request_line command)))) front.1;
 }
 
 -- one after the other
 pub then_cut : (l : Legalizer) (team : List ℕ) (a b c : FloorState) (x y z : Option (List ℕ)) → IsWrittenRun l team a x y b → IsRunWithCutLine l team b y z c
     → IsRunWithCutLine l team a x z c
 then_cut l team a b c x y z first second =
-    let front = take second.count (lines_of second.last) in
+    let front = take second.count (request_lines second.last) in
     record {
       commands = first.0 ++ second.commands;
       last = second.last;
@@ -135,9 +135,9 @@ then_cut l team a b c x y z first second =
       run = subst (λ (cs : List (Command (List ℕ) Place)). IsRunBy cs l team a c) (sym (append_assoc first.0 second.commands second.last))
           (then_run l team a b c first.0 (second.commands ++ second.last) first.1 second.run);
       count = second.count;
-      written = Appends-same x z (lines_of first.0 ++ (lines_of second.commands ++ front)) (lines_of (first.0 ++ second.commands) ++ front)
-          (sym (append_assoc (lines_of first.0) (lines_of second.commands) front) ∙ ap (λ (ls : List ℕ). ls ++ front) (sym (flat_map-append line_of first.0 second.commands)))
-          (Appends-more x y z (lines_of first.0) (lines_of second.commands ++ front) first.2 second.written);
+      written = Appends-same x z (request_lines first.0 ++ (request_lines second.commands ++ front)) (request_lines (first.0 ++ second.commands) ++ front)
+          (sym (append_assoc (request_lines first.0) (request_lines second.commands) front) ∙ ap (λ (ls : List ℕ). ls ++ front) (sym (flat_map-append request_line first.0 second.commands)))
+          (Appends-more x y z (request_lines first.0) (request_lines second.commands ++ front) first.2 second.written);
     }
 
 -- ---- what is unchanged
@@ -157,7 +157,7 @@ then_only team a b c first second = record {
 -- a step to the team changes no other team
 pub step_only : (team : List ℕ) (command : Command (List ℕ) Place) (old new : FloorState) → IsTo team command
     → ((other : List ℕ) → ¬ IsTo other command → state_of new other ≡ state_of old other) → new.frame ≡ old.frame → new.components ≡ old.components
-    → names_in new team ≡ names_in old team → (IsCommittedLegal old → IsCommittedLegal new) → ChangesOnly team old new
+    → team_cell_names new team ≡ team_cell_names old team → (IsCommittedLegal old → IsCommittedLegal new) → ChangesOnly team old new
 step_only team command old new to others frame components names legal = record {
   others = λ other differ. others other (not_to command to other differ);
   frame = frame;

@@ -19,8 +19,8 @@ use Rattle.lf_floor_model.specs.VerbLaws.{QueryKeepsState, committed_places, is_
 use Rattle.lf_floor_model.proofs.Answering.{own_answer}
 use Rattle.lf_floor_model.proofs.Cases.{Facts, names_stay, order_facts}
 use Rattle.lf_floor_model.proofs.Kept.{committed_stay}
-use Rattle.lf_repair_team.specs.Deeds.{KeepsCommittedPlaces, IsUnchangedOrStepped, SameCells}
-use Rattle.lf_repair_team.specs.Mending.{names_in, place_in}
+use Rattle.lf_repair_team.specs.CellEdits.{KeepsCommittedPlaces, IsUnchangedOrStepped, SameCells}
+use Rattle.lf_repair_team.specs.TeamRepairs.{team_cell_names, place_of_cell_in}
 
 -- ---- the team on both floors
 
@@ -68,23 +68,23 @@ team_step l old new team order reply step = short (is_short reply) step where
   short false answers = answered answers (team_number old.frame team) refl (state_of old team) refl
 
 -- the same if possibly no command was sent
-pub asked_step : (l : Legalizer) (old new : FloorState) (team : List ℕ) (order : TeamCommand (List ℕ) Place) → IsUnchangedOrStepped l old (To team order) new
+pub requested_step : (l : Legalizer) (old new : FloorState) (team : List ℕ) (order : TeamCommand (List ℕ) Place) → IsUnchangedOrStepped l old (To team order) new
     → (new ≡ old) ⊎ IsServed l old new team order
-asked_step l old new team order (inl same) = inl same
-asked_step l old new team order (inr (reply, step)) = team_step l old new team order reply step
+requested_step l old new team order (inl same) = inl same
+requested_step l old new team order (inr (reply, step)) = team_step l old new team order reply step
 
 -- ---- places
 
-pub place_of_state : (floor : FloorState) (team : List ℕ) (own : ℕ) (s : TeamState) → state_of floor team ≡ Some s → place_in floor team own ≡ working_at s.cells own
+pub place_of_state : (floor : FloorState) (team : List ℕ) (own : ℕ) (s : TeamState) → state_of floor team ≡ Some s → place_of_cell_in floor team own ≡ working_at s.cells own
 place_of_state floor team own s there = ap (λ (o : Option TeamState). option_and_then (λ (s : TeamState). working_at s.cells own) o) there
 
 -- the place of a cell is unchanged if the rules leave it unchanged
 pub place_stays : (l : Legalizer) (old new : FloorState) (team : List ℕ) (order : TeamCommand (List ℕ) Place) (own : ℕ)
     → IsUnchangedOrStepped l old (To team order) new
     → ((number : ℕ) (s : TeamState) → state_of old team ≡ Some s → working_at (outcome_by_rules l old.frame number order s).team.cells own ≡ working_at s.cells own)
-    → place_in new team own ≡ place_in old team own
-place_stays l old new team order own asked stays = elim (asked_step l old new team order asked) [
-  | inl same ↦ ap (λ (f : FloorState). place_in f team own) same
+    → place_of_cell_in new team own ≡ place_of_cell_in old team own
+place_stays l old new team order own requested stays = elim (requested_step l old new team order requested) [
+  | inl same ↦ ap (λ (f : FloorState). place_of_cell_in f team own) same
   | inr served ↦
       place_of_state new team own (outcome_by_rules l old.frame served.number order served.state).team served.after
       ∙ stays served.number served.state served.before
@@ -94,7 +94,7 @@ place_stays l old new team order own asked stays = elim (asked_step l old new te
 -- a query leaves each cell unchanged
 pub look_same : (l : Legalizer) (old new : FloorState) (team : List ℕ) (order : TeamCommand (List ℕ) Place)
     → QueryKeepsState → is_change order ≡ false → IsUnchangedOrStepped l old (To team order) new → SameCells team old new
-look_same l old new team order keeps look asked = elim (asked_step l old new team order asked) [
+look_same l old new team order keeps look requested = elim (requested_step l old new team order requested) [
   | inl same ↦ inl (ap (λ (f : FloorState). state_of f team) same)
   | inr served ↦ inr (record {
     before = served.state;
@@ -110,7 +110,7 @@ look_same l old new team order keeps look asked = elim (asked_step l old new tea
 -- they are unchanged, unless the order is a commit
 pub committed_stays : (l : Legalizer) (old new : FloorState) (team : List ℕ) (order : TeamCommand (List ℕ) Place) → is_commit order ≡ false
     → IsUnchangedOrStepped l old (To team order) new → KeepsCommittedPlaces team old new
-committed_stays l old new team order plain asked = elim (asked_step l old new team order asked) [
+committed_stays l old new team order plain requested = elim (requested_step l old new team order requested) [
   | inl same ↦ ap (λ (f : FloorState). option_map committed_places (state_of f team)) same
   | inr served ↦
       ap (λ (o : Option TeamState). option_map committed_places o) served.after
@@ -131,9 +131,9 @@ verb_names t order s = by (outcome_of t order s) (order_facts t order s) where
   by o (inr (inr done)) = names_stay t s done.change o.team.cells done.is.cells
 
 order_names : (l : Legalizer) (old new : FloorState) (team : List ℕ) (order : TeamCommand (List ℕ) Place) (reply : Reply) → Step l old (To team order) reply new
-    → names_in new team ≡ names_in old team
+    → team_cell_names new team ≡ team_cell_names old team
 order_names l old new team order reply step = elim (team_step l old new team order reply step) [
-  | inl same ↦ ap (λ (f : FloorState). names_in f team) same
+  | inl same ↦ ap (λ (f : FloorState). team_cell_names f team) same
   | inr served ↦
       ap (λ (o : Option TeamState). option_map names_of o) served.after
       ∙ ap (λ (names : List (List ℕ)). Some names) (verb_names (team_rules l old.frame served.number served.state.padding) order served.state)
@@ -142,7 +142,7 @@ order_names l old new team order reply step = elim (team_step l old new team ord
 
 -- a team has the same cells after a command to it
 pub step_names : (l : Legalizer) (team : List ℕ) (command : Command (List ℕ) Place) (old new : FloorState) (reply : Reply) → IsTo team command
-    → Step l old command reply new → names_in new team ≡ names_in old team
+    → Step l old command reply new → team_cell_names new team ≡ team_cell_names old team
 step_names l team Bye old new reply to step = absurd to
 step_names l team (To name order) old new reply to step =
-    subst (λ (n : List ℕ). names_in new n ≡ names_in old n) to (order_names l old new name order reply step)
+    subst (λ (n : List ℕ). team_cell_names new n ≡ team_cell_names old n) to (order_names l old new name order reply step)

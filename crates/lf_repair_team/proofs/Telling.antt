@@ -18,10 +18,10 @@ use Rattle.lf_floor_model.specs.States.{FloorState, TeamState}
 use Rattle.lf_floor_model.specs.Teams.{state_of, team_number}
 use Rattle.lf_floor_model.proofs.Standing.{some_one}
 use Rattle.lf_repair_strategy.specs.declared.stats.RepairStats.{RepairStats}
-use Rattle.lf_repair_strategy.specs.Homes.{AreWorkingPlaces, target_at}
-use Rattle.lf_repair_team.specs.Deeds.{AreLegalFlags, IsCounted, CountsOneCell, AreStatsOfFirst}
-use Rattle.lf_repair_team.specs.Mending.{ChangesOnly, IsLegalIn, place_in}
-use Rattle.lf_repair_team.specs.Tallies.{AreTurned, HowMany, AreStatsOf, AreTeamStats, displacement, total_displacement}
+use Rattle.lf_repair_strategy.specs.WantedPlaces.{AreWorkingPlaces, target_at}
+use Rattle.lf_repair_team.specs.CellEdits.{AreLegalFlags, CountsIf, CountsOneCell, AreStatsOfFirst}
+use Rattle.lf_repair_team.specs.TeamRepairs.{ChangesOnly, IsLegalIn, place_of_cell_in}
+use Rattle.lf_repair_team.specs.Stats.{AreTurned, HowMany, AreStatsOf, AreTeamStats, displacement, total_displacement}
 use Rattle.lf_repair_team.proofs.Finding.{team_was}
 use Rattle.lf_repair_team.proofs.Legal.{state_there}
 use Rattle.lf_repair_strategy.proofs.Lists.{before_last, last_is, one_longer}
@@ -94,20 +94,20 @@ module _ (So : ℕ → Type 0) (k old : ℕ) (so_far : HowMany k So old) where
         ⊎_elim (λ (here : own ≡ k). absurd (never (subst So here is))) (λ (differ : own ≢ k). (so_far.are own).1 (omega (arith, within, differ), is)) (cases_eq own k)
 
 -- one position more
-count_more : (So : ℕ → Type 0) (k old new : ℕ) → old ≤ 4000000 → HowMany k So old → IsCounted (So k) old new → HowMany (k + 1) So new
+count_more : (So : ℕ → Type 0) (k old new : ℕ) → old ≤ 4000000 → HowMany k So old → CountsIf (So k) old new → HowMany (k + 1) So new
 count_more So k old new few so_far (inl (so, more)) = one_so So k old so_far new so (omega (arith, more, few))
 count_more So k old new few so_far (inr (never, same)) = none_more So k old so_far new never same
 
-count_few : (So : Type 0) (k old new : ℕ) → old ≤ k → IsCounted So old new → new ≤ k + 1
+count_few : (So : Type 0) (k old new : ℕ) → old ≤ k → CountsIf So old new → new ≤ k + 1
 count_few So k old new few (inl (so, more)) = omega (arith, more, few)
 count_few So k old new few (inr (never, same)) = omega (arith, same, few)
 
 -- the same with an equivalent condition
-pub counted_as : (So Too : Type 0) (old new : ℕ) → (So → Too) → (Too → So) → IsCounted So old new → IsCounted Too old new
+pub counted_as : (So Too : Type 0) (old new : ℕ) → (So → Too) → (Too → So) → CountsIf So old new → CountsIf Too old new
 counted_as So Too old new to from (inl (so, more)) = inl (to so, more)
 counted_as So Too old new to from (inr (never, same)) = inr (λ too. never (from too), same)
 
-pub counted_by : (So : Type 0) (so : Bool) (old new : ℕ) → ((so ≡ true) ↔ So) → IsCounted (so ≡ true) old new → IsCounted So old new
+pub counted_by : (So : Type 0) (so : Bool) (old new : ℕ) → ((so ≡ true) ↔ So) → CountsIf (so ≡ true) old new → CountsIf So old new
 counted_by So so old new is one = counted_as (so ≡ true) So old new is.0 is.1 one
 
 pub not_so : (so : Bool) → (not so ≡ true) ↔ (so ≡ true → ⊥)
@@ -128,67 +128,67 @@ many_as all count So Too to from many = record {
 -- ---- one cell more
 
 -- the numbers are at most the number of cells
-pub record IsShortTo (all : ℕ) (told : RepairStats) : Type 0 where
-  pub cells : told.cells ≤ all
-  pub kept : told.kept ≤ all
-  pub pushed : told.pushed ≤ all
-  pub moved : told.moved ≤ all
-  pub placed : told.placed ≤ all
-  pub turned : told.turned ≤ all
-  pub total : told.total ≤ all * 8589934590
+pub record IsShortTo (all : ℕ) (reported : RepairStats) : Type 0 where
+  pub cells : reported.cells ≤ all
+  pub kept : reported.kept ≤ all
+  pub pushed : reported.pushed ≤ all
+  pub moved : reported.moved ≤ all
+  pub placed : reported.placed ≤ all
+  pub turned : reported.turned ≤ all
+  pub total : reported.total ≤ all * 8589934590
 
-pub short_more : (home now : Option Place) (Stood : Type 0) (k : ℕ) (old new : RepairStats) → IsShortTo k old → CountsOneCell home now Stood old new → IsShortTo (k + 1) new
-short_more home now Stood k old new short one = record {
-  cells = count_few (Stood → ⊥) k old.cells new.cells short.cells one.cells;
-  kept = count_few (Stood × (now ≡ home)) k old.kept new.kept short.kept one.kept;
-  pushed = count_few (Stood × (now ≢ home)) k old.pushed new.pushed short.pushed one.pushed;
-  moved = count_few (0 < displacement home now) k old.moved new.moved short.moved one.moved;
-  placed = count_few ((home ≡ None) × IsSome now) k old.placed new.placed short.placed one.placed;
-  turned = count_few (AreTurned home now) k old.turned new.turned short.turned one.turned;
+pub short_more : (wanted_place now : Option Place) (WasAtPlace : Type 0) (k : ℕ) (old new : RepairStats) → IsShortTo k old → CountsOneCell wanted_place now WasAtPlace old new → IsShortTo (k + 1) new
+short_more wanted_place now WasAtPlace k old new short one = record {
+  cells = count_few (WasAtPlace → ⊥) k old.cells new.cells short.cells one.cells;
+  kept = count_few (WasAtPlace × (now ≡ wanted_place)) k old.kept new.kept short.kept one.kept;
+  pushed = count_few (WasAtPlace × (now ≢ wanted_place)) k old.pushed new.pushed short.pushed one.pushed;
+  moved = count_few (0 < displacement wanted_place now) k old.moved new.moved short.moved one.moved;
+  placed = count_few ((wanted_place ≡ None) × IsSome now) k old.placed new.placed short.placed one.placed;
+  turned = count_few (AreTurned wanted_place now) k old.turned new.turned short.turned one.turned;
   total = omega (arith, short.total, one.total, one.short);
 }
 
-module _ (home now : ℕ → Option Place) (Stood : ℕ → Type 0) where
+module _ (wanted_place now : ℕ → Option Place) (WasAtPlace : ℕ → Type 0) where
   abbrev far : ℕ → ℕ
-  far own = displacement (home own) (now own)
+  far own = displacement (wanted_place own) (now own)
 
-  pub nothing_told : (told : RepairStats) → told.cells ≡ 0 → told.kept ≡ 0 → told.pushed ≡ 0 → told.moved ≡ 0 → told.placed ≡ 0 → told.turned ≡ 0 → told.total ≡ 0
-      → told.largest ≡ 0 → AreStatsOf home now Stood 0 told
-  nothing_told told cells kept pushed moved placed turned total largest = record {
-    cells = none_so (λ own. Stood own → ⊥) told.cells cells;
-    kept = none_so (λ own. Stood own × (now own ≡ home own)) told.kept kept;
-    pushed = none_so (λ own. Stood own × (now own ≢ home own)) told.pushed pushed;
-    moved = none_so (λ own. 0 < far own) told.moved moved;
-    placed = none_so (λ own. (home own ≡ None) × IsSome (now own)) told.placed placed;
-    turned = none_so (λ own. AreTurned (home own) (now own)) told.turned turned;
+  pub nothing_reported : (reported : RepairStats) → reported.cells ≡ 0 → reported.kept ≡ 0 → reported.pushed ≡ 0 → reported.moved ≡ 0 → reported.placed ≡ 0 → reported.turned ≡ 0 → reported.total ≡ 0
+      → reported.largest ≡ 0 → AreStatsOf wanted_place now WasAtPlace 0 reported
+  nothing_reported reported cells kept pushed moved placed turned total largest = record {
+    cells = none_so (λ own. WasAtPlace own → ⊥) reported.cells cells;
+    kept = none_so (λ own. WasAtPlace own × (now own ≡ wanted_place own)) reported.kept kept;
+    pushed = none_so (λ own. WasAtPlace own × (now own ≢ wanted_place own)) reported.pushed pushed;
+    moved = none_so (λ own. 0 < far own) reported.moved moved;
+    placed = none_so (λ own. (wanted_place own ≡ None) × IsSome (now own)) reported.placed placed;
+    turned = none_so (λ own. AreTurned (wanted_place own) (now own)) reported.turned turned;
     total = total;
     largest = largest;
   }
 
-  total_more : (k : ℕ) (old new : RepairStats) → k < 4000000 → IsShortTo k old → CountsOneCell (home k) (now k) (Stood k) old new → new.total ≡ old.total + far k
+  total_more : (k : ℕ) (old new : RepairStats) → k < 4000000 → IsShortTo k old → CountsOneCell (wanted_place k) (now k) (WasAtPlace k) old new → new.total ≡ old.total + far k
   total_more k old new few short one = omega (arith, few, short.total, one.total, one.short)
 
-  pub tally_more : (k : ℕ) (old new : RepairStats) → k < 4000000 → IsShortTo k old → AreStatsOf home now Stood k old → CountsOneCell (home k) (now k) (Stood k) old new
-      → AreStatsOf home now Stood (k + 1) new
+  pub tally_more : (k : ℕ) (old new : RepairStats) → k < 4000000 → IsShortTo k old → AreStatsOf wanted_place now WasAtPlace k old → CountsOneCell (wanted_place k) (now k) (WasAtPlace k) old new
+      → AreStatsOf wanted_place now WasAtPlace (k + 1) new
   tally_more k old new few short so_far one = record {
-    cells = count_more (λ own. Stood own → ⊥) k old.cells new.cells (omega (arith, few, short.cells)) so_far.cells one.cells;
-    kept = count_more (λ own. Stood own × (now own ≡ home own)) k old.kept new.kept (omega (arith, few, short.kept)) so_far.kept one.kept;
-    pushed = count_more (λ own. Stood own × (now own ≢ home own)) k old.pushed new.pushed (omega (arith, few, short.pushed)) so_far.pushed one.pushed;
+    cells = count_more (λ own. WasAtPlace own → ⊥) k old.cells new.cells (omega (arith, few, short.cells)) so_far.cells one.cells;
+    kept = count_more (λ own. WasAtPlace own × (now own ≡ wanted_place own)) k old.kept new.kept (omega (arith, few, short.kept)) so_far.kept one.kept;
+    pushed = count_more (λ own. WasAtPlace own × (now own ≢ wanted_place own)) k old.pushed new.pushed (omega (arith, few, short.pushed)) so_far.pushed one.pushed;
     moved = count_more (λ own. 0 < far own) k old.moved new.moved (omega (arith, few, short.moved)) so_far.moved one.moved;
-    placed = count_more (λ own. (home own ≡ None) × IsSome (now own)) k old.placed new.placed (omega (arith, few, short.placed)) so_far.placed one.placed;
-    turned = count_more (λ own. AreTurned (home own) (now own)) k old.turned new.turned (omega (arith, few, short.turned)) so_far.turned one.turned;
+    placed = count_more (λ own. (wanted_place own ≡ None) × IsSome (now own)) k old.placed new.placed (omega (arith, few, short.placed)) so_far.placed one.placed;
+    turned = count_more (λ own. AreTurned (wanted_place own) (now own)) k old.turned new.turned (omega (arith, few, short.turned)) so_far.turned one.turned;
     total = total_more k old new few short one ∙ ap (λ (n : ℕ). n + far k) so_far.total ∙ sym (sum_by-map-range_with_len_more (λ (n : ℕ). n) far 0 k k (zero-add k));
-    largest = one.largest ∙ ap (λ (n : ℕ). max n (far k)) so_far.largest ∙ sym (fold_push max 0 (total_displacement home now k) (far k))
+    largest = one.largest ∙ ap (λ (n : ℕ). max n (far k)) so_far.largest ∙ sym (fold_push max 0 (total_displacement wanted_place now k) (far k))
         ∙ sym (ap (λ (ns : List ℕ). fold max 0 ns) (map-range_with_len_more far 0 k k (zero-add k)));
   }
 
 -- the same with an equivalent condition
-one_told_as : (home now : Option Place) (Stood Too : Type 0) (old new : RepairStats) → (Stood → Too) → (Too → Stood) → CountsOneCell home now Stood old new
-    → CountsOneCell home now Too old new
-one_told_as home now Stood Too old new to from one = record {
-  cells = counted_as (Stood → ⊥) (Too → ⊥) old.cells new.cells (λ never too. never (from too)) (λ never stood. never (to stood)) one.cells;
-  kept = counted_as (Stood × (now ≡ home)) (Too × (now ≡ home)) old.kept new.kept (λ both. (to both.0, both.1)) (λ both. (from both.0, both.1)) one.kept;
-  pushed = counted_as (Stood × (now ≢ home)) (Too × (now ≢ home)) old.pushed new.pushed (λ both. (to both.0, both.1)) (λ both. (from both.0, both.1)) one.pushed;
+one_reported_as : (wanted_place now : Option Place) (WasAtPlace Too : Type 0) (old new : RepairStats) → (WasAtPlace → Too) → (Too → WasAtPlace) → CountsOneCell wanted_place now WasAtPlace old new
+    → CountsOneCell wanted_place now Too old new
+one_reported_as wanted_place now WasAtPlace Too old new to from one = record {
+  cells = counted_as (WasAtPlace → ⊥) (Too → ⊥) old.cells new.cells (λ never too. never (from too)) (λ never original_place. never (to original_place)) one.cells;
+  kept = counted_as (WasAtPlace × (now ≡ wanted_place)) (Too × (now ≡ wanted_place)) old.kept new.kept (λ both. (to both.0, both.1)) (λ both. (from both.0, both.1)) one.kept;
+  pushed = counted_as (WasAtPlace × (now ≢ wanted_place)) (Too × (now ≢ wanted_place)) old.pushed new.pushed (λ both. (to both.0, both.1)) (λ both. (from both.0, both.1)) one.pushed;
   moved = one.moved;
   placed = one.placed;
   turned = one.turned;
@@ -198,21 +198,21 @@ one_told_as home now Stood Too old new to from one = record {
 }
 
 -- the team's cell with this id is counted
-module _ (homes : List (Option Place)) (marks : List Bool) (cells : List Cell) (number k : ℕ) (id : CellId) (home now : Option Place) (stood : Bool) (old new : RepairStats) where
-  one_told_at : id ≡ id_of number k → now ≡ working_at cells k → home ≡ target_at homes id.own → ((stood ≡ true) ↔ (slice_get marks id.own ≡ Some true))
-      → CountsOneCell home now (stood ≡ true) old new → CountsOneCell (target_at homes k) (working_at cells k) (slice_get marks k ≡ Some true) old new
-  one_told_at is now_is home_is marked one =
+module _ (wanted_places : List (Option Place)) (marks : List Bool) (cells : List Cell) (number k : ℕ) (id : CellId) (wanted_place now : Option Place) (original_place : Bool) (old new : RepairStats) where
+  one_reported_at : id ≡ id_of number k → now ≡ working_at cells k → wanted_place ≡ target_at wanted_places id.own → ((original_place ≡ true) ↔ (slice_get marks id.own ≡ Some true))
+      → CountsOneCell wanted_place now (original_place ≡ true) old new → CountsOneCell (target_at wanted_places k) (working_at cells k) (slice_get marks k ≡ Some true) old new
+  one_reported_at is now_is wanted_place_is marked one =
       let own : id.own ≡ k = ap (λ (i : CellId). i.own) is in
-      let there : home ≡ target_at homes k = home_is ∙ ap (λ (j : ℕ). target_at homes j) own in
+      let there : wanted_place ≡ target_at wanted_places k = wanted_place_is ∙ ap (λ (j : ℕ). target_at wanted_places j) own in
       subst (λ (h : Option Place). CountsOneCell h (working_at cells k) (slice_get marks k ≡ Some true) old new) there
-      (subst (λ (n : Option Place). CountsOneCell home n (slice_get marks k ≡ Some true) old new) now_is
-      (subst (λ (j : ℕ). CountsOneCell home now (slice_get marks j ≡ Some true) old new) own
-      (one_told_as home now (stood ≡ true) (slice_get marks id.own ≡ Some true) old new marked.0 marked.1 one)))
+      (subst (λ (n : Option Place). CountsOneCell wanted_place n (slice_get marks k ≡ Some true) old new) now_is
+      (subst (λ (j : ℕ). CountsOneCell wanted_place now (slice_get marks j ≡ Some true) old new) own
+      (one_reported_as wanted_place now (original_place ≡ true) (slice_get marks id.own ≡ Some true) old new marked.0 marked.1 one)))
 
-  pub told_at : id ≡ id_of number k → now ≡ working_at cells k → home ≡ target_at homes id.own → ((stood ≡ true) ↔ (slice_get marks id.own ≡ Some true)) → k < 4000000
-      → IsShortTo k old → AreStatsOfFirst homes marks cells k old → CountsOneCell home now (stood ≡ true) old new → AreStatsOfFirst homes marks cells (k + 1) new
-  told_at is now_is home_is marked few short so_far one =
-      tally_more (target_at homes) (working_at cells) (λ own. slice_get marks own ≡ Some true) k old new few short so_far (one_told_at is now_is home_is marked one)
+  pub reported_at : id ≡ id_of number k → now ≡ working_at cells k → wanted_place ≡ target_at wanted_places id.own → ((original_place ≡ true) ↔ (slice_get marks id.own ≡ Some true)) → k < 4000000
+      → IsShortTo k old → AreStatsOfFirst wanted_places marks cells k old → CountsOneCell wanted_place now (original_place ≡ true) old new → AreStatsOfFirst wanted_places marks cells (k + 1) new
+  reported_at is now_is wanted_place_is marked few short so_far one =
+      tally_more (target_at wanted_places) (working_at cells) (λ own. slice_get marks own ≡ Some true) k old new few short so_far (one_reported_at is now_is wanted_place_is marked one)
 
 -- ---- the team between two floors
 
@@ -220,30 +220,30 @@ map_same : (f g : ℕ → ℕ) → ((own : ℕ) → f own ≡ g own) → (owns :
 map_same f g same [] = refl
 map_same f g same (own ∷ owns) = ap (λ (n : ℕ). n ∷ map f owns) (same own) ∙ ap (λ (ns : List ℕ). g own ∷ ns) (map_same f g same owns)
 
-module _ (home there now here : ℕ → Option Place) (Stood Too : ℕ → Type 0) (all : ℕ) (told : RepairStats)
-    (homes : (own : ℕ) → home own ≡ there own) (nows : (own : ℕ) → now own ≡ here own)
-    (to : (own : ℕ) → Stood own → Too own) (from : (own : ℕ) → Too own → Stood own) where
-  same_ways : total_displacement home now all ≡ total_displacement there here all
-  same_ways = map_same (λ own. displacement (home own) (now own)) (λ own. displacement (there own) (here own))
-      (λ own. ap (λ (h : Option Place). displacement h (now own)) (homes own) ∙ ap (λ (n : Option Place). displacement (there own) n) (nows own)) (range_with_len 0 all)
+module _ (wanted_place there now here : ℕ → Option Place) (WasAtPlace Too : ℕ → Type 0) (all : ℕ) (reported : RepairStats)
+    (wanted_places : (own : ℕ) → wanted_place own ≡ there own) (nows : (own : ℕ) → now own ≡ here own)
+    (to : (own : ℕ) → WasAtPlace own → Too own) (from : (own : ℕ) → Too own → WasAtPlace own) where
+  same_ways : total_displacement wanted_place now all ≡ total_displacement there here all
+  same_ways = map_same (λ own. displacement (wanted_place own) (now own)) (λ own. displacement (there own) (here own))
+      (λ own. ap (λ (h : Option Place). displacement h (now own)) (wanted_places own) ∙ ap (λ (n : Option Place). displacement (there own) n) (nows own)) (range_with_len 0 all)
 
-  tally_as : AreStatsOf home now Stood all told → AreStatsOf there here Too all told
+  tally_as : AreStatsOf wanted_place now WasAtPlace all reported → AreStatsOf there here Too all reported
   tally_as tally = record {
-    cells = many_as all told.cells (λ own. Stood own → ⊥) (λ own. Too own → ⊥) (λ own never too. never (from own too)) (λ own never stood. never (to own stood)) tally.cells;
-    kept = many_as all told.kept (λ own. Stood own × (now own ≡ home own)) (λ own. Too own × (here own ≡ there own))
-        (λ own both. (to own both.0, sym (nows own) ∙ both.1 ∙ homes own)) (λ own both. (from own both.0, nows own ∙ both.1 ∙ sym (homes own))) tally.kept;
-    pushed = many_as all told.pushed (λ own. Stood own × (now own ≢ home own)) (λ own. Too own × (here own ≢ there own))
-        (λ own both. (to own both.0, λ same. both.1 (nows own ∙ same ∙ sym (homes own))))
-        (λ own both. (from own both.0, λ same. both.1 (sym (nows own) ∙ same ∙ homes own))) tally.pushed;
-    moved = many_as all told.moved (λ own. 0 < displacement (home own) (now own)) (λ own. 0 < displacement (there own) (here own))
-        (λ own far. moves (home own) (there own) (now own) (here own) (homes own) (nows own) far)
-        (λ own far. moves (there own) (home own) (here own) (now own) (sym (homes own)) (sym (nows own)) far) tally.moved;
-    placed = many_as all told.placed (λ own. (home own ≡ None) × IsSome (now own)) (λ own. (there own ≡ None) × IsSome (here own))
-        (λ own both. (sym (homes own) ∙ both.0, subst (λ (o : Option Place). IsSome o) (nows own) both.1))
-        (λ own both. (homes own ∙ both.0, subst (λ (o : Option Place). IsSome o) (sym (nows own)) both.1)) tally.placed;
-    turned = many_as all told.turned (λ own. AreTurned (home own) (now own)) (λ own. AreTurned (there own) (here own))
-        (λ own apart. turns (home own) (there own) (now own) (here own) (homes own) (nows own) apart)
-        (λ own apart. turns (there own) (home own) (here own) (now own) (sym (homes own)) (sym (nows own)) apart) tally.turned;
+    cells = many_as all reported.cells (λ own. WasAtPlace own → ⊥) (λ own. Too own → ⊥) (λ own never too. never (from own too)) (λ own never original_place. never (to own original_place)) tally.cells;
+    kept = many_as all reported.kept (λ own. WasAtPlace own × (now own ≡ wanted_place own)) (λ own. Too own × (here own ≡ there own))
+        (λ own both. (to own both.0, sym (nows own) ∙ both.1 ∙ wanted_places own)) (λ own both. (from own both.0, nows own ∙ both.1 ∙ sym (wanted_places own))) tally.kept;
+    pushed = many_as all reported.pushed (λ own. WasAtPlace own × (now own ≢ wanted_place own)) (λ own. Too own × (here own ≢ there own))
+        (λ own both. (to own both.0, λ same. both.1 (nows own ∙ same ∙ sym (wanted_places own))))
+        (λ own both. (from own both.0, λ same. both.1 (sym (nows own) ∙ same ∙ wanted_places own))) tally.pushed;
+    moved = many_as all reported.moved (λ own. 0 < displacement (wanted_place own) (now own)) (λ own. 0 < displacement (there own) (here own))
+        (λ own far. moves (wanted_place own) (there own) (now own) (here own) (wanted_places own) (nows own) far)
+        (λ own far. moves (there own) (wanted_place own) (here own) (now own) (sym (wanted_places own)) (sym (nows own)) far) tally.moved;
+    placed = many_as all reported.placed (λ own. (wanted_place own ≡ None) × IsSome (now own)) (λ own. (there own ≡ None) × IsSome (here own))
+        (λ own both. (sym (wanted_places own) ∙ both.0, subst (λ (o : Option Place). IsSome o) (nows own) both.1))
+        (λ own both. (wanted_places own ∙ both.0, subst (λ (o : Option Place). IsSome o) (sym (nows own)) both.1)) tally.placed;
+    turned = many_as all reported.turned (λ own. AreTurned (wanted_place own) (now own)) (λ own. AreTurned (there own) (here own))
+        (λ own apart. turns (wanted_place own) (there own) (now own) (here own) (wanted_places own) (nows own) apart)
+        (λ own apart. turns (there own) (wanted_place own) (here own) (now own) (sym (wanted_places own)) (sym (nows own)) apart) tally.turned;
     total = tally.total ∙ ap (λ (ns : List ℕ). sum ns) same_ways;
     largest = tally.largest ∙ ap (λ (ns : List ℕ). fold max 0 ns) same_ways;
   } where
@@ -253,17 +253,17 @@ module _ (home there now here : ℕ → Option Place) (Stood Too : ℕ → Type 
     turns : (h i n m : Option Place) → h ≡ i → n ≡ m → AreTurned h n → AreTurned i m
     turns h i n m e f apart = subst (λ (p : Option Place). AreTurned p m) e (subst (λ (p : Option Place). AreTurned h p) f apart)
 
-pub tells_of : (team : List ℕ) (old new : FloorState) (number : ℕ) (homes : List (Option Place)) (marks : List Bool) (told : RepairStats)
+pub team_stats_of : (team : List ℕ) (old new : FloorState) (number : ℕ) (wanted_places : List (Option Place)) (marks : List Bool) (reported : RepairStats)
     → team_number old.frame team ≡ Some number → ChangesOnly team old new
-    → ((s : TeamState) → slice_get old.teams number ≡ Some s → AreWorkingPlaces s.cells homes) → AreLegalFlags team old marks
-    → ((s : TeamState) → slice_get new.teams number ≡ Some s → AreStatsOfFirst homes marks s.cells (length s.cells) told) → AreTeamStats team old new told
-tells_of team old new number homes marks told named only are marked tally s was =
+    → ((s : TeamState) → slice_get old.teams number ≡ Some s → AreWorkingPlaces s.cells wanted_places) → AreLegalFlags team old marks
+    → ((s : TeamState) → slice_get new.teams number ≡ Some s → AreStatsOfFirst wanted_places marks s.cells (length s.cells) reported) → AreTeamStats team old new reported
+team_stats_of team old new number wanted_places marks reported named only are marked tally s was =
     let is = team_was team new old s (sym only.names) was in
     let t : TeamState = is.0 in
     let at : state_of new team ≡ Some t = is.1 in
     let still : team_number new.frame team ≡ Some number = ap (λ (f : Frame). team_number f team) only.frame ∙ named in
-    subst (λ (all : ℕ). AreStatsOf (place_in old team) (place_in new team) (IsLegalIn old team) all told) (many t at)
-    (tally_as (target_at homes) (place_in old team) (working_at t.cells) (place_in new team) (λ own. slice_get marks own ≡ Some true) (IsLegalIn old team) (length t.cells) told
+    subst (λ (all : ℕ). AreStatsOf (place_of_cell_in old team) (place_of_cell_in new team) (IsLegalIn old team) all reported) (many t at)
+    (tally_as (target_at wanted_places) (place_of_cell_in old team) (working_at t.cells) (place_of_cell_in new team) (λ own. slice_get marks own ≡ Some true) (IsLegalIn old team) (length t.cells) reported
     (λ own. are s (state_there old team number s named was) own ∙ sym (place_of_state old team own s was))
     (λ own. sym (place_of_state new team own t at))
     (λ own is_marked. marked.only s was own is_marked) (λ own legal. marked.legal own legal)

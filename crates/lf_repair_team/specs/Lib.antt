@@ -1,5 +1,5 @@
 pub mod Words
 pub mod Runs
-pub mod Mending
-pub mod Tallies
-pub mod Deeds
+pub mod TeamRepairs
+pub mod Stats
+pub mod CellEdits

@@ -3,7 +3,7 @@ use Rattle.std.specs.Prelude.{◌≡◌, ℕ, ◌≤◌, List, [], ◌∷◌, �
 use Rattle.std.specs.List.{flat_map}
 use Rattle.std.specs.Io.KnownBytes.{Appends}
 use Rattle.lf_floorplan.specs.declared.place.Place.{Place}
-use Rattle.lf_proto.specs.Lines.{IsName}
+use Rattle.lf_proto.specs.Lines.{IsLineName}
 use Rattle.lf_rules.specs.Legalizer.{Legalizer}
 use Rattle.lf_proto.specs.declared.request.Command.{Command}
 use Rattle.lf_proto.specs.declared.reply.Reply.{Reply}
@@ -15,12 +15,12 @@ use Rattle.lf_floor_model.specs.Runs.{Run}
 use Rattle.lf_floor_model.specs.VerbLaws.{is_ok}
 
 -- the line that prints a command, with its line feed
-abbrev pub line_of : Command (List ℕ) Place → List ℕ
-line_of command = printed command ++ 10 ∷ []
+abbrev pub request_line : Command (List ℕ) Place → List ℕ
+request_line command = printed command ++ 10 ∷ []
 
 -- the lines of the commands
-abbrev pub lines_of : List (Command (List ℕ) Place) → List ℕ
-lines_of commands = flat_map line_of commands
+abbrev pub request_lines : List (Command (List ℕ) Place) → List ℕ
+request_lines commands = flat_map request_line commands
 
 -- the commands lead the floor from `old` to `new`, all of them are to this team, and all are
 -- accepted; if the team's name is of visible bytes, a line can contain each command and reads as it
@@ -29,18 +29,18 @@ pub record IsRunBy (commands : List (Command (List ℕ) Place)) (l : Legalizer) 
   pub run : Run l old commands replies new
   pub granted : All (λ reply. is_ok reply ≡ true) replies
   pub own : All (IsTo team) commands
-  pub plain : IsName team → All IsPlain commands
+  pub plain : IsLineName team → All IsPlain commands
 
 -- some commands lead the floor from `old` to `new`, and their lines have been written, as far as
 -- the writer's bytes are known
 abbrev pub IsWrittenRun : Legalizer → List ℕ → FloorState → Option (List ℕ) → Option (List ℕ) → FloorState → Type 0
 IsWrittenRun l team old before after new =
-    (commands : List (Command (List ℕ) Place)) × IsRunBy commands l team old new × Appends before after (lines_of commands)
+    (commands : List (Command (List ℕ) Place)) × IsRunBy commands l team old new × Appends before after (request_lines commands)
 
 -- a prefix of the bytes has been written, as far as the writer's bytes are known: perhaps no byte,
 -- perhaps all
-abbrev pub AppendsFront : Option (List ℕ) → Option (List ℕ) → List ℕ → Type 0
-AppendsFront before after bytes = (count : ℕ) × Appends before after (take count bytes)
+abbrev pub AppendsSomeOf : Option (List ℕ) → Option (List ℕ) → List ℕ → Type 0
+AppendsSomeOf before after bytes = (count : ℕ) × Appends before after (take count bytes)
 
 -- some commands and at most one more lead the floor from `old` to `new`; written are the lines of
 -- the former and a prefix of the last one's
@@ -50,4 +50,4 @@ pub record IsRunWithCutLine (l : Legalizer) (team : List ℕ) (old : FloorState)
   pub one : length last ≤ 1
   pub run : IsRunBy (commands ++ last) l team old new
   pub count : ℕ
-  pub written : Appends before after (lines_of commands ++ take count (lines_of last))
+  pub written : Appends before after (request_lines commands ++ take count (request_lines last))

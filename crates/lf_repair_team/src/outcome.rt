@@ -4,9 +4,9 @@
 ghost use Rattle.std.specs.Prelude.{◌≡◌, All, IfOk, OnOk, Some};
 ghost use Rattle.lf_cells.specs.Cells.{cells_of};
 ghost use Rattle.lf_floor_model.specs.Teams.{team_number};
-ghost use Rattle.lf_repair_strategy.specs.Homes.{target_at};
-ghost use Rattle.lf_repair_team.specs.Deeds.{AreAtTargetsExcept, HaveLeftTargets, IsLegalOrListed, HoldsOrIsListed, TeamHasLeftTargets, TeamIsAtTargetsExcept};
-ghost use Rattle.lf_repair_team.specs.Mending.{AreLegalExcept, IsIllegalIn};
+ghost use Rattle.lf_repair_strategy.specs.WantedPlaces.{target_at};
+ghost use Rattle.lf_repair_team.specs.CellEdits.{AreAtTargetsExcept, HaveLeftTargets, IsLegalOrListed, HoldsOrIsListed, TeamHasLeftTargets, TeamIsAtTargetsExcept};
+ghost use Rattle.lf_repair_team.specs.TeamRepairs.{AreLegalExcept, IsIllegalIn};
 
 use crate::run_edits::TeamSession;
 use lf_cells::CellId;
@@ -25,22 +25,22 @@ pub(crate) struct RepairOutcome {
 }
 
 /// The place at this position in the list, if there is one.
-pub(crate) fn target_place(homes: &[Option<Place>], own: usize) -> Option<Place>
-    ensures { result ≡ target_at homes.now own }
+pub(crate) fn target_place(wanted_places: &[Option<Place>], own: usize) -> Option<Place>
+    ensures { result ≡ target_at wanted_places.now own }
 {
-    *homes.get(own)?
+    *wanted_places.get(own)?
 }
 
 /// Lists the cell at position `own`, unless its place is unchanged.
 fn name_changed(
     now: Option<Place>,
-    home: Option<Place>,
+    wanted_place: Option<Place>,
     own: u32,
     changed: &mut Vec<u32>,
 ) -> Result<(), AllocError>
-    ensures { OnOk result (HoldsOrIsListed (now ≡ home) (now ≡ home → ⊥) own changed.old.items changed.new.items) }
+    ensures { OnOk result (HoldsOrIsListed (now ≡ wanted_place) (now ≡ wanted_place → ⊥) own changed.old.items changed.new.items) }
 {
-    if same_place(now, home) {
+    if same_place(now, wanted_place) {
         return Ok(());
     }
     changed.push(own)?;
@@ -52,16 +52,16 @@ fn changed_cells(
     alloc: Global,
     placement: &Placement,
     number: usize,
-    homes: &[Option<Place>],
+    wanted_places: &[Option<Place>],
 ) -> Result<Vec<u32>, AllocError>
-    ensures changed { IfOk result (λ changed. AreAtTargetsExcept (cells_of placement.now.cells number) homes.now changed.items) }
-    ensures moved { IfOk result (λ changed. HaveLeftTargets (cells_of placement.now.cells number) homes.now changed.items) }
+    ensures changed { IfOk result (λ changed. AreAtTargetsExcept (cells_of placement.now.cells number) wanted_places.now changed.items) }
+    ensures moved { IfOk result (λ changed. HaveLeftTargets (cells_of placement.now.cells number) wanted_places.now changed.items) }
 {
     let mut changed = Vec::new(alloc);
     for id in placement.cells().cells_of(number) {
         let now = placement.cells().working(*id);
-        let home = target_place(homes, id.own as usize);
-        name_changed(now, home, id.own, &mut changed)?;
+        let wanted_place = target_place(wanted_places, id.own as usize);
+        name_changed(now, wanted_place, id.own, &mut changed)?;
     }
     Ok(changed)
 }
@@ -105,15 +105,15 @@ pub(crate) fn found_of<S: Seeker + Drop>(
     alloc: Global,
     floor: &Floor<S>,
     seat: &TeamSession<'_>,
-    homes: &[Option<Place>],
+    wanted_places: &[Option<Place>],
 ) -> Result<RepairOutcome, AllocError>
     requires { team_number floor.now.frame seat.now.team.now ≡ Some seat.now.number }
-    ensures changed { IfOk result (λ found. TeamIsAtTargetsExcept seat.now.team.now homes.now floor.now found.changed.items) }
-    ensures moved { IfOk result (λ found. TeamHasLeftTargets seat.now.team.now homes.now floor.now found.changed.items) }
+    ensures changed { IfOk result (λ found. TeamIsAtTargetsExcept seat.now.team.now wanted_places.now floor.now found.changed.items) }
+    ensures moved { IfOk result (λ found. TeamHasLeftTargets seat.now.team.now wanted_places.now floor.now found.changed.items) }
     ensures named { IfOk result (λ found. AreLegalExcept seat.now.team.now floor.now found.left.items) }
     ensures illegal { IfOk result (λ found. All (λ own. IsIllegalIn floor.now seat.now.team.now own) found.left.items) }
 {
-    let changed = changed_cells(alloc, floor.placement(), seat.number, homes)?;
+    let changed = changed_cells(alloc, floor.placement(), seat.number, wanted_places)?;
     let left = illegal_cells(alloc, floor, seat)?;
     Ok(RepairOutcome { changed, left })
 }

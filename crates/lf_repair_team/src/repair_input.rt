@@ -3,10 +3,10 @@
 ghost use Rattle.std.specs.Prelude.{◌≡◌, [], List, ℕ, IfOk, IsTrue, OnOk, Some, slice_get};
 ghost use Rattle.lf_floor_model.specs.States.{TeamState};
 ghost use Rattle.lf_floor_model.specs.Teams.{state_of, team_number};
-ghost use Rattle.lf_repair_strategy.specs.Homes.{AreWorkingPlaces};
+ghost use Rattle.lf_repair_strategy.specs.WantedPlaces.{AreWorkingPlaces};
 ghost use Rattle.lf_repair_strategy.specs.declared.pass.MovePolicy.TheVariants.{Keep};
-ghost use Rattle.lf_repair_team.specs.Deeds.{AreLegalFlags, AddsLegalFlag};
-ghost use Rattle.lf_repair_team.specs.Mending.{AreLegalExcept};
+ghost use Rattle.lf_repair_team.specs.CellEdits.{AreLegalFlags, AddsLegalFlag};
+ghost use Rattle.lf_repair_team.specs.TeamRepairs.{AreLegalExcept};
 
 use lf_cells::CellId;
 use lf_floor::Floor;
@@ -18,7 +18,7 @@ use std::alloc::{AllocError, Global};
 /// no such team. Does not allocate.
 pub fn is_team_legal<S: Seeker + Drop>(floor: &Floor<S>, team: &[u8]) -> bool
     ensures whole { IsTrue result → AreLegalExcept team.now floor.now [] }
-    ensures told { (s : TeamState) → state_of floor.now team.now ≡ Some s → AreLegalExcept team.now floor.now [] → IsTrue result }
+    ensures reported { (s : TeamState) → state_of floor.now team.now ≡ Some s → AreLegalExcept team.now floor.now [] → IsTrue result }
 {
     let Some(number) = floor.team_number(team) else {
         return false;
@@ -67,17 +67,20 @@ pub(crate) fn repair_input<S: Seeker + Drop>(
     how: MovePolicy,
 ) -> Result<RepairInput, AllocError>
     ensures marked { (team : List ℕ) → how ≡ Keep → team_number floor.now.frame team ≡ Some number
-        → IfOk result (λ start. AreLegalFlags team floor.now start.go.marks.items) }
+        → IfOk result (λ start. AreLegalFlags team floor.now start.pass.marks.items) }
     ensures legal { (team : List ℕ) → team_number floor.now.frame team ≡ Some number → IfOk result (λ start. AreLegalFlags team floor.now start.legal.items) }
-    ensures homes { (s : TeamState) → slice_get floor.now.teams number ≡ Some s → IfOk result (λ start. AreWorkingPlaces s.cells start.go.homes.items) }
+    ensures wanted_places { (s : TeamState) → slice_get floor.now.teams number ≡ Some s → IfOk result (λ start. AreWorkingPlaces s.cells start.pass.wanted_places.items) }
     ensures how { IfOk result (λ start. start.how ≡ how) }
 {
     let legal = legal_of(alloc, floor, number)?;
     let marks = initial_locks(alloc, floor.placement(), number, legal.as_slice(), how)?;
-    let homes = working_places(alloc, floor.placement(), number)?;
+    let wanted_places = working_places(alloc, floor.placement(), number)?;
     Ok(RepairInput {
         how,
         legal,
-        go: Pass { marks, homes },
+        pass: Pass {
+            marks,
+            wanted_places,
+        },
     })
 }

@@ -2,14 +2,14 @@
 
 ghost use Rattle.std.specs.Prelude.{◌≡◌, ◌++◌, ◌∷◌, OnOk, map};
 ghost use Rattle.std.specs.List.{flat_map};
-ghost use Rattle.lf_proto.specs.Commands.{command_of};
+ghost use Rattle.lf_proto.specs.Commands.{command_with_names};
 ghost use Rattle.lf_proto.specs.Verbs.{action_of, change_of};
-ghost use Rattle.lf_proto.specs.ReplyText.{line_text};
+ghost use Rattle.lf_proto.specs.ReplyText.{reply_words_line};
 ghost use Rattle.lf_proto.specs.declared.request.Command.TheVariants.{To};
 ghost use Rattle.lf_proto.specs.declared.request.TeamCommand.TheVariants.{Within};
 ghost use Rattle.lf_proto.specs.declared.verb.Action.TheVariants.{Change as Changing};
-ghost use Rattle.lf_repair_team.specs.Words.{spaced, word_text};
-ghost use Rattle.lf_repair_team.specs.Runs.{line_of};
+ghost use Rattle.lf_repair_team.specs.Words.{spaced_request_word, request_word_text};
+ghost use Rattle.lf_repair_team.specs.Runs.{request_line};
 
 use itoa::Buffer;
 use lf_orient::orient_word;
@@ -27,7 +27,7 @@ enum Word<'a> {
 
 /// Appends the word.
 fn put_word(out: &mut Vec<u8>, word: &Word<'_>) -> Result<(), AllocError>
-    ensures { OnOk result (out.new.items ≡ out.old.items ++ word_text word.now) }
+    ensures { OnOk result (out.new.items ≡ out.old.items ++ request_word_text word.now) }
 {
     match word {
         Word::Text(text) => out.extend_from_slice(text),
@@ -39,7 +39,7 @@ fn put_word(out: &mut Vec<u8>, word: &Word<'_>) -> Result<(), AllocError>
 
 /// Appends a space and the word.
 fn put_spaced(out: &mut Vec<u8>, word: &Word<'_>) -> Result<(), AllocError>
-    ensures { OnOk result (out.new.items ≡ out.old.items ++ spaced word.now) }
+    ensures { OnOk result (out.new.items ≡ out.old.items ++ spaced_request_word word.now) }
 {
     out.extend_from_slice(b" ")?;
     put_word(out, word)
@@ -47,7 +47,7 @@ fn put_spaced(out: &mut Vec<u8>, word: &Word<'_>) -> Result<(), AllocError>
 
 /// Appends the words, each after a space.
 fn put_words(out: &mut Vec<u8>, words: &[Word<'_>]) -> Result<(), AllocError>
-    ensures { OnOk result (out.new.items ≡ out.old.items ++ flat_map spaced words.now) }
+    ensures { OnOk result (out.new.items ≡ out.old.items ++ flat_map spaced_request_word words.now) }
 {
     for word in words {
         put_spaced(out, word)?;
@@ -58,7 +58,7 @@ fn put_words(out: &mut Vec<u8>, words: &[Word<'_>]) -> Result<(), AllocError>
 /// Appends a line of words. The first word is a separate argument.
 #[tactic(auto, using(crate::proofs::Lines::line_put))]
 fn put_line(out: &mut Vec<u8>, first: &[u8], words: &[Word<'_>]) -> Result<(), AllocError>
-    ensures { OnOk result (out.new.items ≡ out.old.items ++ line_text (first.now ∷ map word_text words.now)) }
+    ensures { OnOk result (out.new.items ≡ out.old.items ++ reply_words_line (first.now ∷ map request_word_text words.now)) }
 {
     out.extend_from_slice(first)?;
     put_words(out, words)?;
@@ -72,7 +72,7 @@ fn put_change<'x>(
     session: u32,
     change: &Change<&'x [u8]>,
 ) -> Result<(), AllocError>
-    ensures { OnOk result (out.new.items ≡ out.old.items ++ line_of (To team.now (Within session (Changing (change_of change.now))))) }
+    ensures { OnOk result (out.new.items ≡ out.old.items ++ request_line (To team.now (Within session (Changing (change_of change.now))))) }
 {
     let (team, session) = (Word::Text(team), Word::Number(session));
     match change {
@@ -124,7 +124,7 @@ fn put_action<'x>(
     session: u32,
     action: &Action<&'x [u8]>,
 ) -> Result<(), AllocError>
-    ensures { OnOk result (out.new.items ≡ out.old.items ++ line_of (To team.now (Within session (action_of action.now)))) }
+    ensures { OnOk result (out.new.items ≡ out.old.items ++ request_line (To team.now (Within session (action_of action.now)))) }
 {
     let words = [Word::Text(team), Word::Number(session)];
     match action {
@@ -155,7 +155,7 @@ fn put_action<'x>(
 /// Appends the line of a request, with its line feed, in the form of a journal. It reads back as
 /// that request. `Err` if an allocation fails; a prefix of the line may then be appended.
 pub fn write_request(out: &mut Vec<u8>, request: &Request) -> Result<(), AllocError>
-    ensures { OnOk result (out.new.items ≡ out.old.items ++ line_of (command_of request.now)) }
+    ensures { OnOk result (out.new.items ≡ out.old.items ++ request_line (command_with_names request.now)) }
 {
     match request {
         Command::Bye => put_line(out, b"bye", &[]),

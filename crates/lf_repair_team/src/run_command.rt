@@ -2,15 +2,15 @@
 
 ghost use Rattle.std.specs.Prelude.{◌≡◌, IfOk, List, OnErr, OnOk, ℕ};
 ghost use Rattle.std.specs.Io.KnownBytes.{Appends};
-ghost use Rattle.lf_proto.specs.Lines.{IsName};
+ghost use Rattle.lf_proto.specs.Lines.{IsLineName};
 ghost use Rattle.lf_rules.specs.Legalizer.{Legalizer};
-ghost use Rattle.lf_proto.specs.Commands.{command_of};
+ghost use Rattle.lf_proto.specs.Commands.{command_with_names};
 ghost use Rattle.lf_proto.specs.Requests.{IsPlain};
 ghost use Rattle.lf_floor_model.specs.VerbLaws.{is_ok};
 ghost use Rattle.lf_floor_model.specs.Steps.{CommitsLegally, IsTo};
-ghost use Rattle.lf_repair_team.specs.Deeds.{IsUnchangedOrStepped};
-ghost use Rattle.lf_repair_team.specs.Runs.{AppendsFront, IsRunWithCutLine, IsWrittenRun};
-ghost use Rattle.lf_repair_team.specs.Mending.{ChangesOnly};
+ghost use Rattle.lf_repair_team.specs.CellEdits.{IsUnchangedOrStepped};
+ghost use Rattle.lf_repair_team.specs.Runs.{AppendsSomeOf, IsRunWithCutLine, IsWrittenRun};
+ghost use Rattle.lf_repair_team.specs.TeamRepairs.{ChangesOnly};
 
 use crate::request_text::write_request;
 use lf_floor::Floor;
@@ -43,7 +43,7 @@ fn is_accepted(reply: &Reply) -> bool
 /// Writes all the bytes, in as many calls as it takes.
 fn write_whole<K: Sink>(lines: &mut K, bytes: &[u8]) -> Result<(), DeviceFault>
     ensures ok { OnOk result (Appends (K.contents lines.old) (K.contents lines.new) bytes.now) }
-    ensures err { OnErr result (AppendsFront (K.contents lines.old) (K.contents lines.new) bytes.now) }
+    ensures err { OnErr result (AppendsSomeOf (K.contents lines.old) (K.contents lines.new) bytes.now) }
 {
     let mut at = 0;
     while at < bytes.len() {
@@ -60,13 +60,13 @@ pub(crate) fn run_command<S: Seeker + Drop, K: Sink>(
     line: &mut Vec<u8>,
     lines: &mut K,
 ) -> Result<Reply, RepairFault>
-    ensures run { (l : Legalizer) (team : List ℕ) → IsTo team (command_of request.now) → (IsName team → IsPlain (command_of request.now))
+    ensures run { (l : Legalizer) (team : List ℕ) → IsTo team (command_with_names request.now) → (IsLineName team → IsPlain (command_with_names request.now))
         → IfOk result (λ _. IsWrittenRun l team floor.old (K.contents lines.old) (K.contents lines.new) floor.new) }
-    ensures err { (l : Legalizer) (team : List ℕ) → IsTo team (command_of request.now) → (IsName team → IsPlain (command_of request.now))
+    ensures err { (l : Legalizer) (team : List ℕ) → IsTo team (command_with_names request.now) → (IsLineName team → IsPlain (command_with_names request.now))
         → OnErr result (IsRunWithCutLine l team floor.old (K.contents lines.old) (K.contents lines.new) floor.new) }
-    ensures only { (team : List ℕ) → IsTo team (command_of request.now) → ChangesOnly team floor.old floor.new }
-    ensures asked { (l : Legalizer) → IsUnchangedOrStepped l floor.old (command_of request.now) floor.new }
-    ensures committed { (l : Legalizer) → IfOk result (λ reply. CommitsLegally l (command_of request.now) reply floor.new) }
+    ensures only { (team : List ℕ) → IsTo team (command_with_names request.now) → ChangesOnly team floor.old floor.new }
+    ensures requested { (l : Legalizer) → IsUnchangedOrStepped l floor.old (command_with_names request.now) floor.new }
+    ensures committed { (l : Legalizer) → IfOk result (λ reply. CommitsLegally l (command_with_names request.now) reply floor.new) }
 {
     legalizer_exists();
     line.clear();

@@ -1,7 +1,7 @@
 //! Changes single cells, and leaves all other cells at their places.
 
 ghost use Rattle.std.specs.Prelude.{◌≡◌, ◌≢◌, ◌↔◌, IfOk, IsTrue, OnErr, Some, ℕ, slice_get, true};
-ghost use Rattle.lf_proto.specs.Lines.{IsName};
+ghost use Rattle.lf_proto.specs.Lines.{IsLineName};
 ghost use Rattle.lf_rules.specs.Legalizer.{Legalizer};
 ghost use Rattle.lf_proto.specs.Requests.{IsInRange, IsPlainAction, IsTarget};
 ghost use Rattle.lf_proto.specs.Verbs.{change_of};
@@ -10,8 +10,8 @@ ghost use Rattle.lf_cells.specs.Cells.{cell_named};
 ghost use Rattle.lf_floor_model.specs.States.{TeamState};
 ghost use Rattle.lf_floor_model.specs.Outcomes.{name_at};
 ghost use Rattle.lf_floor_model.specs.Teams.{state_of};
-ghost use Rattle.lf_repair_team.specs.Deeds.{KeepsCommittedPlaces, IsOfCell, KeepsLockedPlaces};
-ghost use Rattle.lf_repair_team.specs.Mending.{ChangesOnly, place_in};
+ghost use Rattle.lf_repair_team.specs.CellEdits.{KeepsCommittedPlaces, IsOfCell, KeepsLockedPlaces};
+ghost use Rattle.lf_repair_team.specs.TeamRepairs.{ChangesOnly, place_of_cell_in};
 ghost use Rattle.lf_repair_team.specs.Runs.{IsRunWithCutLine, IsWrittenRun};
 
 use crate::run_command::{RepairFault, run_command};
@@ -70,7 +70,7 @@ fn place_in_range(place: &Place) -> Place
 
 /// The change of the cell with this name.
 fn change_of<'x>(step: &Edit, cell: &'x [u8]) -> Change<&'x [u8]>
-    requires { IsName cell.now }
+    requires { IsLineName cell.now }
     ensures cell { IsOfCell cell.now (change_of result) }
     ensures plain { IsPlainAction (Changing (change_of result)) }
 {
@@ -104,12 +104,12 @@ fn run_edit_of<S: Seeker + Drop, K: Sink>(
     line: &mut Vec<u8>,
     lines: &mut K,
 ) -> Result<(), RepairFault>
-    requires { IsName cell.now }
+    requires { IsLineName cell.now }
     ensures run { (l : Legalizer) → IfOk result (λ _. IsWrittenRun l seat.now.team.now floor.old (K.contents lines.old) (K.contents lines.new) floor.new) }
     ensures err { (l : Legalizer) → OnErr result (IsRunWithCutLine l seat.now.team.now floor.old (K.contents lines.old) (K.contents lines.new) floor.new) }
     ensures only { ChangesOnly seat.now.team.now floor.old floor.new }
     ensures cells { (other : ℕ) → ((s : TeamState) → state_of floor.old seat.now.team.now ≡ Some s → cell_named cell.now s.cells ≡ Some other → ⊥)
-        → place_in floor.new seat.now.team.now other ≡ place_in floor.old seat.now.team.now other }
+        → place_of_cell_in floor.new seat.now.team.now other ≡ place_of_cell_in floor.old seat.now.team.now other }
     ensures committed { KeepsCommittedPlaces seat.now.team.now floor.old floor.new }
 {
     legalizer_exists();
@@ -135,7 +135,7 @@ fn copy_name<S: Seeker + Drop>(
     name: &mut Vec<u8>,
 ) -> Result<bool, AllocError>
     ensures name { (s : TeamState) → IfOk result (λ there. IsTrue there → state_of floor.now team.now ≡ Some s → name_at s.cells own ≡ Some name.new.items) }
-    ensures plain { IfOk result (λ there. IsTrue there → IsName name.new.items) }
+    ensures plain { IfOk result (λ there. IsTrue there → IsLineName name.new.items) }
 {
     name.clear();
     let Some(bytes) = floor.name_of(team, own) else {
@@ -157,7 +157,7 @@ fn run_edit<S: Seeker + Drop, K: Sink>(
     ensures run { (l : Legalizer) → IfOk result (λ _. IsWrittenRun l seat.now.team.now floor.old (K.contents lines.old) (K.contents lines.new) floor.new) }
     ensures err { (l : Legalizer) → OnErr result (IsRunWithCutLine l seat.now.team.now floor.old (K.contents lines.old) (K.contents lines.new) floor.new) }
     ensures only { ChangesOnly seat.now.team.now floor.old floor.new }
-    ensures cells { (other : ℕ) → other ≢ own → place_in floor.new seat.now.team.now other ≡ place_in floor.old seat.now.team.now other }
+    ensures cells { (other : ℕ) → other ≢ own → place_of_cell_in floor.new seat.now.team.now other ≡ place_of_cell_in floor.old seat.now.team.now other }
     ensures committed { KeepsCommittedPlaces seat.now.team.now floor.old floor.new }
 {
     floor.teams_match_frame();
@@ -184,7 +184,7 @@ fn run_edit_unless_locked<S: Seeker + Drop, K: Sink>(
     floor: &mut Floor<S>,
     seat: &TeamSession<'_>,
     marks: &[bool],
-    deed: &CellEdit,
+    cell_edit: &CellEdit,
     texts: &mut Buffers,
     lines: &mut K,
 ) -> Result<(), RepairFault>
@@ -194,11 +194,11 @@ fn run_edit_unless_locked<S: Seeker + Drop, K: Sink>(
     ensures marked { KeepsLockedPlaces seat.now.team.now marks.now floor.old floor.new }
     ensures committed { KeepsCommittedPlaces seat.now.team.now floor.old floor.new }
 {
-    let own = deed.own as usize;
+    let own = cell_edit.own as usize;
     if is_locked(marks, own) {
         return Ok(());
     }
-    run_edit(floor, seat, own, &deed.step, texts, lines)
+    run_edit(floor, seat, own, &cell_edit.step, texts, lines)
 }
 
 /// Sends all edits in their order, except those of locked cells.
@@ -206,7 +206,7 @@ pub(crate) fn run_edits<S: Seeker + Drop, K: Sink>(
     floor: &mut Floor<S>,
     seat: &TeamSession<'_>,
     marks: &[bool],
-    deeds: &[CellEdit],
+    cell_edits: &[CellEdit],
     texts: &mut Buffers,
     lines: &mut K,
 ) -> Result<(), RepairFault>
@@ -216,8 +216,8 @@ pub(crate) fn run_edits<S: Seeker + Drop, K: Sink>(
     ensures marked { KeepsLockedPlaces seat.now.team.now marks.now floor.old floor.new }
     ensures committed { KeepsCommittedPlaces seat.now.team.now floor.old floor.new }
 {
-    for deed in deeds {
-        match run_edit_unless_locked(floor, seat, marks, deed, texts, lines) {
+    for cell_edit in cell_edits {
+        match run_edit_unless_locked(floor, seat, marks, cell_edit, texts, lines) {
             Ok(()) => {}
             Err(fault) => return Err(fault),
         }

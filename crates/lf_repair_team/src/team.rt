@@ -6,10 +6,10 @@ ghost use Rattle.lf_floor_model.specs.Steps.{AllCommittedIn};
 ghost use Rattle.lf_floor_model.specs.Teams.{team_number};
 ghost use Rattle.lf_floor_model.specs.VerbLaws.{is_ok};
 ghost use Rattle.lf_repair_strategy.specs.declared.pass.MovePolicy.TheVariants.{Keep};
-ghost use Rattle.lf_repair_team.specs.Deeds.{KeepsCommittedPlaces, KeepsLockedPlaces, KeepsPlaces, SameCells, TeamHasLeftTargets, TeamIsAtTargetsExcept};
-ghost use Rattle.lf_repair_team.specs.Mending.{AllListedMove, AreLegalExcept, ChangesOnly, IsIllegalIn, KeepsLegalPlaces, OnlyListedMove, committed_in};
+ghost use Rattle.lf_repair_team.specs.CellEdits.{KeepsCommittedPlaces, KeepsLockedPlaces, KeepsPlaces, SameCells, TeamHasLeftTargets, TeamIsAtTargetsExcept};
+ghost use Rattle.lf_repair_team.specs.TeamRepairs.{AllListedMove, AreLegalExcept, ChangesOnly, IsIllegalIn, KeepsLegalPlaces, OnlyListedMove, committed_in};
 ghost use Rattle.lf_repair_team.specs.Runs.{IsRunWithCutLine, IsWrittenRun};
-ghost use Rattle.lf_repair_team.specs.Tallies.{AreTeamStats};
+ghost use Rattle.lf_repair_team.specs.Stats.{AreTeamStats};
 
 use crate::outcome::{RepairOutcome, found_of};
 use crate::repair_input::repair_input;
@@ -153,7 +153,7 @@ fn finish<S: Seeker + Drop, K: Sink>(
     alloc: Global,
     floor: &mut Floor<S>,
     seat: &TeamSession<'_>,
-    homes: &[Option<Place>],
+    wanted_places: &[Option<Place>],
     texts: &mut Buffers,
     lines: &mut K,
 ) -> Result<RepairOutcome, RepairFault>
@@ -162,15 +162,15 @@ fn finish<S: Seeker + Drop, K: Sink>(
     ensures err { (l : Legalizer) → OnErr result (IsRunWithCutLine l seat.now.team.now floor.old (K.contents lines.old) (K.contents lines.new) floor.new) }
     ensures only { ChangesOnly seat.now.team.now floor.old floor.new }
     ensures places { KeepsPlaces seat.now.team.now floor.old floor.new }
-    ensures changed { IfOk result (λ found. TeamIsAtTargetsExcept seat.now.team.now homes.now floor.new found.changed.items) }
-    ensures moved { IfOk result (λ found. TeamHasLeftTargets seat.now.team.now homes.now floor.new found.changed.items) }
+    ensures changed { IfOk result (λ found. TeamIsAtTargetsExcept seat.now.team.now wanted_places.now floor.new found.changed.items) }
+    ensures moved { IfOk result (λ found. TeamHasLeftTargets seat.now.team.now wanted_places.now floor.new found.changed.items) }
     ensures named { IfOk result (λ found. AreLegalExcept seat.now.team.now floor.new found.left.items) }
     ensures illegal { IfOk result (λ found. All (λ own. IsIllegalIn floor.new seat.now.team.now own) found.left.items) }
     ensures committed { (l : Legalizer) → IfOk result (λ found. found.left.items ≡ [] → AllCommittedIn l floor.new seat.now.team.now) }
     ensures uncommitted { IfOk result (λ found. found.left.items ≢ [] → KeepsCommittedPlaces seat.now.team.now floor.old floor.new) }
 {
     legalizer_exists();
-    let Ok(found) = found_of(alloc, floor, seat, homes) else {
+    let Ok(found) = found_of(alloc, floor, seat, wanted_places) else {
         return Err(RepairFault::OutOfMemory);
     };
     match commit_if_clean(floor, seat, found.left.as_slice(), texts, lines) {
@@ -184,19 +184,24 @@ fn finish<S: Seeker + Drop, K: Sink>(
 }
 
 /// The phases of a pass.
-const PHASES: [Phase; 4] = [Phase::Lift, Phase::Tall, Phase::Plan, Phase::Rest];
+const PHASES: [Phase; 4] = [
+    Phase::UnplaceMovable,
+    Phase::PlaceTall,
+    Phase::PlacePlanned,
+    Phase::PlaceRemaining,
+];
 
 /// The edits of a phase for the cells of the team with this number, at their present places.
-fn deeds_in<S: Seeker + Drop>(
+fn cell_edits_in<S: Seeker + Drop>(
     alloc: Global,
     floor: &Floor<S>,
     number: usize,
-    go: &Pass,
+    pass: &Pass,
     phase: Phase,
 ) -> Result<Vec<CellEdit>, AllocError> {
     let placement = floor.placement();
     let owner = PaddedTeam::new(placement.frame(), number, floor.padding_of(number));
-    edits_for(alloc, placement, &owner, go, phase)
+    edits_for(alloc, placement, &owner, pass, phase)
 }
 
 /// Runs all phases of a pass. The edits of each phase are computed from the floor after the
@@ -205,25 +210,25 @@ fn run_pass<S: Seeker + Drop, K: Sink>(
     alloc: Global,
     floor: &mut Floor<S>,
     seat: &TeamSession<'_>,
-    go: &Pass,
+    pass: &Pass,
     texts: &mut Buffers,
     lines: &mut K,
 ) -> Result<(), RepairFault>
     ensures run { (l : Legalizer) → IfOk result (λ _. IsWrittenRun l seat.now.team.now floor.old (K.contents lines.old) (K.contents lines.new) floor.new) }
     ensures err { (l : Legalizer) → OnErr result (IsRunWithCutLine l seat.now.team.now floor.old (K.contents lines.old) (K.contents lines.new) floor.new) }
     ensures only { ChangesOnly seat.now.team.now floor.old floor.new }
-    ensures marked { KeepsLockedPlaces seat.now.team.now go.now.marks.items floor.old floor.new }
+    ensures marked { KeepsLockedPlaces seat.now.team.now pass.now.marks.items floor.old floor.new }
     ensures committed { KeepsCommittedPlaces seat.now.team.now floor.old floor.new }
 {
     for phase in &PHASES {
-        let Ok(deeds) = deeds_in(alloc, floor, seat.number, go, *phase) else {
+        let Ok(cell_edits) = cell_edits_in(alloc, floor, seat.number, pass, *phase) else {
             return Err(RepairFault::OutOfMemory);
         };
         match run_edits(
             floor,
             seat,
-            go.marks.as_slice(),
-            deeds.as_slice(),
+            pass.marks.as_slice(),
+            cell_edits.as_slice(),
             texts,
             lines,
         ) {
@@ -260,23 +265,23 @@ fn run_local_pass<S: Seeker + Drop, K: Sink>(
     ensures only { ChangesOnly seat.now.team.now floor.old floor.new }
     ensures committed { KeepsCommittedPlaces seat.now.team.now floor.old floor.new }
 {
-    let aim = match plan_local_pass(alloc, floor.placement(), seat.number, start, reach) {
-        Ok(Some(aim)) => aim,
+    let local_plan = match plan_local_pass(alloc, floor.placement(), seat.number, start, reach) {
+        Ok(Some(local_plan)) => local_plan,
         Ok(None) => return Ok(()),
         Err(_) => return Err(RepairFault::OutOfMemory),
     };
     let mut texts = Buffers::new(alloc);
-    match run_pass(alloc, floor, seat, &aim.go, &mut texts, lines) {
+    match run_pass(alloc, floor, seat, &local_plan.pass, &mut texts, lines) {
         Ok(()) => {}
         Err(fault) => return Err(fault),
     }
-    let Ok(back) = undo_edits(alloc, floor.placement(), seat.number, start, &aim) else {
+    let Ok(back) = undo_edits(alloc, floor.placement(), seat.number, start, &local_plan) else {
         return Err(RepairFault::OutOfMemory);
     };
     run_edits(
         floor,
         seat,
-        aim.go.marks.as_slice(),
+        local_plan.pass.marks.as_slice(),
         back.as_slice(),
         &mut texts,
         lines,
@@ -332,9 +337,9 @@ fn repair_in_session<S: Seeker + Drop, K: Sink>(
     ensures run { (l : Legalizer) → IfOk result (λ _. IsWrittenRun l team.now floor.old (K.contents lines.old) (K.contents lines.new) floor.new) }
     ensures err { (l : Legalizer) → OnErr result (IsRunWithCutLine l team.now floor.old (K.contents lines.old) (K.contents lines.new) floor.new) }
     ensures only { ChangesOnly team.now floor.old floor.new }
-    ensures marked { start.now.how ≡ Keep → KeepsLockedPlaces team.now start.now.go.marks.items floor.old floor.new }
-    ensures changed { IfOk result (λ found. TeamIsAtTargetsExcept team.now start.now.go.homes.items floor.new found.changed.items) }
-    ensures moved { IfOk result (λ found. TeamHasLeftTargets team.now start.now.go.homes.items floor.new found.changed.items) }
+    ensures marked { start.now.how ≡ Keep → KeepsLockedPlaces team.now start.now.pass.marks.items floor.old floor.new }
+    ensures changed { IfOk result (λ found. TeamIsAtTargetsExcept team.now start.now.pass.wanted_places.items floor.new found.changed.items) }
+    ensures moved { IfOk result (λ found. TeamHasLeftTargets team.now start.now.pass.wanted_places.items floor.new found.changed.items) }
     ensures named { IfOk result (λ found. AreLegalExcept team.now floor.new found.left.items) }
     ensures illegal { IfOk result (λ found. All (λ own. IsIllegalIn floor.new team.now own) found.left.items) }
     ensures committed { (l : Legalizer) → IfOk result (λ found. found.left.items ≡ [] → AllCommittedIn l floor.new team.now) }
@@ -350,7 +355,7 @@ fn repair_in_session<S: Seeker + Drop, K: Sink>(
         number,
         session,
     };
-    match run_pass(alloc, floor, &seat, &start.go, &mut texts, lines) {
+    match run_pass(alloc, floor, &seat, &start.pass, &mut texts, lines) {
         Ok(()) => {}
         Err(fault) => return Err(fault),
     }
@@ -362,7 +367,7 @@ fn repair_in_session<S: Seeker + Drop, K: Sink>(
         alloc,
         floor,
         &seat,
-        start.go.homes.as_slice(),
+        start.pass.wanted_places.as_slice(),
         &mut texts,
         lines,
     )
@@ -402,7 +407,7 @@ pub fn repair_team<S: Seeker + Drop, K: Sink>(
     ensures illegal { IfOk result (λ repaired. All (λ own. IsIllegalIn floor.new team.now own) repaired.left.items) }
     ensures committed { (l : Legalizer) → IfOk result (λ repaired. repaired.left.items ≡ [] ↔ AllCommittedIn l floor.new team.now) }
     ensures uncommitted { IfOk result (λ repaired. repaired.left.items ≢ [] → committed_in floor.new team.now ≡ committed_in floor.old team.now) }
-    ensures told { IfOk result (λ repaired. AreTeamStats team.now floor.old floor.new repaired) }
+    ensures reported { IfOk result (λ repaired. AreTeamStats team.now floor.old floor.new repaired) }
 {
     let Some(number) = floor.team_number(team) else {
         return Err(RepairFault::NoTeam);

@@ -12,9 +12,9 @@ use Rattle.std.proofs.lemmas.List.Kept.{AllPairs-cons}
 use Rattle.lf_units.specs.declared.geometry.Rect.{Rect}
 use Rattle.lf_units.specs.Area.{SharesPoint}
 use Rattle.lf_floorplan.specs.declared.frame.Frame.{Frame}
-use Rattle.lf_floorplan.specs.declared.loaded.Cell.{Cell}
+use Rattle.lf_floorplan.specs.declared.loaded.LoadedCell.{LoadedCell}
 use Rattle.lf_floorplan.specs.declared.place.Place.{Place}
-use Rattle.lf_floorplan.specs.Bounds.{IsName}
+use Rattle.lf_floorplan.specs.Bounds.{IsDesignName}
 use Rattle.lf_floorplan.specs.Design.{IsCell, CellIsSized}
 use Rattle.lf_rules.specs.declared.rule.Broken.{Broken}
 use Rattle.lf_rules.specs.declared.report_types.Listed.{Listed}
@@ -26,7 +26,7 @@ use Rattle.lf_rules.specs.Choice.{SpotPlace, spot_of, PlacementQuery, IsLegalAt,
 use Rattle.lf_rules.specs.Team.{Member, box_in, query_from}
 use Rattle.lf_rules.specs.FullyLegal.{DesignCell, candidate_alone, design_cells_at, KeepsRules, DoNotOverlap, IsFullyLegal}
 use Rattle.lf_rules.specs.Reports.{HasPrintableNames, IsClean}
-use Rattle.lf_reports.specs.Reports.{named, member_of, design_cell_of, name_among, listed_at, candidate_among, broken_among, violation_of, violation_by, violation_at, violations_in, report_of, IsListed}
+use Rattle.lf_reports.specs.Reports.{with_byte_name, listed_member, design_cell_of, name_among, listed_at, candidate_among, broken_among, violation_of, violation_by, violation_at, violations_in, report_of, IsListed}
 use Rattle.lf_rules.proofs.BesideLemmas.{beside_hold}
 use Rattle.lf_rules.proofs.LegalParts.{frame_beside, legal_by_parts}
 use Rattle.lf_rules.proofs.TidyLemmas.{turn, Clear, clear_of_legal}
@@ -68,10 +68,10 @@ pairs_of h R xs all i j x y less here there =
     (subst (λ a. R a (get_or (map h xs) j (h x))) (get_or_from_slice_get (map h xs) i (h x) (h x) at) pair)
 
 -- An element of the images is the image of an element.
-behind_image : {X Y : Type 0} (h : X → Y) (xs : List X) (i : ℕ) (y : Y) → slice_get (map h xs) i ≡ Some y → (x : X) × ((slice_get xs i ≡ Some x) × (h x ≡ y))
-behind_image h [] i y there = absurd cc
-behind_image h (x ∷ xs) zero y there = (x, (refl, cc))
-behind_image h (x ∷ xs) (suc i) y there = behind_image h xs i y there
+after_image : {X Y : Type 0} (h : X → Y) (xs : List X) (i : ℕ) (y : Y) → slice_get (map h xs) i ≡ Some y → (x : X) × ((slice_get xs i ≡ Some x) × (h x ≡ y))
+after_image h [] i y there = absurd cc
+after_image h (x ∷ xs) zero y there = (x, (refl, cc))
+after_image h (x ∷ xs) (suc i) y there = after_image h xs i y there
 
 -- ---- the result is empty if no number has a value
 
@@ -99,12 +99,12 @@ all_none g a (suc n) none =
 -- ---- one cell
 
 -- The cell at this position among the other listed cells.
-abbrev lifted_among : Frame → ℕ → Cells → ℕ → Listed (List ℕ) → PlacementQuery
-lifted_among f padding cells own c = query_from f c.team padding (map member_of cells) own c.mac
+abbrev unplaced_among : Frame → ℕ → Cells → ℕ → Listed (List ℕ) → PlacementQuery
+unplaced_among f padding cells own c = query_from f c.team padding (map listed_member cells) own c.mac
 
 -- The cell is placed and legal.
 abbrev IsFine : Frame → ℕ → Cells → ℕ → Listed (List ℕ) → Type 0
-IsFine f padding cells own c = (p : SpotPlace) → option_map spot_of c.place ≡ Some p → IsLegalAt (lifted_among f padding cells own c) p
+IsFine f padding cells own c = (p : SpotPlace) → option_map spot_of c.place ≡ Some p → IsLegalAt (unplaced_among f padding cells own c) p
 
 none_of_map : {X Y : Type 0} (h : X → Y) (o : Option X) → option_map h o ≡ None → o ≡ None
 none_of_map h None e = refl
@@ -120,15 +120,15 @@ none_by t (Some b) verdict legal = absurd (verdict.broken (legal b.rule))
 
 fine_at : (l : Legalizer) (f : Frame) (padding : ℕ) (cells : Cells) (own : ℕ) (c : Listed (List ℕ)) → IsListed f c → (place : Option Place) →
     option_and_then (λ p. l.first_broken (candidate_among f padding cells own c p)) place ≡ None →
-    (p : SpotPlace) → option_map spot_of place ≡ Some p → IsLegalAt (lifted_among f padding cells own c) p
+    (p : SpotPlace) → option_map spot_of place ≡ Some p → IsLegalAt (unplaced_among f padding cells own c) p
 fine_at l f padding cells own c is None none p at = absurd cc
 fine_at l f padding cells own c is (Some place) none p at =
     let t = candidate_among f padding cells own c place in
     let same : spot_of place ≡ p = cc in
-    subst (λ (s : SpotPlace). IsLegalAt (lifted_among f padding cells own c) s) same (legal_by t (l.first_broken t) (l.finds_first_broken t is.sized) none)
+    subst (λ (s : SpotPlace). IsLegalAt (unplaced_among f padding cells own c) s) same (legal_by t (l.first_broken t) (l.finds_first_broken t is.sized) none)
 
 unbroken_at : (l : Legalizer) (f : Frame) (padding : ℕ) (cells : Cells) (own : ℕ) (c : Listed (List ℕ)) → IsListed f c → (place : Option Place) →
-    ((p : SpotPlace) → option_map spot_of place ≡ Some p → IsLegalAt (lifted_among f padding cells own c) p) →
+    ((p : SpotPlace) → option_map spot_of place ≡ Some p → IsLegalAt (unplaced_among f padding cells own c) p) →
     option_and_then (λ p. l.first_broken (candidate_among f padding cells own c p)) place ≡ None
 unbroken_at l f padding cells own c is None fine = refl
 unbroken_at l f padding cells own c is (Some place) fine =
@@ -203,10 +203,10 @@ to_legal : (l : Legalizer) (f : Frame) (cells : Cells) → All (IsListed f) cell
 to_legal l f cells all clean = record {
   placed = each_hold design_cell_of (λ s. IsSome s.place) cells (placed_all cells clean.all_placed);
   kept = each_hold design_cell_of (λ s. ForSome s.place (λ p. KeepsRules f s p)) cells
-      (λ own c there p is. keeps f c.team (map member_of cells) own (member_of c) p (fine own c there p is));
+      (λ own c there p is. keeps f c.team (map listed_member cells) own (listed_member c) p (fine own c there p is));
   apart = pairs_hold design_cell_of (λ a b. DoNotOverlap f a b) cells
-      (λ i j a b less here there p is_p q is_q meet. clear_of_legal f a.team 0 (map member_of cells) i a.mac p (fine i a here p is_p) j (member_of b) q
-      (λ e. omega (arith, less, e)) (image_at member_of cells j b there) is_q (shares_padded f 0 (box_in f a.mac p) (box_in f b.mac q) meet));
+      (λ i j a b less here there p is_p q is_q meet. clear_of_legal f a.team 0 (map listed_member cells) i a.mac p (fine i a here p is_p) j (listed_member b) q
+      (λ e. omega (arith, less, e)) (image_at listed_member cells j b there) is_q (shares_padded f 0 (box_in f a.mac p) (box_in f b.mac q) meet));
 }
   where
     fine : (own : ℕ) (c : Listed (List ℕ)) → slice_get cells own ≡ Some c → IsFine f 0 cells own c
@@ -214,28 +214,28 @@ to_legal l f cells all clean = record {
 
 -- A cell that keeps rules 1 to 7 and is clear of the others is legal.
 legal_of : (f : Frame) (cells : Cells) (own : ℕ) (c : Listed (List ℕ)) (p : SpotPlace) → KeepsRules f (design_cell_of c) p →
-    Clear f (map member_of cells) own (box_in f c.mac p) → IsLegalAt (lifted_among f 0 cells own c) p
+    Clear f (map listed_member cells) own (box_in f c.mac p) → IsLegalAt (unplaced_among f 0 cells own c) p
 legal_of f cells own c p kept clear =
-    let lifted = lifted_among f 0 cells own c in
-    (legal_by_parts (candidate_at lifted p)).1 (
-      frame_beside (candidate_alone f (design_cell_of c) p) lifted.others kept,
-      subst (λ (box : Rect). All (λ other. SharesPoint box other.rect → ⊥) lifted.others) (sym (wider_none f (box_in f c.mac p)))
-          (beside_hold (λ rect. SharesPoint (box_in f c.mac p) rect → ⊥) f (map member_of cells) own clear),
+    let query_unplaced = unplaced_among f 0 cells own c in
+    (legal_by_parts (candidate_at query_unplaced p)).1 (
+      frame_beside (candidate_alone f (design_cell_of c) p) query_unplaced.others kept,
+      subst (λ (box : Rect). All (λ other. SharesPoint box other.rect → ⊥) query_unplaced.others) (sym (wider_none f (box_in f c.mac p)))
+          (beside_hold (λ rect. SharesPoint (box_in f c.mac p) rect → ⊥) f (map listed_member cells) own clear),
     )
 
 -- Each cell of a fully legal design is clear of the others.
 legal_clear : (f : Frame) (cells : Cells) → IsFullyLegal f (map design_cell_of cells) → (own : ℕ) (c : Listed (List ℕ)) (p : SpotPlace) → slice_get cells own ≡ Some c →
-    option_map spot_of c.place ≡ Some p → Clear f (map member_of cells) own (box_in f c.mac p)
-legal_clear f cells legal own c p here is k m q differ there is_q meets = elim order [
-  | inl less ↦ pair k own d c less other.1.0 here q at_q p is (turn (box_in f c.mac p) (box_in f d.mac q) met)
-  | inr rest ↦ elim rest [ inl same ↦ differ same | inr more ↦ pair own k c d more here other.1.0 p is q at_q met ]
+    option_map spot_of c.place ≡ Some p → Clear f (map listed_member cells) own (box_in f c.mac p)
+legal_clear f cells legal own c p here is k m q differ there is_q does_overlap = elim order [
+  | inl less ↦ pair k own d c less other.1.0 here q at_q p is (turn (box_in f c.mac p) (box_in f d.mac q) overlapping_one)
+  | inr rest ↦ elim rest [ inl same ↦ differ same | inr more ↦ pair own k c d more here other.1.0 p is q at_q overlapping_one ]
 ]
   where
     order : (k < own) ⊎ ((k ≡ own) ⊎ (own < k))
     order = grind arith
 
-    other : (x : Listed (List ℕ)) × ((slice_get cells k ≡ Some x) × (member_of x ≡ m))
-    other = behind_image member_of cells k m there
+    other : (x : Listed (List ℕ)) × ((slice_get cells k ≡ Some x) × (listed_member x ≡ m))
+    other = after_image listed_member cells k m there
 
     d : Listed (List ℕ)
     d = other.0
@@ -243,8 +243,8 @@ legal_clear f cells legal own c p here is k m q differ there is_q meets = elim o
     at_q : option_map spot_of d.place ≡ Some q
     at_q = ap (λ (y : Member). y.place) other.1.1 ∙ is_q
 
-    met : SharesPoint (box_in f c.mac p) (box_in f d.mac q)
-    met = subst (λ (n : ℕ). SharesPoint (box_in f c.mac p) (box_in f n q)) (sym (ap (λ (y : Member). y.mac) other.1.1)) meets
+    overlapping_one : SharesPoint (box_in f c.mac p) (box_in f d.mac q)
+    overlapping_one = subst (λ (n : ℕ). SharesPoint (box_in f c.mac p) (box_in f n q)) (sym (ap (λ (y : Member). y.mac) other.1.1)) does_overlap
 
     pair : (i j : ℕ) (a b : Listed (List ℕ)) → i < j → slice_get cells i ≡ Some a → slice_get cells j ≡ Some b → DoNotOverlap f (design_cell_of a) (design_cell_of b)
     pair = pairs_of design_cell_of (λ a b. DoNotOverlap f a b) cells legal.apart
@@ -270,40 +270,40 @@ found_hold {Y = Y} P g a (suc n) each = by (g a) refl (found_hold P g (a + 1) n 
     by None is rest = rest
     by (Some y) is rest = All-cons P y (filter_map g (range_with_len (a + 1) n)) (each a y is) rest
 
-other_printed : (f : Frame) (cells : Cells) → All (IsListed f) cells → (o : Option ℕ) → ForSome (option_and_then (name_among cells) o) IsName
+other_printed : (f : Frame) (cells : Cells) → All (IsListed f) cells → (o : Option ℕ) → ForSome (option_and_then (name_among cells) o) IsDesignName
 other_printed f cells all None name is = absurd cc
 other_printed f cells all (Some own) name is = by (slice_get cells own) refl is
   where
-    by : (found : Option (Listed (List ℕ))) → slice_get cells own ≡ found → option_map (λ (c : Listed (List ℕ)). c.name) found ≡ Some name → IsName name
+    by : (found : Option (Listed (List ℕ))) → slice_get cells own ≡ found → option_map (λ (c : Listed (List ℕ)). c.name) found ≡ Some name → IsDesignName name
     by None there at = absurd cc
-    by (Some c) there at = let same : c.name ≡ name = cc in subst IsName same (listed_is f cells all own c there).printed
+    by (Some c) there at = let same : c.name ≡ name = cc in subst IsDesignName same (listed_is f cells all own c there).printed
 
-told_by : (f : Frame) (cells : Cells) → All (IsListed f) cells → (c : Listed (List ℕ)) → IsListed f c → (o : Option Broken) (v : Violation) →
+reported_by : (f : Frame) (cells : Cells) → All (IsListed f) cells → (c : Listed (List ℕ)) → IsListed f c → (o : Option Broken) (v : Violation) →
     option_map (violation_of cells c) o ≡ Some v → HasPrintableNames v
-told_by f cells all c is None v at = absurd cc
-told_by f cells all c is (Some b) v at =
+reported_by f cells all c is None v at = absurd cc
+reported_by f cells all c is (Some b) v at =
     let same : violation_of cells c b ≡ v = cc in
     subst HasPrintableNames same (record { cell_printed = is.printed; other_printed = other_printed f cells all b.other })
 
-pub all_told : (l : Legalizer) (f : Frame) (padding : ℕ) (cells : Cells) → All (IsListed f) cells → All HasPrintableNames (violations_in l f padding cells)
-all_told l f padding cells all = found_hold HasPrintableNames (violation_at l f padding cells) 0 (length cells) (λ own v at. by own v (slice_get cells own) refl at)
+pub all_reported : (l : Legalizer) (f : Frame) (padding : ℕ) (cells : Cells) → All (IsListed f) cells → All HasPrintableNames (violations_in l f padding cells)
+all_reported l f padding cells all = found_hold HasPrintableNames (violation_at l f padding cells) 0 (length cells) (λ own v at. by own v (slice_get cells own) refl at)
   where
     by : (own : ℕ) (v : Violation) (o : Option (Listed (List ℕ))) → slice_get cells own ≡ o → option_and_then (violation_by l f padding cells own) o ≡ Some v → HasPrintableNames v
     by own v None there at = absurd cc
-    by own v (Some c) there at = told_by f cells all c (listed_is f cells all own c there) (broken_among l f padding cells own c) v at
+    by own v (Some c) there at = reported_by f cells all c (listed_is f cells all own c there) (broken_among l f padding cells own c) v at
 
 -- ---- the cells of a design
 
-pub standing_listed : (cells : List Cell) (places : List (Option Place)) → map design_cell_of (listed_at cells places) ≡ design_cells_at cells places
+pub standing_listed : (cells : List LoadedCell) (places : List (Option Place)) → map design_cell_of (listed_at cells places) ≡ design_cells_at cells places
 standing_listed [] places = refl
 standing_listed (c ∷ cells) [] = ap (λ (rest : List DesignCell). record { team = c.team; mac = c.mac; place = None } ∷ rest) (standing_listed cells [])
 standing_listed (c ∷ cells) (p ∷ places) = ap (λ (rest : List DesignCell). record { team = c.team; mac = c.mac; place = option_map spot_of p } ∷ rest) (standing_listed cells places)
 
-listed_cell : (f : Frame) → CellIsSized → (c : Cell) (place : Option Place) → IsCell f c →
+listed_cell : (f : Frame) → CellIsSized → (c : LoadedCell) (place : Option Place) → IsCell f c →
     IsListed f (record { name = c.name; team = c.team; mac = c.mac; place = place })
 listed_cell f sized c place is = record { known = is.mac_known; sized = sized f c is; printed = is.name_printed }
 
-pub all_listed : (f : Frame) → CellIsSized → (cells : List Cell) (places : List (Option Place)) → All (IsCell f) cells →
+pub all_listed : (f : Frame) → CellIsSized → (cells : List LoadedCell) (places : List (Option Place)) → All (IsCell f) cells →
     All (IsListed f) (listed_at cells places)
 all_listed f sized [] places all = All-nil (IsListed f)
 all_listed f sized (c ∷ cells) [] all =
@@ -312,17 +312,17 @@ all_listed f sized (c ∷ cells) (p ∷ places) all =
     All-cons (IsListed f) _ (listed_at cells places) (listed_cell f sized c p (All-head (IsCell f) c cells all)) (all_listed f sized cells places (All-tail (IsCell f) c cells all))
 
 -- A property of each named cell holds for the list of named cells.
-pub all_named : (f : Frame) (cells : List (Listed (Bor (List ℕ)))) → All (λ c. IsListed f (named c)) cells → All (IsListed f) (map named cells)
+pub all_named : (f : Frame) (cells : List (Listed (Bor (List ℕ)))) → All (λ c. IsListed f (with_byte_name c)) cells → All (IsListed f) (map with_byte_name cells)
 all_named f [] all = All-nil (IsListed f)
 all_named f (c ∷ cells) all =
-    All-cons (IsListed f) (named c) (map named cells) (All-head (λ x. IsListed f (named x)) c cells all) (all_named f cells (All-tail (λ x. IsListed f (named x)) c cells all))
+    All-cons (IsListed f) (with_byte_name c) (map with_byte_name cells) (All-head (λ x. IsListed f (with_byte_name x)) c cells all) (all_named f cells (All-tail (λ x. IsListed f (with_byte_name x)) c cells all))
 
-pub each_named : (f : Frame) (cells : List (Listed (Bor (List ℕ)))) → All (IsListed f) (map named cells) → All (λ c. IsListed f (named c)) cells
-each_named f [] all = All-nil (λ c. IsListed f (named c))
+pub each_named : (f : Frame) (cells : List (Listed (Bor (List ℕ)))) → All (IsListed f) (map with_byte_name cells) → All (λ c. IsListed f (with_byte_name c)) cells
+each_named f [] all = All-nil (λ c. IsListed f (with_byte_name c))
 each_named f (c ∷ cells) all =
-    All-cons (λ x. IsListed f (named x)) c cells (All-head (IsListed f) (named c) (map named cells) all) (each_named f cells (All-tail (IsListed f) (named c) (map named cells) all))
+    All-cons (λ x. IsListed f (with_byte_name x)) c cells (All-head (IsListed f) (with_byte_name c) (map with_byte_name cells) all) (each_named f cells (All-tail (IsListed f) (with_byte_name c) (map with_byte_name cells) all))
 
-pub length_listed : (cells : List Cell) (places : List (Option Place)) → length (listed_at cells places) ≡ length cells
+pub length_listed : (cells : List LoadedCell) (places : List (Option Place)) → length (listed_at cells places) ≡ length cells
 length_listed [] places = refl
 length_listed (c ∷ cells) [] = ap suc (length_listed cells [])
 length_listed (c ∷ cells) (p ∷ places) = ap suc (length_listed cells places)
@@ -336,6 +336,6 @@ pub report_is : (l : Legalizer) (f : Frame) (padding : ℕ) (cells : Cells) (cou
 report_is l f padding cells count unplaced violations is_count is_unplaced is_violations =
     let e : report_with count unplaced violations ≡ report_with (length cells) (count_by (λ c. is_none c.place) cells) (violations_in l f padding cells) = cc in e
 
-pub joined : (cells : List Cell) (places : List (Option Place)) (slice items : List (Listed (Bor (List ℕ)))) → slice ≡ items →
-    map named items ≡ listed_at cells places → map named slice ≡ listed_at cells places
-joined cells places slice items is_items is_listed = ap (λ (cs : List (Listed (Bor (List ℕ)))). map named cs) is_items ∙ is_listed
+pub joined : (cells : List LoadedCell) (places : List (Option Place)) (slice items : List (Listed (Bor (List ℕ)))) → slice ≡ items →
+    map with_byte_name items ≡ listed_at cells places → map with_byte_name slice ≡ listed_at cells places
+joined cells places slice items is_items is_listed = ap (λ (cs : List (Listed (Bor (List ℕ)))). map with_byte_name cs) is_items ∙ is_listed

@@ -6,7 +6,7 @@ use Rattle.std.proofs.lemmas.Bool.{false≢true}
 use Rattle.std.proofs.lemmas.List.Sums.{length-filter, sum_by-cons}
 use Rattle.std.proofs.lemmas.Option.{slice_get_within, get_or_from_slice_get}
 use Rattle.lf_floorplan.specs.declared.frame.Frame.{Frame}
-use Rattle.lf_floorplan.specs.declared.loaded.Cell.{Cell}
+use Rattle.lf_floorplan.specs.declared.loaded.LoadedCell.{LoadedCell}
 use Rattle.lf_floorplan.specs.declared.place.Place.{Place}
 use Rattle.lf_floorplan.specs.Design.{IsCell, CellIsSized}
 use Rattle.lf_rules.specs.declared.rule.Broken.{Broken}
@@ -63,7 +63,7 @@ illegal_are l f cells verdicts are =
 -- ---- a design is fully legal if and only if it has no fault
 
 -- There are as many unplaced cells as places that are `None`.
-pub unplaced_are : (cells : List Cell) (places : List (Option Place)) → length places ≡ length cells →
+pub unplaced_are : (cells : List LoadedCell) (places : List (Option Place)) → length places ≡ length cells →
     count_by is_none places ≡ count_by (λ c. is_none c.place) (listed_at cells places)
 unplaced_are [] [] long = refl
 unplaced_are [] (p ∷ places) long = absurd cc
@@ -74,7 +74,7 @@ unplaced_are (c ∷ cells) (p ∷ places) long =
     ∙ sym (sum_by-cons (λ (x : Listed (List ℕ)). cond (is_none x.place) 1 0) (record { name = c.name; team = c.team; mac = c.mac; place = p }) (listed_at cells places))
 
 -- The report of a design at these places is clean if and only if the design is then fully legal.
-pub clean_there : (l : Legalizer) (f : Frame) (cells : List Cell) (places : List (Option Place)) → CellIsSized → All (IsCell f) cells →
+pub clean_there : (l : Legalizer) (f : Frame) (cells : List LoadedCell) (places : List (Option Place)) → CellIsSized → All (IsCell f) cells →
     IsClean (report_of l f 0 (listed_at cells places)) ↔ IsFullyLegal f (design_cells_at cells places)
 clean_there l f cells places sized known =
     subst (λ (standing : List DesignCell). IsClean (report_of l f 0 (listed_at cells places)) ↔ IsFullyLegal f standing) (standing_listed cells places)
@@ -84,7 +84,7 @@ length_nil : {Y : Type 0} (ys : List Y) → length ys ≡ 0 → ys ≡ []
 length_nil [] e = refl
 length_nil (y ∷ ys) e = absurd cc
 
-pub legal_by_verdicts : (l : Legalizer) (f : Frame) (cells : List Cell) (places : List (Option Place)) (verdicts : List (Option Broken)) → CellIsSized → All (IsCell f) cells →
+pub legal_by_verdicts : (l : Legalizer) (f : Frame) (cells : List LoadedCell) (places : List (Option Place)) (verdicts : List (Option Broken)) → CellIsSized → All (IsCell f) cells →
     length places ≡ length cells → AreVerdicts l f 0 (listed_at cells places) verdicts → IsFaultless places verdicts ↔ IsFullyLegal f (design_cells_at cells places)
 legal_by_verdicts l f cells places verdicts sized known long are =
     let listed = listed_at cells places in

@@ -1,4 +1,4 @@
-pub mod MetLemmas
+pub mod OverlapLemmas
 pub mod VerdictLists
 pub mod ReportLemmas
 pub mod CleanLemmas

@@ -27,20 +27,20 @@ found_more {Y = Y} g a (suc n) =
     onto None xs ys = refl
     onto (Some y) xs ys = refl
 
-pub told_more : {Y : Type 0} (g : ℕ → Option Y) (n : ℕ) (old new : List Y) → new ≡ old ++ cons_option (g n) [] → old ≡ filter_map g (range_with_len 0 n) →
+pub reported_more : {Y : Type 0} (g : ℕ → Option Y) (n : ℕ) (old new : List Y) → new ≡ old ++ cons_option (g n) [] → old ≡ filter_map g (range_with_len 0 n) →
     new ≡ filter_map g (range_with_len 0 (n + 1))
-told_more {Y = Y} g n old new is found =
+reported_more {Y = Y} g n old new is found =
     let next : n + 1 ≡ suc n = omega arith in
     let at : 0 + n ≡ n = omega arith in
     is ∙ ap (λ (xs : List Y). xs ++ cons_option (g n) []) found
     ∙ sym (ap (λ (k : ℕ). filter_map g (range_with_len 0 k)) next ∙ found_more g 0 n ∙ ap (λ (m : ℕ). filter_map g (range_with_len 0 n) ++ cons_option (g m) []) at)
 
 -- The cell with this number breaks this rule, or no rule.
-pub told_at : (l : Legalizer) (f : Frame) (padding : ℕ) (cells : List (Listed (List ℕ))) (own : ℕ) (c : Listed (List ℕ)) (o : Option Broken) → slice_get cells own ≡ Some c →
+pub reported_at : (l : Legalizer) (f : Frame) (padding : ℕ) (cells : List (Listed (List ℕ))) (own : ℕ) (c : Listed (List ℕ)) (o : Option Broken) → slice_get cells own ≡ Some c →
     o ≡ broken_among l f padding cells own c → violation_at l f padding cells own ≡ option_map (violation_of cells c) o
-told_at l f padding cells own c o there is = ap (option_and_then (violation_by l f padding cells own)) there ∙ ap (option_map (violation_of cells c)) (sym is)
+reported_at l f padding cells own c o there is = ap (option_and_then (violation_by l f padding cells own)) there ∙ ap (option_map (violation_of cells c)) (sym is)
 
 -- `None` adds nothing.
-pub told_none : {Y : Type 0} (xs : List Y) (o : Option Y) → o ≡ None → xs ≡ xs ++ cons_option o []
-told_none {Y = Y} [] o e = sym (ap (λ (p : Option Y). cons_option p []) e)
-told_none {Y = Y} (x ∷ xs) o e = ap (λ (ys : List Y). x ∷ ys) (told_none xs o e)
+pub reported_none : {Y : Type 0} (xs : List Y) (o : Option Y) → o ≡ None → xs ≡ xs ++ cons_option o []
+reported_none {Y = Y} [] o e = sym (ap (λ (p : Option Y). cons_option p []) e)
+reported_none {Y = Y} (x ∷ xs) o e = ap (λ (ys : List Y). x ∷ ys) (reported_none xs o e)

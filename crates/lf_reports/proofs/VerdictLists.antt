@@ -16,7 +16,7 @@ use Rattle.lf_rules.specs.declared.report_types.Listed.{Listed}
 use Rattle.lf_rules.specs.Choice.{SpotPlace, spot_of}
 use Rattle.lf_rules.specs.Legalizer.{Legalizer}
 use Rattle.lf_rules.specs.Team.{Member, box_in, with_box, boxes_from}
-use Rattle.lf_reports.specs.Reports.{IsListed, member_of, named, candidate_among, broken_among, verdict_at, AreVerdicts, AreSomeVerdicts, HaveVerdicts, IsVerdictSet, SetsVerdict}
+use Rattle.lf_reports.specs.Reports.{IsListed, listed_member, with_byte_name, candidate_among, broken_among, verdict_at, AreVerdicts, AreSomeVerdicts, HaveVerdicts, IsVerdictSet, SetsVerdict}
 
 first_there : (x : Placed) (xs : List Placed) → Contains (x ∷ xs) x
 first_there x xs = (0, omega arith, refl)
@@ -44,9 +44,9 @@ numbers_known f cells boxes same =
     let from : 0 + length cells ≡ length cells = omega arith in
     All-permutation (λ p. p.own < length cells) (boxes_from f 0 cells) boxes same (subst (λ (m : ℕ). All (λ p. p.own < m) (boxes_from f 0 cells)) from (boxes_known f 0 cells))
 
-behind_box : (f : Frame) (n mac : ℕ) (place : Option SpotPlace) (rest : List Placed) (p : Placed) → Contains rest p → Contains (with_box f n mac place rest) p
-behind_box f n mac None rest p there = there
-behind_box f n mac (Some at) rest p there = later_there (record { own = n; rect = box_in f mac at }) p rest there
+after_box : (f : Frame) (n mac : ℕ) (place : Option SpotPlace) (rest : List Placed) (p : Placed) → Contains rest p → Contains (with_box f n mac place rest) p
+after_box f n mac None rest p there = there
+after_box f n mac (Some at) rest p there = later_there (record { own = n; rect = box_in f mac at }) p rest there
 
 box_there : (f : Frame) (n : ℕ) (cells : List Member) (k : ℕ) (m : Member) (p : SpotPlace) → slice_get cells k ≡ Some m → m.place ≡ Some p →
     Contains (boxes_from f n cells) (record { own = n + k; rect = box_in f m.mac p })
@@ -62,7 +62,7 @@ box_there f n (c ∷ cells) zero m p there at =
 box_there f n (c ∷ cells) (suc k) m p there at =
     let number : (n + 1) + k ≡ n + suc k = omega arith in
     subst (λ (i : ℕ). Contains (boxes_from f n (c ∷ cells)) (record { own = i; rect = box_in f m.mac p })) number
-    (behind_box f n c.mac c.place (boxes_from f (n + 1) cells) (record { own = (n + 1) + k; rect = box_in f m.mac p }) (box_there f (n + 1) cells k m p there at))
+    (after_box f n c.mac c.place (boxes_from f (n + 1) cells) (record { own = (n + 1) + k; rect = box_in f m.mac p }) (box_there f (n + 1) cells k m p there at))
 
 -- ---- one verdict more
 
@@ -137,13 +137,13 @@ fetched_at cells (x ∷ fetched) (p ∷ boxes) (suc k) d c same within at =
     fetched_at cells fetched boxes k d c rest (omega (arith, within)) at
 
 -- A property of each listed cell holds for the one at a number.
-pub listed_there : (f : Frame) (cells : List (Listed (Bor (List ℕ)))) (own : ℕ) (c : Listed (List ℕ)) → All (λ x. IsListed f (named x)) cells →
-    slice_get (map named cells) own ≡ Some c → IsListed f c
+pub listed_there : (f : Frame) (cells : List (Listed (Bor (List ℕ)))) (own : ℕ) (c : Listed (List ℕ)) → All (λ x. IsListed f (with_byte_name x)) cells →
+    slice_get (map with_byte_name cells) own ≡ Some c → IsListed f c
 listed_there f [] own c all at = absurd cc
 listed_there f (x ∷ cells) zero c all at =
-    let same : named x ≡ c = cc in
-    subst (IsListed f) same (All-head (λ y. IsListed f (named y)) x cells all)
-listed_there f (x ∷ cells) (suc own) c all at = listed_there f cells own c (All-tail (λ y. IsListed f (named y)) x cells all) at
+    let same : with_byte_name x ≡ c = cc in
+    subst (IsListed f) same (All-head (λ y. IsListed f (with_byte_name y)) x cells all)
+listed_there f (x ∷ cells) (suc own) c all at = listed_there f cells own c (All-tail (λ y. IsListed f (with_byte_name y)) x cells all) at
 
 -- One more cell was read.
 pub fetched_more : (cells fetched : List (Listed (List ℕ))) (boxes : List Placed) (k : ℕ) (d : Placed) (c : Listed (List ℕ)) → k < length boxes →
@@ -153,11 +153,11 @@ pub fetched_more : (cells fetched : List (Listed (List ℕ))) (boxes : List Plac
 fetched_more cells fetched boxes k d c within there so_far =
     let next : suc k ≡ k + 1 = omega arith in
     let cut : drop k boxes ≡ get_or boxes k d ∷ drop (k + 1) boxes = subst (λ (n : ℕ). drop k boxes ≡ get_or boxes k d ∷ drop n boxes) next (drop-cons boxes k d within) in
-    let behind : List (Option (Listed (List ℕ))) = map (λ p. slice_get cells p.own) (drop (k + 1) boxes) in
-    let step : map (λ p. slice_get cells p.own) (drop k boxes) ≡ Some c ∷ behind =
-    ap (map (λ p. slice_get cells p.own)) cut ∙ ap (λ (o : Option (Listed (List ℕ))). o ∷ behind) there in
-    let grown : map Some (fetched ++ c ∷ []) ++ behind ≡ map Some fetched ++ Some c ∷ behind =
-    ap (λ (x : List (Option (Listed (List ℕ)))). x ++ behind) (map-append Some fetched (c ∷ [])) ∙ append_assoc (map Some fetched) (Some c ∷ []) behind in
+    let after_it : List (Option (Listed (List ℕ))) = map (λ p. slice_get cells p.own) (drop (k + 1) boxes) in
+    let step : map (λ p. slice_get cells p.own) (drop k boxes) ≡ Some c ∷ after_it =
+    ap (map (λ p. slice_get cells p.own)) cut ∙ ap (λ (o : Option (Listed (List ℕ))). o ∷ after_it) there in
+    let grown : map Some (fetched ++ c ∷ []) ++ after_it ≡ map Some fetched ++ Some c ∷ after_it =
+    ap (λ (x : List (Option (Listed (List ℕ)))). x ++ after_it) (map-append Some fetched (c ∷ [])) ∙ append_assoc (map Some fetched) (Some c ∷ []) after_it in
     grown ∙ ap (λ (x : List (Option (Listed (List ℕ)))). map Some fetched ++ x) (sym step) ∙ so_far
 
 -- ---- the verdicts of all boxes so far
@@ -184,7 +184,7 @@ next_done l f padding cells done boxes k d old new within have puts =
 
 -- If all boxes are done, each cell has its verdict: an unplaced cell breaks no rule.
 pub all_done : (l : Legalizer) (f : Frame) (padding : ℕ) (cells : List (Listed (List ℕ))) (boxes : List Placed) (verdicts : List (Option Broken)) →
-    IsPermutation (boxes_from f 0 (map member_of cells)) boxes → HaveVerdicts l f padding cells boxes verdicts → AreVerdicts l f padding cells verdicts
+    IsPermutation (boxes_from f 0 (map listed_member cells)) boxes → HaveVerdicts l f padding cells boxes verdicts → AreVerdicts l f padding cells verdicts
 all_done l f padding cells boxes verdicts same have = record { count = have.some.count; each = λ own c at. by own c at c.place refl }
   where
     by : (own : ℕ) (c : Listed (List ℕ)) → slice_get cells own ≡ Some c → (place : Option Place) → c.place ≡ place →
@@ -196,14 +196,14 @@ all_done l f padding cells boxes verdicts same have = record { count = have.some
           | inr right ↦ right
         ]
     by own c at (Some p) placed =
-        let m : Member = member_of c in
-        let there : slice_get (map member_of cells) own ≡ Some m = slice_get-map member_of cells own ∙ ap (option_map member_of) at in
-        let stands : m.place ≡ Some (spot_of p) = ap (option_map spot_of) placed in
+        let m : Member = listed_member c in
+        let there : slice_get (map listed_member cells) own ≡ Some m = slice_get-map listed_member cells own ∙ ap (option_map listed_member) at in
+        let is_in_place : m.place ≡ Some (spot_of p) = ap (option_map spot_of) placed in
         let number : 0 + own ≡ own = omega arith in
         let box : Placed = record { own = own; rect = box_in f m.mac (spot_of p) } in
-        let listed : Contains (boxes_from f 0 (map member_of cells)) box =
-        subst (λ (i : ℕ). Contains (boxes_from f 0 (map member_of cells)) (record { own = i; rect = box_in f m.mac (spot_of p) })) number (box_there f 0 (map member_of cells) own m (spot_of p) there stands) in
-        let among : Contains boxes box = Contains-permutation (boxes_from f 0 (map member_of cells)) boxes box same listed in
+        let listed : Contains (boxes_from f 0 (map listed_member cells)) box =
+        subst (λ (i : ℕ). Contains (boxes_from f 0 (map listed_member cells)) (record { own = i; rect = box_in f m.mac (spot_of p) })) number (box_there f 0 (map listed_member cells) own m (spot_of p) there is_in_place) in
+        let among : Contains boxes box = Contains-permutation (boxes_from f 0 (map listed_member cells)) boxes box same listed in
         subst (λ (q : Placed). slice_get cells q.own ≡ Some c → verdict_at verdicts q.own ≡ broken_among l f padding cells q.own c) among.2 (have.done among.0 box among.1 c) at
 
 -- No cell has a verdict prior to the first box.
@@ -235,7 +235,7 @@ pass_some l f padding cells tree rest front back n old new is_front is_back put 
 
 -- If no box remains, each cell has its verdict.
 pub all_passed : (l : Legalizer) (f : Frame) (padding : ℕ) (cells : List (Listed (List ℕ))) (tree rest : List Placed) (verdicts : List (Option Broken)) →
-    IsPermutation (boxes_from f 0 (map member_of cells)) tree → length rest ≡ 0 → HaveBefore l f padding cells tree rest verdicts → AreVerdicts l f padding cells verdicts
+    IsPermutation (boxes_from f 0 (map listed_member cells)) tree → length rest ≡ 0 → HaveBefore l f padding cells tree rest verdicts → AreVerdicts l f padding cells verdicts
 all_passed l f padding cells tree [] verdicts same none before =
     all_done l f padding cells tree verdicts same
     (subst (λ (xs : List Placed). HaveVerdicts l f padding cells xs verdicts) (sym (append-nil before.passed) ∙ before.parts) before.have)

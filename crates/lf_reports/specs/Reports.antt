@@ -4,9 +4,9 @@ use Rattle.std.specs.Prelude.{◌≡◌, ◌↔◌, ℕ, ◌<◌, List, [], ◌�
 use Rattle.std.specs.List.{range_with_len}
 use Rattle.std.specs.Borrow.{Bor}
 use Rattle.lf_floorplan.specs.declared.frame.Frame.{Frame}
-use Rattle.lf_floorplan.specs.declared.loaded.Cell.{Cell}
+use Rattle.lf_floorplan.specs.declared.loaded.LoadedCell.{LoadedCell}
 use Rattle.lf_floorplan.specs.declared.place.Place.{Place}
-use Rattle.lf_floorplan.specs.Bounds.{IsName}
+use Rattle.lf_floorplan.specs.Bounds.{IsDesignName}
 use Rattle.lf_floorplan.specs.Boxes.{IsSized, macro_of}
 use Rattle.lf_rtree.specs.declared.placed.Placed.{Placed}
 use Rattle.lf_rules.specs.declared.rule.Broken.{Broken}
@@ -21,12 +21,12 @@ use Rattle.lf_rules.specs.FullyLegal.{DesignCell, IsFullyLegal}
 use Rattle.lf_rules.specs.Reports.{IsClean}
 
 -- The cell with its name as a list of bytes.
-abbrev pub named : Listed (Bor (List ℕ)) → Listed (List ℕ)
-named c = record { name = c.name.now; team = c.team; mac = c.mac; place = c.place }
+abbrev pub with_byte_name : Listed (Bor (List ℕ)) → Listed (List ℕ)
+with_byte_name c = record { name = c.name.now; team = c.team; mac = c.mac; place = c.place }
 
 -- The cell as the rules see it among others.
-abbrev pub member_of : Listed (List ℕ) → Member
-member_of c = record { mac = c.mac; place = option_map spot_of c.place }
+abbrev pub listed_member : Listed (List ℕ) → Member
+listed_member c = record { mac = c.mac; place = option_map spot_of c.place }
 
 -- The cell as a fully legal design has it.
 abbrev pub design_cell_of : Listed (List ℕ) → DesignCell
@@ -35,7 +35,7 @@ design_cell_of c = record { team = c.team; mac = c.mac; place = option_map spot_
 -- The cell with this number, as a candidate at its place, with a padding, among the other placed
 -- cells that are listed.
 abbrev pub candidate_among : Frame → ℕ → List (Listed (List ℕ)) → ℕ → Listed (List ℕ) → Place → Candidate
-candidate_among f padding cells own c p = candidate_of f c.team padding (macro_of f c.mac) p (boxes_beside f (map member_of cells) own)
+candidate_among f padding cells own c p = candidate_of f c.team padding (macro_of f c.mac) p (boxes_beside f (map listed_member cells) own)
 
 -- The first rule that the cell breaks at its place; an unplaced cell breaks no rule.
 abbrev pub broken_among : Legalizer → Frame → ℕ → List (Listed (List ℕ)) → ℕ → Listed (List ℕ) → Option Broken
@@ -106,7 +106,7 @@ report_of l f padding cells = record { cells = length cells; unplaced = count_by
 pub record IsListed (f : Frame) (c : Listed (List ℕ)) : Type 0 where
   pub known : c.mac < length f.macros
   pub sized : IsSized f (macro_of f c.mac)
-  pub printed : IsName c.name
+  pub printed : IsDesignName c.name
 
 -- A report with no padding is clean if and only if its cells make a fully legal design.
 abbrev pub CleanIsLegal : Type 0
@@ -115,7 +115,7 @@ CleanIsLegal =
     IsClean (report_of l f 0 cells) ↔ IsFullyLegal f (map design_cell_of cells)
 
 -- The cells of a loaded design at these places, one for each cell in its order.
-abbrev pub listed_at : List Cell → List (Option Place) → List (Listed (List ℕ))
+abbrev pub listed_at : List LoadedCell → List (Option Place) → List (Listed (List ℕ))
 listed_at [] places = []
 listed_at (c ∷ cells) [] = record { name = c.name; team = c.team; mac = c.mac; place = None } ∷ listed_at cells []
 listed_at (c ∷ cells) (p ∷ places) = record { name = c.name; team = c.team; mac = c.mac; place = p } ∷ listed_at cells places

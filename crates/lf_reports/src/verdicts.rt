@@ -9,7 +9,7 @@ ghost use Rattle.lf_rules.specs.Legality.{candidate_of};
 ghost use Rattle.lf_rules.specs.Legalizer.{IsVerdict, Legalizer};
 ghost use Rattle.lf_rules.specs.FullyLegal.{IsFullyLegal, design_cells_at};
 ghost use Rattle.lf_rules.specs.Reports.{IsClean, HasPrintableNames};
-ghost use Rattle.lf_reports.specs.Reports.{IsFaultless, IsListed, broken_among, listed_at, member_of, name_among, named};
+ghost use Rattle.lf_reports.specs.Reports.{IsFaultless, IsListed, broken_among, listed_at, listed_member, name_among, with_byte_name};
 ghost use Rattle.lf_reports.specs.Reports.{report_of, candidate_among, AreSomeVerdicts, HaveVerdicts, IsVerdictSet, AreVerdicts};
 ghost use Rattle.lf_reports.specs.Reports.{SetsVerdict, verdict_at, violation_at, violation_of, violations_in};
 ghost use Rattle.lf_rules.specs.Team.{Member, boxes_beside, boxes_from, with_box};
@@ -26,7 +26,7 @@ use std::alloc::{AllocError, Global};
 
 /// Returns the macro of a cell.
 fn macro_in<'a>(frame: &'a Frame, cell: &Listed<&[u8]>) -> &'a Macro
-    requires { IsListed frame.now (named cell.now) }
+    requires { IsListed frame.now (with_byte_name cell.now) }
     ensures mac { result.now ≡ macro_of frame.now cell.now.mac }
     ensures sized { IsSized frame.now result.now }
 {
@@ -41,8 +41,8 @@ fn push_box(
     cell: &Listed<&[u8]>,
     own: u32,
 ) -> Result<(), AllocError>
-    requires { IsListed frame.now (named cell.now) }
-    ensures { OnOk result (others.new.items ≡ others.old.items ++ with_box frame.now own cell.now.mac (member_of (named cell.now)).place []) }
+    requires { IsListed frame.now (with_byte_name cell.now) }
+    ensures { OnOk result (others.new.items ≡ others.old.items ++ with_box frame.now own cell.now.mac (listed_member (with_byte_name cell.now)).place []) }
 {
     if let Some(place) = cell.place {
         others.push(Placed {
@@ -63,7 +63,7 @@ fn broken_at(
     place: &Place,
     padding: Padding,
 ) -> Option<Broken>
-    requires { IsListed plan.now (named cell.now) }
+    requires { IsListed plan.now (with_byte_name cell.now) }
     ensures { (cells : List Member) → IsPermutation (boxes_from plan.now 0 cells) boxes.now →
         IsVerdict (candidate_of plan.now cell.now.team padding.sites (macro_of plan.now cell.now.mac) place.now (boxes_beside plan.now cells own)) result }
 {
@@ -86,10 +86,10 @@ fn broken_in(
     padding: Padding,
 ) -> Option<Broken>
     requires few { length cells.now ≤ 4000000 }
-    requires this { IsListed plan.now (named cell.now) }
+    requires this { IsListed plan.now (with_byte_name cell.now) }
     requires within { own < length cells.now }
-    requires tree { IsPermutation (boxes_from plan.now 0 (map member_of (map named cells.now))) boxes.now }
-    ensures { (l : Legalizer) → result ≡ broken_among l plan.now padding.sites (map named cells.now) own (named cell.now) }
+    requires tree { IsPermutation (boxes_from plan.now 0 (map listed_member (map with_byte_name cells.now))) boxes.now }
+    ensures { (l : Legalizer) → result ≡ broken_among l plan.now padding.sites (map with_byte_name cells.now) own (with_byte_name cell.now) }
 {
     verdict_is_unique();
     let place = cell.place?;
@@ -99,7 +99,7 @@ fn broken_in(
 /// Returns a copy of the name of the cell with this number. `None` if there is no such cell. `Err`
 /// if an allocation fails.
 fn name_in(alloc: Global, cells: &[Listed<&[u8]>], own: u32) -> Result<Option<Name>, AllocError>
-    ensures { IfOk result (λ name. name ≡ name_among (map named cells.now) own) }
+    ensures { IfOk result (λ name. name ≡ name_among (map with_byte_name cells.now) own) }
 {
     match cells.get(own as usize) {
         Some(cell) => Ok(Some(Name::from_slice(alloc, cell.name)?)),
@@ -114,7 +114,7 @@ fn other_name(
     cells: &[Listed<&[u8]>],
     other: Option<u32>,
 ) -> Result<Option<Name>, AllocError>
-    ensures { IfOk result (λ name. name ≡ option_and_then (name_among (map named cells.now)) other) }
+    ensures { IfOk result (λ name. name ≡ option_and_then (name_among (map with_byte_name cells.now)) other) }
 {
     match other {
         Some(own) => name_in(alloc, cells, own),
@@ -129,7 +129,7 @@ fn violation_of(
     cell: &Listed<&[u8]>,
     broken: Broken,
 ) -> Result<Violation, AllocError>
-    ensures { IfOk result (λ violation. violation ≡ violation_of (map named cells.now) (named cell.now) broken) }
+    ensures { IfOk result (λ violation. violation ≡ violation_of (map with_byte_name cells.now) (with_byte_name cell.now) broken) }
 {
     let other = other_name(alloc, cells, broken.other)?;
     Ok(Violation {
@@ -173,14 +173,14 @@ fn put_verdict(
     verdicts: &mut Vec<Option<Broken>>,
 )
     requires few { length cells.now ≤ 4000000 }
-    requires this { IsListed plan.now (named cell.now) }
-    requires there { slice_get (map named cells.now) own ≡ Some (named cell.now) }
+    requires this { IsListed plan.now (with_byte_name cell.now) }
+    requires there { slice_get (map with_byte_name cells.now) own ≡ Some (with_byte_name cell.now) }
     requires within { own < length cells.now }
-    requires tree { IsPermutation (boxes_from plan.now 0 (map member_of (map named cells.now))) boxes.now }
+    requires tree { IsPermutation (boxes_from plan.now 0 (map listed_member (map with_byte_name cells.now))) boxes.now }
     requires count { length verdicts.old.items ≡ length cells.now }
     ensures count { length verdicts.new.items ≡ length cells.now }
-    ensures put { (l : Legalizer) → AreSomeVerdicts l plan.now padding.sites (map named cells.now) verdicts.old.items
-        → SetsVerdict l plan.now padding.sites (map named cells.now) own verdicts.old.items verdicts.new.items }
+    ensures put { (l : Legalizer) → AreSomeVerdicts l plan.now padding.sites (map with_byte_name cells.now) verdicts.old.items
+        → SetsVerdict l plan.now padding.sites (map with_byte_name cells.now) own verdicts.old.items verdicts.new.items }
 {
     let verdict = broken_in(plan, boxes, cells, own, cell, padding);
     put(verdicts, own, verdict);
@@ -194,7 +194,7 @@ fn fetch<'a>(
     boxes: &[Placed],
 ) -> Result<Vec<Listed<&'a [u8]>>, AllocError>
     requires { All (λ p. p.own < length cells.now) boxes.now }
-    ensures { IfOk result (λ fetched. map Some (map named fetched.items) ≡ map (λ p. slice_get (map named cells.now) p.own) boxes.now) }
+    ensures { IfOk result (λ fetched. map Some (map with_byte_name fetched.items) ≡ map (λ p. slice_get (map with_byte_name cells.now) p.own) boxes.now) }
 {
     let mut fetched = Vec::with_capacity(alloc, boxes.len())?;
     for placed in boxes {
@@ -213,14 +213,14 @@ fn put_verdicts(
     padding: Padding,
     verdicts: &mut Vec<Option<Broken>>,
 ) -> Result<(), AllocError>
-    requires listed { All (λ c. IsListed plan.now (named c)) cells.now }
+    requires listed { All (λ c. IsListed plan.now (with_byte_name c)) cells.now }
     requires few { length cells.now ≤ 4000000 }
-    requires tree { IsPermutation (boxes_from plan.now 0 (map member_of (map named cells.now))) tree.now }
+    requires tree { IsPermutation (boxes_from plan.now 0 (map listed_member (map with_byte_name cells.now))) tree.now }
     requires known { All (λ p. p.own < length cells.now) boxes.now }
     requires count { length verdicts.old.items ≡ length cells.now }
     ensures count { length verdicts.new.items ≡ length cells.now }
-    ensures put { (l : Legalizer) (done : List Placed) → HaveVerdicts l plan.now padding.sites (map named cells.now) done verdicts.old.items →
-        OnOk result (HaveVerdicts l plan.now padding.sites (map named cells.now) (done ++ boxes.now) verdicts.new.items) }
+    ensures put { (l : Legalizer) (done : List Placed) → HaveVerdicts l plan.now padding.sites (map with_byte_name cells.now) done verdicts.old.items →
+        OnOk result (HaveVerdicts l plan.now padding.sites (map with_byte_name cells.now) (done ++ boxes.now) verdicts.new.items) }
 {
     let fetched = fetch(alloc, cells, boxes)?;
     for (number, placed) in boxes.iter().enumerate() {
@@ -243,18 +243,18 @@ fn verdicts_in(
     cells: &[Listed<&[u8]>],
     padding: Padding,
 ) -> Result<Vec<Option<Broken>>, AllocError>
-    requires listed { All (λ c. IsListed plan.now (named c)) cells.now }
+    requires listed { All (λ c. IsListed plan.now (with_byte_name c)) cells.now }
     requires few { length cells.now ≤ 4000000 }
-    requires tree { IsPermutation (boxes_from plan.now 0 (map member_of (map named cells.now))) tree.now }
+    requires tree { IsPermutation (boxes_from plan.now 0 (map listed_member (map with_byte_name cells.now))) tree.now }
     ensures count { IfOk result (λ verdicts. length verdicts.items ≡ length cells.now) }
-    ensures each { (l : Legalizer) → IfOk result (λ verdicts. AreVerdicts l plan.now padding.sites (map named cells.now) verdicts.items) }
+    ensures each { (l : Legalizer) → IfOk result (λ verdicts. AreVerdicts l plan.now padding.sites (map with_byte_name cells.now) verdicts.items) }
 {
     let mut verdicts = no_verdicts(alloc, cells.len())?;
     let mut rest = tree.boxes();
     while !rest.is_empty() {
-        let (boxes, behind) = rest.split_at(rest.len().min(FETCHED));
+        let (boxes, after_it) = rest.split_at(rest.len().min(FETCHED));
         put_verdicts(alloc, plan, tree, cells, boxes, padding, &mut verdicts)?;
-        rest = behind;
+        rest = after_it;
     }
     Ok(verdicts)
 }
@@ -270,9 +270,9 @@ fn push_violation(
 ) -> Result<(), AllocError>
     requires within { own < length cells.now }
     requires count { length verdicts.now ≡ length cells.now }
-    ensures { (l : Legalizer) (f : Frame) (padding : ℕ) → AreVerdicts l f padding (map named cells.now) verdicts.now
+    ensures { (l : Legalizer) (f : Frame) (padding : ℕ) → AreVerdicts l f padding (map with_byte_name cells.now) verdicts.now
         → OnOk result (violations.new.items ≡ violations.old.items ++ cons_option
-        (violation_at l f padding (map named cells.now) own) []) }
+        (violation_at l f padding (map with_byte_name cells.now) own) []) }
 {
     let cell = &cells[own];
     match verdicts[own] {
@@ -291,8 +291,8 @@ fn violations_in(
     verdicts: &[Option<Broken>],
 ) -> Result<Vec<Violation>, AllocError>
     requires { length verdicts.now ≡ length cells.now }
-    ensures { (l : Legalizer) (f : Frame) (padding : ℕ) → AreVerdicts l f padding (map named cells.now) verdicts.now
-        → IfOk result (λ violations. violations.items ≡ violations_in l f padding (map named cells.now)) }
+    ensures { (l : Legalizer) (f : Frame) (padding : ℕ) → AreVerdicts l f padding (map with_byte_name cells.now) verdicts.now
+        → IfOk result (λ violations. violations.items ≡ violations_in l f padding (map with_byte_name cells.now)) }
 {
     let mut violations = Vec::new(alloc);
     for own in 0..cells.len() {
@@ -303,7 +303,7 @@ fn violations_in(
 
 /// Returns the number of unplaced cells.
 fn unplaced_in(cells: &[Listed<&[u8]>]) -> usize
-    ensures { result ≡ count_by (λ c. is_none c.place) (map named cells.now) }
+    ensures { result ≡ count_by (λ c. is_none c.place) (map with_byte_name cells.now) }
 {
     cells.iter().filter(|cell| cell.place.is_none()).count()
 }
@@ -319,10 +319,10 @@ pub fn report_from_verdicts(
     verdicts: &[Option<Broken>],
 ) -> Result<Report, AllocError>
     requires { length verdicts.now ≡ length cells.now }
-    ensures report { (l : Legalizer) (f : Frame) (padding : ℕ) → AreVerdicts l f padding (map named cells.now) verdicts.now
-        → IfOk result (λ report. report ≡ report_of l f padding (map named cells.now)) }
-    ensures told { (l : Legalizer) (f : Frame) (padding : ℕ) → AreVerdicts l f padding (map named cells.now) verdicts.now
-        → All (λ c. IsListed f (named c)) cells.now →
+    ensures report { (l : Legalizer) (f : Frame) (padding : ℕ) → AreVerdicts l f padding (map with_byte_name cells.now) verdicts.now
+        → IfOk result (λ report. report ≡ report_of l f padding (map with_byte_name cells.now)) }
+    ensures reported { (l : Legalizer) (f : Frame) (padding : ℕ) → AreVerdicts l f padding (map with_byte_name cells.now) verdicts.now
+        → All (λ c. IsListed f (with_byte_name c)) cells.now →
         IfOk result (λ report. All HasPrintableNames report.violations) }
 {
     let violations = violations_in(alloc, cells, verdicts)?;
@@ -339,9 +339,9 @@ fn boxes_in(
     frame: &Frame,
     cells: &[Listed<&[u8]>],
 ) -> Result<Vec<Placed>, AllocError>
-    requires listed { All (λ c. IsListed frame.now (named c)) cells.now }
+    requires listed { All (λ c. IsListed frame.now (with_byte_name c)) cells.now }
     requires few { length cells.now ≤ 4000000 }
-    ensures { IfOk result (λ boxes. boxes.items ≡ boxes_from frame.now 0 (map member_of (map named cells.now))) }
+    ensures { IfOk result (λ boxes. boxes.items ≡ boxes_from frame.now 0 (map listed_member (map with_byte_name cells.now))) }
 {
     let mut boxes = Vec::with_capacity(alloc, cells.len())?;
     for (number, cell) in cells.iter().enumerate() {
@@ -363,10 +363,10 @@ pub fn verdicts_with_plan(
     cells: &[Listed<&[u8]>],
     padding: Padding,
 ) -> Result<Vec<Option<Broken>>, AllocError>
-    requires listed { All (λ c. IsListed plan.now (named c)) cells.now }
+    requires listed { All (λ c. IsListed plan.now (with_byte_name c)) cells.now }
     requires few { length cells.now ≤ 4000000 }
     ensures count { IfOk result (λ verdicts. length verdicts.items ≡ length cells.now) }
-    ensures each { (l : Legalizer) → IfOk result (λ verdicts. AreVerdicts l plan.now padding.sites (map named cells.now) verdicts.items) }
+    ensures each { (l : Legalizer) → IfOk result (λ verdicts. AreVerdicts l plan.now padding.sites (map with_byte_name cells.now) verdicts.items) }
 {
     let boxes = boxes_in(alloc, plan.frame(), cells)?;
     let tree = RTree::build(alloc, boxes)?;
@@ -380,10 +380,10 @@ fn verdicts_over(
     frame: &Frame,
     cells: &[Listed<&[u8]>],
 ) -> Result<Vec<Option<Broken>>, AllocError>
-    requires listed { All (λ c. IsListed frame.now (named c)) cells.now }
+    requires listed { All (λ c. IsListed frame.now (with_byte_name c)) cells.now }
     requires few { length cells.now ≤ 4000000 }
     ensures count { IfOk result (λ verdicts. length verdicts.items ≡ length cells.now) }
-    ensures each { (l : Legalizer) → IfOk result (λ verdicts. AreVerdicts l frame.now 0 (map named cells.now) verdicts.items) }
+    ensures each { (l : Legalizer) → IfOk result (λ verdicts. AreVerdicts l frame.now 0 (map with_byte_name cells.now) verdicts.items) }
 {
     let ground = FrameIndex::build(alloc, frame)?;
     verdicts_with_plan(
@@ -401,7 +401,7 @@ fn listed_cells<'a>(
     places: &[Option<Place>],
 ) -> Result<Vec<Listed<&'a [u8]>>, AllocError>
     requires { length places.now ≡ length cells.now }
-    ensures { IfOk result (λ listed. map named listed.items ≡ listed_at cells.now places.now) }
+    ensures { IfOk result (λ listed. map with_byte_name listed.items ≡ listed_at cells.now places.now) }
 {
     let mut listed = Vec::with_capacity(alloc, cells.len())?;
     for own in 0..cells.len() {
@@ -452,7 +452,7 @@ pub fn check_all(
     requires { length places.now ≡ length loaded.now.cells }
     ensures report { (l : Legalizer) → IfOk result (λ report. report ≡ report_of l loaded.now.frame 0 (listed_at loaded.now.cells places.now)) }
     ensures legal { IfOk result (λ report. IsClean report ↔ IsFullyLegal loaded.now.frame (design_cells_at loaded.now.cells places.now)) }
-    ensures told { IfOk result (λ report. All HasPrintableNames report.violations) }
+    ensures reported { IfOk result (λ report. All HasPrintableNames report.violations) }
 {
     cell_is_sized();
     legalizer_exists();

@@ -30,7 +30,7 @@ bounds_more old new boxes n d within before here wider =
 -- A bound of both parts of a list bounds the list.
 pub bounds_both : (first last both : Bound) (boxes : List Placed) (n : ℕ) → All (IsBound first) (take n boxes) → All (IsBound last) (drop n boxes) →
     ((p : Placed) → IsBound first p → IsBound both p) → ((p : Placed) → IsBound last p → IsBound both p) → All (IsBound both) boxes
-bounds_both first last both boxes n before behind wider wider_last =
+bounds_both first last both boxes n before after_it wider wider_last =
     subst (All (IsBound both)) (take-append-drop n boxes)
     (All-append (IsBound both) (take n boxes) (drop n boxes) (All-weaker (IsBound first) (IsBound both) wider (take n boxes) before)
-    (All-weaker (IsBound last) (IsBound both) wider_last (drop n boxes) behind))
+    (All-weaker (IsBound last) (IsBound both) wider_last (drop n boxes) after_it))

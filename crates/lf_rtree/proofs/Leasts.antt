@@ -29,9 +29,9 @@ no_greater_along (Some x) b c first second = up_to_less b c x first second
 
 -- A number found in one of two lists is found in their concatenation, and one found in a list is
 -- found in its permutations.
-met_before : (xs ys : List Placed) (rect : Rect) (but : ℕ) (a : Option ℕ) → IsSomeAnd a (IsOverlapping xs rect but) → IsSomeAnd a (IsOverlapping (xs ++ ys) rect but)
-met_before xs ys rect but None m = absurd m
-met_before xs ys rect but (Some own) m = record {
+overlapping_before : (xs ys : List Placed) (rect : Rect) (but : ℕ) (a : Option ℕ) → IsSomeAnd a (IsOverlapping xs rect but) → IsSomeAnd a (IsOverlapping (xs ++ ys) rect but)
+overlapping_before xs ys rect but None m = absurd m
+overlapping_before xs ys rect but (Some own) m = record {
   placed = m.placed;
   among = Contains-append_left xs ys m.placed m.among;
   number = m.number;
@@ -39,9 +39,9 @@ met_before xs ys rect but (Some own) m = record {
   shares = m.shares;
 }
 
-met_behind : (xs ys : List Placed) (rect : Rect) (but : ℕ) (a : Option ℕ) → IsSomeAnd a (IsOverlapping ys rect but) → IsSomeAnd a (IsOverlapping (xs ++ ys) rect but)
-met_behind xs ys rect but None m = absurd m
-met_behind xs ys rect but (Some own) m = record {
+overlapping_after : (xs ys : List Placed) (rect : Rect) (but : ℕ) (a : Option ℕ) → IsSomeAnd a (IsOverlapping ys rect but) → IsSomeAnd a (IsOverlapping (xs ++ ys) rect but)
+overlapping_after xs ys rect but None m = absurd m
+overlapping_after xs ys rect but (Some own) m = record {
   placed = m.placed;
   among = Contains-append_right xs ys m.placed m.among;
   number = m.number;
@@ -49,9 +49,9 @@ met_behind xs ys rect but (Some own) m = record {
   shares = m.shares;
 }
 
-met_permuted : (xs ys : List Placed) (rect : Rect) (but : ℕ) (a : Option ℕ) → IsPermutation xs ys → IsSomeAnd a (IsOverlapping xs rect but) → IsSomeAnd a (IsOverlapping ys rect but)
-met_permuted xs ys rect but None moved m = absurd m
-met_permuted xs ys rect but (Some own) moved m = record {
+overlapping_permuted : (xs ys : List Placed) (rect : Rect) (but : ℕ) (a : Option ℕ) → IsPermutation xs ys → IsSomeAnd a (IsOverlapping xs rect but) → IsSomeAnd a (IsOverlapping ys rect but)
+overlapping_permuted xs ys rect but None moved m = absurd m
+overlapping_permuted xs ys rect but (Some own) moved m = record {
   placed = m.placed;
   among = Contains-permutation xs ys m.placed moved m.among;
   number = m.number;
@@ -64,20 +64,20 @@ pub least_along : (xs ys : List Placed) (rect : Rect) (but : ℕ) (a b c : Optio
     IsLeastOf xs rect but a b → IsLeastOf ys rect but b c → IsLeastOf (xs ++ ys) rect but a c
 least_along xs ys rect but a b c first second = record {
   from = elim second.from [
-    | inr m ↦ inr (met_behind xs ys rect but c m)
+    | inr m ↦ inr (overlapping_after xs ys rect but c m)
     | inl kept ↦ elim first.from [
       | inl kept_first ↦ inl (kept ∙ kept_first)
       | inr m ↦
           let P : Option ℕ → Type 0 = λ o. IsSomeAnd o (IsOverlapping (xs ++ ys) rect but) in
-          inr (subst P (sym kept) (met_before xs ys rect but b m))
+          inr (subst P (sym kept) (overlapping_before xs ys rect but b m))
     ]
   ];
   no_greater = no_greater_along a b c first.no_greater second.no_greater;
-  least_met =
+  least_overlapped =
       let Low : Option ℕ → Placed → Type 0 = λ o p. p.own ≢ but → SharesPoint rect p.rect → IsUpTo o p.own in
       All-append (Low c) xs ys
-      (All-weaker (Low b) (Low c) (λ p low other shares. up_to_less b c p.own (low other shares) second.no_greater) xs first.least_met)
-      second.least_met;
+      (All-weaker (Low b) (Low c) (λ p low other shares. up_to_less b c p.own (low other shares) second.no_greater) xs first.least_overlapped)
+      second.least_overlapped;
 }
 
 -- One box more.
@@ -90,9 +90,9 @@ least_one_more boxes n d rect but a b c within first second =
 -- The order of the boxes does not matter.
 pub least_permuted : (xs ys : List Placed) (rect : Rect) (but : ℕ) (a b : Option ℕ) → IsPermutation xs ys → IsLeastOf xs rect but a b → IsLeastOf ys rect but a b
 least_permuted xs ys rect but a b moved of = record {
-  from = elim of.from [ inl kept ↦ inl kept | inr m ↦ inr (met_permuted xs ys rect but b moved m) ];
+  from = elim of.from [ inl kept ↦ inl kept | inr m ↦ inr (overlapping_permuted xs ys rect but b moved m) ];
   no_greater = of.no_greater;
-  least_met = All-permutation (λ p. p.own ≢ but → SharesPoint rect p.rect → IsUpTo b p.own) xs ys moved of.least_met;
+  least_overlapped = All-permutation (λ p. p.own ≢ but → SharesPoint rect p.rect → IsUpTo b p.own) xs ys moved of.least_overlapped;
 }
 
 -- The front of a list and then the rest, or the rest and then the front.
@@ -117,7 +117,7 @@ pub least_kept : (bound : Bound) (boxes : List Placed) (rect : Rect) (but : ℕ)
 least_kept bound boxes rect but a within low = record {
   from = inl refl;
   no_greater = up_to_itself a;
-  least_met =
+  least_overlapped =
       All-weaker (IsBound bound) (λ p. p.own ≢ but → SharesPoint rect p.rect → IsUpTo a p.own)
       (λ p held other shares. low p held shares) boxes within;
 }

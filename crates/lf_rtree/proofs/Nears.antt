@@ -7,7 +7,7 @@ use Rattle.std.proofs.lemmas.List.Sorted.{IsPermutation-refl, IsPermutation-sym,
 use Rattle.std.proofs.lemmas.List.Sorted.{IsPermutation-append, IsPermutation-append_left, IsPermutation-append_right, IsPermutation-append_comm}
 use Rattle.lf_units.specs.Area.{SharesPoint}
 use Rattle.lf_units.specs.declared.geometry.Rect.{Rect}
-use Rattle.lf_rtree.specs.Near.{AreNear}
+use Rattle.lf_rtree.specs.Near.{AreAllOverlapping}
 use Rattle.lf_rtree.specs.Packed.{IsBound, AddsNear}
 use Rattle.lf_rtree.specs.declared.placed.Placed.{Placed}
 use Rattle.lf_rtree.specs.declared.bound.Bound.{Bound}
@@ -21,18 +21,18 @@ parted_along xs ys found others more rest first second =
     let middle : IsPermutation ((others ++ more) ++ rest) (more ++ (others ++ rest)) =
     subst (IsPermutation ((others ++ more) ++ rest)) (append_assoc more others rest)
     (IsPermutation-append_left rest (others ++ more) (more ++ others) (IsPermutation-append_comm others more)) in
-    let behind : IsPermutation (others ++ (more ++ rest)) (more ++ (others ++ rest)) = subst (λ zs. IsPermutation zs (more ++ (others ++ rest)))
+    let after_it : IsPermutation (others ++ (more ++ rest)) (more ++ (others ++ rest)) = subst (λ zs. IsPermutation zs (more ++ (others ++ rest)))
     (append_assoc others more rest) middle in
     let both : IsPermutation (xs ++ ys) all = subst (IsPermutation (xs ++ ys)) (append_assoc found others (more ++ rest))
     (IsPermutation-append xs (found ++ others) ys (more ++ rest) first second) in
     let last : IsPermutation all ((found ++ more) ++ (others ++ rest)) =
     subst (IsPermutation all) (sym (append_assoc found more (others ++ rest)))
-    (IsPermutation-append_right found (others ++ (more ++ rest)) (more ++ (others ++ rest)) behind) in
+    (IsPermutation-append_right found (others ++ (more ++ rest)) (more ++ (others ++ rest)) after_it) in
     IsPermutation-trans (xs ++ ys) all ((found ++ more) ++ (others ++ rest)) both last
 
 -- The near boxes of two lists, one after the other, are those of their concatenation.
-pub near_along : (xs ys : List Placed) (rect : Rect) (front back : List Placed) → AreNear xs rect front → AreNear ys rect back →
-    AreNear (xs ++ ys) rect (front ++ back)
+pub near_along : (xs ys : List Placed) (rect : Rect) (front back : List Placed) → AreAllOverlapping xs rect front → AreAllOverlapping ys rect back →
+    AreAllOverlapping (xs ++ ys) rect (front ++ back)
 near_along xs ys rect front back first second = record {
   others = first.others ++ second.others;
   parted = parted_along xs ys front first.others back second.others first.parted second.parted;
@@ -41,14 +41,14 @@ near_along xs ys rect front back first second = record {
 }
 
 -- If no box shares a point with the rectangle, no box is near.
-pub none_near : (xs : List Placed) (rect : Rect) → All (λ p. SharesPoint rect p.rect → ⊥) xs → AreNear xs rect []
+pub none_near : (xs : List Placed) (rect : Rect) → All (λ p. SharesPoint rect p.rect → ⊥) xs → AreAllOverlapping xs rect []
 none_near xs rect far = record { others = xs; parted = IsPermutation-refl xs; near = All-nil (λ p. SharesPoint rect p.rect); far = far }
 
 -- One box that shares no point, and one that does.
-pub far_box : (p : Placed) (rect : Rect) → (SharesPoint rect p.rect → ⊥) → AreNear (p ∷ []) rect []
+pub far_box : (p : Placed) (rect : Rect) → (SharesPoint rect p.rect → ⊥) → AreAllOverlapping (p ∷ []) rect []
 far_box p rect apart = let Apart : Placed → Type 0 = λ q. SharesPoint rect q.rect → ⊥ in none_near (p ∷ []) rect (All-cons Apart p [] apart (All-nil Apart))
 
-pub near_box : (p : Placed) (rect : Rect) → SharesPoint rect p.rect → AreNear (p ∷ []) rect (p ∷ [])
+pub near_box : (p : Placed) (rect : Rect) → SharesPoint rect p.rect → AreAllOverlapping (p ∷ []) rect (p ∷ [])
 near_box p rect shares = record {
   others = [];
   parted = subst (IsPermutation (p ∷ [])) (sym (append-nil (p ∷ []))) (IsPermutation-refl (p ∷ []));
@@ -57,7 +57,7 @@ near_box p rect shares = record {
 }
 
 -- Each near box is found, and only those. A caller's proof may cite these.
-pub each_near : (boxes : List Placed) (rect : Rect) (found : List Placed) → AreNear boxes rect found →
+pub each_near : (boxes : List Placed) (rect : Rect) (found : List Placed) → AreAllOverlapping boxes rect found →
     All (λ p. SharesPoint rect p.rect → Contains found p) boxes
 each_near boxes rect found are =
     let Found : Placed → Type 0 = λ p. SharesPoint rect p.rect → Contains found p in
@@ -65,7 +65,7 @@ each_near boxes rect found are =
     (All-append Found found are.others (All-weaker (Contains found) Found (λ p there shares. there) found (All-contains_itself found))
     (All-weaker (λ p. SharesPoint rect p.rect → ⊥) Found (λ p apart shares. absurd (apart shares)) are.others are.far))
 
-pub only_near : (boxes : List Placed) (rect : Rect) (found : List Placed) → AreNear boxes rect found →
+pub only_near : (boxes : List Placed) (rect : Rect) (found : List Placed) → AreAllOverlapping boxes rect found →
     All (λ p. Contains boxes p × SharesPoint rect p.rect) found
 only_near boxes rect found are k d within = (
   Contains-permutation (found ++ are.others) boxes (get_or found k d) (IsPermutation-sym boxes (found ++ are.others) are.parted)

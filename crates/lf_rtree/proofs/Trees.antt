@@ -23,7 +23,7 @@ without_bounds boxes (bound ∷ below) none = absurd (omega (arith, none))
 pub joined_tree : (boxes : List Placed) (bound : Bound) (first last : List Bound) → All (IsBound bound) boxes →
     length first ≡ length (first ++ last) / 2 → IsTree (take (length boxes / 2) boxes) first → IsTree (drop (length boxes / 2) boxes) last →
     IsTree boxes (bound ∷ (first ++ last))
-joined_tree boxes bound first last all half before behind =
+joined_tree boxes bound first last all half before after_it =
     let First : ℕ → Type 0 = λ n. IsTree (take (length boxes / 2) boxes) (take n (first ++ last)) in
     let Last : ℕ → Type 0 = λ n. IsTree (drop (length boxes / 2) boxes) (drop n (first ++ last)) in
-    divided boxes bound (first ++ last) all (subst First half (rw take-append_seam before)) (subst Last half (rw drop-append_seam behind))
+    divided boxes bound (first ++ last) all (subst First half (rw take-append_seam before)) (subst Last half (rw drop-append_seam after_it))

@@ -6,7 +6,7 @@ use Rattle.lf_rtree.specs.declared.placed.Placed.{Placed}
 
 -- The found boxes are those of the list that share a point with the rectangle, each as often as in
 -- the list. The list is a permutation of the found boxes and others, and the others share no point.
-pub record AreNear (boxes : List Placed) (rect : Rect) (found : List Placed) : Type 0 where
+pub record AreAllOverlapping (boxes : List Placed) (rect : Rect) (found : List Placed) : Type 0 where
   pub others : List Placed
   pub parted : IsPermutation boxes (found ++ others)
   pub near : All (λ p. SharesPoint rect p.rect) found
@@ -22,7 +22,7 @@ pub record IsOverlapping (boxes : List Placed) (rect : Rect) (but own : ℕ) : T
 
 -- The least number, other than `but`, of a box of the list that shares a point with the rectangle.
 pub record IsLeastOverlapping (boxes : List Placed) (rect : Rect) (but own : ℕ) : Type 0 where
-  pub met : IsOverlapping boxes rect but own
+  pub overlapping_one : IsOverlapping boxes rect but own
   pub least : All (λ p. p.own ≢ but → SharesPoint rect p.rect → own ≤ p.own) boxes
 
 -- No box of the list with a number other than `but` shares a point with the rectangle.

@@ -2,7 +2,7 @@
 use Rattle.std.specs.Prelude.{◌≡◌, ◌≢◌, ◌⊎◌, ℕ, ◌/◌, ◌≤◌, ◌≤ℤ◌, Option, IfSome, IsSomeAnd, List, [], ◌∷◌, ◌++◌, length, take, drop, All}
 use Rattle.lf_units.specs.Area.{SharesPoint}
 use Rattle.lf_units.specs.declared.geometry.Rect.{Rect}
-use Rattle.lf_rtree.specs.Near.{AreNear, IsOverlapping}
+use Rattle.lf_rtree.specs.Near.{AreAllOverlapping, IsOverlapping}
 use Rattle.lf_rtree.specs.declared.placed.Placed.{Placed}
 use Rattle.lf_rtree.specs.declared.bound.Bound.{Bound}
 
@@ -32,7 +32,7 @@ IsUpTo least own = IsSomeAnd least (λ n. n ≤ own)
 pub record IsLeastOf (boxes : List Placed) (rect : Rect) (but : ℕ) (so_far least : Option ℕ) : Type 0 where
   pub from : (least ≡ so_far) ⊎ IsSomeAnd least (IsOverlapping boxes rect but)
   pub no_greater : IfSome so_far (IsUpTo least)
-  pub least_met : All (λ p. p.own ≢ but → SharesPoint rect p.rect → IsUpTo least p.own) boxes
+  pub least_overlapped : All (λ p. p.own ≢ but → SharesPoint rect p.rect → IsUpTo least p.own) boxes
 
 -- No box within the bound has a number below the one so far and shares a point with the rectangle.
 abbrev pub HoldsNoLess : Bound → Rect → Option ℕ → Type 0
@@ -42,4 +42,4 @@ HoldsNoLess bound rect so_far = (p : Placed) → IsBound bound p → SharesPoint
 pub record AddsNear (boxes : List Placed) (rect : Rect) (old new : List Placed) : Type 0 where
   pub found : List Placed
   pub is : new ≡ old ++ found
-  pub near : AreNear boxes rect found
+  pub near : AreAllOverlapping boxes rect found

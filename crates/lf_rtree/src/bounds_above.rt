@@ -27,11 +27,11 @@ fn bind(boxes: &[Placed], bounds: &mut [Bound]) -> Bound
     let Some((bound, below)) = bounds.split_first_mut() else {
         return bound_of(boxes);
     };
-    let (before, behind) = boxes.split_at(boxes.len() / 2);
+    let (before, after_it) = boxes.split_at(boxes.len() / 2);
     let half = below.len() / 2;
     let (first, last) = below.split_at_mut(half);
     let of_first = bind(before, first);
-    let of_last = bind(behind, last);
+    let of_last = bind(after_it, last);
     let joined = of_first.joined(&of_last);
     *bound = joined;
     joined

@@ -76,12 +76,12 @@ pub(crate) fn least_among(
     if !may_be_less(bound, rect, so_far) {
         return so_far;
     }
-    let (before, behind) = boxes.split_at(boxes.len() / 2);
+    let (before, after_it) = boxes.split_at(boxes.len() / 2);
     let (first, last) = below.split_at(below.len() / 2);
     if likely_least(last) < likely_least(first) {
-        let with_behind = least_among(behind, last, rect, but, so_far);
-        return least_among(before, first, rect, but, with_behind);
+        let with_after = least_among(after_it, last, rect, but, so_far);
+        return least_among(before, first, rect, but, with_after);
     }
     let with_before = least_among(before, first, rect, but, so_far);
-    least_among(behind, last, rect, but, with_before)
+    least_among(after_it, last, rect, but, with_before)
 }

@@ -50,9 +50,9 @@ pub(crate) fn push_near_of_run(
     if !rect.overlaps(&bound.rect) {
         return Ok(());
     }
-    let (before, behind) = boxes.split_at(boxes.len() / 2);
+    let (before, after_it) = boxes.split_at(boxes.len() / 2);
     let (first, last) = below.split_at(below.len() / 2);
     push_near_of_run(before, first, rect, found)?;
-    push_near_of_run(behind, last, rect, found)?;
+    push_near_of_run(after_it, last, rect, found)?;
     Ok(())
 }

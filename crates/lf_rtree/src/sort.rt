@@ -23,7 +23,7 @@ fn sort_bands(boxes: &mut [Placed], depth: u32)
         return;
     }
     let half = boxes.len() / 2;
-    let (before, behind) = boxes.split_at_mut(half);
+    let (before, after_it) = boxes.split_at_mut(half);
     sort_bands(before, depth - 1);
-    sort_bands(behind, depth - 1);
+    sort_bands(after_it, depth - 1);
 }

@@ -1,7 +1,7 @@
 //! A packed tree of boxes.
 
 ghost use Rattle.std.specs.Prelude.{◌≡◌, IfOk, OnOk, MatchOption, IsPermutation};
-ghost use Rattle.lf_rtree.specs.Near.{AreNear, IsLeastOverlapping, IsNoneOverlapping};
+ghost use Rattle.lf_rtree.specs.Near.{AreAllOverlapping, IsLeastOverlapping, IsNoneOverlapping};
 
 use crate::bound::Bound;
 use crate::bounds_above::grow;
@@ -60,7 +60,7 @@ impl RTree {
     /// Replaces the contents of `found` by the boxes that share a point with this rectangle, each
     /// as often as it is in the tree. If an allocation fails, `found` holds some of them.
     pub fn find_overlapping(&self, rect: &Rect, found: &mut Vec<Placed>) -> Result<(), AllocError>
-        ensures { OnOk result (AreNear self.now rect.now found.new.items) }
+        ensures { OnOk result (AreAllOverlapping self.now rect.now found.new.items) }
     {
         found.clear();
         push_near_of_run(self.boxes.as_slice(), self.bounds.as_slice(), rect, found)

@@ -5,7 +5,7 @@ use Rattle.lf_orient.specs.declared.Orient.TheVariants.{N, S, FN, FS}
 use Rattle.lf_floorplan.specs.declared.parts.Row.{Row}
 use Rattle.lf_floorplan.specs.Boxes.{IsSized}
 use Rattle.lf_rules.specs.Choice.{SpotPlace, PlacementQuery, IsAllowedPlace, IsChoice, Precedes, distance, rank}
-use Rattle.lf_rules.specs.Looking.{ScansPlaces, IsAtSite, IsOnSites, IsOnRows, spot_at}
+use Rattle.lf_rules.specs.Scanning.{ScansPlaces, IsAtSite, IsOnSites, IsOnRows, spot_at}
 use Rattle.lf_rules.proofs.Looking.{passed_over, taken_first, taken, left, idle}
 use Rattle.lf_rules.proofs.Order.{ordered, through, not_itself, by_rank}
 use Rattle.lf_rules.proofs.SiteLemmas.{all_four, next_site, next_row, chosen}

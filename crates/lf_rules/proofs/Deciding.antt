@@ -10,7 +10,7 @@ use Rattle.lf_units.proofs.Edges.{edges_of_shared, shared_of_edges}
 use Rattle.lf_floorplan.specs.declared.frame.Frame.{Frame}
 use Rattle.lf_floorplan.specs.declared.parts.Row.{Row}
 use Rattle.lf_floorplan.specs.declared.parts.Team.{Team}
-use Rattle.lf_floorplan.specs.Standing.{IsSitesHigh, IsBottomRow, IsRowOfBox, Supports, changed}
+use Rattle.lf_floorplan.specs.Standing.{IsSitesHigh, IsBottomRow, IsRowOfBox, Supports, rail_alternated}
 use Rattle.lf_floorplan.specs.Ground.{InGround}
 use Rattle.std.specs.Option.{option_map}
 use Rattle.lf_orient.specs.declared.Rail.{Rail}
@@ -174,8 +174,8 @@ on_steps v (negsuc s) rising = absurd (omega (arith, ints))
 pub some_bottom : (f : Frame) (box : Rect) → Settles ((r : Row) × IsBottomRow f box r)
 some_bottom f box =
     turned_round
-    (λ a. (a.1, record { heeded = (a.0, a.2, a.3); at_bottom = a.4.0; site = a.4.1.0; on_grid = a.4.1.1 }))
-    (λ h. (h.1.heeded.0, h.0, h.1.heeded.1, h.1.heeded.2, (h.1.at_bottom, (h.1.site, h.1.on_grid))))
+    (λ a. (a.1, record { core_ones = (a.0, a.2, a.3); at_bottom = a.4.0; site = a.4.1.0; on_grid = a.4.1.1 }))
+    (λ h. (h.1.core_ones.0, h.0, h.1.core_ones.1, h.1.core_ones.2, (h.1.at_bottom, (h.1.site, h.1.on_grid))))
     (some (λ r. IsRowOfBox f box 0 r × ((site : ℕ) × (box.x1 -ℤ r.x ≡ pos site *ℤ f.pitch.x))) (λ r. both (under f box 0 r) (on_steps (box.x1 -ℤ r.x) f.pitch.x f.pitch_whole.wide)) f.rows)
 
 pub same_rail : (a b : Option Rail) → Settles (a ≡ b)
@@ -190,9 +190,9 @@ same_rail (Some Power) (Some Power) = inl refl
 pub some_carrying : (f : Frame) (box : Rect) (r : Row) (j : ℕ) → Settles ((s : Row) × Supports f box r j s)
 some_carrying f box r j =
     turned_round
-    (λ a. (a.1, record { heeded = (a.0, a.2, a.3); at_row = a.4.0; rail = a.4.1 }))
-    (λ h. (h.1.heeded.0, h.0, h.1.heeded.1, h.1.heeded.2, (h.1.at_row, h.1.rail)))
-    (some (λ s. IsRowOfBox f box j s × (rail_below s.orient ≡ option_map (changed j) (rail_below r.orient))) (λ s. both (under f box j s) (same_rail _ _)) f.rows)
+    (λ a. (a.1, record { core_ones = (a.0, a.2, a.3); at_row = a.4.0; rail = a.4.1 }))
+    (λ h. (h.1.core_ones.0, h.0, h.1.core_ones.1, h.1.core_ones.2, (h.1.at_row, h.1.rail)))
+    (some (λ s. IsRowOfBox f box j s × (rail_below s.orient ≡ option_map (rail_alternated j) (rail_below r.orient))) (λ s. both (under f box j s) (same_rail _ _)) f.rows)
 
 -- ---- the areas
 

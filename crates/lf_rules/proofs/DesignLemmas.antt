@@ -49,12 +49,12 @@ keeps f team cells own m p legal =
 
 -- A legal cell is placed, and legal at its place.
 placed_there : (P : SpotPlace → Type 0) (place : Option SpotPlace) → MatchOption place ⊥ P → IsSome place
-placed_there P None stands = absurd stands
-placed_there P (Some p) stands = refl
+placed_there P None is_in_place = absurd is_in_place
+placed_there P (Some p) is_in_place = refl
 
 legal_there : (P : SpotPlace → Type 0) (place : Option SpotPlace) → MatchOption place ⊥ P → (p : SpotPlace) → place ≡ Some p → P p
-legal_there P None stands p is = absurd stands
-legal_there P (Some q) stands p is = let same : q ≡ p = cc in subst P same stands
+legal_there P None is_in_place p is = absurd is_in_place
+legal_there P (Some q) is_in_place p is = let same : q ≡ p = cc in subst P same is_in_place
 
 -- The design of the teams from `team` on, all of whose cells are legal.
 abbrev TeamsLegal : Frame → ℕ → List (List Member) → Type 0
@@ -62,20 +62,20 @@ TeamsLegal f team teams = (k : ℕ) (cells : List Member) → slice_get teams k 
 
 legal_at : (f : Frame) (team : ℕ) (cells : List Member) (own : ℕ) (m : Member) (p : SpotPlace) → IsLegalCell f team 0 cells own → slice_get cells own ≡ Some m → m.place ≡ Some p →
     IsLegalAt (query_from f team 0 cells own m.mac) p
-legal_at f team cells own m p stands there is = legal_there (λ s. IsLegalAt (query_from f team 0 cells own m.mac) s) m.place (stands m there) p is
+legal_at f team cells own m p is_in_place there is = legal_there (λ s. IsLegalAt (query_from f team 0 cells own m.mac) s) m.place (is_in_place m there) p is
 
 -- Two cells of one team are apart.
 one_team : (f : Frame) (team : ℕ) (cells : List Member) (i j : ℕ) (a b : Member) → i < j → ((own : ℕ) → IsLegalCell f team 0 cells own) →
     slice_get cells i ≡ Some a → slice_get cells j ≡ Some b → DoNotOverlap f (design_cell team a) (design_cell team b)
-one_team f team cells i j a b less stands here there p is_p q is_q meet =
-    clear_of_legal f team 0 cells i a.mac p (legal_at f team cells i a p (stands i) here is_p) j b q (λ e. omega (arith, less, e)) there is_q
+one_team f team cells i j a b less is_in_place here there p is_p q is_q meet =
+    clear_of_legal f team 0 cells i a.mac p (legal_at f team cells i a p (is_in_place i) here is_p) j b q (λ e. omega (arith, less, e)) there is_q
     (shares_padded f 0 (box_in f a.mac p) (box_in f b.mac q) meet)
 
 -- Two cells of different teams are apart.
 two_teams : (f : Frame) (s t : ℕ) (first second : List Member) (i j : ℕ) (a b : Member) → (s ≡ t → ⊥) → IsLegalCell f s 0 first i → IsLegalCell f t 0 second j →
     slice_get first i ≡ Some a → slice_get second j ≡ Some b → DoNotOverlap f (design_cell s a) (design_cell t b)
-two_teams f s t first second i j a b differ stands_a stands_b here there p is_p q is_q meet =
-    teams_apart f s t (box_in f a.mac p) (box_in f b.mac q) differ (legal_at f s first i a p stands_a here is_p Fence) (legal_at f t second j b q stands_b there is_q Fence) meet
+two_teams f s t first second i j a b differ is_placed_a is_placed_b here there p is_p q is_q meet =
+    teams_apart f s t (box_in f a.mac p) (box_in f b.mac q) differ (legal_at f s first i a p is_placed_a here is_p Fence) (legal_at f t second j b q is_placed_b there is_q Fence) meet
 
 teams_pairs : (f : Frame) (team : ℕ) (teams : List (List Member)) → TeamsLegal f team teams → AllPairs (λ a b. DoNotOverlap f a b) (design_cells_from team teams)
 teams_pairs f team [] legal = λ i j d less within. absurd (omega arith)

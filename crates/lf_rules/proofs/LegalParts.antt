@@ -96,26 +96,26 @@ legal_by_parts t = (λ legal. ((λ r few. legal r), legal Overlap), λ parts. al
 -- ---- the frame's rules by their meaning
 
 -- The content of the frame's rules: where the box rests, its orientation, and the ground it covers.
-pub record StandsInFrame (t : Candidate) : Type 0 where
-  pub stands : RestsOnRows t.frame (box_of t)
+pub record IsPlacedInFrame (t : Candidate) : Type 0 where
+  pub is_in_place : RestsOnRows t.frame (box_of t)
   pub oriented : IsOriented t
   pub on_rail : IsOnRail t
   pub ground : StaysInGround t.frame t.team (box_of t)
   pub clear : IsClear t.frame (box_of t)
 
-pub frame_kept : (t : Candidate) → StandsInFrame t → KeepsFrame t
-frame_kept t s Height few = s.stands.height
-frame_kept t s RowRule few = s.stands.row
-frame_kept t s Stand few = s.stands.stand
+pub frame_kept : (t : Candidate) → IsPlacedInFrame t → KeepsFrame t
+frame_kept t s Height few = s.is_in_place.height
+frame_kept t s RowRule few = s.is_in_place.row
+frame_kept t s Stand few = s.is_in_place.are_placed
 frame_kept t s OrientRule few = s.oriented
 frame_kept t s RailRule few = s.on_rail
 frame_kept t s Fence few = s.ground
 frame_kept t s Obstacle few = s.clear
 frame_kept t s Overlap few = absurd (omega (arith, few))
 
-pub frame_meant : (t : Candidate) → KeepsFrame t → StandsInFrame t
+pub frame_meant : (t : Candidate) → KeepsFrame t → IsPlacedInFrame t
 frame_meant t keeps = record {
-  stands = record { height = keeps Height (omega arith); row = keeps RowRule (omega arith); stand = keeps Stand (omega arith) };
+  is_in_place = record { height = keeps Height (omega arith); row = keeps RowRule (omega arith); are_placed = keeps Stand (omega arith) };
   oriented = keeps OrientRule (omega arith);
   on_rail = keeps RailRule (omega arith);
   ground = keeps Fence (omega arith);
@@ -130,13 +130,13 @@ beside t others = record t { others = others }
 pub frame_beside : (t : Candidate) (others : List Placed) → KeepsFrame t → KeepsFrame (beside t others)
 frame_beside t others keeps =
     let s = frame_meant t keeps in
-    frame_kept (beside t others) record { stands = s.stands; oriented = s.oriented; on_rail = s.on_rail; ground = s.ground; clear = s.clear }
+    frame_kept (beside t others) record { is_in_place = s.is_in_place; oriented = s.oriented; on_rail = s.on_rail; ground = s.ground; clear = s.clear }
 
 -- They do not depend on the padding either.
 pub frame_padded : (t : Candidate) (padding : ℕ) → KeepsFrame t → KeepsFrame (record t { padding = padding })
 frame_padded t padding keeps =
     let s = frame_meant t keeps in
-    frame_kept (record t { padding = padding }) record { stands = s.stands; oriented = s.oriented; on_rail = s.on_rail; ground = s.ground; clear = s.clear }
+    frame_kept (record t { padding = padding }) record { is_in_place = s.is_in_place; oriented = s.oriented; on_rail = s.on_rail; ground = s.ground; clear = s.clear }
 
 -- A legal place remains legal with less padding.
 pub legal_with_less : LessPaddingKeepsLegal
@@ -144,5 +144,5 @@ legal_with_less t less upto legal =
     let longer = length_upto t.frame less t.padding upto in
     (legal_by_parts (record t { padding = less })).1 (
       frame_padded t less ((legal_by_parts t).0 legal).0,
-      λ k d within meets. legal Overlap k d within (shares_wider (length_of t.frame less) (length_of t.frame t.padding) (box_of t) _ longer meets),
+      λ k d within does_overlap. legal Overlap k d within (shares_wider (length_of t.frame less) (length_of t.frame t.padding) (box_of t) _ longer does_overlap),
     )

@@ -18,4 +18,4 @@ pub mod BesideLemmas
 pub mod TidyLemmas
 pub mod DesignLemmas
 pub mod KeptLemmas
-pub mod LeastMet
+pub mod LeastOverlappingCell

@@ -2,7 +2,7 @@
 use Rattle.std.proofs.Common.{◌≡◌, ◌⊎◌, inl, inr, subst, Option, Some, None}
 use Rattle.lf_units.specs.declared.geometry.Point.{Point}
 use Rattle.lf_rules.specs.Choice.{SpotPlace, PlacementQuery, IsAllowedPlace, Precedes}
-use Rattle.lf_rules.specs.Looking.{ScansPlaces}
+use Rattle.lf_rules.specs.Scanning.{ScansPlaces}
 use Rattle.lf_rules.proofs.Order.{through, not_itself}
 
 -- A place where the cell may not be put leaves the best one unchanged.

@@ -62,22 +62,22 @@ bottom_extends : (f : Frame) (box : Rect) (r : Row) → box.x1 <ℤ box.x2 → I
 bottom_extends f box r wide b = subst (λ (y : ℤ). ExtendsOver f y box.x1 r) (lowest box.y1 f.pitch.y) (extends f box 0 r wide b.at_bottom)
 
 pub no_bottom : (f : Frame) (box : Rect) (p : Point) → p ≡ corner box → box.x1 <ℤ box.x2 → IsOnlyRow f p None → (r : Row) → IsBottomRow f box r → ⊥
-no_bottom f box p is wide none r b = (subst (λ (q : Point). IsOnlyRow f q None) is none) r b.heeded (bottom_extends f box r wide b)
+no_bottom f box p is wide none r b = (subst (λ (q : Point). IsOnlyRow f q None) is none) r b.core_ones (bottom_extends f box r wide b)
 
 pub no_other_bottom : (f : Frame) (box : Rect) (p : Point) (r : Row) → p ≡ corner box → box.x1 <ℤ box.x2 → IsOnlyRow f p (Some r) → (IsBottomRow f box r → ⊥)
     → (s : Row) → IsBottomRow f box s → ⊥
 no_other_bottom f box p r is wide only not_so s b =
-    let same : s ≡ r = (subst (λ (q : Point). IsOnlyRow f q (Some r)) is only).1 s b.heeded (bottom_extends f box s wide b) in
+    let same : s ≡ r = (subst (λ (q : Point). IsOnlyRow f q (Some r)) is only).1 s b.core_ones (bottom_extends f box s wide b) in
     not_so (subst (λ (q : Row). IsBottomRow f box q) same b)
 
 -- ---- a row that carries the box
 
 pub none_carries : (f : Frame) (box : Rect) (bottom : Row) (j : ℕ) (p : Point) → p ≡ foot f box j → box.x1 <ℤ box.x2 → IsOnlyRow f p None
     → (s : Row) → Supports f box bottom j s → ⊥
-none_carries f box bottom j p is wide none s c = (subst (λ (q : Point). IsOnlyRow f q None) is none) s c.heeded (extends f box j s wide c.at_row)
+none_carries f box bottom j p is wide none s c = (subst (λ (q : Point). IsOnlyRow f q None) is none) s c.core_ones (extends f box j s wide c.at_row)
 
 pub one_carries : (f : Frame) (box : Rect) (bottom : Row) (j : ℕ) (p : Point) (r : Row) → p ≡ foot f box j → box.x1 <ℤ box.x2
     → IsOnlyRow f p (Some r) → (s : Row) → Supports f box bottom j s → Supports f box bottom j r
 one_carries f box bottom j p r is wide only s c =
-    let same : s ≡ r = (subst (λ (q : Point). IsOnlyRow f q (Some r)) is only).1 s c.heeded (extends f box j s wide c.at_row) in
+    let same : s ≡ r = (subst (λ (q : Point). IsOnlyRow f q (Some r)) is only).1 s c.core_ones (extends f box j s wide c.at_row) in
     subst (λ (q : Row). Supports f box bottom j q) same c

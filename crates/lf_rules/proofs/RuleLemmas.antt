@@ -33,8 +33,8 @@ pub record Found (t : Candidate) (box : Rect) (k : ℕ) (r : Row) : Type 0 where
   pub tall : IsSitesHigh t.frame box k
   pub bottom : IsBottomRow t.frame box r
 
-abbrev pub StandsAt : Candidate → Rect → ℕ → Row → Type 0
-StandsAt t box k r = (j : ℕ) → j < k → (s : Row) × Supports t.frame box r j s
+abbrev pub IsDesignCellAt : Candidate → Rect → ℕ → Row → Type 0
+IsDesignCellAt t box k r = (j : ℕ) → j < k → (s : Row) × Supports t.frame box r j s
 
 abbrev pub OrientedAt : Candidate → ℕ → Row → Type 0
 OrientedAt t k r = IsTrue (is_allowed t.mac.symmetry t.orient) × (k % 2 ≡ 1 → EqualUnder t.frame.site.symmetry t.orient r.orient)
@@ -66,8 +66,8 @@ row_holds t k r f = (r, f.bottom)
 found_height : (t : Candidate) (k : ℕ) (r : Row) → Found t (box_of t) k r → Holds t Height
 found_height t k r f = (k, f.tall)
 
-stand_holds : (t : Candidate) (k : ℕ) (r : Row) → Found t (box_of t) k r → StandsAt t (box_of t) k r → Holds t Stand
-stand_holds t k r f s m q tall bottom = at_each (λ n p. StandsAt t (box_of t) n p) t.frame (box_of t) f.wide k r f.tall f.bottom s m q tall bottom
+placed_holds : (t : Candidate) (k : ℕ) (r : Row) → Found t (box_of t) k r → IsDesignCellAt t (box_of t) k r → Holds t Stand
+placed_holds t k r f s m q tall bottom = at_each (λ n p. IsDesignCellAt t (box_of t) n p) t.frame (box_of t) f.wide k r f.tall f.bottom s m q tall bottom
 
 orient_holds : (t : Candidate) (k : ℕ) (r : Row) → Found t (box_of t) k r → OrientedAt t k r → Holds t OrientRule
 orient_holds t k r f s = (s.0, λ m q tall bottom. at_each (λ n p. n % 2 ≡ 1 → EqualUnder t.frame.site.symmetry t.orient p.orient) t.frame (box_of t) f.wide k r f.tall f.bottom s.1 m q tall bottom)
@@ -80,53 +80,53 @@ abbrev pub OnRows : Candidate → Type 0
 OnRows t = (r : Rule) → number_of r ≤ 5 → Holds t r
 
 -- The box rests on rows.
-pub rows_stand : (t : Candidate) → OnRows t → RestsOnRows t.frame (box_of t)
-rows_stand t rows = record { height = rows Height (omega arith); row = rows RowRule (omega arith); stand = rows Stand (omega arith) }
+pub rows_support : (t : Candidate) → OnRows t → RestsOnRows t.frame (box_of t)
+rows_support t rows = record { height = rows Height (omega arith); row = rows RowRule (omega arith); are_placed = rows Stand (omega arith) }
 
 -- The box of the code rests on rows too.
-pub rows_stand_at : (t : Candidate) (box : Rect) → box ≡ box_of t → OnRows t → RestsOnRows t.frame box
-rows_stand_at t box is rows = subst (RestsOnRows t.frame) (sym is) (rows_stand t rows)
+pub rows_support_at : (t : Candidate) (box : Rect) → box ≡ box_of t → OnRows t → RestsOnRows t.frame box
+rows_support_at t box is rows = subst (RestsOnRows t.frame) (sym is) (rows_support t rows)
 
 below_fence : (t : Candidate) → OnRows t → HoldsBelow t Fence
 below_fence t rows r less = rows r (omega (arith, less))
 
-below_stand : (t : Candidate) (k : ℕ) (r : Row) → Found t (box_of t) k r → HoldsBelow t Stand
-below_stand t k r f = next_below t RowRule Stand refl (below_row t (found_height t k r f)) (row_holds t k r f)
+below_are_placed : (t : Candidate) (k : ℕ) (r : Row) → Found t (box_of t) k r → HoldsBelow t Stand
+below_are_placed t k r f = next_below t RowRule Stand refl (below_row t (found_height t k r f)) (row_holds t k r f)
 
-below_orient : (t : Candidate) (k : ℕ) (r : Row) → Found t (box_of t) k r → StandsAt t (box_of t) k r → HoldsBelow t OrientRule
-below_orient t k r f s = next_below t Stand OrientRule refl (below_stand t k r f) (stand_holds t k r f s)
+below_orient : (t : Candidate) (k : ℕ) (r : Row) → Found t (box_of t) k r → IsDesignCellAt t (box_of t) k r → HoldsBelow t OrientRule
+below_orient t k r f s = next_below t Stand OrientRule refl (below_are_placed t k r f) (placed_holds t k r f s)
 
-below_rail : (t : Candidate) (k : ℕ) (r : Row) → Found t (box_of t) k r → StandsAt t (box_of t) k r → OrientedAt t k r → HoldsBelow t RailRule
+below_rail : (t : Candidate) (k : ℕ) (r : Row) → Found t (box_of t) k r → IsDesignCellAt t (box_of t) k r → OrientedAt t k r → HoldsBelow t RailRule
 below_rail t k r f s o = next_below t OrientRule RailRule refl (below_orient t k r f s) (orient_holds t k r f o)
 
 -- The facts found about the levels at the code's box hold at the candidate's own.
-stands_at_box : (t : Candidate) (box : Rect) (k : ℕ) (r : Row) → Found t box k r → StandsAt t box k r → StandsAt t (box_of t) k r
-stands_at_box t box k r found s = subst (λ (b : Rect). StandsAt t b k r) found.box_is s
+is_placed_at_box : (t : Candidate) (box : Rect) (k : ℕ) (r : Row) → Found t box k r → IsDesignCellAt t box k r → IsDesignCellAt t (box_of t) k r
+is_placed_at_box t box k r found s = subst (λ (b : Rect). IsDesignCellAt t b k r) found.box_is s
 
-pub on_rows : (t : Candidate) (box : Rect) (k : ℕ) (r : Row) → Found t box k r → StandsAt t box k r → OrientedAt t k r → RailAt t k r → OnRows t
+pub on_rows : (t : Candidate) (box : Rect) (k : ℕ) (r : Row) → Found t box k r → IsDesignCellAt t box k r → OrientedAt t k r → RailAt t k r → OnRows t
 on_rows t box k r found s o p =
     let f = at_box t box k r found in
-    let below = next_below t RailRule Fence refl (below_rail t k r f (stands_at_box t box k r found s) o) (rail_holds t k r f p) in
+    let below = next_below t RailRule Fence refl (below_rail t k r f (is_placed_at_box t box k r found s) o) (rail_holds t k r f p) in
     λ q few. below q (omega (arith, few))
 
-pub stand_broken : (t : Candidate) (box : Rect) (k : ℕ) (r : Row) → Found t box k r → (StandsAt t box k r → ⊥) →
+pub placed_and_broken : (t : Candidate) (box : Rect) (k : ℕ) (r : Row) → Found t box k r → (IsDesignCellAt t box k r → ⊥) →
     IsFirstBroken t record { rule = Stand; other = None }
-stand_broken t box k r found not_so =
+placed_and_broken t box k r found not_so =
     let f = at_box t box k r found in
-    first_broken_by t Stand (below_stand t k r f)
-    (λ h. not_so (subst (λ (b : Rect). StandsAt t b k r) (sym found.box_is) (h k r f.tall f.bottom))) (λ e. cc)
+    first_broken_by t Stand (below_are_placed t k r f)
+    (λ h. not_so (subst (λ (b : Rect). IsDesignCellAt t b k r) (sym found.box_is) (h k r f.tall f.bottom))) (λ e. cc)
 
-pub orient_broken : (t : Candidate) (box : Rect) (k : ℕ) (r : Row) → Found t box k r → StandsAt t box k r → (OrientedAt t k r → ⊥) →
+pub orient_broken : (t : Candidate) (box : Rect) (k : ℕ) (r : Row) → Found t box k r → IsDesignCellAt t box k r → (OrientedAt t k r → ⊥) →
     IsFirstBroken t record { rule = OrientRule; other = None }
 orient_broken t box k r found s not_so =
     let f = at_box t box k r found in
-    first_broken_by t OrientRule (below_orient t k r f (stands_at_box t box k r found s)) (λ h. not_so (h.0, h.1 k r f.tall f.bottom)) (λ e. cc)
+    first_broken_by t OrientRule (below_orient t k r f (is_placed_at_box t box k r found s)) (λ h. not_so (h.0, h.1 k r f.tall f.bottom)) (λ e. cc)
 
-pub rail_broken : (t : Candidate) (box : Rect) (k : ℕ) (r : Row) → Found t box k r → StandsAt t box k r → OrientedAt t k r → (RailAt t k r → ⊥) →
+pub rail_broken : (t : Candidate) (box : Rect) (k : ℕ) (r : Row) → Found t box k r → IsDesignCellAt t box k r → OrientedAt t k r → (RailAt t k r → ⊥) →
     IsFirstBroken t record { rule = RailRule; other = None }
 rail_broken t box k r found s o not_so =
     let f = at_box t box k r found in
-    first_broken_by t RailRule (below_rail t k r f (stands_at_box t box k r found s) o) (λ h. not_so (h k r f.tall f.bottom)) (λ e. cc)
+    first_broken_by t RailRule (below_rail t k r f (is_placed_at_box t box k r found s) o) (λ h. not_so (h k r f.tall f.bottom)) (λ e. cc)
 
 pub fence_broken : (t : Candidate) → OnRows t → (Holds t Fence → ⊥) → IsFirstBroken t record { rule = Fence; other = None }
 fence_broken t rows not_so = first_broken_by t Fence (below_fence t rows) not_so (λ e. cc)
@@ -142,17 +142,17 @@ pub frame_of : (t : Candidate) → OnRows t → Holds t Fence → Holds t Obstac
 frame_of t rows ground clear = frame_below t (next_below t Obstacle Overlap refl (below_obstacle t rows ground) clear)
 
 -- If a cell overlaps, not all cells are clear.
-met_is_met : (t : Candidate) (own : ℕ) → IsFirstOverlapping (padded_box t) t.others own → Holds t Overlap → ⊥
-met_is_met t own met clear =
-    let within : met.place < length t.others = slice_get_within t.others met.place met.cell met.there in
-    let is : get_or t.others met.place met.cell ≡ met.cell = get_or_from_slice_get t.others met.place met.cell met.cell met.there in
-    clear met.place met.cell within (rw is met.meets)
+overlapping_is_found : (t : Candidate) (own : ℕ) → IsFirstOverlapping (padded_box t) t.others own → Holds t Overlap → ⊥
+overlapping_is_found t own overlapping_one clear =
+    let within : overlapping_one.place < length t.others = slice_get_within t.others overlapping_one.place overlapping_one.cell overlapping_one.there in
+    let is : get_or t.others overlapping_one.place overlapping_one.cell ≡ overlapping_one.cell = get_or_from_slice_get t.others overlapping_one.place overlapping_one.cell overlapping_one.cell overlapping_one.there in
+    clear overlapping_one.place overlapping_one.cell within (rw is overlapping_one.does_overlap)
 
 pub overlap_broken : (t : Candidate) (own : ℕ) → KeepsFrame t → IsFirstOverlapping (padded_box t) t.others own → IsFirstBroken t record { rule = Overlap; other = Some own }
-overlap_broken t own keeps met = record {
-  broken = λ h. met_is_met t own met h;
+overlap_broken t own keeps overlapping_one = record {
+  broken = λ h. overlapping_is_found t own overlapping_one h;
   lesser = below_overlap t keeps;
-  other = (refl, met);
+  other = (refl, overlapping_one);
 }
 
 -- ---- the rules on areas, for the box of the code
@@ -183,7 +183,7 @@ frame_at t box is rows g o = frame_of t rows (fence_at t box is g) (obstacle_at 
 
 pub overlap_not : (t : Candidate) (box : Rect) (own : ℕ) → box ≡ padded_box t → KeepsFrame t → IsFirstOverlapping box t.others own →
     IsFirstBroken t record { rule = Overlap; other = Some own }
-overlap_not t box own is keeps met = overlap_broken t own keeps (subst (λ (b : Rect). IsFirstOverlapping b t.others own) is met)
+overlap_not t box own is keeps overlapping_one = overlap_broken t own keeps (subst (λ (b : Rect). IsFirstOverlapping b t.others own) is overlapping_one)
 
 pub all_at : (t : Candidate) (box : Rect) → box ≡ padded_box t → KeepsFrame t → ApartAt t box → IsTeamLegal t
 all_at t box is keeps a = (legal_by_parts t).1 (keeps, subst (ApartAt t) is a)
@@ -196,9 +196,9 @@ pub frame_broken : (t : Candidate) (verdict : Option Rule) (rule : Rule) → ver
 frame_broken t verdict rule is said = subst (IsFrameRuleVerdict t) is said
 
 -- If all rules except Overlap hold, the overlapping cell decides.
-pub met_verdict : (t : Candidate) (box : Rect) (verdict : Option Rule) (met : Option ℕ) → box ≡ padded_box t → verdict ≡ None → IsFrameRuleVerdict t verdict →
-    MatchOption met (ApartAt t box) (λ own. IsFirstOverlapping box t.others own) → IsVerdict t (option_map (λ own. record { rule = Overlap; other = Some own }) met)
-met_verdict t box verdict met at none said found = by met found
+pub overlapped_verdict : (t : Candidate) (box : Rect) (verdict : Option Rule) (overlapping_one : Option ℕ) → box ≡ padded_box t → verdict ≡ None → IsFrameRuleVerdict t verdict →
+    MatchOption overlapping_one (ApartAt t box) (λ own. IsFirstOverlapping box t.others own) → IsVerdict t (option_map (λ own. record { rule = Overlap; other = Some own }) overlapping_one)
+overlapped_verdict t box verdict overlapping_one at none said found = by overlapping_one found
   where
     keeps : KeepsFrame t
     keeps = subst (IsFrameRuleVerdict t) none said

@@ -15,7 +15,7 @@ use Rattle.lf_floorplan.specs.Sizes.{turned}
 use Rattle.lf_rules.specs.Legality.{Holds}
 use Rattle.lf_rules.specs.Choice.{SpotPlace, PlacementQuery, IsLegalAt, IsAllowedPlace, IsChoice, IsUpright, candidate_at, rank}
 use Rattle.lf_floorplan.proofs.SizeBounds.{IsSmall, small_pitch, turned_small, sized_pitch}
-use Rattle.lf_rules.specs.Looking.{ScansPlaces, IsAtSite, IsOnSites, IsOnRows, spot_at}
+use Rattle.lf_rules.specs.Scanning.{ScansPlaces, IsAtSite, IsOnSites, IsOnRows, spot_at}
 use Rattle.lf_rules.proofs.Looking.{onward}
 use Rattle.lf_rules.proofs.Order.{same_spot, compared}
 
@@ -123,8 +123,8 @@ site_within (pos n) x left width site sites positive wide on_grid ends =
 site_within (negsuc n) x left width site sites positive wide on_grid ends = absurd (omega (arith, ints))
 
 -- A legal place is on a site of a row of the frame.
-pub stands : (cell : PlacementQuery) (p : SpotPlace) → IsSized cell.frame cell.mac → IsLegalAt cell p → IsOnRows cell.frame.pitch cell.frame.rows (length cell.frame.rows) p
-stands cell p sized legal =
+pub is_in_place : (cell : PlacementQuery) (p : SpotPlace) → IsSized cell.frame cell.mac → IsLegalAt cell p → IsOnRows cell.frame.pitch cell.frame.rows (length cell.frame.rows) p
+is_in_place cell p sized legal =
     let held : Holds (candidate_at cell p) RowRule = legal RowRule in
     let row = held.0 in
     let bottom = held.1 in
@@ -132,10 +132,10 @@ stands cell p sized legal =
     let level = bottom.at_bottom.at_level in
     let grid = bottom.on_grid in
     record {
-      number = bottom.heeded.0;
+      number = bottom.core_ones.0;
       row = row;
-      within = bottom.heeded.1;
-      there = slice_get_read cell.frame.rows (length cell.frame.rows) bottom.heeded.0 row refl bottom.heeded.1 (sym bottom.heeded.2);
+      within = bottom.core_ones.1;
+      there = slice_get_read cell.frame.rows (length cell.frame.rows) bottom.core_ones.0 row refl bottom.core_ones.1 (sym bottom.core_ones.2);
       on_sites = record {
         site = bottom.site;
         within = site_within cell.frame.pitch.x p.x row.x (turned (size_of cell.frame cell.mac) p.orient).x bottom.site row.sites cell.frame.pitch_whole.wide
@@ -148,35 +148,35 @@ clash : (a b c d : Orient) → a ≡ c → b ≡ d → rank a ≡ rank b → (ra
 clash a b c d p q e differ = differ (sym (ap rank p) ∙ e ∙ ap rank q)
 
 -- The four orientations have different ranks.
-pub rank_tells : (a b : Orient) → OneOfFour a → OneOfFour b → rank a ≡ rank b → a ≡ b
-rank_tells a b (inl p) (inl q) e = p ∙ sym q
-rank_tells a b (inr (inl p)) (inr (inl q)) e = p ∙ sym q
-rank_tells a b (inr (inr (inl p))) (inr (inr (inl q))) e = p ∙ sym q
-rank_tells a b (inr (inr (inr p))) (inr (inr (inr q))) e = p ∙ sym q
-rank_tells a b (inl p) (inr (inl q)) e = absurd (clash a b _ _ p q e (omega arith))
-rank_tells a b (inl p) (inr (inr (inl q))) e = absurd (clash a b _ _ p q e (omega arith))
-rank_tells a b (inl p) (inr (inr (inr q))) e = absurd (clash a b _ _ p q e (omega arith))
-rank_tells a b (inr (inl p)) (inl q) e = absurd (clash a b _ _ p q e (omega arith))
-rank_tells a b (inr (inl p)) (inr (inr (inl q))) e = absurd (clash a b _ _ p q e (omega arith))
-rank_tells a b (inr (inl p)) (inr (inr (inr q))) e = absurd (clash a b _ _ p q e (omega arith))
-rank_tells a b (inr (inr (inl p))) (inl q) e = absurd (clash a b _ _ p q e (omega arith))
-rank_tells a b (inr (inr (inl p))) (inr (inl q)) e = absurd (clash a b _ _ p q e (omega arith))
-rank_tells a b (inr (inr (inl p))) (inr (inr (inr q))) e = absurd (clash a b _ _ p q e (omega arith))
-rank_tells a b (inr (inr (inr p))) (inl q) e = absurd (clash a b _ _ p q e (omega arith))
-rank_tells a b (inr (inr (inr p))) (inr (inl q)) e = absurd (clash a b _ _ p q e (omega arith))
-rank_tells a b (inr (inr (inr p))) (inr (inr (inl q))) e = absurd (clash a b _ _ p q e (omega arith))
+pub rank_decides : (a b : Orient) → OneOfFour a → OneOfFour b → rank a ≡ rank b → a ≡ b
+rank_decides a b (inl p) (inl q) e = p ∙ sym q
+rank_decides a b (inr (inl p)) (inr (inl q)) e = p ∙ sym q
+rank_decides a b (inr (inr (inl p))) (inr (inr (inl q))) e = p ∙ sym q
+rank_decides a b (inr (inr (inr p))) (inr (inr (inr q))) e = p ∙ sym q
+rank_decides a b (inl p) (inr (inl q)) e = absurd (clash a b _ _ p q e (omega arith))
+rank_decides a b (inl p) (inr (inr (inl q))) e = absurd (clash a b _ _ p q e (omega arith))
+rank_decides a b (inl p) (inr (inr (inr q))) e = absurd (clash a b _ _ p q e (omega arith))
+rank_decides a b (inr (inl p)) (inl q) e = absurd (clash a b _ _ p q e (omega arith))
+rank_decides a b (inr (inl p)) (inr (inr (inl q))) e = absurd (clash a b _ _ p q e (omega arith))
+rank_decides a b (inr (inl p)) (inr (inr (inr q))) e = absurd (clash a b _ _ p q e (omega arith))
+rank_decides a b (inr (inr (inl p))) (inl q) e = absurd (clash a b _ _ p q e (omega arith))
+rank_decides a b (inr (inr (inl p))) (inr (inl q)) e = absurd (clash a b _ _ p q e (omega arith))
+rank_decides a b (inr (inr (inl p))) (inr (inr (inr q))) e = absurd (clash a b _ _ p q e (omega arith))
+rank_decides a b (inr (inr (inr p))) (inl q) e = absurd (clash a b _ _ p q e (omega arith))
+rank_decides a b (inr (inr (inr p))) (inr (inl q)) e = absurd (clash a b _ _ p q e (omega arith))
+rank_decides a b (inr (inr (inr p))) (inr (inr (inl q))) e = absurd (clash a b _ _ p q e (omega arith))
 
 -- The places scanned include every place where the cell may be put, so the best of them is the
 -- choice.
 pub chosen : (cell : PlacementQuery) (target : Point) (found : Option SpotPlace) → IsSized cell.frame cell.mac →
     ScansPlaces (IsOnRows cell.frame.pitch cell.frame.rows (length cell.frame.rows)) cell target None found → IsChoice cell target found
-chosen cell target None sized looked = λ p may. looked.seen p (stands cell p sized may.legal) may
+chosen cell target None sized looked = λ p may. looked.seen p (is_in_place cell p sized may.legal) may
 chosen cell target (Some b) sized looked =
     let may : IsAllowedPlace cell b = looked.may_go tt in
     record {
       may_go = may;
-      least = λ p there. elim (compared target p b (rank_tells p.orient b.orient (legal_upright cell p there.legal) (legal_upright cell b may.legal))) [
+      least = λ p there. elim (compared target p b (rank_decides p.orient b.orient (legal_upright cell p there.legal) (legal_upright cell b may.legal))) [
         | inl same ↦ inl same
-        | inr rest ↦ elim rest [ inl less ↦ absurd (looked.seen p (stands cell p sized there.legal) there less) | inr more ↦ inr more ]
+        | inr rest ↦ elim rest [ inl less ↦ absurd (looked.seen p (is_in_place cell p sized there.legal) there less) | inr more ↦ inr more ]
       ];
     }

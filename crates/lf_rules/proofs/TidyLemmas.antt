@@ -91,13 +91,13 @@ order_of k n = elim cases [ inl less ↦ inr (λ e. omega arith) | inr rest ↦ 
 -- A clear box remains clear if a cell is added that does not overlap it.
 old_clear : (f : Frame) (cells : List Member) (own n mac : ℕ) (p : SpotPlace) (box : Rect) → Clear f cells own box → (SharesPoint box (box_in f mac p) → ⊥) →
     Clear f (slice_set cells n (placed_at mac p)) own box
-old_clear f cells own n mac p box clear apart k m q differ there is meets = elim (order_of k n) [
+old_clear f cells own n mac p box clear apart k m q differ there is does_overlap = elim (order_of k n) [
   | inl same ↦
       let here : slice_get (slice_set cells n (placed_at mac p)) n ≡ Some m = subst (λ (j : ℕ). slice_get (slice_set cells n (placed_at mac p)) j ≡ Some m) same there in
       let new : m ≡ placed_at mac p = get_set cells n m (placed_at mac p) here in
       let at : q ≡ p = some_one (sym is ∙ ap (λ (x : Member). x.place) new) in
-      apart (subst (λ (s : SpotPlace). SharesPoint box (box_in f mac s)) at (subst (λ (j : ℕ). SharesPoint box (box_in f j q)) (ap (λ (x : Member). x.mac) new) meets))
-  | inr other ↦ clear k m q differ (sym (get_other cells n k (placed_at mac p) other) ∙ there) is meets
+      apart (subst (λ (s : SpotPlace). SharesPoint box (box_in f mac s)) at (subst (λ (j : ℕ). SharesPoint box (box_in f j q)) (ap (λ (x : Member). x.mac) new) does_overlap))
+  | inr other ↦ clear k m q differ (sym (get_other cells n k (placed_at mac p) other) ∙ there) is does_overlap
 ]
   where
     some_one : {a b : SpotPlace} → Some a ≡ Some b → a ≡ b
@@ -124,24 +124,24 @@ Sized f cells = (k : ℕ) (m : Member) → slice_get cells k ≡ Some m → IsSi
 others_stay : (f : Frame) (team padding n own : ℕ) (cells : List Member) (m : Member) (p : SpotPlace) → Sized f cells → slice_get cells n ≡ Some m →
     IsLegalAt (query_from f team padding cells n m.mac) p → (own ≡ n → ⊥) → IsLegalCell f team padding cells own →
     IsLegalCell f team padding (slice_set cells n (placed_at m.mac p)) own
-others_stay f team padding n own cells m p sized there legal other stands x here =
+others_stay f team padding n own cells m p sized there legal other is_in_place x here =
     let was : slice_get cells own ≡ Some x = sym (get_other cells n own (placed_at m.mac p) other) ∙ here in
-    earlier x was x.place refl (stands x was)
+    earlier x was x.place refl (is_in_place x was)
   where
-    meets_back : (x : Member) (q : SpotPlace) → IsSized f (macro_of f x.mac) → SharesPoint (padded_in f padding x.mac q) (box_in f m.mac p) →
+    overlaps_back : (x : Member) (q : SpotPlace) → IsSized f (macro_of f x.mac) → SharesPoint (padded_in f padding x.mac q) (box_in f m.mac p) →
         SharesPoint (padded_in f padding m.mac p) (box_in f x.mac q)
-    meets_back x q whole meets =
+    overlaps_back x q whole does_overlap =
         either_way (length_of f padding) (box_in f x.mac q) (box_in f m.mac p) (length_least f padding) (wide_box f x.mac q whole)
-        (wide_box f m.mac p (sized n m there)) meets
+        (wide_box f m.mac p (sized n m there)) does_overlap
 
     earlier : (x : Member) → slice_get cells own ≡ Some x → (place : Option SpotPlace) → x.place ≡ place →
         MatchOption place ⊥ (λ s. IsLegalAt (query_from f team padding cells own x.mac) s) →
         MatchOption place ⊥ (λ s. IsLegalAt (query_from f team padding (slice_set cells n (placed_at m.mac p)) own x.mac) s)
-    earlier x was None is stands = stands
-    earlier x was (Some q) is stands =
-        legal_of_clear f team padding cells (slice_set cells n (placed_at m.mac p)) own x.mac q stands
-        (old_clear f cells own n m.mac p (padded_in f padding x.mac q) (clear_of_legal f team padding cells own x.mac q stands)
-        (λ meets. clear_of_legal f team padding cells n m.mac p legal own x q other was is (meets_back x q (sized own x was) meets)))
+    earlier x was None is is_in_place = is_in_place
+    earlier x was (Some q) is is_in_place =
+        legal_of_clear f team padding cells (slice_set cells n (placed_at m.mac p)) own x.mac q is_in_place
+        (old_clear f cells own n m.mac p (padded_in f padding x.mac q) (clear_of_legal f team padding cells own x.mac q is_in_place)
+        (λ does_overlap. clear_of_legal f team padding cells n m.mac p legal own x q other was is (overlaps_back x q (sized own x was) does_overlap)))
 
 -- The cell of number n moves to a place that is legal for it.
 gone : (f : Frame) (team padding n : ℕ) (cells : List Member) (m : Member) (p : SpotPlace) → Sized f cells → slice_get cells n ≡ Some m →
@@ -153,9 +153,9 @@ gone f team padding n cells m p sized there legal done own less = elim (below_or
 
 -- The cell of number n stays, and its place is legal for it.
 stayed : (f : Frame) (team padding n : ℕ) (cells : List Member) → IsLegalCell f team padding cells n → Done f team padding n cells → Done f team padding (n + 1) cells
-stayed f team padding n cells stands done own less = elim (below_or_at own n less) [
+stayed f team padding n cells is_in_place done own less = elim (below_or_at own n less) [
   | inl before ↦ done own before
-  | inr same ↦ subst (λ (j : ℕ). IsLegalCell f team padding cells j) (sym same) stands
+  | inr same ↦ subst (λ (j : ℕ). IsLegalCell f team padding cells j) (sym same) is_in_place
 ]
 
 -- The state of tidying after the cells below n.
@@ -203,15 +203,15 @@ stays f team padding n cells m p there is legal x here =
     subst (λ (y : Member). MatchOption y.place ⊥ (λ s. IsLegalAt (query_from f team padding cells n y.mac) s)) same (rw is legal)
 
 -- A placed cell stays or moves, by its first broken rule.
-judged : (l : Legalizer) (f : Frame) (team padding n count : ℕ) (cells : List Member) (moved : ℕ) (m : Member) (p : SpotPlace) (verdict : Option Broken) →
+committed_checked : (l : Legalizer) (f : Frame) (team padding n count : ℕ) (cells : List Member) (moved : ℕ) (m : Member) (p : SpotPlace) (verdict : Option Broken) →
     slice_get cells n ≡ Some m → m.place ≡ Some p → IsVerdict (candidate_at (query_from f team padding cells n m.mac) p) verdict → Came f team padding n count cells →
     CameTo f team padding (n + 1) count (tidied_to (option_map (λ broken. point_of p) verdict) l (query_from f team padding cells n m.mac) cells moved n m.mac)
-judged l f team padding n count cells moved m p None there is legal came = record {
+committed_checked l f team padding n count cells moved m p None there is legal came = record {
   done = stayed f team padding n cells (stays f team padding n cells m p there is legal) came.done;
   sized = came.sized;
   many = came.many;
 }
-judged l f team padding n count cells moved m p (Some b) there is broken came =
+committed_checked l f team padding n count cells moved m p (Some b) there is broken came =
     sent f team padding n count cells moved m (point_of p) _ there (l.finds_best_place (query_from f team padding cells n m.mac) (point_of p) (came.sized n m there)) came
 
 placed_or_not : (l : Legalizer) (f : Frame) (team padding n count : ℕ) (cells : List Member) (moved : ℕ) (m : Member) (place : Option SpotPlace) →
@@ -220,7 +220,7 @@ placed_or_not : (l : Legalizer) (f : Frame) (team padding n count : ℕ) (cells 
 placed_or_not l f team padding n count cells moved m None there is came =
     sent f team padding n count cells moved m (anchor f team) _ there (l.finds_best_place (query_from f team padding cells n m.mac) (anchor f team) (came.sized n m there)) came
 placed_or_not l f team padding n count cells moved m (Some p) there is came =
-    judged l f team padding n count cells moved m p _ there is (l.finds_first_broken (candidate_at (query_from f team padding cells n m.mac) p) (came.sized n m there)) came
+    committed_checked l f team padding n count cells moved m p _ there is (l.finds_first_broken (candidate_at (query_from f team padding cells n m.mac) p) (came.sized n m there)) came
 
 there_or_not : (l : Legalizer) (f : Frame) (team padding n count : ℕ) (cells : List Member) (moved : ℕ) (found : Option Member) → slice_get cells n ≡ found →
     Came f team padding n count cells → CameTo f team padding (n + 1) count (tidied_own found l f team padding cells moved n)
@@ -271,36 +271,36 @@ same_cells e = cc
 legal_when_sent : (f : Frame) (team padding : ℕ) (cells new : List Member) (moved count own other : ℕ) (m : Member) (target : Point) (found : Option SpotPlace) →
     Sized f cells → slice_get cells own ≡ Some m → IsChoice (query_from f team padding cells own m.mac) target found → tidied_to_best found cells moved own m.mac ≡ Going new count →
     IsLegalCell f team padding cells other → IsLegalCell f team padding new other
-legal_when_sent f team padding cells new moved count own other m target None sized there choice is stands = absurd cc
-legal_when_sent f team padding cells new moved count own other m target (Some p) sized there choice is stands =
+legal_when_sent f team padding cells new moved count own other m target None sized there choice is is_in_place = absurd cc
+legal_when_sent f team padding cells new moved count own other m target (Some p) sized there choice is is_in_place =
     subst (λ (ms : List Member). IsLegalCell f team padding ms other) (same_cells is)
     (elim (order_of other own) [
       | inl same ↦ subst (λ (j : ℕ). IsLegalCell f team padding (slice_set cells own (placed_at m.mac p)) j) (sym same) (went_legal f team padding own cells m p choice.may_go.legal)
-      | inr differ ↦ others_stay f team padding own other cells m p sized there choice.may_go.legal differ stands
+      | inr differ ↦ others_stay f team padding own other cells m p sized there choice.may_go.legal differ is_in_place
     ])
 
 legal_when_aimed : (l : Legalizer) (f : Frame) (team padding : ℕ) (cells new : List Member) (moved count own other : ℕ) (m : Member) (target : Option Point) →
     Sized f cells → slice_get cells own ≡ Some m → tidied_to target l (query_from f team padding cells own m.mac) cells moved own m.mac ≡ Going new count →
     IsLegalCell f team padding cells other → IsLegalCell f team padding new other
-legal_when_aimed l f team padding cells new moved count own other m None sized there is stands =
-    subst (λ (ms : List Member). IsLegalCell f team padding ms other) (same_cells is) stands
-legal_when_aimed l f team padding cells new moved count own other m (Some target) sized there is stands =
+legal_when_aimed l f team padding cells new moved count own other m None sized there is is_in_place =
+    subst (λ (ms : List Member). IsLegalCell f team padding ms other) (same_cells is) is_in_place
+legal_when_aimed l f team padding cells new moved count own other m (Some target) sized there is is_in_place =
     legal_when_sent f team padding cells new moved count own other m target (l.best_place (query_from f team padding cells own m.mac) target) sized there
-    (l.finds_best_place (query_from f team padding cells own m.mac) target (sized own m there)) is stands
+    (l.finds_best_place (query_from f team padding cells own m.mac) target (sized own m there)) is is_in_place
 
 pub legal_when_tidied : (l : Legalizer) (f : Frame) (team padding : ℕ) (cells new : List Member) (moved count own other : ℕ) →
     All (λ m. IsSized f (macro_of f m.mac)) cells → tidy_cell l f team padding (Going cells moved) own ≡ Going new count →
     IsLegalCell f team padding cells other → IsLegalCell f team padding new other
-legal_when_tidied l f team padding cells new moved count own other all is stands = go (slice_get cells own) refl is where
+legal_when_tidied l f team padding cells new moved count own other all is is_in_place = go (slice_get cells own) refl is where
   go : (o : Option Member) → slice_get cells own ≡ o → tidied_own o l f team padding cells moved own ≡ Going new count → IsLegalCell f team padding new other
-  go None there is = subst (λ (ms : List Member). IsLegalCell f team padding ms other) (same_cells is) stands
+  go None there is = subst (λ (ms : List Member). IsLegalCell f team padding ms other) (same_cells is) is_in_place
   go (Some m) there is =
-      legal_when_aimed l f team padding cells new moved count own other m (target_of l (query_from f team padding cells own m.mac) m.place) (sized_each f cells all) there is stands
+      legal_when_aimed l f team padding cells new moved count own other m (target_of l (query_from f team padding cells own m.mac) m.place) (sized_each f cells all) there is is_in_place
 
 -- ---- with less padding a legal cell remains legal
 
-pub less_stands : (f : Frame) (team less more : ℕ) (cells : List Member) (own : ℕ) → less ≤ more → IsLegalCell f team more cells own → IsLegalCell f team less cells own
-less_stands f team less more cells own upto stands m there = go m.place (stands m there) where
+pub less_is_placed : (f : Frame) (team less more : ℕ) (cells : List Member) (own : ℕ) → less ≤ more → IsLegalCell f team more cells own → IsLegalCell f team less cells own
+less_is_placed f team less more cells own upto is_in_place m there = go m.place (is_in_place m there) where
   go : (place : Option SpotPlace) → MatchOption place ⊥ (λ p. IsLegalAt (query_from f team more cells own m.mac) p) →
       MatchOption place ⊥ (λ p. IsLegalAt (query_from f team less cells own m.mac) p)
   go None h = h

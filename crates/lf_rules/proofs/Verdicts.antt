@@ -18,7 +18,7 @@ use Rattle.lf_floorplan.specs.Sizes.{turned}
 use Rattle.lf_floorplan.specs.Standing.{Supports}
 use Rattle.lf_rules.specs.Legalizer.{IsVerdict}
 use Rattle.lf_floorplan.proofs.SizeBounds.{IsSmall, small_pitch, turned_small, sized_pitch}
-use Rattle.lf_rules.proofs.RuleLemmas.{Found, OnRows, on_rows, frame_of, height_broken, row_broken, stand_broken, orient_broken, rail_broken, fence_broken, obstacle_broken, overlap_broken}
+use Rattle.lf_rules.proofs.RuleLemmas.{Found, OnRows, on_rows, frame_of, height_broken, row_broken, placed_and_broken, orient_broken, rail_broken, fence_broken, obstacle_broken, overlap_broken}
 use Rattle.lf_rules.proofs.LegalParts.{legal_by_parts}
 use Rattle.lf_rules.proofs.Deciding.{Settles, both, either, implied, turned_round, each, each_below, some_height, some_bottom, some_carrying, same_rail, shares, all_in_ground, same_count}
 
@@ -69,9 +69,9 @@ equal_under s a b =
 first_or_none : (box : Rect) (others : List Placed) → ((own : ℕ) × IsFirstOverlapping box others own) ⊎ All (λ p. SharesPoint box p.rect → ⊥) others
 first_or_none box [] = inr (All-nil (λ p. SharesPoint box p.rect → ⊥))
 first_or_none box (p ∷ ps) = elim (shares box p.rect) [
-  | inl meets ↦ inl (p.own, record { place = 0; cell = p; there = refl; named = refl; meets = meets; first = All-nil (λ q. SharesPoint box q.rect → ⊥) })
+  | inl does_overlap ↦ inl (p.own, record { place = 0; cell = p; there = refl; named = refl; does_overlap = does_overlap; first = All-nil (λ q. SharesPoint box q.rect → ⊥) })
   | inr clear ↦ elim (first_or_none box ps) [
-    | inl f ↦ inl (f.0, record { place = suc f.1.place; cell = f.1.cell; there = f.1.there; named = f.1.named; meets = f.1.meets; first = All-cons (λ q. SharesPoint box q.rect → ⊥) p (take f.1.place ps) clear f.1.first })
+    | inl f ↦ inl (f.0, record { place = suc f.1.place; cell = f.1.cell; there = f.1.there; named = f.1.named; does_overlap = f.1.does_overlap; first = All-cons (λ q. SharesPoint box q.rect → ⊥) p (take f.1.place ps) clear f.1.first })
     | inr n ↦ inr (All-cons (λ q. SharesPoint box q.rect → ⊥) p ps clear n)
   ]
 ]
@@ -97,7 +97,7 @@ on_areas t rows = elim (all_in_ground t.frame t.team (box_of t)) [
 
 on_found : (t : Candidate) (k : ℕ) (r : Row) → Found t (box_of t) k r → Verdict t
 on_found t k r found = elim (each_below (λ j. (s : Row) × Supports t.frame (box_of t) r j s) (λ j. some_carrying t.frame (box_of t) r j) k) [
-  | inr n ↦ broke (stand_broken t (box_of t) k r found n)
+  | inr n ↦ broke (placed_and_broken t (box_of t) k r found n)
   | inl s ↦ elim (both (truth (is_allowed t.mac.symmetry t.orient)) (implied (same_count (k % 2) 1) (equal_under t.frame.site.symmetry t.orient r.orient))) [
     | inr n ↦ broke (orient_broken t (box_of t) k r found s n)
     | inl o ↦ elim (implied (same_count (k % 2) 0) (same_rail (rail_below r.orient) (Some t.mac.rail))) [

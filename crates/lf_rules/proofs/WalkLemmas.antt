@@ -14,7 +14,7 @@ use Rattle.lf_rules.specs.declared.rule.Rule.TheVariants.{Row as RowRule, Stand,
 use Rattle.lf_rules.specs.Legality.{IsFirstBroken, Candidate, box_of, candidate_of}
 use Rattle.lf_rules.specs.Solid.{IsSolid}
 use Rattle.lf_rules.proofs.LegalParts.{KeepsFrame}
-use Rattle.lf_rules.proofs.RuleLemmas.{Found, OnRows, OrientedAt, RailAt, StandsAt, fence_not, frame_at, obstacle_not, on_rows, orient_broken, rail_broken, row_broken, rows_stand_at, stand_broken}
+use Rattle.lf_rules.proofs.RuleLemmas.{Found, OnRows, OrientedAt, RailAt, IsDesignCellAt, fence_not, frame_at, obstacle_not, on_rows, orient_broken, rail_broken, row_broken, rows_support_at, placed_and_broken}
 
 -- The orientation fits, as measured.
 abbrev MeasuredFit : Frame → Macro → Place → ℕ → Row → Type 0
@@ -42,16 +42,16 @@ module _ (h f : Frame) (same : h ≡ f) (team : ℕ) (mac : Macro) (place : Plac
     found : Found t box k r
     found = record { box_is = box_is; wide = solid.wide; tall = subst (λ (g : Frame). IsSitesHigh g box k) same tall; bottom = bottom }
 
-    pub stand_first : (StandsAt t box k r → ⊥) → IsFirstBroken t record { rule = Stand; other = None }
-    stand_first not_so = stand_broken t box k r found not_so
+    pub first_are_placed : (IsDesignCellAt t box k r → ⊥) → IsFirstBroken t record { rule = Stand; other = None }
+    first_are_placed not_so = placed_and_broken t box k r found not_so
 
-    pub orient_first : StandsAt t box k r → (MeasuredFit h mac place k r → ⊥) → IsFirstBroken t record { rule = OrientRule; other = None }
+    pub orient_first : IsDesignCellAt t box k r → (MeasuredFit h mac place k r → ⊥) → IsFirstBroken t record { rule = OrientRule; other = None }
     orient_first s not_so = orient_broken t box k r found s (λ o. not_so (fitted k r o))
 
-    pub rail_first : StandsAt t box k r → MeasuredFit h mac place k r → (RailAt t k r → ⊥) → IsFirstBroken t record { rule = RailRule; other = None }
+    pub rail_first : IsDesignCellAt t box k r → MeasuredFit h mac place k r → (RailAt t k r → ⊥) → IsFirstBroken t record { rule = RailRule; other = None }
     rail_first s o not_so = rail_broken t box k r found s (fits k r o) not_so
 
-    pub rows_kept : StandsAt t box k r → MeasuredFit h mac place k r → RailAt t k r → OnRows t
+    pub rows_kept : IsDesignCellAt t box k r → MeasuredFit h mac place k r → RailAt t k r → OnRows t
     rows_kept s o p = on_rows t box k r found s (fits k r o) p
 
   -- ---- ground and obstacles
@@ -65,12 +65,12 @@ module _ (h f : Frame) (same : h ≡ f) (team : ℕ) (mac : Macro) (place : Plac
   pub all_kept : OnRows t → StaysInGround f team box → IsClear f box → KeepsFrame t
   all_kept rows inside clear = frame_at t box box_is rows inside clear
 
-  stand_there : OnRows t → RestsOnRows f box
-  stand_there rows = rows_stand_at t box box_is rows
+  are_placed_there : OnRows t → RestsOnRows f box
+  are_placed_there rows = rows_support_at t box box_is rows
 
 -- The box rests on rows.
-pub stands : (h f : Frame) (same : h ≡ f) (team : ℕ) (mac : Macro) (place : Place) (box : Rect) → box ≡ box_of (candidate_of h team 0 mac place []) → IsSolid box →
-    (k : ℕ) (r : Row) → IsSitesHigh h box k → IsBottomRow f box r → StandsAt (candidate_of f team 0 mac place []) box k r → MeasuredFit h mac place k r →
+pub is_in_place : (h f : Frame) (same : h ≡ f) (team : ℕ) (mac : Macro) (place : Place) (box : Rect) → box ≡ box_of (candidate_of h team 0 mac place []) → IsSolid box →
+    (k : ℕ) (r : Row) → IsSitesHigh h box k → IsBottomRow f box r → IsDesignCellAt (candidate_of f team 0 mac place []) box k r → MeasuredFit h mac place k r →
     RailAt (candidate_of f team 0 mac place []) k r → RestsOnRows f box
-stands h f same team mac place box is solid k r tall bottom s o p =
-    stand_there h f same team mac place 0 [] box is (rows_kept h f same team mac place 0 [] box is solid k r tall bottom s o p)
+is_in_place h f same team mac place box is solid k r tall bottom s o p =
+    are_placed_there h f same team mac place 0 [] box is (rows_kept h f same team mac place 0 [] box is solid k r tall bottom s o p)

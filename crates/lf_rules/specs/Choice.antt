@@ -13,7 +13,7 @@ use Rattle.lf_floorplan.specs.declared.parts.Row.{Row}
 use Rattle.lf_floorplan.specs.declared.place.Place.{Place}
 use Rattle.lf_floorplan.specs.Bounds.{IsDefNumber}
 use Rattle.lf_floorplan.specs.Boxes.{IsSized}
-use Rattle.lf_floorplan.specs.Ground.{MeetsSoft}
+use Rattle.lf_floorplan.specs.Ground.{OverlapsSoft}
 use Rattle.lf_rtree.specs.declared.placed.Placed.{Placed}
 use Rattle.lf_rules.specs.Legality.{Candidate, box_of, IsTeamLegal}
 
@@ -49,7 +49,7 @@ IsLegalAt c p = IsTeamLegal (candidate_at c p)
 -- point with a soft blockage.
 pub record IsAllowedPlace (c : PlacementQuery) (p : SpotPlace) : Type 0 where
   pub legal : IsLegalAt c p
-  pub off_soft : MeetsSoft c.frame (box_of (candidate_at c p)) → ⊥
+  pub off_soft : OverlapsSoft c.frame (box_of (candidate_at c p)) → ⊥
 
 -- A legal place of a macro of whole size has coordinates that a DEF text can hold.
 abbrev pub LegalInRange : Type 0

@@ -3,7 +3,7 @@ use Rattle.std.specs.Prelude.{◌≡◌, ℕ, ◌+◌, ◌≤◌, List, [], ◌�
 use Rattle.std.specs.Option.{option_map, ForSome}
 use Rattle.lf_units.specs.Area.{SharesPoint}
 use Rattle.lf_floorplan.specs.declared.frame.Frame.{Frame}
-use Rattle.lf_floorplan.specs.declared.loaded.Cell.{Cell}
+use Rattle.lf_floorplan.specs.declared.loaded.LoadedCell.{LoadedCell}
 use Rattle.lf_floorplan.specs.declared.place.Place.{Place}
 use Rattle.lf_floorplan.specs.Boxes.{macro_of}
 use Rattle.lf_rules.specs.declared.rule.Rule.{Rule}
@@ -37,7 +37,7 @@ pub record IsFullyLegal (f : Frame) (cells : List DesignCell) : Type 0 where
   pub apart : AllPairs (λ a b. DoNotOverlap f a b) cells
 
 -- The cells of a loaded design at these places, one for each cell in its order.
-abbrev pub design_cells_at : List Cell → List (Option Place) → List DesignCell
+abbrev pub design_cells_at : List LoadedCell → List (Option Place) → List DesignCell
 design_cells_at [] places = []
 design_cells_at (c ∷ cells) [] = record { team = c.team; mac = c.mac; place = None } ∷ design_cells_at cells []
 design_cells_at (c ∷ cells) (p ∷ places) = record { team = c.team; mac = c.mac; place = option_map spot_of p } ∷ design_cells_at cells places

@@ -95,7 +95,7 @@ pub record IsFirstOverlapping (box : Rect) (others : List Placed) (own : ℕ) : 
   pub cell : Placed
   pub there : slice_get others place ≡ Some cell
   pub named : cell.own ≡ own
-  pub meets : SharesPoint box cell.rect
+  pub does_overlap : SharesPoint box cell.rect
   pub first : All (λ other. SharesPoint box other.rect → ⊥) (take place others)
 
 -- The first broken rule: it is broken, each lesser one holds, and for Overlap the first other cell

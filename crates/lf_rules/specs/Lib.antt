@@ -2,7 +2,7 @@ pub mod Padding
 pub mod Legality
 pub mod Solid
 pub mod Choice
-pub mod Looking
+pub mod Scanning
 pub mod Legalizer
 pub mod Team
 pub mod Tidy

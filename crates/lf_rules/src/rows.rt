@@ -5,7 +5,7 @@ ghost use Rattle.std.specs.Option.{option_map};
 ghost use Rattle.lf_orient.specs.Orientation.{rail_below};
 ghost use Rattle.lf_floorplan.specs.Rows.{IsCoreRow};
 ghost use Rattle.lf_floorplan.specs.declared.parts.Row.{Row};
-ghost use Rattle.lf_floorplan.specs.Standing.{IsSitesHigh, IsRowOfBox, IsBottomRow, Supports, changed};
+ghost use Rattle.lf_floorplan.specs.Standing.{IsSitesHigh, IsRowOfBox, IsBottomRow, Supports, rail_alternated};
 ghost use Rattle.lf_rules.specs.Solid.{IsOnlyRow, IsSolid};
 
 use crate::cover::corner_of;
@@ -68,7 +68,7 @@ fn is_on_grid(pitch: &Point, rect: &Rect, row: &Row) -> bool
 fn is_row_of_box(frame: &Frame, rect: &Rect, sites: u32, row: &Row) -> bool
     requires solid { IsSolid rect.now }
     requires few { sites ≤ 8 }
-    requires heeded { IsCoreRow frame.now.pitch row.now }
+    requires core_ones { IsCoreRow frame.now.pitch row.now }
     ensures { IsTrue result ↔ IsRowOfBox frame.now rect.now sites row.now }
 {
     if i64::from(row.y) != level(&frame.pitch, rect, sites) {
@@ -89,7 +89,7 @@ fn is_row_of_box(frame: &Frame, rect: &Rect, sites: u32, row: &Row) -> bool
 pub fn is_bottom_row(frame: &Frame, rect: &Rect, row: &Row) -> bool
     requires solid { IsSolid rect.now }
     requires known { Contains frame.now.rows row.now }
-    requires heeded { IsCoreRow frame.now.pitch row.now }
+    requires core_ones { IsCoreRow frame.now.pitch row.now }
     ensures { IsTrue result ↔ IsBottomRow frame.now rect.now row.now }
 {
     if !is_row_of_box(frame, rect, 0, row) {
@@ -102,7 +102,7 @@ pub fn is_bottom_row(frame: &Frame, rect: &Rect, row: &Row) -> bool
 fn row_of(frame: &Frame, number: usize) -> &Row
     requires { number < length frame.now.rows }
     ensures row { slice_get frame.now.rows number ≡ Some result.now }
-    ensures heeded { IsCoreRow frame.now.pitch result.now }
+    ensures core_ones { IsCoreRow frame.now.pitch result.now }
     ensures known { Contains frame.now.rows result.now }
 {
     &frame.rows.as_slice()[number]
@@ -112,7 +112,7 @@ fn row_of(frame: &Frame, number: usize) -> &Row
 /// row.
 fn row_at<'a, N: FrameQuery>(near: &'a N, point: &Point) -> Option<&'a Row>
     ensures only { IsOnlyRow (N.of near.now) point.now (option_map (λ r. r.now) result) }
-    ensures heeded { IfSome result (λ r. IsCoreRow (N.of near.now).pitch r.now) }
+    ensures core_ones { IfSome result (λ r. IsCoreRow (N.of near.now).pitch r.now) }
 {
     match near.row_at(point.y, point.x) {
         Some(number) => Some(row_of(near.frame(), number)),
@@ -137,7 +137,7 @@ pub(crate) fn bottom_row<'a, N: FrameQuery>(near: &'a N, rect: &Rect) -> Option<
 /// Returns the rail of a row of this orientation, alternated `times` times. `None` if the
 /// orientation lies on its side.
 fn changed_rail(orient: Orient, times: u32) -> Option<Rail>
-    ensures { result ≡ option_map (changed times) (rail_below orient) }
+    ensures { result ≡ option_map (rail_alternated times) (rail_below orient) }
 {
     let mut rail = row_rail(orient);
     for _ in 0..times {
@@ -154,7 +154,7 @@ pub fn supports(frame: &Frame, rect: &Rect, bottom: &Row, sites: u32, row: &Row)
     requires solid { IsSolid rect.now }
     requires few { sites ≤ 8 }
     requires known { Contains frame.now.rows row.now }
-    requires heeded { IsCoreRow frame.now.pitch row.now }
+    requires core_ones { IsCoreRow frame.now.pitch row.now }
     ensures { IsTrue result ↔ Supports frame.now rect.now bottom.now sites row.now }
 {
     if !is_row_of_box(frame, rect, sites, row) {

@@ -2,13 +2,13 @@
 
 ghost use Rattle.std.specs.Prelude.{◌↔◌, Any, IsTrue};
 ghost use Rattle.lf_units.specs.Area.{SharesPoint};
-ghost use Rattle.lf_floorplan.specs.Ground.{MeetsSoft};
+ghost use Rattle.lf_floorplan.specs.Ground.{OverlapsSoft};
 
 use lf_floorplan::Frame;
 use lf_units::Rect;
 
 /// Returns whether the rectangle shares a point with one of the list.
-fn meets_one(rect: &Rect, others: &[Rect]) -> bool
+fn overlaps_one(rect: &Rect, others: &[Rect]) -> bool
     ensures { IsTrue result ↔ Any (λ r. SharesPoint rect.now r) others.now }
 {
     others.iter().any(|other| rect.overlaps(other))
@@ -17,7 +17,7 @@ fn meets_one(rect: &Rect, others: &[Rect]) -> bool
 /// Returns whether the rectangle, in database units, shares a point with a soft blockage of the
 /// frame. Allocates nothing.
 pub fn overlaps_soft(frame: &Frame, rect: &Rect) -> bool
-    ensures { IsTrue result ↔ MeetsSoft frame.now rect.now }
+    ensures { IsTrue result ↔ OverlapsSoft frame.now rect.now }
 {
-    meets_one(rect, frame.soft.as_slice())
+    overlaps_one(rect, frame.soft.as_slice())
 }

@@ -80,10 +80,10 @@ pub fn broken_frame_rule<N: FrameQuery>(
 
 /// Returns Overlap with the other cell of this number as the first broken rule. `None` if `met` is
 /// `None`.
-pub fn overlap_of(met: Option<u32>) -> Option<Broken>
-    ensures { result ≡ option_map (λ own. record { rule = Overlap; other = Some own }) met }
+pub fn overlap_of(overlapping_one: Option<u32>) -> Option<Broken>
+    ensures { result ≡ option_map (λ own. record { rule = Overlap; other = Some own }) overlapping_one }
 {
-    match met {
+    match overlapping_one {
         Some(own) => Some(Broken {
             rule: Rule::Overlap,
             other: Some(own),

@@ -10,7 +10,7 @@ use Rattle.lf_units.specs.Area.{Covers, SharesPoint}
 use Rattle.lf_units.proofs.Any.{any_first, any_later, any_cases, any_parts, any_left, any_right, any_one, none_of_nothing}
 use Rattle.lf_spans.specs.declared.span.Span.{Span}
 use Rattle.lf_rtree.specs.declared.placed.Placed.{Placed}
-use Rattle.lf_spans.specs.Spans.{Holds, IsFilled, AreApart, LiesInOneOf, IsRising, IsFree, IsJoin, IsMeet}
+use Rattle.lf_spans.specs.Spans.{HoldsNumber, IsFilled, AreDisjoint, LiesInOneOf, IsRising, IsFree, IsJoin, IsMeet}
 use Rattle.lf_segments.specs.Boxes.{x_extent, AreSpansAt, AreUnder, IsCoveredAt, IsCoveredOver}
 
 -- The order of the taken spans does not change the free ones.
@@ -18,8 +18,8 @@ pub free_moved : (range : Span) (taken sorted free : List Span) → IsPermutatio
 free_moved range taken sorted free moved f = record {
   rising = f.rising;
   exact = λ s g. (
-    (λ h. let both = (f.exact s g).0 h in (both.0, All-permutation (λ t. AreApart s t) sorted taken (IsPermutation-sym taken sorted moved) both.1)),
-    (λ h. (f.exact s g).1 (h.0, All-permutation (λ t. AreApart s t) taken sorted moved h.1)),
+    (λ h. let both = (f.exact s g).0 h in (both.0, All-permutation (λ t. AreDisjoint s t) sorted taken (IsPermutation-sym taken sorted moved) both.1)),
+    (λ h. (f.exact s g).1 (h.0, All-permutation (λ t. AreDisjoint s t) taken sorted moved h.1)),
   );
 }
 
@@ -27,7 +27,7 @@ free_moved range taken sorted free moved f = record {
 
 pub spans_none : (y : ℤ) → AreSpansAt [] y []
 spans_none y x = (
-  λ h. absurd (none_of_nothing (λ t. Holds t x) h),
+  λ h. absurd (none_of_nothing (λ t. HoldsNumber t x) h),
   λ h. absurd (none_of_nothing (λ (p : Placed). Covers p.rect x y) h),
 )
 
@@ -39,19 +39,19 @@ pub spans_more : (boxes : List Placed) (k : ℕ) (d : Placed) (y : ℤ) (spans :
 spans_more boxes k d y spans within old bottom top =
     let p : Placed = get_or boxes k d in
     let both : AreSpansAt (take k boxes ++ p ∷ []) y (spans ++ x_extent p.rect ∷ []) = λ x. (
-      (λ h. elim (any_parts (λ t. Holds t x) spans (x_extent p.rect ∷ []) h) [
+      (λ h. elim (any_parts (λ t. HoldsNumber t x) spans (x_extent p.rect ∷ []) h) [
         | inl early ↦ any_left (λ (q : Placed). Covers q.rect x y) (take k boxes) (p ∷ []) ((old x).0 early)
         | inr late ↦
-            let holds : Holds (x_extent p.rect) x = any_one (λ t. Holds t x) (x_extent p.rect) late in
+            let holds : HoldsNumber (x_extent p.rect) x = any_one (λ t. HoldsNumber t x) (x_extent p.rect) late in
             let covers : Covers p.rect x y = record { left = holds.low; right = holds.high; bottom = bottom; top = top } in
             any_right (λ (q : Placed). Covers q.rect x y) (take k boxes) (p ∷ []) (any_first (λ (q : Placed). Covers q.rect x y) p [] covers)
       ]),
       (λ h. elim (any_parts (λ (q : Placed). Covers q.rect x y) (take k boxes) (p ∷ []) h) [
-        | inl early ↦ any_left (λ t. Holds t x) spans (x_extent p.rect ∷ []) ((old x).1 early)
+        | inl early ↦ any_left (λ t. HoldsNumber t x) spans (x_extent p.rect ∷ []) ((old x).1 early)
         | inr late ↦
             let covers : Covers p.rect x y = any_one (λ (q : Placed). Covers q.rect x y) p late in
-            let holds : Holds (x_extent p.rect) x = record { low = covers.left; high = covers.right } in
-            any_right (λ t. Holds t x) spans (x_extent p.rect ∷ []) (any_first (λ t. Holds t x) (x_extent p.rect) [] holds)
+            let holds : HoldsNumber (x_extent p.rect) x = record { low = covers.left; high = covers.right } in
+            any_right (λ t. HoldsNumber t x) spans (x_extent p.rect ∷ []) (any_first (λ t. HoldsNumber t x) (x_extent p.rect) [] holds)
       ]),
     ) in
     subst (λ (bs : List Placed). AreSpansAt bs y (spans ++ x_extent p.rect ∷ [])) (sym (passed boxes k d within)) both
@@ -69,9 +69,9 @@ spans_skip boxes k d y spans within old apart =
     ) in
     subst (λ (bs : List Placed). AreSpansAt bs y spans) (sym (passed boxes k d within)) both
 
-pub covered_of : (boxes : List Placed) (y : ℤ) (free spans joined met : List Span) → AreSpansAt boxes y spans → IsJoin spans joined → IsMeet free joined met →
-    IsCoveredAt boxes y free met
-covered_of boxes y free spans joined met at j m = record {
+pub covered_of : (boxes : List Placed) (y : ℤ) (free spans joined overlapping_one : List Span) → AreSpansAt boxes y spans → IsJoin spans joined → IsMeet free joined overlapping_one →
+    IsCoveredAt boxes y free overlapping_one
+covered_of boxes y free spans joined overlapping_one at j m = record {
   rising = m.rising;
   exact = λ s g. (
     (λ h. let both = (m.exact s g).0 h in (both.0, λ x holds. (at x).0 ((j.exact s g).0 both.1 x holds))),

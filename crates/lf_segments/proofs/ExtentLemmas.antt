@@ -10,7 +10,7 @@ use Rattle.lf_floorplan.specs.Bounds.{IsNearDefRect}
 use Rattle.lf_floorplan.specs.Rows.{IsCoreRow, row_area}
 use Rattle.lf_floorplan.specs.declared.parts.Row.{Row}
 use Rattle.lf_floorplan.proofs.SizeBounds.{IsSmall}
-use Rattle.lf_segments.specs.Grounds.{IsInside, hull}
+use Rattle.lf_segments.specs.Indexes.{IsInside, hull}
 
 -- A rectangle that holds two others, and is as near the coordinates of DEF as they are.
 pub record IsHull (a b new : Rect) : Type 0 where

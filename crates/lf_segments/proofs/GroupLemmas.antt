@@ -14,14 +14,14 @@ use Rattle.lf_units.specs.Area.{Covers, SharesPoint}
 use Rattle.lf_units.proofs.Any.{has_item}
 use Rattle.lf_spans.specs.declared.span.Span.{Span}
 use Rattle.lf_rtree.specs.declared.placed.Placed.{Placed}
-use Rattle.lf_spans.specs.Spans.{Holds, IsFilled, AreApart, LiesInOneOf, IsFree}
+use Rattle.lf_spans.specs.Spans.{HoldsNumber, IsFilled, AreDisjoint, LiesInOneOf, IsFree}
 use Rattle.lf_floorplan.specs.declared.frame.Frame.{Frame}
 use Rattle.lf_floorplan.specs.declared.parts.Row.{Row}
 use Rattle.lf_floorplan.specs.Rows.{row_area}
 use Rattle.lf_floorplan.specs.Ground.{InGround}
 use Rattle.lf_floorplan.proofs.GroundLemmas.{ground_one, ground_there}
 use Rattle.lf_segments.specs.Segments.{IsClearAt, IsOpen}
-use Rattle.lf_segments.specs.Boxes.{x_extent, IsMetAt, DetermineCover, AreBoxesOf, IsNextGroup, IsCoveredOver, AreClear, AreOpen}
+use Rattle.lf_segments.specs.Boxes.{x_extent, IsOverlappedAt, DetermineCover, AreBoxesOf, IsNextGroup, IsCoveredOver, AreClear, AreOpen}
 
 -- ---- the next group of boxes in order of their numbers
 
@@ -112,11 +112,11 @@ none_left xs least f group none all below = record {
 }
 
 -- A point lies in boxes of the group's number iff a box of the group covers it.
-pub group_met : (near group : List Placed) (least own : ℕ) → IsNextGroup near least group → All (λ p. p.own ≡ own) group → least ≤ own → (x y : ℤ) →
-    IsMetAt near own x y ↔ Any (λ p. Covers p.rect x y) group
-group_met near group least own g number from x y = (forth, back)
+pub group_overlapped : (near group : List Placed) (least own : ℕ) → IsNextGroup near least group → All (λ p. p.own ≡ own) group → least ≤ own → (x y : ℤ) →
+    IsOverlappedAt near own x y ↔ Any (λ p. Covers p.rect x y) group
+group_overlapped near group least own g number from x y = (forth, back)
   where
-    forth : IsMetAt near own x y → Any (λ p. Covers p.rect x y) group
+    forth : IsOverlappedAt near own x y → Any (λ p. Covers p.rect x y) group
     forth (k, p, within, is, (same, covers)) =
         let other = All-contains (λ q. (q.own < least) ⊎ (Contains group q ⊎ Any (λ h. h.own < q.own) group)) near p g.others (k, within, is) in
         elim other [
@@ -128,7 +128,7 @@ group_met near group least own g number from x y = (forth, back)
               absurd (omega (arith, at, lower, same))
         ]
 
-    back : Any (λ p. Covers p.rect x y) group → IsMetAt near own x y
+    back : Any (λ p. Covers p.rect x y) group → IsOverlappedAt near own x y
     back (k, p, within, is, covers) =
         let there : Contains group p = (k, within, is) in
         let same : p.own ≡ own = All-contains (λ q. q.own ≡ own) group p number there in
@@ -136,9 +136,9 @@ group_met near group least own g number from x y = (forth, back)
         has_item (λ q. (q.own ≡ own) × Covers q.rect x y) near p found.0 (same, covers)
 
 -- No box has a number that is not below the least and below the group's.
-pub none_met : (near group : List Placed) (least u : ℕ) → IsNextGroup near least group → All (λ p. u < p.own) group → least ≤ u → (x y : ℤ) →
-    IsMetAt near u x y → ⊥
-none_met near group least u g above from x y (k, p, within, is, (same, covers)) =
+pub none_overlapped : (near group : List Placed) (least u : ℕ) → IsNextGroup near least group → All (λ p. u < p.own) group → least ≤ u → (x y : ℤ) →
+    IsOverlappedAt near u x y → ⊥
+none_overlapped near group least u g above from x y (k, p, within, is, (same, covers)) =
     elim (All-contains (λ q. (q.own < least) ⊎ (Contains group q ⊎ Any (λ h. h.own < q.own) group)) near p g.others (k, within, is)) [
       | inl low ↦ omega (arith, low, same, from)
       | inr (inl inside) ↦ let high : u < p.own = All-contains (λ q. u < q.own) group p above inside in omega (arith, high, same)
@@ -162,19 +162,19 @@ pub record IsBeside (area : Rect) (boxes : List Placed) (x : ℤ) : Type 0 where
   pub none : (y : ℤ) → Covers area x y → All (λ p. Covers p.rect x y → ⊥) boxes
 
 pub free_is_beside : (area : Rect) (boxes : List Placed) (free : List Span) → All (λ p. SharesPoint area p.rect) boxes →
-    IsFree (x_extent area) (map (λ p. x_extent p.rect) boxes) free → (s : Span) → IsFilled s → LiesInOneOf free s ↔ ((x : ℤ) → Holds s x → IsBeside area boxes x)
+    IsFree (x_extent area) (map (λ p. x_extent p.rect) boxes) free → (s : Span) → IsFilled s → LiesInOneOf free s ↔ ((x : ℤ) → HoldsNumber s x → IsBeside area boxes x)
 free_is_beside area boxes free near f s g = (
   λ h x holds.
       let both = (f.exact s g).0 h in
-      let inside : Holds (x_extent area) x = both.0 x holds in
+      let inside : HoldsNumber (x_extent area) x = both.0 x holds in
       record {
         left = inside.low;
         right = inside.high;
-        none = λ y covers k d within over. unmapped (λ t. AreApart s t) boxes both.1 k d within x holds record { low = over.left; high = over.right };
+        none = λ y covers k d within over. unmapped (λ t. AreDisjoint s t) boxes both.1 k d within x holds record { low = over.left; high = over.right };
       },
   λ each. (f.exact s g).1 (
     (λ x holds. let b = each x holds in record { low = b.left; high = b.right }),
-    All-map (λ t. AreApart s t) (λ (p : Placed). x_extent p.rect) boxes (λ k d within x holds over.
+    All-map (λ t. AreDisjoint s t) (λ (p : Placed). x_extent p.rect) boxes (λ k d within x holds over.
         let b = each x holds in
         let q : SharesPoint area (get_or boxes k d).rect = near k d within in
         let in_area : Covers area x q.y = record { left = b.left; right = b.right; bottom = q.in_first.bottom; top = q.in_first.top } in
@@ -198,23 +198,23 @@ pub moved_boxes : (f : Frame) (obstacles : List Rect) (r : Row) (boxes sorted : 
 moved_boxes f obstacles r boxes sorted moved b = record {
   known = All-permutation (λ p. p.own ≤ length f.teams) boxes sorted moved b.known;
   near = All-permutation (λ p. SharesPoint (row_area f.pitch r) p.rect) boxes sorted moved b.near;
-  tell = λ x y covers.
-      let t : DetermineCover f obstacles boxes x y = b.tell x y covers in
+  report_it = λ x y covers.
+      let t : DetermineCover f obstacles boxes x y = b.report_it x y covers in
       record {
         fence = λ team is_fence. (
-          λ ground. met boxes sorted moved team x y ((t.fence team is_fence).0 ground),
-          λ h. (t.fence team is_fence).1 (met sorted boxes (IsPermutation-sym boxes sorted moved) team x y h),
+          λ ground. overlapping_one boxes sorted moved team x y ((t.fence team is_fence).0 ground),
+          λ h. (t.fence team is_fence).1 (overlapping_one sorted boxes (IsPermutation-sym boxes sorted moved) team x y h),
         );
         obstacle = (
-          λ a. met boxes sorted moved (length f.teams) x y (t.obstacle.0 a),
+          λ a. overlapping_one boxes sorted moved (length f.teams) x y (t.obstacle.0 a),
           λ h. t.obstacle.1
-              (met sorted boxes (IsPermutation-sym boxes sorted moved) (length f.teams) x y h),
+              (overlapping_one sorted boxes (IsPermutation-sym boxes sorted moved) (length f.teams) x y h),
         );
       };
 }
   where
-    met : (xs ys : List Placed) → IsPermutation xs ys → (own : ℕ) (x y : ℤ) → IsMetAt xs own x y → IsMetAt ys own x y
-    met xs ys turned own x y (k, p, within, is, e) = has_item (λ q. (q.own ≡ own) × Covers q.rect x y) ys p
+    overlapping_one : (xs ys : List Placed) → IsPermutation xs ys → (own : ℕ) (x y : ℤ) → IsOverlappedAt xs own x y → IsOverlappedAt ys own x y
+    overlapping_one xs ys turned own x y (k, p, within, is, e) = has_item (λ q. (q.own ≡ own) × Covers q.rect x y) ys p
         (Contains-permutation xs ys p turned (k, within, is)) e
 
 -- The boxes of fences alone, which come first, are those of the row as if there were no obstacles.
@@ -224,14 +224,14 @@ pub fences_alone : (f : Frame) (obstacles : List Rect) (r : Row) (near : List Pl
 fences_alone f obstacles r near n teams many within fences rest b = record {
   known = λ k d inside. let low = own_below k d inside in omega (arith, low);
   near = λ k d inside. subst (λ (p : Placed). SharesPoint (row_area f.pitch r) p.rect) (sym (at k d inside)) (b.near k d (in_near k inside));
-  tell = λ x y covers.
-      let t : DetermineCover f obstacles near x y = b.tell x y covers in
+  report_it = λ x y covers.
+      let t : DetermineCover f obstacles near x y = b.report_it x y covers in
       record {
         fence = λ team is_fence. (
-          λ ground. first_met team x y is_fence ((t.fence team is_fence).0 ground),
-          λ met. (t.fence team is_fence).1 (met_near team x y met),
+          λ ground. first_overlapped team x y is_fence ((t.fence team is_fence).0 ground),
+          λ overlapping_one. (t.fence team is_fence).1 (overlapped_near team x y overlapping_one),
         );
-        obstacle = (λ a. absurd (nothing_any a), λ met. absurd (not_met x y met));
+        obstacle = (λ a. absurd (nothing_any a), λ overlapping_one. absurd (not_overlapped x y overlapping_one));
       };
 }
   where
@@ -255,16 +255,16 @@ fences_alone f obstacles r near n teams many within fences rest b = record {
     nothing_any : {P : Rect → Type 0} → Any P [] → ⊥
     nothing_any a = let h = a.2 in omega (arith, h)
 
-    not_met : (x y : ℤ) → IsMetAt front (length f.teams) x y → ⊥
-    not_met x y (k, p, inside, is, (own, covers)) =
+    not_overlapped : (x y : ℤ) → IsOverlappedAt front (length f.teams) x y → ⊥
+    not_overlapped x y (k, p, inside, is, (own, covers)) =
         let low : p.own < length f.teams = subst (λ (q : Placed). q.own < length f.teams) is (own_below k p inside) in
         omega (arith, low, own)
 
-    met_near : (team : ℕ) (x y : ℤ) → IsMetAt front team x y → IsMetAt near team x y
-    met_near team x y (k, p, inside, is, both) = (k, p, in_near k inside, sym (at k p inside) ∙ is, both)
+    overlapped_near : (team : ℕ) (x y : ℤ) → IsOverlappedAt front team x y → IsOverlappedAt near team x y
+    overlapped_near team x y (k, p, inside, is, both) = (k, p, in_near k inside, sym (at k p inside) ∙ is, both)
 
-    first_met : (team : ℕ) (x y : ℤ) → team < length f.teams → IsMetAt near team x y → IsMetAt front team x y
-    first_met team x y fence (k, p, inside, is, (own, covers)) = elim side [
+    first_overlapped : (team : ℕ) (x y : ℤ) → team < length f.teams → IsOverlappedAt near team x y → IsOverlappedAt front team x y
+    first_overlapped team x y fence (k, p, inside, is, (own, covers)) = elim side [
       | inl early ↦
           let long = length-take n near in
           let there : k < length front = omega (arith, long, early, within) in
@@ -300,10 +300,10 @@ clear_spans_of f obstacles r near boxes free b g is_free = record { rising = is_
     touch : All (λ p. SharesPoint (row_area f.pitch r) p.rect) boxes
     touch k d within = All-contains (λ q. SharesPoint (row_area f.pitch r) q.rect) near (get_or boxes k d) b.near (g.among k d within).0
 
-    met : (x y : ℤ) → IsMetAt near n x y ↔ Any (λ p. Covers p.rect x y) boxes
-    met = group_met near boxes n n g number (omega arith)
+    overlapping_one : (x y : ℤ) → IsOverlappedAt near n x y ↔ Any (λ p. Covers p.rect x y) boxes
+    overlapping_one = group_overlapped near boxes n n g number (omega arith)
 
-    exact : (s : Span) → IsFilled s → LiesInOneOf free s ↔ ((x : ℤ) → Holds s x → IsClearAt f obstacles r x)
+    exact : (s : Span) → IsFilled s → LiesInOneOf free s ↔ ((x : ℤ) → HoldsNumber s x → IsClearAt f obstacles r x)
     exact s filled =
         let beside = free_is_beside (row_area f.pitch r) boxes free touch is_free s filled in (
           λ h x holds.
@@ -312,7 +312,7 @@ clear_spans_of f obstacles r near boxes free b g is_free = record { rising = is_
                 left = e.left;
                 right = e.right;
                 clear = λ y covers. none_of obstacles (λ a.
-                    let o = (met x y).0 ((b.tell x y covers).obstacle.0 a) in
+                    let o = (overlapping_one x y).0 ((b.report_it x y covers).obstacle.0 a) in
                     All-contains (λ p. Covers p.rect x y → ⊥) boxes o.1 (e.none y covers) (o.0, o.2, o.3) o.4);
               },
           λ each. beside.1 (λ x holds.
@@ -321,7 +321,7 @@ clear_spans_of f obstacles r near boxes free b g is_free = record { rising = is_
                 left = e.left;
                 right = e.right;
                 none = λ y covers k d within over.
-                    let a = (b.tell x y covers).obstacle.1 ((met x y).1
+                    let a = (b.report_it x y covers).obstacle.1 ((overlapping_one x y).1
                     (has_item (λ p. Covers p.rect x y) boxes (get_or boxes k d) (Contains-get_or boxes k d within) over)) in
                     All-contains (λ o. Covers o x y → ⊥) obstacles a.1 (e.clear y covers) (a.0, a.2, a.3) a.4;
               }),
@@ -342,7 +342,7 @@ ground_spans_of f obstacles r near free b is_free = record { rising = is_free.ri
         let there = ground_there f x y in
         elim (fence_or there.0 (ground_is_team f there.0 x y there.1)) [
           | inl fence ↦
-              let m = ((b.tell x y covers).fence there.0 fence).0 there.1 in
+              let m = ((b.report_it x y covers).fence there.0 fence).0 there.1 in
               absurd (All-contains (λ p. Covers p.rect x y → ⊥) near m.1 none (m.0, m.2, m.3) m.4.1)
           | inr same ↦ subst (λ (t : ℕ). InGround f t x y) same there.1
         ]
@@ -353,16 +353,16 @@ ground_spans_of f obstacles r near free b is_free = record { rising = is_free.ri
         let there : Contains near p = Contains-get_or near k d within in
         elim (fence_or p.own (b.known k d within)) [
           | inl fence ↦
-              let ground : InGround f p.own x y = ((b.tell x y covers).fence p.own fence).1
+              let ground : InGround f p.own x y = ((b.report_it x y covers).fence p.own fence).1
               (has_item (λ q. (q.own ≡ p.own) × Covers q.rect x y) near p there (refl, over)) in
               let same : p.own ≡ n = ground_one f p.own n x y ground (o.ground y covers) in
               omega (arith, same, fence)
           | inr same ↦
-              let a = (b.tell x y covers).obstacle.1 (has_item (λ q. (q.own ≡ n) × Covers q.rect x y) near p there (same, over)) in
+              let a = (b.report_it x y covers).obstacle.1 (has_item (λ q. (q.own ≡ n) × Covers q.rect x y) near p there (same, over)) in
               All-contains (λ q. Covers q x y → ⊥) obstacles a.1 (o.clear.clear y covers) (a.0, a.2, a.3) a.4
         ]
 
-    exact : (s : Span) → IsFilled s → LiesInOneOf free s ↔ ((x : ℤ) → Holds s x → IsOpen f obstacles r n x)
+    exact : (s : Span) → IsFilled s → LiesInOneOf free s ↔ ((x : ℤ) → HoldsNumber s x → IsOpen f obstacles r n x)
     exact s filled =
         let beside = free_is_beside (row_area f.pitch r) near free b.near is_free s filled in (
           λ h x holds.
@@ -372,7 +372,7 @@ ground_spans_of f obstacles r near free b is_free = record { rising = is_free.ri
                   left = e.left;
                   right = e.right;
                   clear = λ y covers. none_of obstacles (λ a.
-                      let m = (b.tell x y covers).obstacle.0 a in
+                      let m = (b.report_it x y covers).obstacle.0 a in
                       All-contains (λ p. Covers p.rect x y → ⊥) near m.1 (e.none y covers) (m.0, m.2, m.3) m.4.1);
                 };
                 ground = λ y covers. ground_of x y covers (e.none y covers);
@@ -394,23 +394,23 @@ fence_spans_of f obstacles r near group least own area clear slice covered b g n
         subst (λ (a : Rect). IsCoveredOver group a.y1 a.y2 clear covered) same_area
         (subst (λ (xs : List Span). IsCoveredOver group area.y1 area.y2 xs covered) same_slice over)
 
-    met : (x y : ℤ) → IsMetAt near own x y ↔ Any (λ p. Covers p.rect x y) group
-    met = group_met near group least own g number from
+    overlapping_one : (x y : ℤ) → IsOverlappedAt near own x y ↔ Any (λ p. Covers p.rect x y) group
+    overlapping_one = group_overlapped near group least own g number from
 
-    exact : (s : Span) → IsFilled s → LiesInOneOf covered s ↔ ((x : ℤ) → Holds s x → IsOpen f obstacles r own x)
+    exact : (s : Span) → IsFilled s → LiesInOneOf covered s ↔ ((x : ℤ) → HoldsNumber s x → IsOpen f obstacles r own x)
     exact s filled = (
       λ h x holds.
           let both = (co.exact s filled).0 h in
           record {
             clear = (cl.exact s filled).0 both.0 x holds;
-            ground = λ y covers. ((b.tell x y covers).fence own fence).1 ((met x y).1 (both.1 y covers.bottom covers.top x holds));
+            ground = λ y covers. ((b.report_it x y covers).fence own fence).1 ((overlapping_one x y).1 (both.1 y covers.bottom covers.top x holds));
           },
       λ each. (co.exact s filled).1 (
         (cl.exact s filled).1 (λ x holds. (each x holds).clear),
         λ y bottom top x holds.
             let o : IsOpen f obstacles r own x = each x holds in
             let covers : Covers (row_area f.pitch r) x y = record { left = o.clear.left; right = o.clear.right; bottom = bottom; top = top } in
-            (met x y).0 (((b.tell x y covers).fence own fence).0 (o.ground y covers)),
+            (overlapping_one x y).0 (((b.report_it x y covers).fence own fence).0 (o.ground y covers)),
       ),
     )
 
@@ -420,7 +420,7 @@ pub not_open : (f : Frame) (obstacles : List Rect) (r : Row) (near group : List 
     least ≤ u → u < length f.teams → (x : ℤ) → IsOpen f obstacles r u x → ⊥
 not_open f obstacles r near group least u b g above from fence x o =
     let covers = high_row f r x o.clear.left o.clear.right in
-    none_met near group least u g above from x r.y (((b.tell x r.y covers).fence u fence).0 (o.ground r.y covers))
+    none_overlapped near group least u g above from x r.y (((b.report_it x r.y covers).fence u fence).0 (o.ground r.y covers))
 
 -- No box at all.
 abbrev pub no_box : Placed

@@ -19,7 +19,7 @@ use Rattle.std.proofs.lemmas.Option.{slice_get-get_or, slice_get_within, get_or_
 use Rattle.lf_floorplan.specs.declared.frame.Frame.{Frame}
 use Rattle.lf_floorplan.specs.declared.parts.Row.{Row}
 use Rattle.lf_segments.specs.declared.rows_by_y.RowEntry.{RowEntry}
-use Rattle.lf_segments.specs.RowsByY.{entry, entries_from, IsEntryOf, IsRowsByY, IsRunBy, PrecedesByY}
+use Rattle.lf_segments.specs.RowsByY.{entry, entries_from, IsEntryOf, IsRowsByY, IsRunByY, PrecedesByY}
 
 -- An entry that is not less by (y, x) comes no earlier.
 not_less : (r s : Ordering) (a b : RowEntry) → MatchOrdering r (b.y <ℤ a.y) (b.y ≡ a.y) (a.y <ℤ b.y) → MatchOrdering s (b.x <ℤ a.x) (b.x ≡ a.x) (a.x <ℤ b.x) →
@@ -66,7 +66,7 @@ known_first f k d inside =
     let long = length-entries f.rows 0 in
     let within : k < length f.rows = omega (arith, long, inside) in
     let e = some_row f.rows k within in
-    let one : IsEntryOf f (entry k (get_or f.rows k e)) = record { row = get_or f.rows k e; stands = slice_get-get_or f.rows k e within; is = refl } in
+    let one : IsEntryOf f (entry k (get_or f.rows k e)) = record { row = get_or f.rows k e; is_in_place = slice_get-get_or f.rows k e within; is = refl } in
     subst (IsEntryOf f) (sym (entry_first f.rows k d e within)) one
 
 number_at : (rows : List Row) (k : ℕ) (d : RowEntry) → k < length rows → (get_or (entries_from 0 rows) k d).row ≡ k
@@ -200,10 +200,10 @@ above_first xs y pairs n e inside here k d from within =
 pub run_by : (Below Within Above : ℤ → Type 0) (xs ys : List RowEntry) (f c : ℕ) → f ≤ length xs → ys ≡ drop f xs →
     ((k : ℕ) (d : RowEntry) → k < f → Below (get_or xs k d).y) →
     ((k : ℕ) (d : RowEntry) → k < c → k < length ys → Within (get_or ys k d).y) →
-    ((k : ℕ) (d : RowEntry) → c ≤ k → k < length ys → Above (get_or ys k d).y) → IsRunBy Below Within Above xs (take c ys)
+    ((k : ℕ) (d : RowEntry) → c ≤ k → k < length ys → Above (get_or ys k d).y) → IsRunByY Below Within Above xs (take c ys)
 run_by Below Within Above xs ys f c bound same low inside high = record {
   before = take f xs;
-  behind = drop c ys;
+  after_it = drop c ys;
   parts = sym (take-append-drop f xs) ∙ ap (λ (zs : List RowEntry). take f xs ++ zs) (sym same ∙ sym (take-append-drop c ys));
   below = λ k d at.
       let long = length-take f xs in
@@ -234,37 +234,37 @@ exactly a b first second = omega (arith, ints, first, second)
 -- The entry that has a row's position has the row's y.
 height_of : (f : Frame) (es : List RowEntry) (e : RowEntry) (n : ℕ) (r : Row) → All (IsEntryOf f) es → Contains es e → e.row ≡ n → slice_get f.rows n ≡ Some r →
     e.y ≡ r.y
-height_of f es e n r known there number stands =
+height_of f es e n r known there number is_in_place =
     let one : IsEntryOf f e = All-contains (IsEntryOf f) es e known there in
     let At : ℕ → Type 0 = λ k. get_or f.rows k r ≡ one.row in
-    let same : get_or f.rows n r ≡ one.row = subst At number (get_or_from_slice_get f.rows e.row one.row r one.stands) in
-    let rows : one.row ≡ r = sym same ∙ get_or_from_slice_get f.rows n r r stands in
+    let same : get_or f.rows n r ≡ one.row = subst At number (get_or_from_slice_get f.rows e.row one.row r one.is_in_place) in
+    let rows : one.row ≡ r = sym same ∙ get_or_from_slice_get f.rows n r r is_in_place in
     ap (λ (x : RowEntry). x.y) one.is ∙ ap (λ (q : Row). q.y) rows
 
 -- The entries of a run are in its range, and an entry in the range is in the run.
 pub run_in_range : (Below Within Above : ℤ → Type 0) (f : Frame) (es run : List RowEntry) (n : ℕ) (r : Row) → IsRowsByY f es →
-    IsRunBy Below Within Above es run → slice_get f.rows n ≡ Some r → Any (λ e. e.row ≡ n) run → Within r.y
-run_in_range Below Within Above f es run n r rows part stands (k, e, inside, is, number) =
+    IsRunByY Below Within Above es run → slice_get f.rows n ≡ Some r → Any (λ e. e.row ≡ n) run → Within r.y
+run_in_range Below Within Above f es run n r rows part is_in_place (k, e, inside, is, number) =
     let in_run : Contains run e = (k, inside, is) in
-    let in_rest : Contains (run ++ part.behind) e = Contains-append_left run part.behind e in_run in
-    let in_parts : Contains (part.before ++ (run ++ part.behind)) e = Contains-append_right part.before (run ++ part.behind) e in_rest in
+    let in_rest : Contains (run ++ part.after_it) e = Contains-append_left run part.after_it e in_run in
+    let in_parts : Contains (part.before ++ (run ++ part.after_it)) e = Contains-append_right part.before (run ++ part.after_it) e in_rest in
     let there : Contains es e = subst (λ (xs : List RowEntry). Contains xs e) (sym part.parts) in_parts in
-    subst Within (height_of f es e n r rows.known there number stands) (All-contains (λ x. Within x.y) run e part.within in_run)
+    subst Within (height_of f es e n r rows.known there number is_in_place) (All-contains (λ x. Within x.y) run e part.within in_run)
 
 pub range_in_run : (Below Within Above : ℤ → Type 0) (f : Frame) (es run : List RowEntry) (n : ℕ) (r : Row) → ((v : ℤ) → Below v → Within v → ⊥) →
-    ((v : ℤ) → Above v → Within v → ⊥) → IsRowsByY f es → IsRunBy Below Within Above es run → slice_get f.rows n ≡ Some r → Within r.y →
+    ((v : ℤ) → Above v → Within v → ⊥) → IsRowsByY f es → IsRunByY Below Within Above es run → slice_get f.rows n ≡ Some r → Within r.y →
     Any (λ e. e.row ≡ n) run
-range_in_run Below Within Above f es run n r not_below not_above rows part stands within =
-    elim (Contains-append_cases part.before (run ++ part.behind) e (subst (λ (xs : List RowEntry). Contains xs e) part.parts there)) [
+range_in_run Below Within Above f es run n r not_below not_above rows part is_in_place within =
+    elim (Contains-append_cases part.before (run ++ part.after_it) e (subst (λ (xs : List RowEntry). Contains xs e) part.parts there)) [
       | inl before ↦ absurd (not_below r.y (subst Below height (All-contains (λ x. Below x.y) part.before e part.below before)) within)
-      | inr rest ↦ elim (Contains-append_cases run part.behind e rest) [
+      | inr rest ↦ elim (Contains-append_cases run part.after_it e rest) [
         | inl inside ↦ (inside.0, e, inside.1, inside.2, number)
-        | inr behind ↦ absurd (not_above r.y (subst Above height (All-contains (λ x. Above x.y) part.behind e part.above behind)) within)
+        | inr after_it ↦ absurd (not_above r.y (subst Above height (All-contains (λ x. Above x.y) part.after_it e part.above after_it)) within)
       ]
     ]
   where
     found : Any (λ (x : RowEntry). x.row ≡ n) es
-    found = rows.each n (slice_get_within f.rows n r stands)
+    found = rows.each n (slice_get_within f.rows n r is_in_place)
 
     e : RowEntry
     e = found.1
@@ -276,7 +276,7 @@ range_in_run Below Within Above f es run n r not_below not_above rows part stand
     number = found.4
 
     height : e.y ≡ r.y
-    height = height_of f es e n r rows.known there number stands
+    height = height_of f es e n r rows.known there number is_in_place
 
 pub lower_is_not : (y v : ℤ) → v <ℤ y → v ≡ y → ⊥
 lower_is_not y v less same = omega (arith, ints, less, same)

@@ -7,7 +7,7 @@ use Rattle.std.proofs.lemmas.Int.{ints}
 use Rattle.std.proofs.lemmas.Option.{slice_get-get_or}
 use Rattle.lf_units.specs.declared.geometry.Rect.{Rect}
 use Rattle.lf_units.specs.Area.{Covers, SharesPoint}
-use Rattle.lf_spans.specs.Spans.{Holds}
+use Rattle.lf_spans.specs.Spans.{HoldsNumber}
 use Rattle.lf_floorplan.specs.declared.frame.Frame.{Frame}
 use Rattle.lf_floorplan.specs.declared.parts.Row.{Row}
 use Rattle.lf_floorplan.specs.Rows.{row_area}
@@ -63,7 +63,7 @@ level_of p low y high (suc k) from below = elim order [
     order = grind (arith, ints)
 
 -- The points of a row that carries the box, over the box's x range, are points of the box.
-point_of_row : (f : Frame) (box : Rect) (k j : ℕ) (r : Row) (x y : ℤ) → IsSitesHigh f box k → j < k → IsRowOfBox f box j r → Holds (x_extent box) x →
+point_of_row : (f : Frame) (box : Rect) (k j : ℕ) (r : Row) (x y : ℤ) → IsSitesHigh f box k → j < k → IsRowOfBox f box j r → HoldsNumber (x_extent box) x →
     Covers (row_area f.pitch r) x y → Covers box x y
 point_of_row f box k j r x y high less at holds covers =
     let p : ℤ = f.pitch.y in
@@ -96,7 +96,7 @@ row_at f s (n, within, is) = (n, slice_get-get_or f.rows n s within ∙ ap (λ (
 
 pub segments_hold : (f : Frame) (obstacles : List Rect) (segments : List Segment) (team : ℕ) (box : Rect) → IsCutBeside f obstacles segments → RestsOnRows f box → box.x1 <ℤ box.x2 →
     StaysInGround f team box → All (λ o. SharesPoint box o → ⊥) obstacles → LiesInSegments f segments team box
-segments_hold f obstacles segments team box cut stands wide ground clear k bottom j n r high at_bottom less is carries =
+segments_hold f obstacles segments team box cut is_in_place wide ground clear k bottom j n r high at_bottom less is carries =
     (cut.exact n r team (x_extent box) is wide).1 (λ x holds. record {
       clear = record {
         left = let a = carries.at_row.left in let b = holds.low in omega (arith, ints, a, b);
@@ -112,28 +112,28 @@ segments_hold f obstacles segments team box cut stands wide ground clear k botto
 pub record InSegment (f : Frame) (segments : List Segment) (team : ℕ) (box : Rect) (x y : ℤ) : Type 0 where
   pub number : ℕ
   pub row : Row
-  pub stands : slice_get f.rows number ≡ Some row
+  pub is_in_place : slice_get f.rows number ≡ Some row
   pub lies : LiesInSegment segments number team (x_extent box)
   pub covers : Covers (row_area f.pitch row) x y
 
 -- This holds for each point of a box that rests on rows and lies in segments.
 pub in_segment : (f : Frame) (segments : List Segment) (team : ℕ) (box : Rect) → RestsOnRows f box → LiesInSegments f segments team box →
     (x y : ℤ) → Covers box x y → InSegment f segments team box x y
-in_segment f segments team box stands lies x y covers =
-    let k = stands.height.0 in
-    let high : IsSitesHigh f box k = stands.height.1 in
-    let bottom : Row = stands.row.0 in
-    let at_bottom : IsBottomRow f box bottom = stands.row.1 in
+in_segment f segments team box is_in_place lies x y covers =
+    let k = is_in_place.height.0 in
+    let high : IsSitesHigh f box k = is_in_place.height.1 in
+    let bottom : Row = is_in_place.row.0 in
+    let at_bottom : IsBottomRow f box bottom = is_in_place.row.1 in
     let l : Level f.pitch.y box.y1 y k =
     level_of f.pitch.y box.y1 y f.pitch_whole.high k covers.bottom (subst (λ (t : ℤ). y <ℤ t) high.high covers.top) in
-    let carried = stands.stand k bottom high at_bottom l.j l.less in
+    let carried = is_in_place.are_placed k bottom high at_bottom l.j l.less in
     let row : Row = carried.0 in
     let carries : Supports f box bottom l.j row = carried.1 in
-    let place = row_at f row carries.heeded in
+    let place = row_at f row carries.core_ones in
     record {
       number = place.0;
       row = row;
-      stands = place.1;
+      is_in_place = place.1;
       lies = lies k bottom l.j place.0 row high at_bottom l.less place.1 carries;
       covers = point_in_row f box l.j row x y carries.at_row covers l.from l.below;
     }
@@ -146,19 +146,19 @@ record OpenPoint (f : Frame) (obstacles : List Rect) (team : ℕ) (x y : ℤ) : 
 
 open_point : (f : Frame) (obstacles : List Rect) (segments : List Segment) (team : ℕ) (box : Rect) → IsCutBeside f obstacles segments → RestsOnRows f box → box.x1 <ℤ box.x2 →
     LiesInSegments f segments team box → (x y : ℤ) → Covers box x y → OpenPoint f obstacles team x y
-open_point f obstacles segments team box cut stands wide lies x y covers =
-    let i = in_segment f segments team box stands lies x y covers in
+open_point f obstacles segments team box cut is_in_place wide lies x y covers =
+    let i = in_segment f segments team box is_in_place lies x y covers in
     record {
       row = i.row;
-      there = (cut.exact i.number i.row team (x_extent box) i.stands wide).0 i.lies x record { low = covers.left; high = covers.right };
+      there = (cut.exact i.number i.row team (x_extent box) i.is_in_place wide).0 i.lies x record { low = covers.left; high = covers.right };
       covers = i.covers;
     }
 
 pub segments_suffice : (f : Frame) (obstacles : List Rect) (segments : List Segment) (team : ℕ) (box : Rect) → IsCutBeside f obstacles segments → RestsOnRows f box → box.x1 <ℤ box.x2 →
     LiesInSegments f segments team box → StaysInGround f team box × All (λ o. SharesPoint box o → ⊥) obstacles
-segments_suffice f obstacles segments team box cut stands wide lies = (
-  λ x y covers. let o = open_point f obstacles segments team box cut stands wide lies x y covers in o.there.ground y o.covers,
+segments_suffice f obstacles segments team box cut is_in_place wide lies = (
+  λ x y covers. let o = open_point f obstacles segments team box cut is_in_place wide lies x y covers in o.there.ground y o.covers,
   λ m d within shares.
-      let o = open_point f obstacles segments team box cut stands wide lies shares.x shares.y shares.in_first in
+      let o = open_point f obstacles segments team box cut is_in_place wide lies shares.x shares.y shares.in_first in
       o.there.clear.clear shares.y o.covers m d within shares.in_second,
 )

@@ -5,7 +5,7 @@ use Rattle.std.proofs.lemmas.Int.{ints}
 use Rattle.std.proofs.lemmas.List.{get_or_default}
 use Rattle.std.proofs.lemmas.List.Elements.{All-contains, All-head, All-tail, All-weaker}
 use Rattle.lf_units.specs.declared.geometry.Rect.{Rect}
-use Rattle.lf_spans.specs.Spans.{Holds, IsFilled, LiesIn}
+use Rattle.lf_spans.specs.Spans.{HoldsNumber, IsFilled, LiesIn}
 use Rattle.lf_spans.specs.Steps.{ContainsSpan}
 use Rattle.lf_spans.proofs.Edges.{in_of_lies}
 use Rattle.lf_floorplan.specs.declared.frame.Frame.{Frame}
@@ -30,14 +30,14 @@ never_both a b f g (inr (p, inr t)) (inr (q, inl u)) = let same = t.0 in omega (
 never_both a b f g (inr (p, inr t)) (inr (q, inr u)) = let first = t.1 in let second = u.1 in omega (arith, ints, f, g, first, second)
 
 -- Two ordered segments of the same row and team share no number.
-share_none : (a b : Segment) (x : ℤ) → ComesBefore a b → a.row ≡ b.row → a.team ≡ b.team → Holds a.span x → Holds b.span x → ⊥
+share_none : (a b : Segment) (x : ℤ) → ComesBefore a b → a.row ≡ b.row → a.team ≡ b.team → HoldsNumber a.span x → HoldsNumber b.span x → ⊥
 share_none a b x (inl p) row team h k = omega (arith, p, row)
 share_none a b x (inr (p, inl t)) row team h k = omega (arith, t, team)
 share_none a b x (inr (p, inr t)) row team h k = let apart = t.1 in let high = h.high in let low = k.low in omega (arith, ints, apart, high, low)
 
 -- In an ordered list, two segments of the same row and team that share a number are the same.
 pub one_at : (xs : List Segment) (g h : Segment) (x : ℤ) → AllPairs ComesBefore xs → Contains xs g → Contains xs h → g.row ≡ h.row → g.team ≡ h.team →
-    Holds g.span x → Holds h.span x → g ≡ h
+    HoldsNumber g.span x → HoldsNumber h.span x → g ≡ h
 one_at xs g h x pairs (i, within_i, is_g) (j, within_j, is_h) row team in_g in_h = elim order [
   | inl less ↦
       let before : ComesBefore g h = subst (λ (v : Segment). ComesBefore v h) is_g
@@ -81,7 +81,7 @@ in_other f obstacles a b first second g there =
     let back = (first.exact g.row row.0 g.team h.span row.1 h_known.filled).1 ((second.exact g.row row.0 g.team h.span row.1 h_known.filled).0 lies) in
     let outer : LiesIn h.span back.1.span = back.4.1 in
     let filled = known.filled in
-    let start : Holds g.span g.span.lo = record { low = omega (arith, ints); high = filled } in
+    let start : HoldsNumber g.span g.span.lo = record { low = omega (arith, ints); high = filled } in
     let one : g ≡ back.1 =
     one_at a g back.1 g.span.lo first.in_order there (back.0, back.2, back.3) (sym back.4.0.in_row) (sym back.4.0.of_team) start
     (outer g.span.lo (inner g.span.lo start)) in

@@ -184,7 +184,7 @@ pub are_near : (xs : List Strip) (row team : ℕ) (lo hi : ℤ) (start end : ℕ
     ((k : ℕ) (d : Strip) → start ≤ k → k < end → is_earlier row team (int_lt (get_or xs k d).area.x1 hi) (get_or xs k d) ≡ true) →
     ((k : ℕ) (d : Strip) → end ≤ k → k < length xs → is_earlier row team (int_lt (get_or xs k d).area.x1 hi) (get_or xs k d) ≡ false) →
     AreNear xs row team lo hi start end
-are_near xs row team lo hi start end bound ended left before behind = record {
+are_near xs row team lo hi start end bound ended left before after_it = record {
   within = bound;
   exact = λ n d within. (
     λ both. near_of row team lo hi (get_or xs n d) (left n d both.0 within) (before n d both.0 both.1),
@@ -199,7 +199,7 @@ are_near xs row team lo hi start end bound ended left before behind = record {
         order = grind arith
 
     to : (n : ℕ) (d : Strip) → n < length xs → IsNear row team lo hi (get_or xs n d) → n < end
-    to n d within near = elim order [ inl h ↦ h | inr h ↦ absurd (begun row team lo hi (get_or xs n d) near (behind n d h within)) ]
+    to n d within near = elim order [ inl h ↦ h | inr h ↦ absurd (begun row team lo hi (get_or xs n d) near (after_it n d h within)) ]
       where
         order : (n < end) ⊎ (end ≤ n)
         order = grind arith

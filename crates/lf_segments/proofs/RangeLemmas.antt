@@ -80,7 +80,7 @@ rest_in_all left xs row team start end n range rest k d least inside = elim two 
   | inr past ↦
       let many = length-map xs (λ (g : Strip). g.row) in
       let is = row_in xs k 0 d inside in
-      let high = range.behind k 0 past (omega (arith, many, inside)) in
+      let high = range.after_it k 0 past (omega (arith, many, inside)) in
       later_row row team (left (get_or xs k d)) (get_or xs k d) (omega (arith, is, high))
 ]
   where
@@ -108,7 +108,7 @@ pub near_in_row : (xs : List Strip) (row team : ℕ) (lo hi : ℤ) (start end n 
     ((k : ℕ) (d : Strip) → m ≤ k → k < length (part xs start end) →
     is_earlier row team (int_lt (get_or (part xs start end) k d).area.x1 hi) (get_or (part xs start end) k d) ≡ false) →
     AreNear xs row team lo hi (start + n) (start + m)
-near_in_row xs row team lo hi start end n m range first second ended left begun behind =
+near_in_row xs row team lo hi start end n m range first second ended left begun after_it =
     let within = end_within xs row start end range in
     let order = range.order in
     let long = part_long xs start end order within in
@@ -116,4 +116,4 @@ near_in_row xs row team lo hi start end n m range first second ended left begun 
     (earlier_in_all (λ g. int_le g.area.x2 lo) xs row team start end n range (omega (arith, long, first)) ended)
     (rest_in_all (λ g. int_le g.area.x2 lo) xs row team start end n range left)
     (run_in_all (λ g. int_lt g.area.x1 hi) xs row team start end n m (omega (arith, long, second)) begun)
-    (rest_in_all (λ g. int_lt g.area.x1 hi) xs row team start end m range behind)
+    (rest_in_all (λ g. int_lt g.area.x1 hi) xs row team start end m range after_it)

@@ -10,7 +10,7 @@ use Rattle.std.proofs.lemmas.List.Elements.{All-nil, All-append, All-weaker, All
 use Rattle.lf_units.proofs.Any.{any_parts, any_left, any_right, any_map, any_mapped}
 use Rattle.lf_units.specs.declared.geometry.Rect.{Rect}
 use Rattle.lf_spans.specs.declared.span.Span.{Span}
-use Rattle.lf_spans.specs.Spans.{Holds, IsFilled, LiesIn, LiesInOneOf}
+use Rattle.lf_spans.specs.Spans.{HoldsNumber, IsFilled, LiesIn, LiesInOneOf}
 use Rattle.lf_floorplan.specs.declared.frame.Frame.{Frame}
 use Rattle.lf_floorplan.specs.declared.parts.Row.{Row}
 use Rattle.lf_segments.specs.declared.segment.Segment.{Segment}
@@ -62,7 +62,7 @@ no_team : (xs : List Segment) (row u : ℕ) (s : Span) → All (λ g. IsOf row u
 no_team xs row u s none a = none a.0 a.1 a.2 (subst (IsOf row u) (sym a.3) a.4.0)
 
 -- If a team may use nothing, it has no filled span.
-nothing_open : (f : Frame) (obstacles : List Rect) (r : Row) (u : ℕ) (s : Span) → ((x : ℤ) → IsOpen f obstacles r u x → ⊥) → IsFilled s → ((x : ℤ) → Holds s x → IsOpen f obstacles r u x) → ⊥
+nothing_open : (f : Frame) (obstacles : List Rect) (r : Row) (u : ℕ) (s : Span) → ((x : ℤ) → IsOpen f obstacles r u x → ⊥) → IsFilled s → ((x : ℤ) → HoldsNumber s x → IsOpen f obstacles r u x) → ⊥
 nothing_open f obstacles r u s none filled each = none s.lo (each s.lo record { low = omega (arith, ints); high = filled })
 
 -- ---- team by team
@@ -124,7 +124,7 @@ row_more f obstacles number r own old new newer spans a open_spans is = record {
             ],
             λ each. any_left (Lies u s) a.added more (old_one.1 each),
           )
-      | inr same ↦ subst (λ (t : ℕ). LiesInSegment (a.added ++ more) number t s ↔ ((x : ℤ) → Holds s x → IsOpen f obstacles r t x)) same (
+      | inr same ↦ subst (λ (t : ℕ). LiesInSegment (a.added ++ more) number t s ↔ ((x : ℤ) → HoldsNumber s x → IsOpen f obstacles r t x)) same (
         λ h. elim (any_parts (Lies own s) a.added more h) [
           | inl early ↦ absurd (no_team a.added number own s others early)
           | inr late ↦ (open_spans.exact s filled).0 (of_map number own spans number own s late).2
@@ -182,7 +182,7 @@ pub record IsCutTo (f : Frame) (obstacles : List Rect) (n : ℕ) (segments : Lis
   pub known : All (λ g. (g.row < n) × ((g.team ≤ length f.teams) × IsFilled g.span)) segments
   pub in_order : AllPairs ComesBefore segments
   pub exact : (m : ℕ) (r : Row) (team : ℕ) (s : Span) → m < n → slice_get f.rows m ≡ Some r → IsFilled s →
-      (LiesInSegment segments m team s ↔ ((x : ℤ) → Holds s x → IsOpen f obstacles r team x))
+      (LiesInSegment segments m team s ↔ ((x : ℤ) → HoldsNumber s x → IsOpen f obstacles r team x))
 
 pub cut_more : (f : Frame) (obstacles : List Rect) (n : ℕ) (r : Row) (old new : List Segment) → slice_get f.rows n ≡ Some r → ((u : ℕ) (x : ℤ) → IsOpen f obstacles r u x → u ≤ length f.teams) →
     IsCutTo f obstacles n old → AddsRow f obstacles n r (length f.teams + 1) old new → IsCutTo f obstacles (n + 1) new
@@ -229,7 +229,7 @@ cut_more f obstacles n r old new is_row is_team c a = subst (IsCutTo f obstacles
     team_or : (u : ℕ) → (u < length f.teams + 1) ⊎ (length f.teams < u)
     team_or u = grind arith
 
-    of_added : (u : ℕ) (s : Span) → IsFilled s → (LiesInSegment a.added n u s ↔ ((x : ℤ) → Holds s x → IsOpen f obstacles r u x))
+    of_added : (u : ℕ) (s : Span) → IsFilled s → (LiesInSegment a.added n u s ↔ ((x : ℤ) → HoldsNumber s x → IsOpen f obstacles r u x))
     of_added u s filled = elim (team_or u) [
       | inl low ↦ a.cut.exact u s low filled
       | inr high ↦ (
@@ -239,7 +239,7 @@ cut_more f obstacles n r old new is_row is_team c a = subst (IsCutTo f obstacles
       )
     ]
 
-    here : (u : ℕ) (s : Span) → IsFilled s → (LiesInSegment (old ++ a.added) n u s ↔ ((x : ℤ) → Holds s x → IsOpen f obstacles r u x))
+    here : (u : ℕ) (s : Span) → IsFilled s → (LiesInSegment (old ++ a.added) n u s ↔ ((x : ℤ) → HoldsNumber s x → IsOpen f obstacles r u x))
     here u s filled = (
       λ h. elim (any_parts (Lies n u s) old a.added h) [
         | inl early ↦ absurd (no_team old n u s (not_old u) early)
@@ -249,7 +249,7 @@ cut_more f obstacles n r old new is_row is_team c a = subst (IsCutTo f obstacles
     )
 
     exact : (m : ℕ) (q : Row) (team : ℕ) (s : Span) → m < n + 1 → slice_get f.rows m ≡ Some q → IsFilled s →
-        (LiesInSegment (old ++ a.added) m team s ↔ ((x : ℤ) → Holds s x → IsOpen f obstacles q team x))
+        (LiesInSegment (old ++ a.added) m team s ↔ ((x : ℤ) → HoldsNumber s x → IsOpen f obstacles q team x))
     exact m q team s low is filled = elim (side m low) [
       | inl below ↦
           let old_one = c.exact m q team s below is filled in (
@@ -261,8 +261,8 @@ cut_more f obstacles n r old new is_row is_team c a = subst (IsCutTo f obstacles
           )
       | inr same ↦
           let rows : r ≡ q = some_same (sym is_row ∙ ap (λ (k : ℕ). slice_get f.rows k) same ∙ is) in
-          subst (λ (v : Row). LiesInSegment (old ++ a.added) m team s ↔ ((x : ℤ) → Holds s x → IsOpen f obstacles v team x)) rows
-          (subst (λ (k : ℕ). LiesInSegment (old ++ a.added) k team s ↔ ((x : ℤ) → Holds s x → IsOpen f obstacles r team x)) same (here team s filled))
+          subst (λ (v : Row). LiesInSegment (old ++ a.added) m team s ↔ ((x : ℤ) → HoldsNumber s x → IsOpen f obstacles v team x)) rows
+          (subst (λ (k : ℕ). LiesInSegment (old ++ a.added) k team s ↔ ((x : ℤ) → HoldsNumber s x → IsOpen f obstacles r team x)) same (here team s filled))
     ]
       where
         some_same : {a b : Row} → Some a ≡ Some b → a ≡ b

@@ -38,7 +38,7 @@ pub run_at : (n : Segment → ℕ) (xs ys : List Segment) (t f c : ℕ) → f �
     IsRunFrom (λ g. n g ≡ t) xs f (take c ys)
 run_at n xs ys t f c within same below from up_to beyond = record {
   before = take f xs;
-  behind = drop c ys;
+  after_it = drop c ys;
   parts = sym (take-append-drop f xs) ∙ ap (λ (zs : List Segment). take f xs ++ zs) (sym same ∙ sym (take-append-drop c ys));
   begins = let long = length-take f xs in omega (arith, long, within);
   has = λ k d inside.
@@ -55,7 +55,7 @@ run_at n xs ys t f c within same below from up_to beyond = record {
       let low : n (get_or xs k d) < t = below k d less in
       let is : n (get_or (take f xs) k d) ≡ n (get_or xs k d) = ap n (get_or-take f xs k d less) in
       omega (arith, low, is, same_number);
-  none_behind = λ k d inside same_number.
+  none_after = λ k d inside same_number.
       let long = length-drop c ys in
       let high : t < n (get_or ys (c + k) d) = beyond (c + k) d (omega arith) (omega (arith, long, inside)) in
       let is : n (get_or (drop c ys) k d) ≡ n (get_or ys (c + k) d) = ap n (get_or-drop c ys k d) in
@@ -76,41 +76,41 @@ pub run_within : (P Q R : Segment → Type 0) (xs ys zs : List Segment) (m n : �
     ((g : Segment) → R g → Q g) → IsRunFrom P xs m ys → IsRunFrom Q ys n zs → IsRunFrom R xs (m + n) zs
 run_within P Q R xs ys zs m n both first second a b = record {
   before = a.before ++ b.before;
-  behind = b.behind ++ a.behind;
+  after_it = b.after_it ++ a.after_it;
   parts =
-      a.parts ∙ ap (λ (vs : List Segment). a.before ++ (vs ++ a.behind)) b.parts
-      ∙ ap (λ (vs : List Segment). a.before ++ vs) (append_assoc b.before (zs ++ b.behind) a.behind)
-      ∙ ap (λ (vs : List Segment). a.before ++ (b.before ++ vs)) (append_assoc zs b.behind a.behind)
-      ∙ sym (append_assoc a.before b.before (zs ++ (b.behind ++ a.behind)));
+      a.parts ∙ ap (λ (vs : List Segment). a.before ++ (vs ++ a.after_it)) b.parts
+      ∙ ap (λ (vs : List Segment). a.before ++ vs) (append_assoc b.before (zs ++ b.after_it) a.after_it)
+      ∙ ap (λ (vs : List Segment). a.before ++ (b.before ++ vs)) (append_assoc zs b.after_it a.after_it)
+      ∙ sym (append_assoc a.before b.before (zs ++ (b.after_it ++ a.after_it)));
   begins = let long = length-append a.before b.before in let p = a.begins in let q = b.begins in omega (arith, long, p, q);
   has = λ k d inside.
       let x : Segment = get_or zs k d in
-      let in_part : Contains (zs ++ b.behind) x = Contains-append_left zs b.behind x (Contains-get_or zs k d inside) in
-      let in_whole : Contains (b.before ++ (zs ++ b.behind)) x = Contains-append_right b.before (zs ++ b.behind) x in_part in
+      let in_part : Contains (zs ++ b.after_it) x = Contains-append_left zs b.after_it x (Contains-get_or zs k d inside) in
+      let in_whole : Contains (b.before ++ (zs ++ b.after_it)) x = Contains-append_right b.before (zs ++ b.after_it) x in_part in
       let in_run : Contains ys x = subst (λ (vs : List Segment). Contains vs x) (sym b.parts) in_whole in
       both x (All-contains P ys x a.has in_run) (b.has k d inside);
   none_before =
       All-append (λ g. R g → ⊥) a.before b.before (All-weaker (λ g. P g → ⊥) (λ g. R g → ⊥) (λ g none r. none (first g r)) a.before a.none_before)
       (All-weaker (λ g. Q g → ⊥) (λ g. R g → ⊥) (λ g none r. none (second g r)) b.before b.none_before);
-  none_behind =
-      All-append (λ g. R g → ⊥) b.behind a.behind (All-weaker (λ g. Q g → ⊥) (λ g. R g → ⊥) (λ g none r. none (second g r)) b.behind b.none_behind)
-      (All-weaker (λ g. P g → ⊥) (λ g. R g → ⊥) (λ g none r. none (first g r)) a.behind a.none_behind);
+  none_after =
+      All-append (λ g. R g → ⊥) b.after_it a.after_it (All-weaker (λ g. Q g → ⊥) (λ g. R g → ⊥) (λ g none r. none (second g r)) b.after_it b.none_after)
+      (All-weaker (λ g. P g → ⊥) (λ g. R g → ⊥) (λ g none r. none (first g r)) a.after_it a.none_after);
 }
 
 -- An element of a run, by its position in the list.
 pub run_get : (P : Segment → Type 0) (xs ys : List Segment) (n : ℕ) → IsRunFrom P xs n ys → (k : ℕ) (d : Segment) → k < length ys →
     get_or xs (n + k) d ≡ get_or ys k d
 run_get P xs ys n a k d within =
-    let At : ℕ → Type 0 = λ m. get_or (a.before ++ (ys ++ a.behind)) (m + k) d ≡ get_or ys k d in
-    let there : get_or (a.before ++ (ys ++ a.behind)) (n + k) d ≡ get_or ys k d =
-    subst At (sym a.begins) (get_or-append-add a.before (ys ++ a.behind) k d ∙ get_or_append_left ys a.behind d k within) in
+    let At : ℕ → Type 0 = λ m. get_or (a.before ++ (ys ++ a.after_it)) (m + k) d ≡ get_or ys k d in
+    let there : get_or (a.before ++ (ys ++ a.after_it)) (n + k) d ≡ get_or ys k d =
+    subst At (sym a.begins) (get_or-append-add a.before (ys ++ a.after_it) k d ∙ get_or_append_left ys a.after_it d k within) in
     ap (λ (vs : List Segment). get_or vs (n + k) d) a.parts ∙ there
 
 run_long : (P : Segment → Type 0) (xs ys : List Segment) (n : ℕ) → IsRunFrom P xs n ys → n + length ys ≤ length xs
 run_long P xs ys n a =
-    let whole : length xs ≡ length (a.before ++ (ys ++ a.behind)) = ap (λ (vs : List Segment). length vs) a.parts in
-    let first = length-append a.before (ys ++ a.behind) in
-    let second = length-append ys a.behind in
+    let whole : length xs ≡ length (a.before ++ (ys ++ a.after_it)) = ap (λ (vs : List Segment). length vs) a.parts in
+    let first = length-append a.before (ys ++ a.after_it) in
+    let second = length-append ys a.after_it in
     let begins = a.begins in
     omega (arith, whole, first, second, begins)
 
@@ -130,11 +130,11 @@ run_all Q P xs ys n all a k d within =
 -- An element that has the property is in the run.
 pub in_run : (P : Segment → Type 0) (xs ys : List Segment) (n : ℕ) (g : Segment) → IsRunFrom P xs n ys → Contains xs g → P g → Contains ys g
 in_run P xs ys n g a there has =
-    elim (Contains-append_cases a.before (ys ++ a.behind) g (subst (λ (vs : List Segment). Contains vs g) a.parts there)) [
+    elim (Contains-append_cases a.before (ys ++ a.after_it) g (subst (λ (vs : List Segment). Contains vs g) a.parts there)) [
       | inl before ↦ absurd (All-contains (λ h. P h → ⊥) a.before g a.none_before before has)
-      | inr rest ↦ elim (Contains-append_cases ys a.behind g rest) [
+      | inr rest ↦ elim (Contains-append_cases ys a.after_it g rest) [
         | inl inside ↦ inside
-        | inr behind ↦ absurd (All-contains (λ h. P h → ⊥) a.behind g a.none_behind behind has)
+        | inr after_it ↦ absurd (All-contains (λ h. P h → ⊥) a.after_it g a.none_after after_it has)
       ]
     ]
 
@@ -235,5 +235,5 @@ found_at xs run row team n k x e a within low rest d =
     let there : IsAt row team x (get_or run k d) = subst (IsAt row team x) (get_or_default run k e d within) here in
     subst (IsAt row team x) (sym (run_get (IsOf row team) xs run n a k d within)) there
 
-pub not_behind : (x low : ℤ) → (x <ℤ low → ⊥) → low ≤ℤ x
-not_behind x low never = by_lt_z x low (λ less. absurd (never less)) (λ more. more)
+pub not_after : (x low : ℤ) → (x <ℤ low → ⊥) → low ≤ℤ x
+not_after x low never = by_lt_z x low (λ less. absurd (never less)) (λ more. more)

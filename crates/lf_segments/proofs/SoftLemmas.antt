@@ -13,28 +13,28 @@ use Rattle.lf_units.specs.declared.geometry.Rect.{Rect}
 use Rattle.lf_units.specs.Area.{Covers, SharesPoint}
 use Rattle.lf_units.proofs.Any.{any_first, any_map, any_mapped, any_one, has_item}
 use Rattle.lf_spans.specs.declared.span.Span.{Span}
-use Rattle.lf_spans.specs.Spans.{Holds, IsJoin, IsMeet, LiesIn}
+use Rattle.lf_spans.specs.Spans.{HoldsNumber, IsJoin, IsMeet, LiesIn}
 use Rattle.lf_rtree.specs.declared.placed.Placed.{Placed}
-use Rattle.lf_rtree.specs.Near.{AreNear}
+use Rattle.lf_rtree.specs.Near.{AreAllOverlapping}
 use Rattle.lf_rtree.proofs.Nears.{each_near, only_near}
 use Rattle.lf_floorplan.specs.declared.frame.Frame.{Frame}
 use Rattle.lf_segments.specs.declared.segment.Segment.{Segment}
 use Rattle.lf_segments.specs.declared.strip.Strip.{Strip}
-use Rattle.lf_segments.specs.Boxes.{x_extent, numbered}
-use Rattle.lf_segments.specs.Grounds.{AreSoft}
-use Rattle.lf_segments.specs.Soft.{AreMetSpans, AreSoftIn, AreSoftOver, IsSoftAt, pieces, soft_boxes}
+use Rattle.lf_segments.specs.Boxes.{x_extent, placed_with_number}
+use Rattle.lf_segments.specs.Indexes.{AreSoft}
+use Rattle.lf_segments.specs.Soft.{AreOverlappedSpans, AreSoftIn, AreSoftOver, IsSoftAt, lists_from, soft_boxes}
 use Rattle.lf_segments.specs.Strips.{strip_of}
 use Rattle.lf_segments.proofs.TreeLemmas.{map_there, of_map}
 
 -- ---- concatenated lists
 
-pub length-pieces : (spans : List Span) (starts : List ℕ) → length (pieces spans starts) ≡ length starts
+pub length-pieces : (spans : List Span) (starts : List ℕ) → length (lists_from spans starts) ≡ length starts
 length-pieces spans [] = refl
 length-pieces spans (a ∷ starts) = ap (λ (n : ℕ). suc n) (length-pieces spans starts)
 
 -- The list with this number lies between its start and the next one.
 pub piece_at : (spans : List Span) (starts : List ℕ) (k d : ℕ) → k < length starts →
-    get_or (pieces spans starts) k [] ≡ take (get_or starts (k + 1) (length spans) - get_or starts k d) (drop (get_or starts k d) spans)
+    get_or (lists_from spans starts) k [] ≡ take (get_or starts (k + 1) (length spans) - get_or starts k d) (drop (get_or starts k d) spans)
 piece_at spans [] k d within = absurd (omega (arith, within))
 piece_at spans (a ∷ starts) zero d within = refl
 piece_at spans (a ∷ starts) (suc k) d within =
@@ -42,17 +42,17 @@ piece_at spans (a ∷ starts) (suc k) d within =
     piece_at spans starts k d (omega (arith, within))
     ∙ ap (λ (n : ℕ). take (get_or (a ∷ starts) n (length spans) - get_or starts k d) (drop (get_or starts k d) spans)) same
 
-pub piece_past : (spans : List Span) (starts : List ℕ) (k : ℕ) → length starts ≤ k → get_or (pieces spans starts) k [] ≡ []
-piece_past spans starts k past = let long = length-pieces spans starts in get_or_past (pieces spans starts) k [] (omega (arith, long, past))
+pub piece_past : (spans : List Span) (starts : List ℕ) (k : ℕ) → length starts ≤ k → get_or (lists_from spans starts) k [] ≡ []
+piece_past spans starts k past = let long = length-pieces spans starts in get_or_past (lists_from spans starts) k [] (omega (arith, long, past))
 
 pub piece_between : (spans : List Span) (starts : List ℕ) (k start end : ℕ) → k < length starts → start ≡ get_or starts k start →
-    end ≡ get_or starts (k + 1) (length spans) → take (end - start) (drop start spans) ≡ get_or (pieces spans starts) k []
+    end ≡ get_or starts (k + 1) (length spans) → take (end - start) (drop start spans) ≡ get_or (lists_from spans starts) k []
 piece_between spans starts k start end within first last =
     ap (λ (n : ℕ). take (n - start) (drop start spans)) last
     ∙ ap (λ (n : ℕ). take (get_or starts (k + 1) (length spans) - n) (drop n spans)) first ∙ sym (piece_at spans starts k start within)
 
 -- If there are no spans, each list is empty.
-pub no_pieces : (spans : List Span) (starts : List ℕ) (k : ℕ) → length spans ≡ 0 → get_or (pieces spans starts) k [] ≡ []
+pub no_pieces : (spans : List Span) (starts : List ℕ) (k : ℕ) → length spans ≡ 0 → get_or (lists_from spans starts) k [] ≡ []
 no_pieces (s ∷ spans) starts k none = absurd (omega (arith, none))
 no_pieces [] starts k none = bare starts k
   where
@@ -62,7 +62,7 @@ no_pieces [] starts k none = bare starts k
     none_of (suc n) zero = refl
     none_of (suc n) (suc a) = refl
 
-    bare : (firsts : List ℕ) (i : ℕ) → get_or (pieces [] firsts) i [] ≡ []
+    bare : (firsts : List ℕ) (i : ℕ) → get_or (lists_from [] firsts) i [] ≡ []
     bare [] zero = refl
     bare [] (suc i) = refl
     bare (a ∷ firsts) zero = none_of (get_or firsts 0 0 - a) a
@@ -70,7 +70,7 @@ no_pieces [] starts k none = bare starts k
 
 -- One more list at the end.
 pub pieces_more : (spans more : List Span) (starts : List ℕ) → All (λ n. n ≤ length spans) starts →
-    pieces (spans ++ more) (starts ++ length spans ∷ []) ≡ pieces spans starts ++ more ∷ []
+    lists_from (spans ++ more) (starts ++ length spans ∷ []) ≡ lists_from spans starts ++ more ∷ []
 pieces_more spans more [] within = ap (λ (xs : List Span). xs ∷ []) last
   where
     long : length (spans ++ more) - length spans ≡ length more
@@ -81,7 +81,7 @@ pieces_more spans more [] within = ap (λ (xs : List Span). xs ∷ []) last
         ap (λ (n : ℕ). take n (drop (length spans) (spans ++ more))) long
         ∙ ap (λ (xs : List Span). take (length more) xs) (drop-append_seam spans more) ∙ take-length more
 pieces_more spans more (a ∷ rest) within =
-    ap (λ (xs : List Span). xs ∷ pieces (spans ++ more) (rest ++ length spans ∷ [])) head
+    ap (λ (xs : List Span). xs ∷ lists_from (spans ++ more) (rest ++ length spans ∷ [])) head
     ∙ ap (λ (ps : List (List Span)). take (end - a) (drop a spans) ∷ ps) (pieces_more spans more rest (All-tail (λ n. n ≤ length spans) a rest within))
   where
     end : ℕ
@@ -111,40 +111,40 @@ pieces_more spans more (a ∷ rest) within =
 
 -- ---- the soft spans of a strip
 
-pub spans_met_of : (area : Rect) (boxes : List Placed) (joined met : List Span) → IsJoin (map (λ p. x_extent p.rect) boxes) joined →
-    IsMeet (x_extent area ∷ []) joined met → AreMetSpans area boxes met
-spans_met_of area boxes joined met j m = record {
+pub spans_overlapped_of : (area : Rect) (boxes : List Placed) (joined overlapping_one : List Span) → IsJoin (map (λ p. x_extent p.rect) boxes) joined →
+    IsMeet (x_extent area ∷ []) joined overlapping_one → AreOverlappedSpans area boxes overlapping_one
+spans_overlapped_of area boxes joined overlapping_one j m = record {
   rising = m.rising;
   exact = λ s filled. (
     λ h.
         let both = (m.exact s filled).0 h in (
           any_one (λ t. LiesIn s t) (x_extent area) both.0,
-          λ x holds. any_mapped (λ (p : Placed). x_extent p.rect) (λ t. Holds t x) boxes ((j.exact s filled).0 both.1 x holds),
+          λ x holds. any_mapped (λ (p : Placed). x_extent p.rect) (λ t. HoldsNumber t x) boxes ((j.exact s filled).0 both.1 x holds),
         ),
     λ h. (m.exact s filled).1 (
       any_first (λ t. LiesIn s t) (x_extent area) [] h.0,
-      (j.exact s filled).1 (λ x holds. any_map (λ (p : Placed). x_extent p.rect) (λ t. Holds t x) boxes (h.1 x holds)),
+      (j.exact s filled).1 (λ x holds. any_map (λ (p : Placed). x_extent p.rect) (λ t. HoldsNumber t x) boxes (h.1 x holds)),
     ),
   );
 }
 
-pub soft_of : (f : Frame) (area : Rect) (tree near : List Placed) (spans : List Span) → IsPermutation (soft_boxes f) tree → AreNear tree area near →
-    AreMetSpans area near spans → AreSoftIn f area spans
+pub soft_of : (f : Frame) (area : Rect) (tree near : List Placed) (spans : List Span) → IsPermutation (soft_boxes f) tree → AreAllOverlapping tree area near →
+    AreOverlappedSpans area near spans → AreSoftIn f area spans
 soft_of f area tree near spans moved n m = record {
   rising = m.rising;
   exact = λ s filled. (
     λ h. let both = (m.exact s filled).0 h in (both.0, λ x holds. soft_there x (both.0 x holds) (both.1 x holds)),
-    λ h. (m.exact s filled).1 (h.0, λ x holds. met_there x (h.0 x holds) (h.1 x holds)),
+    λ h. (m.exact s filled).1 (h.0, λ x holds. overlapped_there x (h.0 x holds) (h.1 x holds)),
   );
 }
   where
-    soft_there : (x : ℤ) → Holds (x_extent area) x → Any (λ p. Holds (x_extent p.rect) x) near → IsSoftAt f area x
+    soft_there : (x : ℤ) → HoldsNumber (x_extent area) x → Any (λ p. HoldsNumber (x_extent p.rect) x) near → IsSoftAt f area x
     soft_there x in_area (k, p, within, is, over) =
         let there : Contains near p = (k, within, is) in
         let found = All-contains (λ q. Contains tree q × SharesPoint area q.rect) near p (only_near tree area near n) there in
         let touch : SharesPoint area p.rect = found.1 in
         let back : Contains (soft_boxes f) p = Contains-permutation tree (soft_boxes f) p (IsPermutation-sym (soft_boxes f) tree moved) found.0 in
-        let from = of_map (numbered 0) f.soft p back in
+        let from = of_map (placed_with_number 0) f.soft p back in
         let rect : from.0 ≡ p.rect = ap (λ (q : Placed). q.rect) from.2 in
         record {
           y = touch.y;
@@ -153,17 +153,17 @@ soft_of f area tree near spans moved n m = record {
               record { left = over.low; right = over.high; bottom = touch.in_second.bottom; top = touch.in_second.top };
         }
 
-    met_there : (x : ℤ) → Holds (x_extent area) x → IsSoftAt f area x → Any (λ p. Holds (x_extent p.rect) x) near
-    met_there x in_area h =
+    overlapped_there : (x : ℤ) → HoldsNumber (x_extent area) x → IsSoftAt f area x → Any (λ p. HoldsNumber (x_extent p.rect) x) near
+    overlapped_there x in_area h =
         let a = h.soft in
         let r : Rect = a.1 in
         let covers : Covers r x h.y = a.4 in
-        let there : Contains tree (numbered 0 r) = Contains-permutation (soft_boxes f) tree (numbered 0 r) moved
-        (map_there (numbered 0) f.soft r (a.0, a.2, a.3)) in
-        let inside : Contains near (numbered 0 r) =
-        All-contains (λ q. SharesPoint area q.rect → Contains near q) tree (numbered 0 r) (each_near tree area near n) there
+        let there : Contains tree (placed_with_number 0 r) = Contains-permutation (soft_boxes f) tree (placed_with_number 0 r) moved
+        (map_there (placed_with_number 0) f.soft r (a.0, a.2, a.3)) in
+        let inside : Contains near (placed_with_number 0 r) =
+        All-contains (λ q. SharesPoint area q.rect → Contains near q) tree (placed_with_number 0 r) (each_near tree area near n) there
         record { x = x; y = h.y; in_first = h.covers; in_second = covers } in
-        has_item (λ p. Holds (x_extent p.rect) x) near (numbered 0 r) inside record { low = covers.left; high = covers.right }
+        has_item (λ p. HoldsNumber (x_extent p.rect) x) near (placed_with_number 0 r) inside record { low = covers.left; high = covers.right }
 
 -- One more strip.
 pub soft_more : (f : Frame) (strips : List Strip) (k : ℕ) (d : Strip) (old new : List (List Span)) (more : List Span) → k < length strips →

@@ -88,7 +88,7 @@ range_is_run xs row start end range =
     let many = rows_many xs in
     let order = range.order in
     let is = row_get xs (start + k) 0 d (omega (arith, long, within, start_in)) in
-    let high = range.behind (start + k) 0 (omega (arith, least, order)) (omega (arith, many, long, within, start_in)) in
+    let high = range.after_it (start + k) 0 (omega (arith, least, order)) (omega (arith, many, long, within, start_in)) in
     let same = ap (λ (g : Segment). g.row) (get_or-drop start xs k d) in
     omega (arith, is, high, same))
   where
@@ -101,7 +101,7 @@ range_is_run xs row start end range =
     at_least : (k : ℕ) → start ≤ k → k < length xs → row ≤ get_or (rows_of xs) k 0
     at_least k least within = elim two [
       | inl before ↦ let here = range.inside k 0 least before in omega (arith, here)
-      | inr past ↦ let many = rows_many xs in let high = range.behind k 0 past (omega (arith, many, within)) in omega (arith, high)
+      | inr past ↦ let many = rows_many xs in let high = range.after_it k 0 past (omega (arith, many, within)) in omega (arith, high)
     ]
       where
         two : (k < end) ⊎ (end ≤ k)

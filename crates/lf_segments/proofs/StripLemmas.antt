@@ -7,7 +7,7 @@ use Rattle.std.proofs.lemmas.Int.{ints}
 use Rattle.std.proofs.lemmas.List.{get_or_default, get_or-map, length-map}
 use Rattle.std.proofs.lemmas.List.Elements.{All-contains, All-map}
 use Rattle.std.proofs.lemmas.Option.{slice_get-get_or}
-use Rattle.lf_spans.specs.Spans.{Holds}
+use Rattle.lf_spans.specs.Spans.{HoldsNumber}
 use Rattle.lf_floorplan.specs.declared.frame.Frame.{Frame}
 use Rattle.lf_floorplan.specs.declared.parts.Row.{Row}
 use Rattle.lf_floorplan.specs.Rows.{IsCoreRow}
@@ -39,12 +39,12 @@ strip_placed : (f : Frame) (segments : List Segment) (rows : List RowEntry) (hei
     All (λ g. IsPlaced rows height (strip_of f g)) segments
 strip_placed f segments rows height same cut by_y k d within = record {
   wide = filled;
-  x_low = let a = heeded.x_in_def.above in let b = (open_at g.span.lo record { low = omega (arith, ints); high = filled }).clear.left in omega
+  x_low = let a = core_ones.x_in_def.above in let b = (open_at g.span.lo record { low = omega (arith, ints); high = filled }).clear.left in omega
       (arith, ints, a, b);
-  x_high = let a = heeded.ends in
+  x_high = let a = core_ones.ends in
       let b = (open_at (g.span.hi -ℤ pos 1) record { low = omega (arith, ints, filled); high = omega (arith, ints) }).clear.right in
       omega (arith, ints, a, b);
-  y_low = let a = heeded.y_in_def.above in omega (arith, ints, a, level);
+  y_low = let a = core_ones.y_in_def.above in omega (arith, ints, a, level);
   high = ap (λ (h : ℤ). row_y f g.row +ℤ h) (sym same);
   found = (found.0, found.1, found.2, found.3, (found.4, entry_level));
 }
@@ -61,20 +61,20 @@ strip_placed f segments rows height same cut by_y k d within = record {
     row : Row
     row = get_or f.rows g.row (some_row f.rows g.row known.row_known)
 
-    stands : slice_get f.rows g.row ≡ Some row
-    stands = slice_get-get_or f.rows g.row (some_row f.rows g.row known.row_known) known.row_known
+    is_in_place : slice_get f.rows g.row ≡ Some row
+    is_in_place = slice_get-get_or f.rows g.row (some_row f.rows g.row known.row_known) known.row_known
 
-    heeded : IsCoreRow f.pitch row
-    heeded = f.rows_heeded g.row (some_row f.rows g.row known.row_known) known.row_known
+    core_ones : IsCoreRow f.pitch row
+    core_ones = f.rows_are_core g.row (some_row f.rows g.row known.row_known) known.row_known
 
     lies : LiesInSegment segments g.row g.team g.span
     lies = (k, g, within, get_or_default segments k _ d within, (record { in_row = refl; of_team = refl }, λ x h. h))
 
-    open_at : (x : ℤ) → Holds g.span x → IsOpen f f.obstacles row g.team x
-    open_at x holds = (cut.exact g.row row g.team g.span stands filled).0 lies x holds
+    open_at : (x : ℤ) → HoldsNumber g.span x → IsOpen f f.obstacles row g.team x
+    open_at x holds = (cut.exact g.row row g.team g.span is_in_place filled).0 lies x holds
 
     level : row_y f g.row ≡ row.y
-    level = ap (λ r. option_map_or (λ (q : Row). q.y) r (pos 0)) stands
+    level = ap (λ r. option_map_or (λ (q : Row). q.y) r (pos 0)) is_in_place
 
     found : Any (λ e. e.row ≡ g.row) rows
     found = by_y.each g.row known.row_known
@@ -82,7 +82,7 @@ strip_placed f segments rows height same cut by_y k d within = record {
     entry_level : found.1.y ≡ row_y f g.row
     entry_level =
         let one : IsEntryOf f found.1 = All-contains (IsEntryOf f) rows found.1 by_y.known (found.0, found.2, found.3) in
-        let there : row_y f found.1.row ≡ one.row.y = ap (λ r. option_map_or (λ (q : Row). q.y) r (pos 0)) one.stands in
+        let there : row_y f found.1.row ≡ one.row.y = ap (λ r. option_map_or (λ (q : Row). q.y) r (pos 0)) one.is_in_place in
         ap (λ (e : RowEntry). e.y) one.is ∙ sym there ∙ ap (λ (n : ℕ). row_y f n) found.4
 
 -- The strips of a frame's segments over its rows in order of y.
@@ -97,9 +97,9 @@ laid_out f segments rows height same cut by_y = record {
 }
 
 -- The strips of a frame's segments have points.
-pub strips_wide : (f : Frame) (segments : List Segment) (strips lent : List Strip) → strips ≡ map (strip_of f) segments → lent ≡ strips → IsCut f segments →
-    All (λ g. g.area.x1 <ℤ g.area.x2) lent
-strips_wide f segments strips lent is same cut =
+pub strips_wide : (f : Frame) (segments : List Segment) (strips borrowed_view : List Strip) → strips ≡ map (strip_of f) segments → borrowed_view ≡ strips → IsCut f segments →
+    All (λ g. g.area.x1 <ℤ g.area.x2) borrowed_view
+strips_wide f segments strips borrowed_view is same cut =
     subst (All (λ (g : Strip). g.area.x1 <ℤ g.area.x2)) (sym (same ∙ is))
     (All-map (λ (g : Strip). g.area.x1 <ℤ g.area.x2) (strip_of f) segments (λ k d within. (cut.known k d within).filled))
 

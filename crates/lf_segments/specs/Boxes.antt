@@ -5,7 +5,7 @@ use Rattle.std.specs.List.Sorted.{IsNonDecreasingBy}
 use Rattle.lf_units.specs.declared.geometry.Rect.{Rect}
 use Rattle.lf_units.specs.Area.{Covers, SharesPoint}
 use Rattle.lf_spans.specs.declared.span.Span.{Span}
-use Rattle.lf_spans.specs.Spans.{Holds, IsFilled, IsRising, LiesInOneOf, HeldByOne}
+use Rattle.lf_spans.specs.Spans.{HoldsNumber, IsFilled, IsRising, LiesInOneOf, HeldByOne}
 use Rattle.lf_rtree.specs.declared.placed.Placed.{Placed}
 use Rattle.lf_floorplan.specs.declared.frame.Frame.{Frame}
 use Rattle.lf_floorplan.specs.declared.parts.Row.{Row}
@@ -16,33 +16,33 @@ use Rattle.lf_segments.specs.declared.segment.Segment.{Segment}
 use Rattle.lf_segments.specs.Segments.{IsClearAt, IsOpen, LiesInSegment, ComesFirst}
 
 -- A rectangle with a number.
-abbrev pub numbered : ℕ → Rect → Placed
-numbered own rect = record { own = own; rect = rect }
+abbrev pub placed_with_number : ℕ → Rect → Placed
+placed_with_number own rect = record { own = own; rect = rect }
 
 -- The rectangles of fences, each with its fence's number; the first fence has the number `own`.
 abbrev pub fence_boxes : ℕ → List Team → List Placed
 fence_boxes own [] = []
-fence_boxes own (t ∷ teams) = map (numbered own) t.rects ++ fence_boxes (own + 1) teams
+fence_boxes own (t ∷ teams) = map (placed_with_number own) t.rects ++ fence_boxes (own + 1) teams
 
 -- The rectangles of the fences, and then the obstacles.
 abbrev pub frame_boxes : Frame → List Placed
-frame_boxes f = fence_boxes 0 f.teams ++ map (numbered (length f.teams)) f.obstacles
+frame_boxes f = fence_boxes 0 f.teams ++ map (placed_with_number (length f.teams)) f.obstacles
 
 -- The point lies in a box of this number.
-abbrev pub IsMetAt : List Placed → ℕ → ℤ → ℤ → Type 0
-IsMetAt boxes own x y = Any (λ p. (p.own ≡ own) × Covers p.rect x y) boxes
+abbrev pub IsOverlappedAt : List Placed → ℕ → ℤ → ℤ → Type 0
+IsOverlappedAt boxes own x y = Any (λ p. (p.own ≡ own) × Covers p.rect x y) boxes
 
 -- The boxes determine which fences cover the point and whether one of the obstacles does.
 pub record DetermineCover (f : Frame) (obstacles : List Rect) (boxes : List Placed) (x y : ℤ) : Type 0 where
-  pub fence : (team : ℕ) → team < length f.teams → (InGround f team x y ↔ IsMetAt boxes team x y)
-  pub obstacle : Any (λ r. Covers r x y) obstacles ↔ IsMetAt boxes (length f.teams) x y
+  pub fence : (team : ℕ) → team < length f.teams → (InGround f team x y ↔ IsOverlappedAt boxes team x y)
+  pub obstacle : Any (λ r. Covers r x y) obstacles ↔ IsOverlappedAt boxes (length f.teams) x y
 
 -- Boxes that share a point with the row, and determine the fences and these obstacles at each of
 -- its points.
 pub record AreBoxesOf (f : Frame) (obstacles : List Rect) (r : Row) (boxes : List Placed) : Type 0 where
   pub known : All (λ p. p.own ≤ length f.teams) boxes
   pub near : All (λ p. SharesPoint (row_area f.pitch r) p.rect) boxes
-  pub tell : (x y : ℤ) → Covers (row_area f.pitch r) x y → DetermineCover f obstacles boxes x y
+  pub report_it : (x y : ℤ) → Covers (row_area f.pitch r) x y → DetermineCover f obstacles boxes x y
 
 -- Boxes in order of their numbers.
 abbrev pub AreSorted : List Placed → Type 0
@@ -64,7 +64,7 @@ AreSpansAt boxes y spans = (x : ℤ) → (HeldByOne spans x ↔ Any (λ p. Cover
 
 -- The boxes cover the whole span at this y.
 abbrev pub AreUnder : List Placed → ℤ → Span → Type 0
-AreUnder boxes y s = (x : ℤ) → Holds s x → Any (λ p. Covers p.rect x y) boxes
+AreUnder boxes y s = (x : ℤ) → HoldsNumber s x → Any (λ p. Covers p.rect x y) boxes
 
 -- The parts of the free spans that the boxes cover at this y.
 pub record IsCoveredAt (boxes : List Placed) (y : ℤ) (free covered : List Span) : Type 0 where
@@ -85,17 +85,17 @@ segment_of row team s = record { row = row; team = team; span = s }
 pub record IsCutOfRow (f : Frame) (obstacles : List Rect) (number : ℕ) (r : Row) (limit : ℕ) (segments : List Segment) : Type 0 where
   pub known : All (λ g. (g.row ≡ number) × ((g.team < limit) × IsFilled g.span)) segments
   pub in_order : AllPairs ComesFirst segments
-  pub exact : (team : ℕ) (s : Span) → team < limit → IsFilled s → (LiesInSegment segments number team s ↔ ((x : ℤ) → Holds s x → IsOpen f obstacles r team x))
+  pub exact : (team : ℕ) (s : Span) → team < limit → IsFilled s → (LiesInSegment segments number team s ↔ ((x : ℤ) → HoldsNumber s x → IsOpen f obstacles r team x))
 
 -- The maximal spans of a row that are clear of obstacles.
 pub record AreClear (f : Frame) (obstacles : List Rect) (r : Row) (spans : List Span) : Type 0 where
   pub rising : IsRising spans
-  pub exact : (s : Span) → IsFilled s → (LiesInOneOf spans s ↔ ((x : ℤ) → Holds s x → IsClearAt f obstacles r x))
+  pub exact : (s : Span) → IsFilled s → (LiesInOneOf spans s ↔ ((x : ℤ) → HoldsNumber s x → IsClearAt f obstacles r x))
 
 -- The maximal spans of a row that the team may use.
 pub record AreOpen (f : Frame) (obstacles : List Rect) (r : Row) (team : ℕ) (spans : List Span) : Type 0 where
   pub rising : IsRising spans
-  pub exact : (s : Span) → IsFilled s → (LiesInOneOf spans s ↔ ((x : ℤ) → Holds s x → IsOpen f obstacles r team x))
+  pub exact : (s : Span) → IsFilled s → (LiesInOneOf spans s ↔ ((x : ℤ) → HoldsNumber s x → IsOpen f obstacles r team x))
 
 -- The row's segments of the teams below a number are appended.
 pub record AddsRow (f : Frame) (obstacles : List Rect) (number : ℕ) (r : Row) (limit : ℕ) (old new : List Segment) : Type 0 where

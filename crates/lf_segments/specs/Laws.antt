@@ -22,7 +22,7 @@ LiesInSegments f segments team box =
 pub record LiesAt (f : Frame) (segments : List Segment) (team : ℕ) (box : Rect) (y : ℤ) : Type 0 where
   pub number : ℕ
   pub row : Row
-  pub stands : slice_get f.rows number ≡ Some row
+  pub is_in_place : slice_get f.rows number ≡ Some row
   pub extends : ExtendsOver f y box.x1 row
   pub lies : LiesInSegment segments number team (x_extent box)
 

@@ -5,5 +5,5 @@ pub mod RowsByY
 pub mod RowStarts
 pub mod Strips
 pub mod Soft
-pub mod Grounds
-pub mod Plans
+pub mod Indexes
+pub mod IndexedFrames

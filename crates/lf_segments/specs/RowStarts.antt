@@ -23,4 +23,4 @@ pub record IsRangeOf (rows : List ℕ) (row start end : ℕ) : Type 0 where
   pub within : end ≤ length rows
   pub before : (k d : ℕ) → k < start → slice_index_or rows k d < row
   pub inside : (k d : ℕ) → start ≤ k → k < end → slice_index_or rows k d ≡ row
-  pub behind : (k d : ℕ) → end ≤ k → k < length rows → row < slice_index_or rows k d
+  pub after_it : (k d : ℕ) → end ≤ k → k < length rows → row < slice_index_or rows k d

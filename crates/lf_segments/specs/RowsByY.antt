@@ -17,7 +17,7 @@ entries_from number (r ∷ rows) = entry number r ∷ entries_from (number + 1) 
 -- The entry is that of a row of the frame.
 pub record IsEntryOf (f : Frame) (e : RowEntry) : Type 0 where
   pub row : Row
-  pub stands : slice_get f.rows e.row ≡ Some row
+  pub is_in_place : slice_get f.rows e.row ≡ Some row
   pub is : e ≡ entry e.row row
 
 -- The first lies lower, or both have the same y and the second does not lie further left.
@@ -34,21 +34,21 @@ pub record IsRowsByY (f : Frame) (entries : List RowEntry) : Type 0 where
 
 -- The entries whose y is within a range, which are consecutive: those in front of them are below
 -- it, those after them above.
-pub record IsRunBy (Below Within Above : ℤ → Type 0) (entries run : List RowEntry) : Type 0 where
+pub record IsRunByY (Below Within Above : ℤ → Type 0) (entries run : List RowEntry) : Type 0 where
   pub before : List RowEntry
-  pub behind : List RowEntry
-  pub parts : entries ≡ before ++ (run ++ behind)
+  pub after_it : List RowEntry
+  pub parts : entries ≡ before ++ (run ++ after_it)
   pub below : All (λ e. Below e.y) before
   pub within : All (λ e. Within e.y) run
-  pub above : All (λ e. Above e.y) behind
+  pub above : All (λ e. Above e.y) after_it
 
 -- The entries at this y.
 abbrev pub IsRunAt : List RowEntry → ℤ → List RowEntry → Type 0
-IsRunAt entries y run = IsRunBy (λ v. v <ℤ y) (λ v. v ≡ y) (λ v. y <ℤ v) entries run
+IsRunAt entries y run = IsRunByY (λ v. v <ℤ y) (λ v. v ≡ y) (λ v. y <ℤ v) entries run
 
 -- The entries from one y on and below another; empty if the second is not above the first.
 abbrev pub IsRunBetween : List RowEntry → ℤ → ℤ → List RowEntry → Type 0
-IsRunBetween entries from to run = IsRunBy (λ v. v <ℤ from) (λ v. (from ≤ℤ v) × (v <ℤ to)) (λ v. to ≤ℤ v) entries run
+IsRunBetween entries from to run = IsRunByY (λ v. v <ℤ from) (λ v. (from ≤ℤ v) × (v <ℤ to)) (λ v. to ≤ℤ v) entries run
 
 -- The run at a y has exactly the rows of a frame at that y.
 abbrev pub RunAtHasRows : Type 0

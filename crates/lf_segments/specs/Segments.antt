@@ -3,7 +3,7 @@ use Rattle.std.specs.Prelude.{◌≡◌, ◌⊎◌, ◌↔◌, ℕ, ℤ, ◌<◌
 use Rattle.lf_units.specs.declared.geometry.Rect.{Rect}
 use Rattle.lf_units.specs.Area.{Covers}
 use Rattle.lf_spans.specs.declared.span.Span.{Span}
-use Rattle.lf_spans.specs.Spans.{Holds, IsFilled, LiesIn}
+use Rattle.lf_spans.specs.Spans.{HoldsNumber, IsFilled, LiesIn}
 use Rattle.lf_floorplan.specs.declared.frame.Frame.{Frame}
 use Rattle.lf_floorplan.specs.declared.parts.Row.{Row}
 use Rattle.lf_floorplan.specs.Rows.{row_area}
@@ -52,7 +52,7 @@ pub record IsCutBeside (f : Frame) (obstacles : List Rect) (segments : List Segm
   pub known : All (IsSegment f) segments
   pub in_order : AllPairs ComesBefore segments
   pub exact : (n : ℕ) (r : Row) (team : ℕ) (s : Span) → slice_get f.rows n ≡ Some r → IsFilled s →
-      (LiesInSegment segments n team s ↔ ((x : ℤ) → Holds s x → IsOpen f obstacles r team x))
+      (LiesInSegment segments n team s ↔ ((x : ℤ) → HoldsNumber s x → IsOpen f obstacles r team x))
 
 -- The segments of a frame, cut with its own obstacles.
 abbrev pub IsCut : Frame → List Segment → Type 0
@@ -62,12 +62,12 @@ IsCut f segments = IsCutBeside f f.obstacles segments
 -- after it has the property.
 pub record IsRunFrom (P : Segment → Type 0) (segments : List Segment) (n : ℕ) (run : List Segment) : Type 0 where
   pub before : List Segment
-  pub behind : List Segment
-  pub parts : segments ≡ before ++ (run ++ behind)
+  pub after_it : List Segment
+  pub parts : segments ≡ before ++ (run ++ after_it)
   pub begins : n ≡ length before
   pub has : All P run
   pub none_before : All (λ g. P g → ⊥) before
-  pub none_behind : All (λ g. P g → ⊥) behind
+  pub none_after : All (λ g. P g → ⊥) after_it
 
 -- The segments of the list that are of this row and team, which are consecutive.
 abbrev pub IsRunOf : List Segment → ℕ → ℕ → List Segment → Type 0
@@ -76,4 +76,4 @@ IsRunOf segments row team run = (n : ℕ) × IsRunFrom (IsOf row team) segments 
 -- The segment is of this row and team, and holds x.
 pub record IsAt (row team : ℕ) (x : ℤ) (g : Segment) : Type 0 where
   pub of : IsOf row team g
-  pub holds : Holds g.span x
+  pub holds : HoldsNumber g.span x

@@ -82,7 +82,7 @@ fn clear_spans(
     near: &[Placed],
 ) -> Result<Vec<Span>, AllocError>
     ghost obstacles: { List Rect }
-    requires heeded { IsCoreRow frame.now.pitch row.now }
+    requires core_ones { IsCoreRow frame.now.pitch row.now }
     requires boxes { AreBoxesOf frame.now obstacles row.now near.now }
     requires sorted { AreSorted near.now }
     ensures { IfOk result (λ spans. AreClear frame.now obstacles row.now spans.items) }
@@ -100,7 +100,7 @@ fn ground_spans(
     near: &[Placed],
 ) -> Result<Vec<Span>, AllocError>
     ghost obstacles: { List Rect }
-    requires heeded { IsCoreRow frame.now.pitch row.now }
+    requires core_ones { IsCoreRow frame.now.pitch row.now }
     requires boxes { AreBoxesOf frame.now obstacles row.now near.now }
     ensures { IfOk result (λ spans. AreOpen frame.now obstacles row.now (length frame.now.teams) spans.items) }
 {
@@ -118,7 +118,7 @@ fn push_fences(
     segments: &mut Vec<Segment>,
 ) -> Result<(), AllocError>
     ghost obstacles: { List Rect }
-    requires heeded { IsCoreRow frame.now.pitch row.now }
+    requires core_ones { IsCoreRow frame.now.pitch row.now }
     requires boxes { AreBoxesOf frame.now obstacles row.now near.now }
     requires sorted { AreSorted near.now }
     ensures { OnOk result (AddsRow frame.now obstacles number row.now (length frame.now.teams) segments.old.items segments.new.items) }
@@ -154,7 +154,7 @@ pub(crate) fn push_row(
     segments: &mut Vec<Segment>,
 ) -> Result<(), AllocError>
     ghost obstacles: { List Rect }
-    requires heeded { IsCoreRow frame.now.pitch row.now }
+    requires core_ones { IsCoreRow frame.now.pitch row.now }
     requires boxes { AreBoxesOf frame.now obstacles row.now near.now }
     requires sorted { AreSorted near.now }
     ensures { OnOk result (AddsRow frame.now obstacles number row.now (length frame.now.teams + 1) segments.old.items segments.new.items) }
@@ -184,7 +184,7 @@ pub(crate) fn push_land(
     near: &[Placed],
     land: &mut Vec<Segment>,
 ) -> Result<(), AllocError>
-    requires heeded { IsCoreRow frame.now.pitch row.now }
+    requires core_ones { IsCoreRow frame.now.pitch row.now }
     requires boxes { AreBoxesOf frame.now frame.now.obstacles row.now near.now }
     requires sorted { AreSorted near.now }
     ensures { OnOk result (AddsRow frame.now [] number row.now (length frame.now.teams + 1) land.old.items land.new.items) }

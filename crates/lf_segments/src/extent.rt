@@ -2,7 +2,7 @@
 
 ghost use Rattle.std.specs.Prelude.{◌≡◌};
 ghost use Rattle.std.specs.Int.{int_min, int_max};
-ghost use Rattle.lf_segments.specs.Grounds.{IsExtentOf, hull as hull_of};
+ghost use Rattle.lf_segments.specs.Indexes.{IsExtentOf, hull as hull_of};
 
 use lf_floorplan::Frame;
 use lf_units::Rect;

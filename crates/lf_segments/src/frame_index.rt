@@ -1,7 +1,7 @@
 //! The index of a frame by position, built once for a frame.
 
 ghost use Rattle.std.specs.Prelude.{◌≡◌, ℕ, IfOk, IsTrue, slice_index_or, []};
-ghost use Rattle.lf_segments.specs.Grounds.{IsIndexOf};
+ghost use Rattle.lf_segments.specs.Indexes.{IsIndexOf};
 ghost use Rattle.lf_segments.specs.Strips.{AreNear, AreRowsNear, AreStrips};
 
 use crate::extent::extent_of;
@@ -48,7 +48,7 @@ impl Drop for FrameIndex {
 
 impl Model for FrameIndex {
     ghost use Rattle.std.specs.Prelude.{◌≡◌};
-    ghost use Rattle.lf_segments.specs.Grounds.{FrameIndexView};
+    ghost use Rattle.lf_segments.specs.Indexes.{FrameIndexView};
     ghost use Rattle.lf_segments.specs.RowStarts.{rows_of};
     ghost use Rattle.lf_segments.specs.Strips.{AreStrips, rows_in};
 

@@ -3,8 +3,8 @@
 ghost use Rattle.std.specs.Prelude.{◌≡◌, ◌↔◌, ◌<ℤ◌, IsTrue};
 ghost use Rattle.lf_floorplan.specs.Ground.{IsClear, StaysInGround};
 ghost use Rattle.lf_floorplan.specs.Standing.{RestsOnRows};
-ghost use Rattle.lf_segments.specs.Grounds.{IsExtentOf, IsIndexOf};
-ghost use Rattle.lf_segments.specs.Plans.{AreRowsAt, AreRowsBetween, IsSoftOf};
+ghost use Rattle.lf_segments.specs.Indexes.{IsExtentOf, IsIndexOf};
+ghost use Rattle.lf_segments.specs.IndexedFrames.{AreRowsAt, AreRowsBetween, IsSoftOf};
 
 use crate::frame_index::FrameIndex;
 use crate::laws::{cut_is_unique, lies_in_segments};
@@ -25,7 +25,7 @@ pub struct IndexedFrame<'a> {
 
 impl<'a> Model for IndexedFrame<'a> {
     ghost use Rattle.lf_floorplan.specs.declared.frame.Frame.{Frame};
-    ghost use Rattle.lf_segments.specs.Grounds.{IsIndexOf};
+    ghost use Rattle.lf_segments.specs.Indexes.{IsIndexOf};
 
     ghost Value = { Frame };
 
@@ -38,7 +38,7 @@ impl<'a> Model for IndexedFrame<'a> {
 fn keeps_ground(frame: &Frame, index: &FrameIndex, team: usize, rect: &Rect) -> bool
     requires index { IsIndexOf frame.now index.now }
     requires wide { rect.now.x1 <ℤ rect.now.x2 }
-    requires stands { RestsOnRows frame.now rect.now }
+    requires is_in_place { RestsOnRows frame.now rect.now }
     ensures { IsTrue result ↔ StaysInGround frame.now team rect.now }
 {
     lies_in_segments();
@@ -50,7 +50,7 @@ fn keeps_ground(frame: &Frame, index: &FrameIndex, team: usize, rect: &Rect) -> 
 fn keeps_clear(frame: &Frame, index: &FrameIndex, team: usize, rect: &Rect) -> bool
     requires index { IsIndexOf frame.now index.now }
     requires wide { rect.now.x1 <ℤ rect.now.x2 }
-    requires stands { RestsOnRows frame.now rect.now }
+    requires is_in_place { RestsOnRows frame.now rect.now }
     requires inside { StaysInGround frame.now team rect.now }
     ensures { IsTrue result ↔ IsClear frame.now rect.now }
 {

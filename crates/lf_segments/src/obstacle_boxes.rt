@@ -2,7 +2,7 @@
 
 ghost use Rattle.std.specs.Prelude.{◌≡◌, ◌≤◌, ◌++◌, IfOk, IsPermutation, OnOk, length, map};
 ghost use Rattle.lf_floorplan.specs.Rows.{IsCoreRow};
-ghost use Rattle.lf_segments.specs.Boxes.{numbered, fence_boxes, frame_boxes, AreBoxesOf, AreSorted};
+ghost use Rattle.lf_segments.specs.Boxes.{placed_with_number, fence_boxes, frame_boxes, AreBoxesOf, AreSorted};
 
 use lf_floorplan::{Frame, Row, Team};
 use lf_rtree::{Placed, RTree};
@@ -15,7 +15,7 @@ pub(crate) fn push_rects(
     own: u32,
     rects: &[Rect],
 ) -> Result<(), AllocError>
-    ensures { OnOk result (boxes.new.items ≡ boxes.old.items ++ map (numbered own) rects.now) }
+    ensures { OnOk result (boxes.new.items ≡ boxes.old.items ++ map (placed_with_number own) rects.now) }
 {
     for rect in rects {
         boxes.push(Placed { own, rect: *rect })?;
@@ -71,7 +71,7 @@ pub(crate) fn boxes_near(
     row: &Row,
     near: &mut Vec<Placed>,
 ) -> Result<(), AllocError>
-    requires heeded { IsCoreRow frame.now.pitch row.now }
+    requires core_ones { IsCoreRow frame.now.pitch row.now }
     requires tree { IsPermutation (frame_boxes frame.now) tree.now }
     ensures boxes { OnOk result (AreBoxesOf frame.now frame.now.obstacles row.now near.new.items) }
     ensures sorted { OnOk result (AreSorted near.new.items) }

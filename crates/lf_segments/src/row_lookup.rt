@@ -20,7 +20,7 @@ use lf_units::{Point, Rect};
 fn row_of<'a>(frame: &'a Frame, entry: &RowEntry) -> &'a Row
     requires { IsEntryOf frame.now entry.now }
     ensures row { slice_get frame.now.rows entry.now.row ≡ Some result.now }
-    ensures heeded { IsCoreRow frame.now.pitch result.now }
+    ensures core_ones { IsCoreRow frame.now.pitch result.now }
 {
     &frame.rows.as_slice()[entry.row]
 }
@@ -115,7 +115,7 @@ pub(crate) fn lies_in(
     requires rows { IsRowsByY frame.now rows.now }
     requires order { AllPairs ComesBefore segments.now }
     requires wide { rect.now.x1 <ℤ rect.now.x2 }
-    requires stands { RestsOnRows frame.now rect.now }
+    requires is_in_place { RestsOnRows frame.now rect.now }
     ensures { IsTrue result ↔ LiesInSegments frame.now segments.now team rect.now }
 {
     for level in 0..8 {

@@ -84,7 +84,7 @@ fn count_ended(segments: &[Segment], x: &i64) -> usize
 }
 
 /// Returns whether the segment begins right of x.
-fn begins_behind(segment: &Segment, x: &i64) -> bool
+fn begins_after(segment: &Segment, x: &i64) -> bool
     ensures { IsTrue result ↔ (x.now <ℤ segment.now.span.lo) }
 {
     *x < segment.span.lo
@@ -109,7 +109,7 @@ pub(crate) fn place_in(
     if run.segments.len() <= k {
         return None;
     }
-    if begins_behind(&run.segments[k], x) {
+    if begins_after(&run.segments[k], x) {
         return None;
     }
     Some(run.start + k)

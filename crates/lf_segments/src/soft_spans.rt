@@ -2,7 +2,7 @@
 
 ghost use Rattle.std.specs.Prelude.{◌≡◌, ◌∷◌, ◌++◌, ◌<ℤ◌, ℕ, All, IfOk, IsPermutation, IsTrue, OnOk, slice_index_or, []};
 ghost use Rattle.lf_units.specs.Area.{SharesPoint};
-ghost use Rattle.lf_segments.specs.Soft.{AreMetSpans, AreSoftIn, AreSoftOver, AreStarts, pieces, soft_boxes};
+ghost use Rattle.lf_segments.specs.Soft.{AreOverlappedSpans, AreSoftIn, AreSoftOver, AreStarts, lists_from, soft_boxes};
 
 use crate::cover::{span_of, spans_of};
 use crate::obstacle_boxes::push_rects;
@@ -25,11 +25,11 @@ pub(crate) struct SoftSpans {
 impl Model for SoftSpans {
     ghost use Rattle.std.specs.Prelude.{List};
     ghost use Rattle.lf_spans.specs.declared.span.Span.{Span};
-    ghost use Rattle.lf_segments.specs.Soft.{AreStarts, pieces};
+    ghost use Rattle.lf_segments.specs.Soft.{AreStarts, lists_from};
 
     ghost Value = { List (List Span) };
 
-    ghost view = { λ s. pieces s.spans.items s.starts.items };
+    ghost view = { λ s. lists_from s.spans.items s.starts.items };
 
     ghost invariant = { λ s. AreStarts s.spans.items s.starts.items };
 }
@@ -37,7 +37,7 @@ impl Model for SoftSpans {
 /// Returns the spans of the segment with this number; empty if there is no such segment.
 fn piece<'a>(spans: &'a [Span], starts: &[usize], segment: usize) -> &'a [Span]
     requires { AreStarts spans.now starts.now }
-    ensures { result.now ≡ slice_index_or (pieces spans.now starts.now) segment [] }
+    ensures { result.now ≡ slice_index_or (lists_from spans.now starts.now) segment [] }
 {
     let Some(start) = starts.get(segment) else {
         return &spans[spans.len()..];
@@ -61,9 +61,9 @@ fn soft_tree(alloc: Global, frame: &Frame) -> Result<RTree, AllocError>
 
 /// Returns the maximal spans of an area's x range that the x ranges of the boxes cover. `Err` if an
 /// allocation fails.
-fn spans_met(alloc: Global, area: &Rect, boxes: &[Placed]) -> Result<Vec<Span>, AllocError>
+fn spans_overlapped(alloc: Global, area: &Rect, boxes: &[Placed]) -> Result<Vec<Span>, AllocError>
     requires { area.now.x1 <ℤ area.now.x2 }
-    ensures { IfOk result (λ spans. AreMetSpans area.now boxes.now spans.items) }
+    ensures { IfOk result (λ spans. AreOverlappedSpans area.now boxes.now spans.items) }
 {
     let joined = spans_join(alloc, spans_of(alloc, boxes)?.as_slice())?;
     spans_meet(alloc, &[span_of(area)], joined.as_slice())
@@ -83,7 +83,7 @@ fn soft_in(
     ensures { IfOk result (λ spans. AreSoftIn frame.now area.now spans.items) }
 {
     tree.find_overlapping(area, near)?;
-    spans_met(alloc, area, near.as_slice())
+    spans_overlapped(alloc, area, near.as_slice())
 }
 
 /// Appends one more list of spans to the concatenated lists. `Err` if an allocation fails.
@@ -94,7 +94,7 @@ fn push_piece(
 ) -> Result<(), AllocError>
     requires { AreStarts spans.old.items starts.old.items }
     ensures starts { OnOk result (AreStarts spans.new.items starts.new.items) }
-    ensures pieces { OnOk result (pieces spans.new.items starts.new.items ≡ pieces spans.old.items starts.old.items ++ more.now ∷ []) }
+    ensures pieces { OnOk result (lists_from spans.new.items starts.new.items ≡ lists_from spans.old.items starts.old.items ++ more.now ∷ []) }
 {
     starts.push(spans.as_slice().len())?;
     spans.extend_from_slice(more)?;

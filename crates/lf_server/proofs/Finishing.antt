@@ -4,7 +4,7 @@ use Rattle.std.specs.List.{onto_first}
 use Rattle.std.specs.Io.KnownBytes.{Consumes, IsAtEnd, Keeps}
 use Rattle.std.proofs.lemmas.List.Splits.{slice_split-cons_yes, slice_split-cons_no}
 use Rattle.lf_rules.specs.Legalizer.{Legalizer}
-use Rattle.lf_proto.specs.Stream.{is_line_feed, ended_line, lines_in, lines_of}
+use Rattle.lf_proto.specs.Stream.{is_end_of_line, ended_line, lines_in, lines_of}
 use Rattle.lf_floor_model.specs.States.{FloorState}
 use Rattle.lf_server.specs.Devices.{Writer}
 use Rattle.lf_server.specs.Exchanges.{Exchange, Line, lines}
@@ -12,7 +12,7 @@ use Rattle.lf_server.specs.Endings.{AreLinesActedOn, CountsAnswered, WritesRepli
 use Rattle.lf_server.specs.declared.serve_loop.Ending.{Ending}
 use Rattle.lf_server.specs.declared.serve_loop.Ending.TheVariants.{Done, Bye, ReadFault, WriteFault, TooManyLines, OutOfMemory}
 use Rattle.lf_server.specs.declared.serve_loop.Served.{Served}
-use Rattle.lf_proto.specs.Pieces.{lines_from, pieces}
+use Rattle.lf_proto.specs.Pieces.{lines_from, between_line_feeds}
 use Rattle.lf_server.specs.Progress.{FinishesServing, ContinuesServing, StopsServing, StopsServingAt, answered_count}
 use Rattle.lf_io.proofs.Known.{Consumes-none, Consumes-more, Consumes-kept}
 use Rattle.lf_proto.proofs.Cuttings.{some_pieces, with_front-nil}
@@ -21,16 +21,16 @@ use Rattle.lf_server.proofs.Steps.{goes_join, goes_none, goes_stop}
 -- ---- the lines that have their line feed
 
 -- One more line feed ends one more piece.
-snoc_by : (b : ℕ) (rest : List ℕ) (ends : Bool) → is_line_feed b ≡ ends → pieces (rest ++ 10 ∷ []) ≡ pieces rest ++ [] ∷ [] → pieces (b ∷ (rest ++ 10 ∷ [])) ≡ pieces (b ∷ rest) ++ [] ∷ []
+snoc_by : (b : ℕ) (rest : List ℕ) (ends : Bool) → is_end_of_line b ≡ ends → between_line_feeds (rest ++ 10 ∷ []) ≡ between_line_feeds rest ++ [] ∷ [] → between_line_feeds (b ∷ (rest ++ 10 ∷ [])) ≡ between_line_feeds (b ∷ rest) ++ [] ∷ []
 snoc_by b rest true is ih =
-    slice_split-cons_yes is_line_feed b (rest ++ 10 ∷ []) is ∙ (ap (λ (l : List (List ℕ)). [] ∷ l) ih ∙ ap (λ (l : List (List ℕ)). l ++ [] ∷ []) (sym (slice_split-cons_yes is_line_feed b rest is)))
+    slice_split-cons_yes is_end_of_line b (rest ++ 10 ∷ []) is ∙ (ap (λ (l : List (List ℕ)). [] ∷ l) ih ∙ ap (λ (l : List (List ℕ)). l ++ [] ∷ []) (sym (slice_split-cons_yes is_end_of_line b rest is)))
 snoc_by b rest false is ih =
-    let front : onto_first b (pieces rest ++ [] ∷ []) ≡ onto_first b (pieces rest) ++ [] ∷ [] = some_pieces (λ parts. onto_first b (parts ++ [] ∷ []) ≡ onto_first b parts ++ [] ∷ []) rest (λ p more. refl) in
-    slice_split-cons_no is_line_feed b (rest ++ 10 ∷ []) is ∙ (ap (onto_first b) ih ∙ (front ∙ ap (λ (l : List (List ℕ)). l ++ [] ∷ []) (sym (slice_split-cons_no is_line_feed b rest is))))
+    let front : onto_first b (between_line_feeds rest ++ [] ∷ []) ≡ onto_first b (between_line_feeds rest) ++ [] ∷ [] = some_pieces (λ parts. onto_first b (parts ++ [] ∷ []) ≡ onto_first b parts ++ [] ∷ []) rest (λ p more. refl) in
+    slice_split-cons_no is_end_of_line b (rest ++ 10 ∷ []) is ∙ (ap (onto_first b) ih ∙ (front ∙ ap (λ (l : List (List ℕ)). l ++ [] ∷ []) (sym (slice_split-cons_no is_end_of_line b rest is))))
 
-pieces-snoc : (bytes : List ℕ) → pieces (bytes ++ 10 ∷ []) ≡ pieces bytes ++ [] ∷ []
+pieces-snoc : (bytes : List ℕ) → between_line_feeds (bytes ++ 10 ∷ []) ≡ between_line_feeds bytes ++ [] ∷ []
 pieces-snoc [] = refl
-pieces-snoc (b ∷ rest) = snoc_by b rest (is_line_feed b) refl (pieces-snoc rest)
+pieces-snoc (b ∷ rest) = snoc_by b rest (is_end_of_line b) refl (pieces-snoc rest)
 
 -- The last piece and its line, if a line feed followed.
 ended-snoc : (p : List ℕ) (parts : List (List ℕ)) → (last : Line) × (lines_in ((p ∷ parts) ++ [] ∷ []) ≡ ended_in (p ∷ parts) ++ last ∷ [])
@@ -53,11 +53,11 @@ snoc_cancel (x ∷ xs) (y ∷ ys) a b e =
     let tails : xs ++ a ∷ [] ≡ ys ++ b ∷ [] = cc in
     let same : xs ≡ ys = snoc_cancel xs ys a b tails in cc
 
-held_ends : (held : Option (List ℕ)) → (last : Line) × (lines_from held (pieces (10 ∷ [])) ≡ last ∷ [])
+held_ends : (held : Option (List ℕ)) → (last : Line) × (lines_from held (between_line_feeds (10 ∷ [])) ≡ last ∷ [])
 held_ends None = (None, refl)
 held_ends (Some bytes) = (ended_line (bytes ++ []), refl)
 
-from_start : (bytes : List ℕ) → lines_from (Some []) (pieces bytes) ≡ lines_of bytes
+from_start : (bytes : List ℕ) → lines_from (Some []) (between_line_feeds bytes) ≡ lines_of bytes
 from_start bytes = ap lines_in (with_front-nil bytes)
 
 -- The lines acted on are those that have their line feed.
@@ -83,7 +83,7 @@ abbrev IsInput : Option (List ℕ) → List ℕ → List ℕ → Type 0
 IsInput input read rest = IfSome input (λ bytes. bytes ≡ read ++ rest)
 
 finishes_by : (l : Legalizer) (e : Ending) (a c : Option (List ℕ)) (w u : Writer) (p r : ℕ) (old new : FloorState) (read rest : List ℕ) → Consumes a c read → IsInput a read rest
-    → StopsServing l e w u p r old new (lines_from (Some []) (pieces (read ++ rest))) → FinishesServing l e a c w u p r old new
+    → StopsServing l e w u p r old new (lines_from (Some []) (between_line_feeds (read ++ rest))) → FinishesServing l e a c w u p r old new
 finishes_by l e a c w u p r old new read rest consumed input stops = record {
   read = read;
   reads = consumed;
@@ -100,17 +100,17 @@ finishes_by l e a c w u p r old new read rest consumed input stops = record {
         (subst (λ (all : List Line). StopsServingAt e p all (lines stops.done)) (from_start (read ++ rest) ∙ ap lines_of (sym is)) stops.stops)
 
 pub finishes_stop : (l : Legalizer) (e : Ending) (a c : Option (List ℕ)) (w u : Writer) (p r : ℕ) (old new : FloorState) (read : List ℕ) → Consumes a c read
-    → ((rest : List ℕ) → StopsServing l e w u p r old new (lines_from (Some []) (pieces (read ++ rest)))) → FinishesServing l e a c w u p r old new
+    → ((rest : List ℕ) → StopsServing l e w u p r old new (lines_from (Some []) (between_line_feeds (read ++ rest)))) → FinishesServing l e a c w u p r old new
 finishes_stop l e None c w u p r old new read consumed stops = finishes_by l e None c w u p r old new read [] consumed tt (stops [])
 finishes_stop l e (Some x) None w u p r old new read consumed stops = absurd consumed
 finishes_stop l e (Some x) (Some y) w u p r old new read consumed stops = finishes_by l e (Some x) (Some y) w u p r old new read y consumed consumed (stops y)
 
 -- The read that found a stop.
 pub read_stop : (l : Legalizer) (e : Ending) (a b c : Option (List ℕ)) (w v u : Writer) (p q r : ℕ) (old mid new : FloorState) (held : Option (List ℕ)) (read piece : List ℕ) → Consumes a b read → Consumes b c piece
-    → ContinuesServing l w v p q old mid (Some []) held read [] → ((rest : List ℕ) → StopsServing l e v u q r mid new (lines_from held (pieces (piece ++ rest)))) → FinishesServing l e a c w u p r old new
+    → ContinuesServing l w v p q old mid (Some []) held read [] → ((rest : List ℕ) → StopsServing l e v u q r mid new (lines_from held (between_line_feeds (piece ++ rest)))) → FinishesServing l e a c w u p r old new
 read_stop l e a b c w v u p q r old mid new held read piece before now first second =
     finishes_stop l e a c w u p r old new (read ++ piece) (Consumes-more a b c read piece before now)
-    (λ rest. subst (λ (x : List ℕ). StopsServing l e w u p r old new (lines_from (Some []) (pieces x))) (sym (append_assoc read piece rest))
+    (λ rest. subst (λ (x : List ℕ). StopsServing l e w u p r old new (lines_from (Some []) (between_line_feeds x))) (sym (append_assoc read piece rest))
     (goes_stop l e w v u p q r old mid new (Some []) held read [] (piece ++ rest) first (second rest)))
 
 -- The read that found the end of the input.
@@ -138,7 +138,7 @@ read_on l a b c w v u p q r old mid new held held' read piece before now first s
         exchanged = first.exchanged;
         counts = first.counts;
         no_bye = first.no_bye;
-        goes_on = λ rest. ap (λ (x : List ℕ). lines_from (Some []) (pieces x)) (append_assoc read piece rest) ∙ first.goes_on (piece ++ rest);
+        goes_on = λ rest. ap (λ (x : List ℕ). lines_from (Some []) (between_line_feeds x)) (append_assoc read piece rest) ∙ first.goes_on (piece ++ rest);
       })
       second,
 )
@@ -198,7 +198,7 @@ pub served_as : (l : Legalizer) (e : Ending) (a c : Option (List ℕ)) (w u : Wr
 served_as l e a c w u limit left count old new s is counted ending answered first =
     let h : FinishesServing l s.ending a c w u limit left old new = subst (λ (x : Ending). FinishesServing l x a c w u limit left old new) (sym ending) first in
     let same : s.lines ≡ length h.done = omega (arith, is, counted, h.counts) in
-    let told : s.answered ≡ answered_count s.ending s.lines = answered ∙ (ap (λ (x : Ending). answered_count x count) (sym ending) ∙ ap (answered_count s.ending) (sym counted)) in
+    let reported : s.answered ≡ answered_count s.ending s.lines = answered ∙ (ap (λ (x : Ending). answered_count x count) (sym ending) ∙ ap (answered_count s.ending) (sym counted)) in
     record {
       read = h.read;
       reads = h.reads;
@@ -206,6 +206,6 @@ served_as l e a c w u limit left count old new s is counted ending answered firs
       comes = h.comes;
       acted_on = h.acted_on;
       counted = same;
-      answered = answered_is s.ending l old new w u h.done s.lines s.answered h.comes (sym same) told;
+      answered = answered_is s.ending l old new w u h.done s.lines s.answered h.comes (sym same) reported;
       within = omega (arith, is, counted);
     }

@@ -17,12 +17,12 @@ use Rattle.lf_proto.specs.Framing.{Framing}
 use Rattle.lf_floor_model.specs.States.{FloorState}
 use Rattle.lf_server.specs.Connections.{KeepsDesign}
 use Rattle.lf_server.specs.Devices.{Writer, writer, SendsText, BreaksText}
-use Rattle.lf_server.specs.Exchanges.{AnswersTo, BreaksOffLastReply, Exchange, AnswersLines, Line, asked_on, is_bye, lines, text_of}
+use Rattle.lf_server.specs.Exchanges.{AnswersTo, BreaksOffLastReply, Exchange, AnswersLines, Line, requested_on, is_bye, lines, reply_text_of}
 use Rattle.lf_server.specs.Endings.{WritesReplies, EndsAt, NoneIsBye}
 use Rattle.lf_server.specs.declared.serve_loop.Ending.{Ending}
 use Rattle.lf_server.specs.declared.serve_loop.Ending.TheVariants.{Done, Bye, ReadFault, WriteFault, TooManyLines, OutOfMemory}
-use Rattle.lf_proto.specs.Pieces.{lines_from, pieces}
-use Rattle.lf_server.specs.Progress.{ExchangeEnds, IsGivenLine, ContinuesServing, IsAnswered, IsExchanged, StopsServing, StopsServingAt, team_asked}
+use Rattle.lf_proto.specs.Pieces.{lines_from, between_line_feeds}
+use Rattle.lf_server.specs.Progress.{ExchangeEnds, IsGivenLine, ContinuesServing, IsAnswered, ActsOnLine, StopsServing, StopsServingAt, team_requested}
 use Rattle.lf_proto.proofs.Cuttings.{IsBounded, feed_step, finish_gives}
 
 -- ---- results
@@ -127,19 +127,19 @@ lines_length (e ∷ s) = ap suc (lines_length s)
 
 -- ---- one exchange
 
-pub exchanged : (l : Legalizer) (stop : Option Ending) (w w' : Writer) (old new : FloorState) (line : Line) (asked : Option (Command (List ℕ) Place)) (reply : Reply) (team : List ℕ)
-    → asked ≡ asked_on line → team ≡ team_asked asked → ExchangeEnds stop w w' line (text_of new team reply) → IsAnswered l old asked reply new
-    → IsExchanged l stop w w' old new line
-exchanged l stop w w' old new line asked reply team is own ends answered = record {
+pub exchanged : (l : Legalizer) (stop : Option Ending) (w w' : Writer) (old new : FloorState) (line : Line) (requested : Option (Command (List ℕ) Place)) (reply : Reply) (team : List ℕ)
+    → requested ≡ requested_on line → team ≡ team_requested requested → ExchangeEnds stop w w' line (reply_text_of new team reply) → IsAnswered l old requested reply new
+    → ActsOnLine l stop w w' old new line
+exchanged l stop w w' old new line requested reply team is own ends answered = record {
   reply = reply;
-  text = text_of new team reply;
-  answers = subst (λ (o : Option (Command (List ℕ) Place)). AnswersTo l old o reply (text_of new team reply) new) is
-      (subst (λ (t : List ℕ). AnswersTo l old asked reply (text_of new t reply) new) (sym own) answered);
+  text = reply_text_of new team reply;
+  answers = subst (λ (o : Option (Command (List ℕ) Place)). AnswersTo l old o reply (reply_text_of new team reply) new) is
+      (subst (λ (t : List ℕ). AnswersTo l old requested reply (reply_text_of new t reply) new) (sym own) answered);
   ends = ends;
 }
 
-abbrev told : (l : Legalizer) (stop : Option Ending) (w w' : Writer) (old new : FloorState) (line : Line) → IsExchanged l stop w w' old new line → Exchange
-told l stop w w' old new line e = record { line = line; reply = e.reply; text = e.text }
+abbrev reported : (l : Legalizer) (stop : Option Ending) (w w' : Writer) (old new : FloorState) (line : Line) → ActsOnLine l stop w w' old new line → Exchange
+reported l stop w w' old new line e = record { line = line; reply = e.reply; text = e.text }
 
 -- ---- continuing
 
@@ -163,8 +163,8 @@ goes_join l w v u p q r old mid new a b c x y z first second = record {
   no_bye = subst NoneIsBye (sym (lines_join first.done second.done))
       (All-append (λ (line : Line). is_bye line ≡ false) (lines first.done) (lines second.done) first.no_bye second.no_bye);
   goes_on = λ rest. first.goes_on rest ∙ (ap (λ (t : List Line). lines first.done ++ t) (second.goes_on rest)
-      ∙ (sym (append_assoc (lines first.done) (lines second.done) (lines_from c (pieces (z ++ rest))))
-      ∙ ap (λ (t : List Line). t ++ lines_from c (pieces (z ++ rest))) (sym (lines_join first.done second.done))));
+      ∙ (sym (append_assoc (lines first.done) (lines second.done) (lines_from c (between_line_feeds (z ++ rest))))
+      ∙ ap (λ (t : List Line). t ++ lines_from c (between_line_feeds (z ++ rest))) (sym (lines_join first.done second.done))));
 }
 
 -- Then serving stops, at the lines that follow.
@@ -180,10 +180,10 @@ stops_after l ending w v u p q r old mid new done all exchanged counts none seco
 }
 
 pub goes_stop : (l : Legalizer) (ending : Ending) (w v u : Writer) (p q r : ℕ) (old mid new : FloorState) (a b : Option (List ℕ)) (x y rest : List ℕ)
-    → ContinuesServing l w v p q old mid a b x y → StopsServing l ending v u q r mid new (lines_from b (pieces (y ++ rest))) → StopsServing l ending w u p r old new (lines_from a (pieces (x ++ rest)))
+    → ContinuesServing l w v p q old mid a b x y → StopsServing l ending v u q r mid new (lines_from b (between_line_feeds (y ++ rest))) → StopsServing l ending w u p r old new (lines_from a (between_line_feeds (x ++ rest)))
 goes_stop l ending w v u p q r old mid new a b x y rest first second =
     subst (StopsServing l ending w u p r old new) (sym (first.goes_on rest))
-    (stops_after l ending w v u p q r old mid new first.done (lines_from b (pieces (y ++ rest))) first.exchanged first.counts first.no_bye second)
+    (stops_after l ending w v u p q r old mid new first.done (lines_from b (between_line_feeds (y ++ rest))) first.exchanged first.counts first.no_bye second)
 
 -- ---- one line of a piece
 
@@ -198,14 +198,14 @@ goes_more l w left floor old new piece fed feeds more = record {
   exchanged = (refl, refl);
   counts = omega arith;
   no_bye = All-nil (λ (line : Line). is_bye line ≡ false);
-  goes_on = λ rest. (feed_step old new piece rest fed feeds).0 ∙ ap (λ (got : Got). given_line got new.line ++ lines_from new.pending (pieces (drop fed.used piece ++ rest))) more;
+  goes_on = λ rest. (feed_step old new piece rest fed feeds).0 ∙ ap (λ (got : Got). given_line got new.line ++ lines_from new.pending (between_line_feeds (drop fed.used piece ++ rest))) more;
 }
 
 -- The line is the first of the rest.
 next_line : (old new : Framing) (piece rest : List ℕ) (fed : Fed) (line : Line) → Feeds old piece fed new → IsGivenLine fed.got new.line line
-    → lines_from old.pending (pieces (piece ++ rest)) ≡ line ∷ lines_from new.pending (pieces (drop fed.used piece ++ rest))
+    → lines_from old.pending (between_line_feeds (piece ++ rest)) ≡ line ∷ lines_from new.pending (between_line_feeds (drop fed.used piece ++ rest))
 next_line old new piece rest fed line feeds is =
-    (feed_step old new piece rest fed feeds).0 ∙ ap (λ (t : List Line). t ++ lines_from new.pending (pieces (drop fed.used piece ++ rest))) (given_is fed.got new.line line is)
+    (feed_step old new piece rest fed feeds).0 ∙ ap (λ (t : List Line). t ++ lines_from new.pending (between_line_feeds (drop fed.used piece ++ rest))) (given_is fed.got new.line line is)
 
 pub stops_full : (l : Legalizer) (w : Writer) (left : ℕ) (floor : FloorState) (line : Line) (more : List Line) → left ≡ 0
     → StopsServing l TooManyLines w w left left floor floor (line ∷ more)
@@ -217,10 +217,10 @@ stops_full l w left floor line more none = record {
 }
 
 pub full_line : (l : Legalizer) (w : Writer) (left : ℕ) (floor : FloorState) (old new : Framing) (piece rest : List ℕ) (fed : Fed) (line : Line) → left ≡ 0 → Feeds old piece fed new → IsGivenLine fed.got new.line line
-    → StopsServing l TooManyLines w w left left floor floor (lines_from old.pending (pieces (piece ++ rest)))
+    → StopsServing l TooManyLines w w left left floor floor (lines_from old.pending (between_line_feeds (piece ++ rest)))
 full_line l w left floor old new piece rest fed line none feeds is =
     subst (StopsServing l TooManyLines w w left left floor floor) (sym (next_line old new piece rest fed line feeds is))
-    (stops_full l w left floor line (lines_from new.pending (pieces (drop fed.used piece ++ rest))) none)
+    (stops_full l w left floor line (lines_from new.pending (between_line_feeds (drop fed.used piece ++ rest))) none)
 
 -- The line is the last one acted on.
 abbrev pub last_line : (line : Line) (more : List Line) → EndsAt (line ∷ more) (line ∷ [])
@@ -228,22 +228,22 @@ last_line line more =
     record { before = []; last = line; rest = more; all_are = refl; acted_are = refl; none_before = All-nil (λ (line : Line). is_bye line ≡ false) }
 
 stops_line : (l : Legalizer) (ending : Ending) (w w' : Writer) (left : ℕ) (old new : FloorState) (line : Line) (more : List Line) → left ≢ 0
-    → IsExchanged l (Some ending) w w' old new line → StopsServing l ending w w' left (left - 1) old new (line ∷ more)
+    → ActsOnLine l (Some ending) w w' old new line → StopsServing l ending w w' left (left - 1) old new (line ∷ more)
 stops_line l Done w w' left old new line more some e = absurd e.ends
 stops_line l ReadFault w w' left old new line more some e = absurd e.ends
 stops_line l TooManyLines w w' left old new line more some e = absurd e.ends
 stops_line l OutOfMemory w w' left old new line more some e = absurd e.ends
 stops_line l Bye w w' left old new line more some e = record {
-  done = told l (Some Bye) w w' old new line e ∷ [];
+  done = reported l (Some Bye) w w' old new line e ∷ [];
   comes = (new, w', e.answers, e.ends.0, (refl, refl));
   counts = omega (arith, some);
   stops = (last_line line more, e.ends.1);
 }
 stops_line l WriteFault w w' left old new line more some e = record {
-  done = told l (Some WriteFault) w w' old new line e ∷ [];
+  done = reported l (Some WriteFault) w w' old new line e ∷ [];
   comes = record {
     earlier = [];
-    last = told l (Some WriteFault) w w' old new line e;
+    last = reported l (Some WriteFault) w w' old new line e;
     mid = old;
     between = w;
     done_are = refl;
@@ -256,11 +256,11 @@ stops_line l WriteFault w w' left old new line more some e = record {
 }
 
 pub after_exchange : (l : Legalizer) (stop : Option Ending) (w w' : Writer) (left : ℕ) (old new : FloorState) (from to : Framing) (piece : List ℕ) (fed : Fed) (line : Line)
-    → left ≢ 0 → Feeds from piece fed to → IsGivenLine fed.got to.line line → IsExchanged l stop w w' old new line
+    → left ≢ 0 → Feeds from piece fed to → IsGivenLine fed.got to.line line → ActsOnLine l stop w w' old new line
     → MatchOption stop (ContinuesServing l w w' left (left - 1) old new from.pending to.pending piece (drop fed.used piece))
-    (λ ending. (rest : List ℕ) → StopsServing l ending w w' left (left - 1) old new (lines_from from.pending (pieces (piece ++ rest))))
+    (λ ending. (rest : List ℕ) → StopsServing l ending w w' left (left - 1) old new (lines_from from.pending (between_line_feeds (piece ++ rest))))
 after_exchange l None w w' left old new from to piece fed line some feeds is e = record {
-  done = told l None w w' old new line e ∷ [];
+  done = reported l None w w' old new line e ∷ [];
   exchanged = (new, w', e.answers, e.ends.0, (refl, refl));
   counts = omega (arith, some);
   no_bye = All-cons (λ (line : Line). is_bye line ≡ false) line [] e.ends.1 (All-nil (λ (line : Line). is_bye line ≡ false));
@@ -268,7 +268,7 @@ after_exchange l None w w' left old new from to piece fed line some feeds is e =
 }
 after_exchange l (Some ending) w w' left old new from to piece fed line some feeds is e = λ rest.
     subst (StopsServing l ending w w' left (left - 1) old new) (sym (next_line from to piece rest fed line feeds is))
-    (stops_line l ending w w' left old new line (lines_from to.pending (pieces (drop fed.used piece ++ rest))) some e)
+    (stops_line l ending w w' left old new line (lines_from to.pending (between_line_feeds (drop fed.used piece ++ rest))) some e)
 
 -- ---- the end of the input
 
@@ -281,15 +281,15 @@ finish_full l w left floor held got bytes line none within finishes is =
     subst (StopsServing l TooManyLines w w left left floor floor) (sym (last_is held got bytes line within finishes is)) (stops_full l w left floor line [] none)
 
 pub finish_stop : (l : Legalizer) (ending : Ending) (w w' : Writer) (left : ℕ) (old new : FloorState) (held : Option (List ℕ)) (got : Got) (bytes : List ℕ) (line : Line) → left ≢ 0 → IsBounded held → FinishesAt held got bytes → IsGivenLine got bytes line
-    → IsExchanged l (Some ending) w w' old new line → StopsServing l ending w w' left (left - 1) old new (lines_from held ([] ∷ []))
+    → ActsOnLine l (Some ending) w w' old new line → StopsServing l ending w w' left (left - 1) old new (lines_from held ([] ∷ []))
 finish_stop l ending w w' left old new held got bytes line some within finishes is e =
     subst (StopsServing l ending w w' left (left - 1) old new) (sym (last_is held got bytes line within finishes is)) (stops_line l ending w w' left old new line [] some e)
 
 pub finish_done : (l : Legalizer) (w w' : Writer) (left : ℕ) (old new : FloorState) (held : Option (List ℕ)) (got : Got) (bytes : List ℕ) (line : Line) → left ≢ 0 → IsBounded held → FinishesAt held got bytes → IsGivenLine got bytes line
-    → IsExchanged l None w w' old new line → StopsServing l Done w w' left (left - 1) old new (lines_from held ([] ∷ []))
+    → ActsOnLine l None w w' old new line → StopsServing l Done w w' left (left - 1) old new (lines_from held ([] ∷ []))
 finish_done l w w' left old new held got bytes line some within finishes is e =
     subst (StopsServing l Done w w' left (left - 1) old new) (sym (last_is held got bytes line within finishes is)) (record {
-      done = told l None w w' old new line e ∷ [];
+      done = reported l None w w' old new line e ∷ [];
       comes = (new, w', e.answers, e.ends.0, (refl, refl));
       counts = omega (arith, some);
       stops = (refl, All-cons (λ (line : Line). is_bye line ≡ false) line [] e.ends.1 (All-nil (λ (line : Line). is_bye line ≡ false)));
@@ -306,7 +306,7 @@ rest_is at piece = take_all (length piece - at) (drop at piece) (omega (arith, l
 
 pub piece_on : (l : Legalizer) (w v u : Writer) (p q r : ℕ) (old mid new : FloorState) (a b c : Option (List ℕ)) (piece : List ℕ) (at used : ℕ) (stop : Option Ending) → stop ≡ None
     → ContinuesServing l w v p q old mid a b piece (drop at piece)
-    → MatchOption stop (ContinuesServing l v u q r mid new b c (rest_of at piece) (drop used (rest_of at piece))) (λ ending. (rest : List ℕ) → StopsServing l ending v u q r mid new (lines_from b (pieces (rest_of at piece ++ rest))))
+    → MatchOption stop (ContinuesServing l v u q r mid new b c (rest_of at piece) (drop used (rest_of at piece))) (λ ending. (rest : List ℕ) → StopsServing l ending v u q r mid new (lines_from b (between_line_feeds (rest_of at piece ++ rest))))
     → ContinuesServing l w u p r old new a c piece (drop (at + used) piece)
 piece_on l w v u p q r old mid new a b c piece at used (Some ending) is first second = cc
 piece_on l w v u p q r old mid new a b c piece at used None is first second =
@@ -316,14 +316,14 @@ piece_on l w v u p q r old mid new a b c piece at used None is first second =
 
 pub piece_stop : (l : Legalizer) (w v u : Writer) (p q r : ℕ) (old mid new : FloorState) (a b c : Option (List ℕ)) (piece : List ℕ) (at used : ℕ) (stop : Option Ending) (ending : Ending) → stop ≡ Some ending
     → ContinuesServing l w v p q old mid a b piece (drop at piece)
-    → MatchOption stop (ContinuesServing l v u q r mid new b c (rest_of at piece) (drop used (rest_of at piece))) (λ ending. (rest : List ℕ) → StopsServing l ending v u q r mid new (lines_from b (pieces (rest_of at piece ++ rest))))
-    → (rest : List ℕ) → StopsServing l ending w u p r old new (lines_from a (pieces (piece ++ rest)))
+    → MatchOption stop (ContinuesServing l v u q r mid new b c (rest_of at piece) (drop used (rest_of at piece))) (λ ending. (rest : List ℕ) → StopsServing l ending v u q r mid new (lines_from b (between_line_feeds (rest_of at piece ++ rest))))
+    → (rest : List ℕ) → StopsServing l ending w u p r old new (lines_from a (between_line_feeds (piece ++ rest)))
 piece_stop l w v u p q r old mid new a b c piece at used None ending is first second rest = cc
 piece_stop l w v u p q r old mid new a b c piece at used (Some found) ending is first second rest =
     let same : found ≡ ending = cc in
     goes_stop l ending w v u p q r old mid new a b piece (drop at piece) rest first
-    (subst (λ (x : List ℕ). StopsServing l ending v u q r mid new (lines_from b (pieces (x ++ rest)))) (rest_is at piece)
-    (subst (λ (e : Ending). StopsServing l e v u q r mid new (lines_from b (pieces (rest_of at piece ++ rest)))) same (second rest)))
+    (subst (λ (x : List ℕ). StopsServing l ending v u q r mid new (lines_from b (between_line_feeds (x ++ rest)))) (rest_is at piece)
+    (subst (λ (e : Ending). StopsServing l e v u q r mid new (lines_from b (between_line_feeds (rest_of at piece ++ rest)))) same (second rest)))
 
 pub piece_done : (l : Legalizer) (w v : Writer) (p q : ℕ) (old mid : FloorState) (a b : Option (List ℕ)) (piece : List ℕ) (at : ℕ) → length piece ≤ at → ContinuesServing l w v p q old mid a b piece (drop at piece) → ContinuesServing l w v p q old mid a b piece []
 piece_done l w v p q old mid a b piece at past first = subst (ContinuesServing l w v p q old mid a b piece) (drop_all at piece past) first

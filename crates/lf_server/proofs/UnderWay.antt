@@ -4,7 +4,7 @@ use Rattle.std.specs.Prelude.{OnErr, OnOk, is_err}
 use Rattle.std.specs.Io.KnownBytes.{Appends}
 use Rattle.lf_io.proofs.Known.{Appends-more}
 use Rattle.lf_server.specs.Pieces.{IsUnderWay, has_failed_since}
-use Rattle.lf_server.proofs.Parts.{Front, first_front, front_after, front_behind}
+use Rattle.lf_server.proofs.Parts.{Front, first_front, front_after, front_after_it}
 
 -- The waiting bytes are sent last.
 pub under_sent : {T E : Type 0} (r : Result T E) (failed : Bool) (a b c : Option (List ℕ)) (text waiting : List ℕ) → failed ≡ false
@@ -28,7 +28,7 @@ under_both (Ok t) a b c text waiting more way whole front =
     (text ++ more, sym (append-nil (text ++ more)), subst (Appends a c) all (Appends-more a b c way.0 (waiting ++ more) way.2 whole))
 under_both (Err e) a b c text waiting more way whole front =
     let all : way.0 ++ (waiting ++ more) ≡ text ++ more = sym (append_assoc way.0 waiting more) ∙ ap (λ (l : List ℕ). l ++ more) (sym way.1) in
-    subst (Front a c) all (front_behind a b c way.0 (waiting ++ more) way.2 front)
+    subst (Front a c) all (front_after_it a b c way.0 (waiting ++ more) way.2 front)
 
 -- Whether a call has failed after that.
 pub failed_both : {T E : Type 0} (r : Result T E) (start old new : Bool) → old ≡ start → OnOk r (new ≡ old) → OnErr r (new ≡ true)

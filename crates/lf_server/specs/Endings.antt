@@ -3,7 +3,7 @@ use Rattle.std.specs.Prelude.{◌≡◌, ℕ, ◌+◌, ◌≤◌, true, false, L
 use Rattle.std.specs.List.{slice_split}
 use Rattle.std.specs.Io.KnownBytes.{Consumes}
 use Rattle.lf_rules.specs.Legalizer.{Legalizer}
-use Rattle.lf_proto.specs.Stream.{ended_line, is_line_feed, lines_of}
+use Rattle.lf_proto.specs.Stream.{ended_line, is_end_of_line, lines_of}
 use Rattle.lf_floor_model.specs.States.{FloorState}
 use Rattle.lf_server.specs.Devices.{Writer}
 use Rattle.lf_server.specs.Exchanges.{BreaksOffLastReply, Exchange, AnswersLines, Line, is_bye, lines}
@@ -21,7 +21,7 @@ ended_in (piece ∷ next ∷ pieces) = ended_line piece ∷ ended_in (next ∷ p
 
 -- The lines of these bytes that have their line feed.
 abbrev pub ended_lines : List ℕ → List Line
-ended_lines bytes = ended_in (slice_split is_line_feed bytes)
+ended_lines bytes = ended_in (slice_split is_end_of_line bytes)
 
 abbrev pub NoneIsBye : List Line → Type 0
 NoneIsBye acted = All (λ line. is_bye line ≡ false) acted

@@ -13,7 +13,7 @@ use Rattle.lf_floor_model.specs.Designs.{AgreeFor, initial_floor}
 use Rattle.lf_floor_model.specs.Outcomes.{is_short}
 use Rattle.lf_floor_model.specs.Runs.{Run, own_commands}
 use Rattle.lf_server.specs.Devices.{Writer}
-use Rattle.lf_server.specs.Exchanges.{Exchange, asked_on}
+use Rattle.lf_server.specs.Exchanges.{Exchange, requested_on}
 use Rattle.lf_server.specs.Endings.{WritesReplies}
 use Rattle.lf_server.specs.declared.serve_loop.Ending.{Ending}
 
@@ -26,16 +26,16 @@ with_command (Some command) later = command ∷ later
 -- The commands of the lines, in order. A line that is no request has no command.
 abbrev pub commands : List Exchange → List (Command (List ℕ) Place)
 commands [] = []
-commands (e ∷ later) = with_command (asked_on e.line) (commands later)
+commands (e ∷ later) = with_command (requested_on e.line) (commands later)
 
-abbrev pub with_reply : Option (Command (List ℕ) Place) → Reply → List Reply → List Reply
-with_reply None reply later = later
-with_reply (Some command) reply later = reply ∷ later
+abbrev pub reply_added : Option (Command (List ℕ) Place) → Reply → List Reply → List Reply
+reply_added None reply later = later
+reply_added (Some command) reply later = reply ∷ later
 
 -- The replies to these commands.
 abbrev pub replies : List Exchange → List Reply
 replies [] = []
-replies (e ∷ later) = with_reply (asked_on e.line) e.reply (replies later)
+replies (e ∷ later) = reply_added (requested_on e.line) e.reply (replies later)
 
 -- However serving ends, the floor has run the commands of the lines acted on, with these replies.
 abbrev pub ServingRuns : Type 0
@@ -54,7 +54,7 @@ reply_before team (Some (To name order)) e later = if bytes_eq name team && not 
 -- The texts of the replies to the team of this name, without `OutOfMemory`.
 abbrev pub reply_texts : List ℕ → List Exchange → List (List ℕ)
 reply_texts team [] = []
-reply_texts team (e ∷ later) = reply_before team (asked_on e.line) e (reply_texts team later)
+reply_texts team (e ∷ later) = reply_before team (requested_on e.line) e (reply_texts team later)
 
 -- Two servings of floors that have the same frame: a team that begins in the same state and sends
 -- the same commands gets the same texts, byte for byte. The other teams may have and send anything.

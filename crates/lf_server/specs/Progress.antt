@@ -8,11 +8,11 @@ use Rattle.lf_proto.specs.declared.framer.Got.{Got}
 use Rattle.lf_proto.specs.declared.framer.Got.TheVariants.{Line as IsLine, TooLong}
 use Rattle.lf_proto.specs.declared.request.Command.{Command}
 use Rattle.lf_proto.specs.Stream.{lines_of}
-use Rattle.lf_proto.specs.Pieces.{lines_from, pieces}
+use Rattle.lf_proto.specs.Pieces.{lines_from, between_line_feeds}
 use Rattle.lf_floor_model.specs.States.{FloorState}
 use Rattle.lf_server.specs.Devices.{Writer, SendsText, BreaksText}
-use Rattle.lf_floor.specs.Responses.{team_of}
-use Rattle.lf_server.specs.Exchanges.{AnswersTo, Exchange, AnswersLines, Line, asked_on, is_bye, lines, text_of}
+use Rattle.lf_floor.specs.Responses.{team_addressed}
+use Rattle.lf_server.specs.Exchanges.{AnswersTo, Exchange, AnswersLines, Line, requested_on, is_bye, lines, reply_text_of}
 use Rattle.lf_server.specs.Endings.{AreLinesActedOn, WritesReplies, NoneIsBye, ended_lines}
 use Rattle.lf_server.specs.declared.serve_loop.Ending.{Ending}
 use Rattle.lf_server.specs.declared.serve_loop.Ending.TheVariants.{Bye, ReadFault, WriteFault, OutOfMemory}
@@ -24,13 +24,13 @@ IsGivenLine got bytes line = ((got ≡ IsLine) × (line ≡ Some bytes)) ⊎ ((g
 -- ---- one line
 
 -- The team that a request names. 'bye' and a line that is no request name no team.
-abbrev pub team_asked : Option (Command (List ℕ) Place) → List ℕ
-team_asked None = []
-team_asked (Some command) = team_of command
+abbrev pub team_requested : Option (Command (List ℕ) Place) → List ℕ
+team_requested None = []
+team_requested (Some command) = team_addressed command
 
 -- The request gets this reply with the reply's own text.
 abbrev pub IsAnswered : Legalizer → FloorState → Option (Command (List ℕ) Place) → Reply → FloorState → Type 0
-IsAnswered l old asked reply new = AnswersTo l old asked reply (text_of new (team_asked asked) reply) new
+IsAnswered l old requested reply new = AnswersTo l old requested reply (reply_text_of new (team_requested requested) reply) new
 
 -- What was written of the one reply, depending on how the connection continues.
 abbrev pub ExchangeEnds : Option Ending → Writer → Writer → Line → List ℕ → Type 0
@@ -40,10 +40,10 @@ ExchangeEnds (Some WriteFault) w w' line text = BreaksText w w' text
 ExchangeEnds (Some _) w w' line text = ⊥
 
 -- One line was acted on.
-pub record IsExchanged (l : Legalizer) (stop : Option Ending) (w w' : Writer) (old new : FloorState) (line : Line) : Type 0 where
+pub record ActsOnLine (l : Legalizer) (stop : Option Ending) (w w' : Writer) (old new : FloorState) (line : Line) : Type 0 where
   pub reply : Reply
   pub text : List ℕ
-  pub answers : AnswersTo l old (asked_on line) reply text new
+  pub answers : AnswersTo l old (requested_on line) reply text new
   pub ends : ExchangeEnds stop w w' line text
 
 -- ---- many lines
@@ -55,7 +55,7 @@ pub record ContinuesServing (l : Legalizer) (w w' : Writer) (left left' : ℕ) (
   pub exchanged : AnswersLines l old w done new w'
   pub counts : left ≡ length done + left'
   pub no_bye : NoneIsBye (lines done)
-  pub goes_on : (rest : List ℕ) → lines_from held (pieces (from ++ rest)) ≡ lines done ++ lines_from held' (pieces (to ++ rest))
+  pub goes_on : (rest : List ℕ) → lines_from held (between_line_feeds (from ++ rest)) ≡ lines done ++ lines_from held' (between_line_feeds (to ++ rest))
 
 -- The lines acted on if serving stops in the middle of the input, or at its end.
 abbrev pub StopsServingAt : Ending → ℕ → List Line → List Line → Type 0

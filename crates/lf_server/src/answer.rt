@@ -4,14 +4,14 @@ ghost use Rattle.std.specs.Prelude.{◌≡◌, ◌≤◌, ℕ, decimal, false, l
 ghost use Rattle.std.specs.Fmt.{signed_decimal};
 ghost use Rattle.lf_orient.specs.Words.{orient_word};
 ghost use Rattle.lf_rules.specs.Legalizer.{Legalizer};
-ghost use Rattle.lf_proto.specs.Commands.{command_of};
+ghost use Rattle.lf_proto.specs.Commands.{command_with_names};
 ghost use Rattle.lf_proto.specs.ReplyText.{reply_text};
 ghost use Rattle.lf_proto.specs.declared.reply.Reply.TheVariants.{Refused};
 ghost use Rattle.lf_floor.specs.Responses.{def_text, reply_in};
 ghost use Rattle.lf_floor.specs.declared.response.Response.TheVariants.{Def as Apart};
-ghost use Rattle.lf_server.specs.Exchanges.{asked_on, asks_end, cells_in, is_long, name_in, text_of};
+ghost use Rattle.lf_server.specs.Exchanges.{requested_on, requests_end, reply_cells, is_long, name_in, reply_text_of};
 ghost use Rattle.lf_server.specs.Connections.{KeepsDesign};
-ghost use Rattle.lf_server.specs.Progress.{IsAnswered, team_asked};
+ghost use Rattle.lf_server.specs.Progress.{IsAnswered, team_requested};
 
 use lf_floor::{Floor, Response};
 use lf_floorplan::Place;
@@ -20,7 +20,7 @@ use lf_proto::{Command, Refusal, Reply, Request, parse_line, reply_text};
 
 /// Returns the request of a line, or `None` if the line is too long or is no request.
 pub(crate) fn request_in<'a>(line: Option<&'a [u8]>) -> Option<Request<'a>>
-    ensures { option_map command_of result ≡ asked_on (option_map (λ bytes. bytes.now) line.entry) }
+    ensures { option_map command_with_names result ≡ requested_on (option_map (λ bytes. bytes.now) line.entry) }
 {
     match parse_line(line?) {
         Ok(request) => Some(request),
@@ -30,7 +30,7 @@ pub(crate) fn request_in<'a>(line: Option<&'a [u8]>) -> Option<Request<'a>>
 
 /// Returns whether the request ends the connection.
 pub(crate) fn is_end(request: &Option<Request>) -> bool
-    ensures { result ≡ asks_end (option_map command_of request.now) }
+    ensures { result ≡ requests_end (option_map command_with_names request.now) }
 {
     match request {
         Some(Command::Bye) => true,
@@ -41,7 +41,7 @@ pub(crate) fn is_end(request: &Option<Request>) -> bool
 
 /// Returns the positions of the cells that a reply names: the cell, and the other cell.
 fn cells_in(reply: &Reply) -> (Option<u32>, Option<u32>)
-    ensures { result ≡ cells_in reply.now }
+    ensures { result ≡ reply_cells reply.now }
 {
     match reply {
         Reply::Refused(Refusal::Unplaced { cell }) => (Some(*cell), None),
@@ -132,7 +132,7 @@ pub(crate) fn write_short_reply<K: Seeker + Drop>(
 )
     requires room { 4096 ≤ vec_capacity text.old }
     requires short { is_long reply.now ≡ false }
-    ensures text { text.new.items ≡ text_of floor.now team.now reply.now }
+    ensures text { text.new.items ≡ reply_text_of floor.now team.now reply.now }
     ensures room { 4096 ≤ vec_capacity text.new }
 {
     let (cell, other) = cells_in(reply);
@@ -146,8 +146,8 @@ pub(crate) fn write_short_reply<K: Seeker + Drop>(
 }
 
 /// Returns the team that a request names, or no bytes for `bye` and for a line that is no request.
-pub(crate) fn team_asked<'a>(request: &Option<Request<'a>>) -> &'a [u8]
-    ensures { result.now ≡ team_asked (option_map command_of request.now) }
+pub(crate) fn team_requested<'a>(request: &Option<Request<'a>>) -> &'a [u8]
+    ensures { result.now ≡ team_requested (option_map command_with_names request.now) }
 {
     match request {
         Some(Command::To { team, .. }) => team,
@@ -159,9 +159,9 @@ pub(crate) fn team_asked<'a>(request: &Option<Request<'a>>) -> &'a [u8]
 /// Answers a line with one step of the floor, or with `BadRequest`. A DEF text is not written yet.
 pub(crate) fn answer<K: Seeker + Drop>(floor: &mut Floor<K>, request: &Option<Request>) -> Response
     ensures stays { KeepsDesign floor.old floor.new }
-    ensures answered { (l : Legalizer) → IsAnswered l floor.old (option_map command_of request.now)
-        (reply_in floor.new (team_asked (option_map command_of request.now)) result) floor.new }
-    ensures length { (count : ℕ) → result ≡ Apart count → count ≡ length (def_text floor.new (team_asked (option_map command_of request.now))) }
+    ensures answered { (l : Legalizer) → IsAnswered l floor.old (option_map command_with_names request.now)
+        (reply_in floor.new (team_requested (option_map command_with_names request.now)) result) floor.new }
+    ensures length { (count : ℕ) → result ≡ Apart count → count ≡ length (def_text floor.new (team_requested (option_map command_with_names request.now))) }
 {
     match request {
         None => Response::Whole(Reply::Refused(Refusal::BadRequest)),

@@ -2,10 +2,10 @@
 
 ghost use Rattle.std.specs.Prelude.{◌≡◌, ◌≤◌, ◌+◌, ◌++◌, ◌∷◌, [], ℕ, OnErr, OnOk, codes, decimal, false, length, take, true, vec_capacity, vec_len};
 ghost use Rattle.std.specs.Io.KnownBytes.{Appends};
-ghost use Rattle.lf_proto.specs.ReplyText.{line_text};
+ghost use Rattle.lf_proto.specs.ReplyText.{reply_words_line};
 ghost use Rattle.lf_floor.specs.Responses.{def_text, reply_in};
 ghost use Rattle.lf_floor.specs.declared.response.Response.TheVariants.{Def as Apart};
-ghost use Rattle.lf_server.specs.Exchanges.{text_of};
+ghost use Rattle.lf_server.specs.Exchanges.{reply_text_of};
 ghost use Rattle.lf_server.specs.Pieces.{IsUnderWay, has_failed_since};
 
 use crate::answer::write_short_reply;
@@ -31,7 +31,7 @@ pub(crate) fn put(out: &mut Vec<u8>, bytes: &[u8])
 /// Replaces the buffer's contents with the line in front of a DEF text of `count` bytes.
 fn put_def_line(text: &mut Vec<u8>, count: usize)
     requires room { 4096 ≤ vec_capacity text.old }
-    ensures line { text.new.items ≡ line_text (codes "ok" ∷ decimal count ∷ []) }
+    ensures line { text.new.items ≡ reply_words_line (codes "ok" ∷ decimal count ∷ []) }
     ensures room { 4096 ≤ vec_capacity text.new }
 {
     let mut number = Buffer::new();
@@ -69,10 +69,10 @@ fn send_reply<K: Seeker + Drop, W: Sink>(
     reply: &Reply,
 ) -> Result<(), DeviceFault>
     requires room { 4096 ≤ vec_capacity text.old }
-    ensures ok { OnOk result (Appends (W.contents sink.old) (W.contents sink.new) (text_of floor.now team.now reply.now)) }
+    ensures ok { OnOk result (Appends (W.contents sink.old) (W.contents sink.new) (reply_text_of floor.now team.now reply.now)) }
     ensures flushed { OnOk result (W.is_flushed sink.new ≡ true) }
     ensures healthy { OnOk result (W.has_failed sink.new ≡ W.has_failed sink.old) }
-    ensures front { OnErr result ((n : ℕ) × Appends (W.contents sink.old) (W.contents sink.new) (take n (text_of floor.now team.now reply.now))) }
+    ensures front { OnErr result ((n : ℕ) × Appends (W.contents sink.old) (W.contents sink.new) (take n (reply_text_of floor.now team.now reply.now))) }
     ensures failed { OnErr result (W.has_failed sink.new ≡ true) }
     ensures held { W.holds sink.new ≡ W.holds sink.old }
     ensures room { 4096 ≤ vec_capacity text.new }
@@ -142,12 +142,12 @@ pub(crate) fn send_response<K: Seeker + Drop, W: Sink>(
 ) -> Result<(), DeviceFault>
     requires room { 4096 ≤ vec_capacity text.old }
     requires length { (count : ℕ) → response.now ≡ Apart count → count ≡ length (def_text floor.now team.now) }
-    ensures ok { OnOk result (Appends (W.contents sink.old) (W.contents sink.new) (text_of floor.now team.now (reply_in floor.now team.now response.now))) }
+    ensures ok { OnOk result (Appends (W.contents sink.old) (W.contents sink.new) (reply_text_of floor.now team.now (reply_in floor.now team.now response.now))) }
     ensures flushed { OnOk result (W.is_flushed sink.new ≡ true) }
     ensures healthy { OnOk result (W.has_failed sink.new ≡ W.has_failed sink.old) }
     ensures front { OnErr result ((n : ℕ)
         × Appends (W.contents sink.old) (W.contents sink.new)
-        (take n (text_of floor.now team.now (reply_in floor.now team.now response.now)))) }
+        (take n (reply_text_of floor.now team.now (reply_in floor.now team.now response.now)))) }
     ensures failed { OnErr result (W.has_failed sink.new ≡ true) }
     ensures held { W.holds sink.new ≡ W.holds sink.old }
     ensures room { 4096 ≤ vec_capacity text.new }

@@ -6,10 +6,10 @@ ghost use Rattle.lf_rules.specs.Legalizer.{Legalizer};
 ghost use Rattle.lf_server.specs.Connections.{KeepsDesign};
 ghost use Rattle.lf_server.specs.Devices.{writer};
 ghost use Rattle.lf_server.specs.Endings.{ServesLines};
-ghost use Rattle.lf_proto.specs.Pieces.{lines_from, pieces};
-ghost use Rattle.lf_server.specs.Progress.{FinishesServing, IsGivenLine, ContinuesServing, IsExchanged, SinkFailsAtWriteFault, StopsServing, answered_count};
+ghost use Rattle.lf_proto.specs.Pieces.{lines_from, between_line_feeds};
+ghost use Rattle.lf_server.specs.Progress.{FinishesServing, IsGivenLine, ContinuesServing, ActsOnLine, SinkFailsAtWriteFault, StopsServing, answered_count};
 
-use crate::answer::{answer, is_end, request_in, team_asked};
+use crate::answer::{answer, is_end, request_in, team_requested};
 use crate::responses::send_response;
 use lf_floor::Floor;
 use lf_io::{Sink, Source};
@@ -85,14 +85,14 @@ fn answer_line<K: Seeker + Drop, W: Sink>(
         (λ ending. SinkFailsAtWriteFault ending (W.has_failed sink.old) (W.has_failed sink.new)) }
     ensures held { W.holds sink.new ≡ W.holds sink.old }
     ensures stays { KeepsDesign floor.old floor.new }
-    ensures serves { (l : Legalizer) → IsExchanged l result
+    ensures serves { (l : Legalizer) → ActsOnLine l result
         (writer (W.contents sink.old) (W.is_flushed sink.old) (W.has_failed sink.old))
         (writer (W.contents sink.new) (W.is_flushed sink.new) (W.has_failed sink.new))
         floor.old floor.new (option_map (λ bytes. bytes.now) line.entry) }
 {
     let request = request_in(line);
     let response = answer(floor, &request);
-    if send_response(sink, text, floor, team_asked(&request), &response).is_err() {
+    if send_response(sink, text, floor, team_requested(&request), &response).is_err() {
         return Some(Ending::WriteFault);
     }
     if is_end(&request) {
@@ -128,7 +128,7 @@ fn take_line<K: Seeker + Drop, W: Sink>(
         (λ ending. (rest : List ℕ) → StopsServing l ending
         (writer (W.contents sink.old) (W.is_flushed sink.old) (W.has_failed sink.old))
         (writer (W.contents sink.new) (W.is_flushed sink.new) (W.has_failed sink.new))
-        left.old left.new floor.old floor.new (lines_from framer.old.pending (pieces (piece.now ++ rest)))) }
+        left.old left.new floor.old floor.new (lines_from framer.old.pending (between_line_feeds (piece.now ++ rest)))) }
 {
     let fed = framer.feed(piece);
     let Some(line) = line_given(framer, fed.got) else {
@@ -166,7 +166,7 @@ fn answer_lines_in<K: Seeker + Drop, W: Sink>(
         (λ ending. (rest : List ℕ) → StopsServing l ending
         (writer (W.contents sink.old) (W.is_flushed sink.old) (W.has_failed sink.old))
         (writer (W.contents sink.new) (W.is_flushed sink.new) (W.has_failed sink.new))
-        left.old left.new floor.old floor.new (lines_from framer.old.pending (pieces (piece.now ++ rest)))) }
+        left.old left.new floor.old floor.new (lines_from framer.old.pending (between_line_feeds (piece.now ++ rest)))) }
 {
     let mut at = 0;
     while at < piece.len() {

@@ -5,7 +5,7 @@ use Rattle.std.proofs.lemmas.Int.{ints}
 use Rattle.std.proofs.Math.Nat.{lt_of_mul-lt-mul_right, mul-le-mul_right}
 use Rattle.lf_spans.specs.declared.span.Span.{Span}
 use Rattle.lf_spans.specs.declared.grid.SiteGrid.{SiteGrid}
-use Rattle.lf_spans.specs.Grids.{FitsSpan, IsNearest, IsNoFarther, IsOnGrid, distance}
+use Rattle.lf_spans.specs.Grids.{FitsSpan, IsNearest, IsNoFarther, IsOnGrid, distance_to}
 use Rattle.lf_spans.specs.GridSteps.{AreEnds, IsNearer}
 
 -- Subtracting its remainder from a number gives a number whole steps from the origin.
@@ -65,13 +65,13 @@ moved g x y e on = subst (IsOnGrid g) e on
 -- ---- nearness
 
 pub near_right : (t x y : ℤ) → t ≤ℤ x → x ≤ℤ y → IsNoFarther t x y
-near_right t x y a b = elim order [ inl less ↦ inl (omega (arith, ints)) | inr same ↦ inr (ap (λ (z : ℤ). distance t z) same, b) ]
+near_right t x y a b = elim order [ inl less ↦ inl (omega (arith, ints)) | inr same ↦ inr (ap (λ (z : ℤ). distance_to t z) same, b) ]
   where
     order : (x <ℤ y) ⊎ (x ≡ y)
     order = grind (arith, ints)
 
 pub near_left : (t x y : ℤ) → x ≤ℤ t → y ≤ℤ x → IsNoFarther t x y
-near_left t x y a b = elim order [ inl less ↦ inl (omega (arith, ints)) | inr same ↦ inr (ap (λ (z : ℤ). distance t z) (sym same), omega (arith, ints)) ]
+near_left t x y a b = elim order [ inl less ↦ inl (omega (arith, ints)) | inr same ↦ inr (ap (λ (z : ℤ). distance_to t z) (sym same), omega (arith, ints)) ]
   where
     order : (y <ℤ x) ⊎ (y ≡ x)
     order = grind (arith, ints)
@@ -80,7 +80,7 @@ near_left t x y a b = elim order [ inl less ↦ inl (omega (arith, ints)) | inr 
 pub near_across : (t x y : ℤ) → x ≤ℤ t → t ≤ℤ y → (t -ℤ x) ≤ℤ (y -ℤ t) → IsNoFarther t x y
 near_across t x y a b c = elim order [ inl less ↦ inl less | inr same ↦ inr (same, omega (arith, ints)) ]
   where
-    order : (distance t x < distance t y) ⊎ (distance t x ≡ distance t y)
+    order : (distance_to t x < distance_to t y) ⊎ (distance_to t x ≡ distance_to t y)
     order = grind (arith, ints)
 
 -- Right of the target and nearer than a number left of it.

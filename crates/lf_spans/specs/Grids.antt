@@ -41,12 +41,12 @@ pub record FitsSpan (span : Span) (g : SiteGrid) (width x : ℤ) : Type 0 where
   pub within : LiesInSpanFrom span width x
 
 -- The distance of x from the target.
-abbrev pub distance : ℤ → ℤ → ℕ
-distance target x = unsigned_abs (x -ℤ target)
+abbrev pub distance_to : ℤ → ℤ → ℕ
+distance_to target x = unsigned_abs (x -ℤ target)
 
 -- x is nearer to the target than y, or equally near and not right of y.
 abbrev pub IsNoFarther : ℤ → ℤ → ℤ → Type 0
-IsNoFarther target x y = (distance target x < distance target y) ⊎ ((distance target x ≡ distance target y) × (x ≤ℤ y))
+IsNoFarther target x y = (distance_to target x < distance_to target y) ⊎ ((distance_to target x ≡ distance_to target y) × (x ≤ℤ y))
 
 -- x fits and is the nearest to the target; the lesser of two that are equally near.
 pub record IsNearest (Fit : ℤ → Type 0) (target x : ℤ) : Type 0 where

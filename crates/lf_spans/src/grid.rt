@@ -82,9 +82,9 @@ fn nearer(grid: &SiteGrid, left: i64, target: i64) -> i64
     ensures { IsNearer left (left +ℤ grid.now.step) target result }
 {
     let right = left + grid.step;
-    let behind = target - left;
+    let after_it = target - left;
     let ahead = right - target;
-    if ahead < behind {
+    if ahead < after_it {
         return right;
     }
     left

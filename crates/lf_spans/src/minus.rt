@@ -2,7 +2,7 @@
 
 ghost use Rattle.std.specs.Prelude.{All, IfOk, map};
 ghost use Rattle.lf_spans.specs.Spans.{IsFree, IsInOrder, IsMinus, IsRising};
-ghost use Rattle.lf_spans.specs.Steps.{ContainsSpan, IsBefore, IsBehind};
+ghost use Rattle.lf_spans.specs.Steps.{ContainsSpan, IsBefore, IsAfter};
 
 use crate::meet::{is_filled, push_filled, spans_meet};
 use crate::span::{HasSpan, Span};
@@ -19,8 +19,8 @@ fn before(rest: &Span, span: &Span) -> Span
 }
 
 /// Returns the part of the rest after the span.
-fn behind(rest: &Span, span: &Span) -> Span
-    ensures { IsBehind rest.now span.now result }
+fn after_it(rest: &Span, span: &Span) -> Span
+    ensures { IsAfter rest.now span.now result }
 {
     Span {
         lo: rest.lo.max(span.hi),
@@ -47,7 +47,7 @@ pub fn free_spans_in<T: HasSpan>(
             continue;
         }
         push_filled(&before(&rest, &span), &mut free)?;
-        rest = behind(&rest, &span);
+        rest = after_it(&rest, &span);
     }
     push_filled(&rest, &mut free)?;
     Ok(free)

@@ -4,11 +4,11 @@ use Rattle.std.proofs.lemmas.Bool.{cases_eq}
 use Rattle.std.proofs.lemmas.List.{length-map}
 use Rattle.lf_cells.specs.declared.cell.Cell.{Cell}
 use Rattle.lf_cells.specs.Cells.{Cells, cells_of}
-use Rattle.lf_placement.specs.Placings.{OtherCellsStay}
+use Rattle.lf_placement.specs.Placements.{OtherCellsStay}
 use Rattle.lf_state_text.specs.declared.saved_rows.TeamRow.{TeamRow}
 use Rattle.lf_state_text.specs.Saved.{SavedTeam, saved_at, team_view, team_views}
 use Rattle.lf_state_restore.specs.Saved.{map_two, restored_cell}
-use Rattle.lf_state_restore.specs.Stands.{AreAsMany, ArePlaced, without_cells}
+use Rattle.lf_state_restore.specs.Placed.{AreAsMany, ArePlaced, without_cells}
 
 -- the first n rows are without their cells
 abbrev pub first_emptied : ℕ → List SavedTeam → List SavedTeam

@@ -10,9 +10,9 @@ use Rattle.lf_cells.specs.declared.cell.CellId.{CellId}
 use Rattle.lf_cells.specs.Cells.{Cells, cells_of, id_of, ids_of, working_at}
 use Rattle.lf_undo.specs.declared.moves.Move.{Move}
 use Rattle.lf_undo.specs.Entries.{Places, entries_of, moves_taken_back}
-use Rattle.lf_occupancy.specs.Occupied.{KeepsCapacities}
+use Rattle.lf_occupancy.specs.Views.{KeepsCapacities}
 use Rattle.lf_placement.specs.Laws.{FittingIsStable}
-use Rattle.lf_placement.specs.Placings.{Fits, Placing, SameButRooms, places_of}
+use Rattle.lf_placement.specs.Placements.{Fits, Placing, SameButRooms, working_places_of}
 
 -- ---- room
 
@@ -53,7 +53,7 @@ none_fits k p entries places n past =
 
 -- ---- the working places of a team
 
-working_there : (cells : List Cell) (own : ℕ) → get_or (places_of cells) own None ≡ working_at cells own
+working_there : (cells : List Cell) (own : ℕ) → get_or (working_places_of cells) own None ≡ working_at cells own
 working_there [] own = refl
 working_there (c ∷ cs) zero = refl
 working_there (c ∷ cs) (suc own) = working_there cs own
@@ -63,8 +63,8 @@ map_twice f g [] = refl
 map_twice {Z = Z} f g (x ∷ xs) = ap (λ (zs : List Z). f (g x) ∷ zs) (map_twice f g xs)
 
 -- the working places of the ids of the team's cells are those of the team
-pub working_ids : (table : Cells) (team : ℕ) → map (λ id. working_at (cells_of table id.team) id.own) (ids_of team (cells_of table team)) ≡ places_of (cells_of table team)
+pub working_ids : (table : Cells) (team : ℕ) → map (λ id. working_at (cells_of table id.team) id.own) (ids_of team (cells_of table team)) ≡ working_places_of (cells_of table team)
 working_ids table team =
     let cells = cells_of table team in
     map_twice (λ (id : CellId). working_at (cells_of table id.team) id.own) (id_of team) (range_with_len 0 (length cells))
-    ∙ sym (fill_by_all (working_at cells) (places_of cells) (length cells) None (length-map cells (λ (c : Cell). c.working)) (λ k less. working_there cells k))
+    ∙ sym (fill_by_all (working_at cells) (working_places_of cells) (length cells) None (length-map cells (λ (c : Cell). c.working)) (λ k less. working_there cells k))

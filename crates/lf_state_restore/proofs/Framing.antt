@@ -6,10 +6,10 @@ use Rattle.std.proofs.lemmas.List.Elements.{All-from_recursion, All-head, All-ni
 use Rattle.std.proofs.lemmas.List.{length-map}
 use Rattle.lf_floorplan.specs.declared.frame.Frame.{Frame}
 use Rattle.lf_floorplan.specs.declared.limits.Limits.{Limits}
-use Rattle.lf_floorplan.specs.Bounds.{IsName}
+use Rattle.lf_floorplan.specs.Bounds.{IsDesignName}
 use Rattle.lf_cells.specs.declared.cell.Cell.{Cell}
 use Rattle.lf_cells.specs.Cells.{Cells, cells_of}
-use Rattle.lf_placement.specs.Placings.{AreSized}
+use Rattle.lf_placement.specs.Placements.{AreSized}
 use Rattle.lf_legalize.specs.Members.{IsSizedCell}
 use Rattle.lf_undo.specs.Entries.{Places, entries_of}
 use Rattle.lf_undo.proofs.Undone.{count_entries, whole_entries}
@@ -17,9 +17,9 @@ use Rattle.lf_floor_model.specs.States.{FloorState, TeamState}
 use Rattle.lf_floor_model.specs.Teams.{IsTeamOf}
 use Rattle.lf_floor_model.proofs.Kept.{sized_as}
 use Rattle.lf_state_text.specs.declared.saved_rows.SavedCell.{SavedCell}
-use Rattle.lf_state_text.specs.Saved.{Both, SavedTeam, saved_at, IsTeamOf as IsSavedTeamOf}
-use Rattle.lf_state_restore.specs.Saved.{MatchDesign, ShareDesign, fixed_cells, fixed_of, map_two, named_team, restored, restored_cell, restored_team, saved_cell}
-use Rattle.lf_state_restore.specs.Stands.{AreAsMany, ArePlaced}
+use Rattle.lf_state_text.specs.Saved.{Both, SavedTeam, saved_at, IsSavedTeamOf}
+use Rattle.lf_state_restore.specs.Saved.{MatchDesign, ShareDesign, fixed_cells, fixed_part, map_two, named_team, restored_floor, restored_cell, restored_team, saved_cell}
+use Rattle.lf_state_restore.specs.Placed.{AreAsMany, ArePlaced}
 
 -- ---- cells
 
@@ -33,10 +33,10 @@ cells_names [] saved many = refl
 cells_names (c ∷ cells) [] many = absurd (omega (arith, many))
 cells_names (c ∷ cells) (s ∷ saved) many = ap (λ (ns : List (List ℕ)). c.name ∷ ns) (cells_names cells saved (omega (arith, many)))
 
-cells_fixed : (cells : List Cell) (saved : List SavedCell) → length saved ≡ length cells → map fixed_of (map_two restored_cell cells saved) ≡ map fixed_of cells
+cells_fixed : (cells : List Cell) (saved : List SavedCell) → length saved ≡ length cells → map fixed_part (map_two restored_cell cells saved) ≡ map fixed_part cells
 cells_fixed [] saved many = refl
 cells_fixed (c ∷ cells) [] many = absurd (omega (arith, many))
-cells_fixed (c ∷ cells) (s ∷ saved) many = ap (λ (fs : List (List ℕ × ℕ)). fixed_of c ∷ fs) (cells_fixed cells saved (omega (arith, many)))
+cells_fixed (c ∷ cells) (s ∷ saved) many = ap (λ (fs : List (List ℕ × ℕ)). fixed_part c ∷ fs) (cells_fixed cells saved (omega (arith, many)))
 
 pub cells_sized : (f : Frame) (cells : List Cell) (saved : List SavedCell) → All (λ c. IsSizedCell f c) cells → All (λ c. IsSizedCell f c) (map_two restored_cell cells saved)
 cells_sized f [] saved all = All-nil (λ (c : Cell). IsSizedCell f c)
@@ -46,12 +46,12 @@ cells_sized f (c ∷ cells) (s ∷ saved) all =
     (sized_as f c (restored_cell c s) refl (All-head (λ (c : Cell). IsSizedCell f c) c cells all))
     (cells_sized f cells saved (All-tail (λ (c : Cell). IsSizedCell f c) c cells all))
 
-cells_printed : (cells : List Cell) (saved : List SavedCell) → All (λ c. IsName c.name) cells → All (λ c. IsName c.name) (map_two restored_cell cells saved)
-cells_printed [] saved all = All-nil (λ (c : Cell). IsName c.name)
-cells_printed (c ∷ cells) [] all = All-nil (λ (c : Cell). IsName c.name)
+cells_printed : (cells : List Cell) (saved : List SavedCell) → All (λ c. IsDesignName c.name) cells → All (λ c. IsDesignName c.name) (map_two restored_cell cells saved)
+cells_printed [] saved all = All-nil (λ (c : Cell). IsDesignName c.name)
+cells_printed (c ∷ cells) [] all = All-nil (λ (c : Cell). IsDesignName c.name)
 cells_printed (c ∷ cells) (s ∷ saved) all =
-    All-cons (λ (c : Cell). IsName c.name) (restored_cell c s) (map_two restored_cell cells saved)
-    (All-head (λ (c : Cell). IsName c.name) c cells all) (cells_printed cells saved (All-tail (λ (c : Cell). IsName c.name) c cells all))
+    All-cons (λ (c : Cell). IsDesignName c.name) (restored_cell c s) (map_two restored_cell cells saved)
+    (All-head (λ (c : Cell). IsDesignName c.name) c cells all) (cells_printed cells saved (All-tail (λ (c : Cell). IsDesignName c.name) c cells all))
 
 -- ---- cells at their saved places
 
@@ -224,5 +224,5 @@ teams_fixed limits (s ∷ teams) (t ∷ saved) due =
     ∙ ap (λ (l : List (List (List ℕ × ℕ))). fixed_cells s ∷ l) (teams_fixed limits teams saved due.1)
 
 -- a restored floor has the design
-pub still_of_design : (begin : FloorState) (saved : List SavedTeam) → MatchDesign begin.frame.limits begin.teams saved → ShareDesign begin (restored begin saved)
+pub still_of_design : (begin : FloorState) (saved : List SavedTeam) → MatchDesign begin.frame.limits begin.teams saved → ShareDesign begin (restored_floor begin saved)
 still_of_design begin saved due = record { frame = refl; components = refl; cells = teams_fixed begin.frame.limits begin.teams saved due }

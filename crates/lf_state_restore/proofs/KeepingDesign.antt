@@ -17,11 +17,11 @@ use Rattle.lf_floor_model.specs.Steps.{IsAnswerOf, MayRunOutOfMemory, answer_at,
 use Rattle.lf_floor_model.specs.Runs.{Run}
 use Rattle.lf_floor_model.proofs.Cases.{Facts, order_facts, part_stays}
 use Rattle.lf_floor_model.proofs.Standing.{some_one}
-use Rattle.lf_state_restore.specs.Saved.{ShareDesign, RunKeepsDesign, fixed_cells, fixed_of}
+use Rattle.lf_state_restore.specs.Saved.{ShareDesign, RunKeepsDesign, fixed_cells, fixed_part}
 
-pub committed_fixed : (cells : List Cell) → map fixed_of (map as_committed cells) ≡ map fixed_of cells
+pub committed_fixed : (cells : List Cell) → map fixed_part (map as_committed cells) ≡ map fixed_part cells
 committed_fixed [] = refl
-committed_fixed (c ∷ cs) = ap (λ (xs : List (List ℕ × ℕ)). fixed_of c ∷ xs) (committed_fixed cs)
+committed_fixed (c ∷ cs) = ap (λ (xs : List (List ℕ × ℕ)). fixed_part c ∷ xs) (committed_fixed cs)
 
 -- the team has the same cells after any command
 order_fixed : (t : TeamRules) (order : TeamCommand (List ℕ) Place) (s : TeamState) → fixed_cells (outcome_of t order s).team ≡ fixed_cells s
@@ -29,9 +29,9 @@ order_fixed t order s = by (outcome_of t order s) (order_facts t order s) where
   by : (o : Outcome) → Facts t s order o → fixed_cells o.team ≡ fixed_cells s
   by o (inl r) = ap (λ (o : Outcome). fixed_cells o.team) r.is
   by o (inr (inl look)) = elim look.team [ inl same ↦ ap fixed_cells same | inr slot ↦ ap fixed_cells slot.is ]
-  by o (inr (inr done)) = elim (part_stays fixed_of (λ c p. refl) t s done.session done.change o.team.cells done.is.cells) [
+  by o (inr (inr done)) = elim (part_stays fixed_part (λ c p. refl) t s done.session done.change o.team.cells done.is.cells) [
     | inl same ↦ same
-    | inr commits ↦ ap (map fixed_of) commits.1.are ∙ committed_fixed s.cells
+    | inr commits ↦ ap (map fixed_part) commits.1.are ∙ committed_fixed s.cells
   ]
 
 set_fixed : (teams : List TeamState) (k : ℕ) (old new : TeamState) → slice_get teams k ≡ Some old → fixed_cells new ≡ fixed_cells old

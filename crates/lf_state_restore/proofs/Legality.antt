@@ -7,7 +7,7 @@ use Rattle.lf_floor_model.specs.Committed.{committed_design, committed_member, c
 use Rattle.lf_floor_model.specs.States.{FloorState, TeamState}
 use Rattle.lf_state_text.specs.declared.saved_rows.SavedCell.{SavedCell}
 use Rattle.lf_state_text.specs.Saved.{SavedTeam}
-use Rattle.lf_state_restore.specs.Saved.{RestoredIsCommitted, map_two, restored, restored_cell, restored_team, saved_design, saved_member}
+use Rattle.lf_state_restore.specs.Saved.{RestoredIsCommitted, map_two, restored_floor, restored_cell, restored_team, saved_design, saved_member}
 
 members_are : (cells : List Cell) (saved : List SavedCell) → map committed_member (map_two restored_cell cells saved) ≡ map_two saved_member cells saved
 members_are [] saved = refl
@@ -22,7 +22,7 @@ teams_are (s ∷ teams) (t ∷ saved) =
     ap (λ (ms : List Member). ms ∷ map committed_members (map_two restored_team teams saved)) (members_are s.cells t.cells)
     ∙ ap (λ (ts : List (List Member)). map_two saved_member s.cells t.cells ∷ ts) (teams_are teams saved)
 
-same_design : (begin : FloorState) (saved : List SavedTeam) → committed_design (restored begin saved) ≡ saved_design begin saved
+same_design : (begin : FloorState) (saved : List SavedTeam) → committed_design (restored_floor begin saved) ≡ saved_design begin saved
 same_design begin saved = ap (design_cells_from 0) (teams_are begin.teams saved)
 
 pub restored_committed : RestoredIsCommitted

@@ -4,12 +4,12 @@ use Rattle.lf_floorplan.specs.declared.place.Place.{Place}
 use Rattle.lf_cells.specs.declared.cell.Cell.{Cell}
 use Rattle.lf_cells.specs.Cells.{Cells, as_committed, cells_of, id_in, moved}
 use Rattle.lf_undo.specs.Entries.{Places}
-use Rattle.lf_placement.specs.Placings.{OtherCellsStay, SameButPlaces, committed_of, places_of, without_place}
+use Rattle.lf_placement.specs.Placements.{OtherCellsStay, SameButPlaces, committed_of, working_places_of, without_place}
 use Rattle.lf_placement.proofs.Moves.{cells_stay, cells_through, places_moved, same_moved}
 use Rattle.lf_state_text.specs.declared.saved_rows.SavedCell.{SavedCell}
-use Rattle.lf_state_restore.specs.Saved.{fixed_of, map_two, restored_cell}
+use Rattle.lf_state_restore.specs.Saved.{fixed_part, map_two, restored_cell}
 
-pub many_places : (cells : List Cell) → length (places_of cells) ≡ length cells
+pub many_places : (cells : List Cell) → length (working_places_of cells) ≡ length cells
 many_places [] = refl
 many_places (c ∷ cs) = ap suc (many_places cs)
 
@@ -39,10 +39,10 @@ all_there (suc n) (p ∷ places) (q ∷ from) few many = ap (λ (ps : Places). p
 
 -- one more cell is moved to its place
 next_at : (n : ℕ) (places from : Places) (place : Option Place) (old new : List Cell) → n < length places → length places ≡ length from
-    → place ≡ get_or places n place → places_of old ≡ first_at n places from → new ≡ moved old n place → places_of new ≡ first_at (n + 1) places from
+    → place ≡ get_or places n place → working_places_of old ≡ first_at n places from → new ≡ moved old n place → working_places_of new ≡ first_at (n + 1) places from
 next_at n places from place old new less many is so_far are =
     let more : n + 1 ≡ suc n = omega arith in
-    ap (λ (cs : List Cell). places_of cs) are ∙ places_moved old n place
+    ap (λ (cs : List Cell). working_places_of cs) are ∙ places_moved old n place
     ∙ ap (λ (ps : Places). set ps n place) so_far
     ∙ ap (λ (p : Option Place). set (first_at n places from) n p) is
     ∙ one_more_at n places from place less many
@@ -60,36 +60,36 @@ stays_at (suc n) (p ∷ places) (q ∷ from) d less many is =
     ∙ ap (λ (k : ℕ). first_at k (p ∷ places) (q ∷ from)) (sym more)
 
 -- the first n cells of the team are at these places, and nothing else differs
-pub record StandSoFar (team n : ℕ) (places : Places) (old now : Cells) : Type 0 where
-  pub at : places_of (cells_of now team) ≡ first_at n places (places_of (cells_of old team))
+pub record ArePlacedSoFar (team n : ℕ) (places : Places) (old now : Cells) : Type 0 where
+  pub at : working_places_of (cells_of now team) ≡ first_at n places (working_places_of (cells_of old team))
   pub same : SameButPlaces (cells_of old team) (cells_of now team)
   pub others : OtherCellsStay team old now
 
-pub none_so_far : (team : ℕ) (places : Places) (old : Cells) → StandSoFar team 0 places old old
+pub none_so_far : (team : ℕ) (places : Places) (old : Cells) → ArePlacedSoFar team 0 places old old
 none_so_far team places old = record { at = refl; same = refl; others = cells_stay team old }
 
-module _ (team n : ℕ) (places : Places) (old now : Cells) (less : n < length places) (many : length places ≡ length (places_of (cells_of old team)))
-    (so_far : StandSoFar team n places old now) where
+module _ (team n : ℕ) (places : Places) (old now : Cells) (less : n < length places) (many : length places ≡ length (working_places_of (cells_of old team)))
+    (so_far : ArePlacedSoFar team n places old now) where
   -- one more cell is moved to its place
   pub one_so_far : (new : Cells) (place : Option Place) → place ≡ get_or places n place → cells_of new team ≡ moved (cells_of now team) n place
-      → OtherCellsStay team now new → StandSoFar team (n + 1) places old new
+      → OtherCellsStay team now new → ArePlacedSoFar team (n + 1) places old new
   one_so_far new place is own others = record {
-    at = next_at n places (places_of (cells_of old team)) place (cells_of now team) (cells_of new team) less many is so_far.at own;
+    at = next_at n places (working_places_of (cells_of old team)) place (cells_of now team) (cells_of new team) less many is so_far.at own;
     same = ap (λ (cs : List Cell). map without_place cs) own ∙ same_moved (cells_of now team) n place ∙ so_far.same;
     others = cells_through team old now new so_far.others others;
   }
 
   -- one more cell is already at its place
-  pub there_so_far : (d : Option Place) → get_or (places_of (cells_of old team)) n d ≡ get_or places n d → StandSoFar team (n + 1) places old now
+  pub there_so_far : (d : Option Place) → get_or (working_places_of (cells_of old team)) n d ≡ get_or places n d → ArePlacedSoFar team (n + 1) places old now
   there_so_far d is = record {
-    at = so_far.at ∙ stays_at n places (places_of (cells_of old team)) d less many is;
+    at = so_far.at ∙ stays_at n places (working_places_of (cells_of old team)) d less many is;
     same = so_far.same;
     others = so_far.others;
   }
 
-pub all_so_far : (team n : ℕ) (places : Places) (old now : Cells) → length places ≤ n → length places ≡ length (places_of (cells_of old team))
-    → StandSoFar team n places old now → places_of (cells_of now team) ≡ places
-all_so_far team n places old now few many so_far = so_far.at ∙ all_there n places (places_of (cells_of old team)) few many
+pub all_so_far : (team n : ℕ) (places : Places) (old now : Cells) → length places ≤ n → length places ≡ length (working_places_of (cells_of old team))
+    → ArePlacedSoFar team n places old now → working_places_of (cells_of now team) ≡ places
+all_so_far team n places old now few many so_far = so_far.at ∙ all_there n places (working_places_of (cells_of old team)) few many
 
 -- ---- places of the saved cells
 
@@ -107,11 +107,11 @@ none_first team (c ∷ cells) saved none = absurd cc
 -- ---- committed places
 
 -- a commit moves no cell
-pub places_committed : (cells : List Cell) → places_of (map as_committed cells) ≡ places_of cells
+pub places_committed : (cells : List Cell) → working_places_of (map as_committed cells) ≡ working_places_of cells
 places_committed [] = refl
 places_committed (c ∷ cs) = ap (λ (ps : Places). c.working ∷ ps) (places_committed cs)
 
-pub committed_now : (cells : List Cell) → committed_of (map as_committed cells) ≡ places_of cells
+pub committed_now : (cells : List Cell) → committed_of (map as_committed cells) ≡ working_places_of cells
 committed_now [] = refl
 committed_now (c ∷ cs) = ap (λ (ps : Places). c.working ∷ ps) (committed_now cs)
 
@@ -122,12 +122,12 @@ rest_same : {a b : Cell} {rest others : List Cell} → a ∷ rest ≡ b ∷ othe
 rest_same e = cc
 
 -- cells that differ in working places alone have the same names and macros
-pub fixed_same : (old new : List Cell) → SameButPlaces old new → map fixed_of new ≡ map fixed_of old
+pub fixed_same : (old new : List Cell) → SameButPlaces old new → map fixed_part new ≡ map fixed_part old
 fixed_same [] [] same = refl
 fixed_same [] (c ∷ cs) same = absurd cc
 fixed_same (d ∷ ds) [] same = absurd cc
 fixed_same (d ∷ ds) (c ∷ cs) same =
-    ap (λ (x : Cell). (x.name, x.mac) ∷ map fixed_of cs) (first_same same) ∙ ap (λ (r : List (List ℕ × ℕ)). fixed_of d ∷ r) (fixed_same ds cs (rest_same same))
+    ap (λ (x : Cell). (x.name, x.mac) ∷ map fixed_part cs) (first_same same) ∙ ap (λ (r : List (List ℕ × ℕ)). fixed_part d ∷ r) (fixed_same ds cs (rest_same same))
 
 -- they have the same committed places
 pub committed_same : (old new : List Cell) → SameButPlaces old new → committed_of new ≡ committed_of old
@@ -145,14 +145,14 @@ head_is e = cc
 tail_is : {X : Type 0} {a b : X} {rest others : List X} → a ∷ rest ≡ b ∷ others → rest ≡ others
 tail_is e = cc
 
-one_cell : (c d : Cell) (s : SavedCell) → fixed_of c ≡ fixed_of d → c.working ≡ s.working → c.committed ≡ s.committed → c ≡ restored_cell d s
+one_cell : (c d : Cell) (s : SavedCell) → fixed_part c ≡ fixed_part d → c.working ≡ s.working → c.committed ≡ s.committed → c ≡ restored_cell d s
 one_cell c d s fixed working committed =
     ap (λ (f : List ℕ × ℕ). record { name = f.0; mac = f.1; working = c.working; committed = c.committed }) fixed
     ∙ ap (λ (p : Option Place). record { name = d.name; mac = d.mac; working = p; committed = c.committed }) working
     ∙ ap (λ (p : Option Place). record { name = d.name; mac = d.mac; working = s.working; committed = p }) committed
 
 -- cells with these names and macros, at these places
-pub cells_restored : (old new : List Cell) (saved : List SavedCell) → map fixed_of new ≡ map fixed_of old → places_of new ≡ map (λ c. c.working) saved
+pub cells_restored : (old new : List Cell) (saved : List SavedCell) → map fixed_part new ≡ map fixed_part old → working_places_of new ≡ map (λ c. c.working) saved
     → committed_of new ≡ map (λ c. c.committed) saved → new ≡ map_two restored_cell old saved
 cells_restored [] [] saved fixed working committed = refl
 cells_restored [] (c ∷ cs) saved fixed working committed = absurd cc

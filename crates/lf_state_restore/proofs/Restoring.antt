@@ -12,9 +12,9 @@ use Rattle.lf_floor_model.proofs.Journals.{backs_up}
 use Rattle.lf_state_text.specs.declared.saved_rows.SavedCell.{SavedCell}
 use Rattle.lf_state_text.specs.Designs.{NamedDesign, NamedTeam}
 use Rattle.lf_state_text.specs.Saved.{Both, SavedTeam, state_text}
-use Rattle.lf_state_text.specs.Reading.{state_of}
+use Rattle.lf_state_text.specs.Reading.{saved_state_of}
 use Rattle.lf_state_text.proofs.Again.{state-again}
-use Rattle.lf_state_restore.specs.Saved.{ShareDesign, SavedRestores, StateAndTail, IsSavedTeam, fixed_cells, fixed_of, map_two, named, named_team, restored_cell, restored_team, saved_cell}
+use Rattle.lf_state_restore.specs.Saved.{ShareDesign, SavedRestores, StateAndTail, IsSavedTeam, fixed_cells, fixed_part, map_two, design_names, named_team, restored_cell, restored_team, saved_cell}
 
 -- ---- equal lists
 
@@ -26,7 +26,7 @@ same_tail {X} is = ap (λ (l : List X). drop 1 l) is
 
 -- ---- names
 
-same_names : (cells others : List Cell) → map fixed_of cells ≡ map fixed_of others → map (λ c. c.name) cells ≡ map (λ c. c.name) others
+same_names : (cells others : List Cell) → map fixed_part cells ≡ map fixed_part others → map (λ c. c.name) cells ≡ map (λ c. c.name) others
 same_names [] [] is = refl
 same_names [] (d ∷ ds) is = absurd cc
 same_names (c ∷ cs) [] is = absurd cc
@@ -46,7 +46,7 @@ same_named (n ∷ ns) (t ∷ ts) (s ∷ ss) is =
     ∙ ap (λ (ms : List NamedTeam). named_team n s ∷ ms) (same_named ns ts ss (same_tail is))
 
 -- floors of one design have the same names
-same_design : (a b : FloorState) → ShareDesign a b → named b ≡ named a
+same_design : (a b : FloorState) → ShareDesign a b → design_names b ≡ design_names a
 same_design a b one =
     ap (λ (f : Frame). record { teams = map_two named_team (team_names f) b.teams; limits = f.limits }) one.frame
     ∙ ap (λ (ts : List NamedTeam). record { teams = ts; limits = a.frame.limits }) (same_named (team_names a.frame) b.teams a.teams one.cells)
@@ -57,10 +57,10 @@ pub saved_places : (cells : List Cell) → map (λ c. c.working) (map saved_cell
 saved_places [] = refl
 saved_places (c ∷ cs) = ap (λ (ps : Places). c.working ∷ ps) (saved_places cs)
 
-one_cell : (c d : Cell) → fixed_of d ≡ fixed_of c → restored_cell c (saved_cell d) ≡ d
+one_cell : (c d : Cell) → fixed_part d ≡ fixed_part c → restored_cell c (saved_cell d) ≡ d
 one_cell c d is = ap (λ (f : List ℕ × ℕ). record { name = f.0; mac = f.1; working = d.working; committed = d.committed }) (sym is)
 
-pub cells_back : (cells others : List Cell) → map fixed_of others ≡ map fixed_of cells → map_two restored_cell cells (map saved_cell others) ≡ others
+pub cells_back : (cells others : List Cell) → map fixed_part others ≡ map fixed_part cells → map_two restored_cell cells (map saved_cell others) ≡ others
 cells_back [] [] is = refl
 cells_back [] (d ∷ ds) is = absurd cc
 cells_back (c ∷ cs) [] is = absurd cc
@@ -76,24 +76,24 @@ team_is : (s : TeamState) (cells : List Cell) (revision : ℕ) (entries : List P
 team_is s cells revision entries slots padding cells_are revision_is entries_are slots_are padding_is = rw (cells_are, revision_is, entries_are, slots_are, padding_is) refl
 
 team_back : (begin s : TeamState) (t : SavedTeam) → fixed_cells s ≡ fixed_cells begin → IsSavedTeam s t → restored_team begin t ≡ s
-team_back begin s t fixed tells =
-    let working = ap (λ (cs : List SavedCell). map (λ c. c.working) cs) tells.cells ∙ saved_places s.cells in
+team_back begin s t fixed decides =
+    let working = ap (λ (cs : List SavedCell). map (λ c. c.working) cs) decides.cells ∙ saved_places s.cells in
     team_is s (map_two restored_cell begin.cells t.cells) t.revision (entries_of (map (λ c. c.working) t.cells) t.entries) t.slots t.padding
-    (ap (map_two restored_cell begin.cells) tells.cells ∙ cells_back begin.cells s.cells fixed)
-    tells.revision
-    (ap (λ (ps : Places). entries_of ps t.entries) working ∙ tells.entries)
-    tells.slots
-    tells.padding
+    (ap (map_two restored_cell begin.cells) decides.cells ∙ cells_back begin.cells s.cells fixed)
+    decides.revision
+    (ap (λ (ps : Places). entries_of ps t.entries) working ∙ decides.entries)
+    decides.slots
+    decides.padding
 
 teams_back : (begins teams : List TeamState) (saved : List SavedTeam) → map fixed_cells teams ≡ map fixed_cells begins → Both IsSavedTeam teams saved
     → map_two restored_team begins saved ≡ teams
-teams_back [] [] saved fixed tells = refl
-teams_back [] (s ∷ ss) saved fixed tells = absurd cc
-teams_back (b ∷ bs) [] saved fixed tells = absurd cc
-teams_back (b ∷ bs) (s ∷ ss) [] fixed tells = absurd tells
-teams_back (b ∷ bs) (s ∷ ss) (t ∷ ts) fixed tells =
-    ap (λ (x : TeamState). x ∷ map_two restored_team bs ts) (team_back b s t (same_head fixed) tells.0)
-    ∙ ap (λ (xs : List TeamState). s ∷ xs) (teams_back bs ss ts (same_tail fixed) tells.1)
+teams_back [] [] saved fixed decides = refl
+teams_back [] (s ∷ ss) saved fixed decides = absurd cc
+teams_back (b ∷ bs) [] saved fixed decides = absurd cc
+teams_back (b ∷ bs) (s ∷ ss) [] fixed decides = absurd decides
+teams_back (b ∷ bs) (s ∷ ss) (t ∷ ts) fixed decides =
+    ap (λ (x : TeamState). x ∷ map_two restored_team bs ts) (team_back b s t (same_head fixed) decides.0)
+    ∙ ap (λ (xs : List TeamState). s ∷ xs) (teams_back bs ss ts (same_tail fixed) decides.1)
 
 floor_is : (floor : FloorState) (frame : Frame) (teams : List TeamState) (components : List (List ℕ)) → frame ≡ floor.frame → teams ≡ floor.teams
     → components ≡ floor.components → ◌≡◌ {A = FloorState} (record { frame = frame; teams = teams; components = components }) floor
@@ -103,15 +103,15 @@ floor_is floor frame teams components frame_is teams_are components_are =
     ∙ ap (λ (cs : List (List ℕ)). record { frame = floor.frame; teams = floor.teams; components = cs }) components_are
 
 pub saved_back : SavedRestores
-saved_back begin floor text one (saved, tells, is) =
-    let read : state_of (named begin) text ≡ Ok saved =
-    ap (state_of (named begin)) is
-    ∙ ap (λ (d : NamedDesign). state_of d (state_text (named floor) saved)) (sym (same_design begin floor one))
-    ∙ state-again (named floor) saved tells.words in (
+saved_back begin floor text one (saved, decides, is) =
+    let read : saved_state_of (design_names begin) text ≡ Ok saved =
+    ap (saved_state_of (design_names begin)) is
+    ∙ ap (λ (d : NamedDesign). saved_state_of d (state_text (design_names floor) saved)) (sym (same_design begin floor one))
+    ∙ state-again (design_names floor) saved decides.words in (
       saved,
       read,
       floor_is floor begin.frame (map_two restored_team begin.teams saved) begin.components (sym one.frame)
-          (teams_back begin.teams floor.teams saved one.cells tells.teams) (sym one.components),
+          (teams_back begin.teams floor.teams saved one.cells decides.teams) (sym one.components),
     )
 
 pub tail_back : StateAndTail

@@ -14,8 +14,8 @@ use Rattle.lf_floor_model.specs.States.{FloorState, TeamState}
 use Rattle.lf_floor_model.specs.Teams.{IsTeamOf, team_names}
 use Rattle.lf_floor_model.specs.Outcomes.{places_of}
 use Rattle.lf_state_text.specs.Designs.{NamedDesign}
-use Rattle.lf_state_text.specs.Saved.{AreSaved, Both, HasWords, IsInRange, IsSpottedCell, IsSpottedEntry, SavedTeam, IsTeamOf as IsSavedTeamOf, moves_within}
-use Rattle.lf_state_restore.specs.Saved.{AreSavedTeams, IsSavedTeam, map_two, named, named_team, saved_cell}
+use Rattle.lf_state_text.specs.Saved.{AreSaved, Both, HasWords, IsSavedInRange, IsSpottedCell, IsSpottedEntry, SavedTeam, IsSavedTeamOf, moves_within}
+use Rattle.lf_state_restore.specs.Saved.{AreSavedTeams, IsSavedTeam, map_two, design_names, named_team, saved_cell}
 
 -- ---- moves of no cell
 
@@ -58,8 +58,8 @@ all_own_within cells (moves ∷ stack) = (own_within cells moves, all_own_within
 -- ---- a team
 
 -- the saved team of a team whose undo entries are those of a stack
-abbrev pub told_team : TeamState → List (List Move) → SavedTeam
-told_team s stack = record {
+abbrev pub reported_team : TeamState → List (List Move) → SavedTeam
+reported_team s stack = record {
   revision = s.revision;
   padding = s.padding;
   slots = s.slots;
@@ -70,8 +70,8 @@ told_team s stack = record {
 many_places : (cells : List Cell) → length (places_of cells) ≡ length cells
 many_places cells = length-map cells (λ (c : Cell). c.working)
 
-pub team_told : (s : TeamState) (stack : List (List Move)) → s.entries ≡ entries_of (places_of s.cells) stack → IsSavedTeam s (told_team s stack)
-team_told s stack entries = record {
+pub team_reported : (s : TeamState) (stack : List (List Move)) → s.entries ≡ entries_of (places_of s.cells) stack → IsSavedTeam s (reported_team s stack)
+team_reported s stack entries = record {
   revision = refl;
   padding = refl;
   slots = refl;
@@ -80,7 +80,7 @@ team_told s stack entries = record {
 }
 
 pub team_saved : (f : Frame) (name : List ℕ) (s : TeamState) (stack : List (List Move)) → s.entries ≡ entries_of (places_of s.cells) stack → IsTeamOf f s
-    → s.padding ≤ 16 → IsSavedTeamOf f.limits (named_team name s) (told_team s stack)
+    → s.padding ≤ 16 → IsSavedTeamOf f.limits (named_team name s) (reported_team s stack)
 team_saved f name s stack entries is padding =
     let names : length (map (λ (c : Cell). c.name) s.cells) ≡ length s.cells = length-map s.cells (λ (c : Cell). c.name) in
     record {
@@ -97,7 +97,7 @@ team_saved f name s stack entries is padding =
           (all_own_within (length s.cells) stack);
     }
 
-pub team_words : (f : Frame) (s : TeamState) (stack : List (List Move)) → IsTeamOf f s → IsInRange (told_team s stack) → HasWords (told_team s stack)
+pub team_words : (f : Frame) (s : TeamState) (stack : List (List Move)) → IsTeamOf f s → IsSavedInRange (reported_team s stack) → HasWords (reported_team s stack)
 team_words f s stack is range =
     let few = is.few_cells in
     let many = length-map s.cells saved_cell in
@@ -111,30 +111,30 @@ team_words f s stack is range =
 
 module _ (f : Frame) (stack_at : ℕ → List (List Move)) (team_at : ℕ → TeamState)
     (entries : (k : ℕ) → (team_at k).entries ≡ entries_of (places_of (team_at k).cells) (stack_at k)) where
-  abbrev pub told_at : ℕ → SavedTeam
-  told_at k = told_team (team_at k) (stack_at k)
+  abbrev pub reported_at : ℕ → SavedTeam
+  reported_at k = reported_team (team_at k) (stack_at k)
 
-  all_told : (ks : List ℕ) → Both IsSavedTeam (map team_at ks) (map told_at ks)
-  all_told [] = tt
-  all_told (k ∷ ks) = (team_told (team_at k) (stack_at k) (entries k), all_told ks)
+  all_reported : (ks : List ℕ) → Both IsSavedTeam (map team_at ks) (map reported_at ks)
+  all_reported [] = tt
+  all_reported (k ∷ ks) = (team_reported (team_at k) (stack_at k) (entries k), all_reported ks)
 
-  all_saved : (names : List (List ℕ)) (ks : List ℕ) → length names ≡ length ks → All (λ s. IsTeamOf f s) (map team_at ks) → All IsInRange (map told_at ks)
-      → Both (IsSavedTeamOf f.limits) (map_two named_team names (map team_at ks)) (map told_at ks)
+  all_saved : (names : List (List ℕ)) (ks : List ℕ) → length names ≡ length ks → All (λ s. IsTeamOf f s) (map team_at ks) → All IsSavedInRange (map reported_at ks)
+      → Both (IsSavedTeamOf f.limits) (map_two named_team names (map team_at ks)) (map reported_at ks)
   all_saved [] [] many are range = tt
   all_saved [] (k ∷ ks) many are range = absurd (omega (arith, many))
   all_saved (n ∷ names) [] many are range = absurd (omega (arith, many))
   all_saved (n ∷ names) (k ∷ ks) many are range = (
     team_saved f n (team_at k) (stack_at k) (entries k) (All-head (λ (s : TeamState). IsTeamOf f s) (team_at k) (map team_at ks) are)
-        (All-head IsInRange (told_at k) (map told_at ks) range).padding,
+        (All-head IsSavedInRange (reported_at k) (map reported_at ks) range).padding,
     all_saved names ks (omega (arith, many)) (All-tail (λ (s : TeamState). IsTeamOf f s) (team_at k) (map team_at ks) are)
-        (All-tail IsInRange (told_at k) (map told_at ks) range),
+        (All-tail IsSavedInRange (reported_at k) (map reported_at ks) range),
   )
 
-  all_words : (ks : List ℕ) → All (λ s. IsTeamOf f s) (map team_at ks) → All IsInRange (map told_at ks) → AllByRecursion HasWords (map told_at ks)
+  all_words : (ks : List ℕ) → All (λ s. IsTeamOf f s) (map team_at ks) → All IsSavedInRange (map reported_at ks) → AllByRecursion HasWords (map reported_at ks)
   all_words [] are range = tt
   all_words (k ∷ ks) are range = (
-    team_words f (team_at k) (stack_at k) (All-head (λ (s : TeamState). IsTeamOf f s) (team_at k) (map team_at ks) are) (All-head IsInRange (told_at k) (map told_at ks) range),
-    all_words ks (All-tail (λ (s : TeamState). IsTeamOf f s) (team_at k) (map team_at ks) are) (All-tail IsInRange (told_at k) (map told_at ks) range),
+    team_words f (team_at k) (stack_at k) (All-head (λ (s : TeamState). IsTeamOf f s) (team_at k) (map team_at ks) are) (All-head IsSavedInRange (reported_at k) (map reported_at ks) range),
+    all_words ks (All-tail (λ (s : TeamState). IsTeamOf f s) (team_at k) (map team_at ks) are) (All-tail IsSavedInRange (reported_at k) (map reported_at ks) range),
   )
 
   two_many : (names : List (List ℕ)) (teams : List TeamState) → length names ≡ length teams → length (map_two named_team names teams) ≡ length names
@@ -143,19 +143,19 @@ module _ (f : Frame) (stack_at : ℕ → List (List Move)) (team_at : ℕ → Te
   two_many (n ∷ names) (s ∷ teams) many = ap suc (two_many names teams (omega (arith, many)))
 
   -- the saved teams of a floor are its saved state
-  pub floor_told : (floor : FloorState) (ks : List ℕ) → floor.frame ≡ f → floor.teams ≡ map team_at ks → length (team_names f) ≡ length ks → length ks < 2 ^ 32
-      → All (λ s. IsTeamOf f s) (map team_at ks) → All IsInRange (map told_at ks) → AreSavedTeams floor (map told_at ks)
-  floor_told floor ks frame teams many few are range =
+  pub floor_reported : (floor : FloorState) (ks : List ℕ) → floor.frame ≡ f → floor.teams ≡ map team_at ks → length (team_names f) ≡ length ks → length ks < 2 ^ 32
+      → All (λ s. IsTeamOf f s) (map team_at ks) → All IsSavedInRange (map reported_at ks) → AreSavedTeams floor (map reported_at ks)
+  floor_reported floor ks frame teams many few are range =
       let names = team_names f in
-      let design : named floor ≡ record { teams = map_two named_team names (map team_at ks); limits = f.limits } =
+      let design : design_names floor ≡ record { teams = map_two named_team names (map team_at ks); limits = f.limits } =
       ap (λ (g : Frame). record { teams = map_two named_team (team_names g) floor.teams; limits = g.limits }) frame
       ∙ ap (λ (ts : List TeamState). record { teams = map_two named_team names ts; limits = f.limits }) teams in
       let long : length (map_two named_team names (map team_at ks)) ≡ length ks =
       two_many names (map team_at ks) (many ∙ sym (length-map ks team_at)) ∙ many in
       record {
-        teams = subst (λ (ts : List TeamState). Both IsSavedTeam ts (map told_at ks)) (sym teams) (all_told ks);
+        teams = subst (λ (ts : List TeamState). Both IsSavedTeam ts (map reported_at ks)) (sym teams) (all_reported ks);
         words =
-            subst (λ (d : NamedDesign). AreSaved d (map told_at ks)) (sym design) record {
+            subst (λ (d : NamedDesign). AreSaved d (map reported_at ks)) (sym design) record {
               few = subst (λ (n : ℕ). n < 2 ^ 32) (sym long) few;
               of_design = all_saved names ks many are range;
               words = all_words ks are range;

@@ -18,8 +18,8 @@ use Rattle.lf_floor_model.specs.Runs.{Run}
 use Rattle.lf_floor_model.specs.Journals.{IsBackup, lasting, lasting_replies}
 use Rattle.lf_state_text.specs.declared.saved_rows.SavedCell.{SavedCell}
 use Rattle.lf_state_text.specs.Designs.{NamedDesign, NamedTeam}
-use Rattle.lf_state_text.specs.Saved.{AreSaved, Both, IsTeamOf, SavedTeam, state_text}
-use Rattle.lf_state_text.specs.Reading.{state_of}
+use Rattle.lf_state_text.specs.Saved.{AreSaved, Both, IsSavedTeamOf, SavedTeam, state_text}
+use Rattle.lf_state_text.specs.Reading.{saved_state_of}
 
 -- a function applied to the pairs of elements of two lists, up to the end of the shorter one
 abbrev pub map_two : {A B C : Type 0} → (A → B → C) → List A → List B → List C
@@ -34,8 +34,8 @@ abbrev pub named_team : List ℕ → TeamState → NamedTeam
 named_team name s = record { name = name; cells = map (λ c. c.name) s.cells }
 
 -- the design of a floor, by its names
-abbrev pub named : FloorState → NamedDesign
-named floor = record { teams = map_two named_team (team_names floor.frame) floor.teams; limits = floor.frame.limits }
+abbrev pub design_names : FloorState → NamedDesign
+design_names floor = record { teams = map_two named_team (team_names floor.frame) floor.teams; limits = floor.frame.limits }
 
 -- the places of a cell
 abbrev pub saved_cell : Cell → SavedCell
@@ -53,20 +53,20 @@ pub record IsSavedTeam (s : TeamState) (t : SavedTeam) : Type 0 where
 -- the saved teams are the saved state of the floor, and have a text
 pub record AreSavedTeams (floor : FloorState) (saved : List SavedTeam) : Type 0 where
   pub teams : Both IsSavedTeam floor.teams saved
-  pub words : AreSaved (named floor) saved
+  pub words : AreSaved (design_names floor) saved
 
 -- a text of the floor's state
 abbrev pub IsStateText : FloorState → List ℕ → Type 0
-IsStateText floor text = (saved : List SavedTeam) × AreSavedTeams floor saved × (text ≡ state_text (named floor) saved)
+IsStateText floor text = (saved : List SavedTeam) × AreSavedTeams floor saved × (text ≡ state_text (design_names floor) saved)
 
 -- ---- floors of one design
 
 -- the parts of a cell that no command changes
-abbrev pub fixed_of : Cell → List ℕ × ℕ
-fixed_of c = (c.name, c.mac)
+abbrev pub fixed_part : Cell → List ℕ × ℕ
+fixed_part c = (c.name, c.mac)
 
 abbrev pub fixed_cells : TeamState → List (List ℕ × ℕ)
-fixed_cells s = map fixed_of s.cells
+fixed_cells s = map fixed_part s.cells
 
 -- the floors have one frame and the same cells, wherever these are placed
 pub record ShareDesign (a b : FloorState) : Type 0 where
@@ -90,11 +90,11 @@ restored_team s t = record {
 
 -- each saved team is a team like the one at the same position, except for its name
 abbrev pub MatchDesign : Limits → List TeamState → List SavedTeam → Type 0
-MatchDesign limits teams saved = Both (λ s t. IsTeamOf limits (named_team [] s) t) teams saved
+MatchDesign limits teams saved = Both (λ s t. IsSavedTeamOf limits (named_team [] s) t) teams saved
 
 -- the floor of a design in the state of the saved teams
-abbrev pub restored : FloorState → List SavedTeam → FloorState
-restored begin saved = record begin { teams = map_two restored_team begin.teams saved }
+abbrev pub restored_floor : FloorState → List SavedTeam → FloorState
+restored_floor begin saved = record begin { teams = map_two restored_team begin.teams saved }
 
 -- the macro of a cell, and its saved committed place
 abbrev pub saved_member : Cell → SavedCell → Member
@@ -106,7 +106,7 @@ saved_design begin saved = design_cells_from 0 (map_two (λ s t. map_two saved_m
 
 -- the floor is in the state of the text, and has the design of the first floor
 abbrev pub IsRestoredFrom : FloorState → List ℕ → FloorState → Type 0
-IsRestoredFrom begin text floor = (saved : List SavedTeam) × (state_of (named begin) text ≡ Ok saved) × (floor ≡ restored begin saved)
+IsRestoredFrom begin text floor = (saved : List SavedTeam) × (saved_state_of (design_names begin) text ≡ Ok saved) × (floor ≡ restored_floor begin saved)
 
 -- ---- laws
 
@@ -114,12 +114,12 @@ IsRestoredFrom begin text floor = (saved : List SavedTeam) × (state_of (named b
 abbrev pub SavedRestores : Type 0
 SavedRestores =
     (begin floor : FloorState) (text : List ℕ) → ShareDesign begin floor → IsStateText floor text
-    → (saved : List SavedTeam) × (state_of (named begin) text ≡ Ok saved) × (restored begin saved ≡ floor)
+    → (saved : List SavedTeam) × (saved_state_of (design_names begin) text ≡ Ok saved) × (restored_floor begin saved ≡ floor)
 
 -- the committed design of a restored floor is fully legal if and only if the design with the saved
 -- committed places is
 abbrev pub RestoredIsCommitted : Type 0
-RestoredIsCommitted = (begin : FloorState) (saved : List SavedTeam) → IsCommittedLegal (restored begin saved) ↔ IsFullyLegal begin.frame (saved_design begin saved)
+RestoredIsCommitted = (begin : FloorState) (saved : List SavedTeam) → IsCommittedLegal (restored_floor begin saved) ↔ IsFullyLegal begin.frame (saved_design begin saved)
 
 -- a state text with the journal written after it is a backup: the journal runs from the floor that
 -- the text restores
@@ -127,8 +127,8 @@ abbrev pub StateAndTail : Type 0
 StateAndTail =
     (l : Legalizer) (begin old new : FloorState) (text : List ℕ) (commands : List (Command (List ℕ) Place)) (replies : List Reply)
     → ShareDesign begin old → IsStateText old text → Run l old commands replies new
-    → (saved : List SavedTeam) × (state_of (named begin) text ≡ Ok saved)
-    × IsBackup l (restored begin saved) (lasting commands replies) (lasting_replies commands replies) new
+    → (saved : List SavedTeam) × (saved_state_of (design_names begin) text ≡ Ok saved)
+    × IsBackup l (restored_floor begin saved) (lasting commands replies) (lasting_replies commands replies) new
 
 -- after a run the floor has the same design
 abbrev pub RunKeepsDesign : Type 0

@@ -2,10 +2,10 @@
 
 ghost use Rattle.std.specs.Prelude.{◌≡◌, ◌≤◌, ℕ, IfOk, length, map};
 ghost use Rattle.lf_cells.specs.Cells.{as_committed, cells_of, moved};
-ghost use Rattle.lf_placement.specs.Placings.{OtherCellsStay, SameButPlaces, committed_of, places_of};
+ghost use Rattle.lf_placement.specs.Placements.{OtherCellsStay, SameButPlaces, committed_of, working_places_of};
 ghost use Rattle.lf_state_text.specs.Saved.{team_view, team_views};
 ghost use Rattle.lf_state_restore.specs.Saved.{map_two, restored_cell};
-ghost use Rattle.lf_state_restore.specs.Stands.{AreAsMany, ArePlaced, without_cells};
+ghost use Rattle.lf_state_restore.specs.Placed.{AreAsMany, ArePlaced, without_cells};
 
 use lf_cells::{CellId, CellTable};
 use lf_floorplan::{Place, same_place};
@@ -29,10 +29,10 @@ fn put_at(cells: &mut CellTable, team: u32, own: usize, place: Option<Place>)
 
 /// Sets the working places of the team's cells to the saved committed places. There is a saved cell
 /// for each cell.
-fn stand_committed(cells: &mut CellTable, team: u32, saved: &[SavedCell])
+fn committed_are_in_place(cells: &mut CellTable, team: u32, saved: &[SavedCell])
     requires many { length saved.now ≡ length (cells_of cells.old team) }
     requires few { length saved.now ≤ 4000000 }
-    ensures places { places_of (cells_of cells.new team) ≡ map (λ c. c.committed) saved.now }
+    ensures places { working_places_of (cells_of cells.new team) ≡ map (λ c. c.committed) saved.now }
     ensures same { SameButPlaces (cells_of cells.old team) (cells_of cells.new team) }
     ensures others { OtherCellsStay team cells.old cells.new }
 {
@@ -43,10 +43,10 @@ fn stand_committed(cells: &mut CellTable, team: u32, saved: &[SavedCell])
 
 /// Sets the working places of the team's cells to the saved working places. They are at the saved
 /// committed places so far, and a cell whose two places are equal is not touched.
-fn stand_working(cells: &mut CellTable, team: u32, saved: &[SavedCell])
-    requires stand { places_of (cells_of cells.old team) ≡ map (λ c. c.committed) saved.now }
+fn working_are_in_place(cells: &mut CellTable, team: u32, saved: &[SavedCell])
+    requires are_placed { working_places_of (cells_of cells.old team) ≡ map (λ c. c.committed) saved.now }
     requires few { length saved.now ≤ 4000000 }
-    ensures places { places_of (cells_of cells.new team) ≡ map (λ c. c.working) saved.now }
+    ensures places { working_places_of (cells_of cells.new team) ≡ map (λ c. c.working) saved.now }
     ensures same { SameButPlaces (cells_of cells.old team) (cells_of cells.new team) }
     ensures others { OtherCellsStay team cells.old cells.new }
 {
@@ -73,9 +73,9 @@ fn place_team(cells: &mut CellTable, team: u32, saved: &[SavedCell])
     ensures own { cells_of cells.new team ≡ map_two restored_cell (cells_of cells.old team) saved.now }
     ensures others { OtherCellsStay team cells.old cells.new }
 {
-    stand_committed(cells, team, saved);
+    committed_are_in_place(cells, team, saved);
     commit(cells, team);
-    stand_working(cells, team, saved);
+    working_are_in_place(cells, team, saved);
 }
 
 /// The same for the team of that number, if it has a cell.

@@ -2,11 +2,11 @@
 
 ghost use Rattle.std.specs.Prelude.{◌≡◌, ◌≢◌, ◌<◌, ◌≤◌, ℕ, [], All, IfOk, OnOk, length};
 ghost use Rattle.lf_cells.specs.Cells.{cells_of};
-ghost use Rattle.lf_occupancy.specs.Occupied.{KeepsCapacities};
+ghost use Rattle.lf_occupancy.specs.Views.{KeepsCapacities};
 ghost use Rattle.lf_undo.specs.Entries.{Places, entries_of};
 ghost use Rattle.lf_undo.specs.Stacks.{stack_of};
-ghost use Rattle.lf_placement.specs.Placings.{BoundsAt, Fits, SameButRooms, places_of};
-ghost use Rattle.lf_state_restore.specs.Stands.{EntriesFit, OthersStay};
+ghost use Rattle.lf_placement.specs.Placements.{BoundsAt, Fits, SameButRooms, working_places_of};
+ghost use Rattle.lf_state_restore.specs.Placed.{SavedEntriesFit, OthersStay};
 
 use lf_cells::CellTable;
 use lf_floorplan::PackedPlace;
@@ -23,7 +23,7 @@ fn working_places(
     cells: &CellTable,
     team: usize,
 ) -> Result<Vec<PackedPlace>, AllocError>
-    ensures { IfOk result (λ places. places.items ≡ places_of (cells_of cells.now team)) }
+    ensures { IfOk result (λ places. places.items ≡ working_places_of (cells_of cells.now team)) }
 {
     let ids = cells.cells_of(team);
     let mut places = Vec::with_capacity(alloc, ids.len())?;
@@ -103,9 +103,9 @@ pub fn restore_entries(
     requires few { length entries.items ≤ undo.old.limit }
     requires own { All (λ moves. All (λ m. m.own < length (cells_of placement.old.cells team)) moves) entries.items }
     requires room { KeepsCapacities tally.old placement.old.held.rooms }
-    requires bounds { BoundsAt placement.old team (places_of (cells_of placement.old.cells team)) tally.old }
+    requires bounds { BoundsAt placement.old team (working_places_of (cells_of placement.old.cells team)) tally.old }
     ensures stack { OnOk result (stack_of undo.new team ≡ entries.items) }
-    ensures fit { OnOk result (EntriesFit placement.new undo.new team) }
+    ensures fit { OnOk result (SavedEntriesFit placement.new undo.new team) }
     ensures cells { OnOk result (placement.new.cells ≡ placement.old.cells) }
     ensures others { OnOk result (OthersStay team placement.old placement.new undo.old undo.new) }
     ensures room { OnOk result (KeepsCapacities tally.new placement.new.held.rooms) }

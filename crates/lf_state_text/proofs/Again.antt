@@ -6,15 +6,15 @@ use Rattle.std.specs.List.{flat_map, AllByRecursion}
 use Rattle.std.proofs.lemmas.List.{append-nil}
 use Rattle.lf_floorplan.specs.declared.limits.Limits.{Limits}
 use Rattle.lf_undo.specs.declared.moves.Move.{Move}
-use Rattle.lf_team_def.specs.TeamText.{line_of}
-use Rattle.lf_state_text.specs.declared.fault.FaultNumber.{FaultNumber}
-use Rattle.lf_state_text.specs.declared.fault.FaultNumber.TheVariants.{Unexpected, OtherDesign}
+use Rattle.lf_team_def.specs.TeamText.{words_line}
+use Rattle.lf_state_text.specs.declared.fault.StateFaultNumber.{StateFaultNumber}
+use Rattle.lf_state_text.specs.declared.fault.StateFaultNumber.TheVariants.{Unexpected, OtherDesign}
 use Rattle.lf_state_text.specs.declared.saved_rows.SavedCell.{SavedCell}
 use Rattle.lf_state_text.specs.Designs.{NamedDesign, NamedTeam}
 use Rattle.lf_state_text.specs.Words.{place_text, slot_text}
-use Rattle.lf_state_text.specs.Saved.{SavedTeam, AreSaved, Both, HasWords, IsSpot, IsSpottedCell, IsSpottedEntry, IsTeamOf, lines_of, slot_line, cell_line, move_line, entry_lines, head_line, team_lines, title, state_text}
-use Rattle.lf_state_text.specs.Reading.{Numbers, slot_at, cell_at, move_at, entry_at, named_at, numbers_at, rows_at, team_at, opening_at, all_at, state_of, many_at, each_at, due_at, with_line}
-use Rattle.lf_state_text.proofs.Fields.{behind-front, due-again, number-again, below-again, count-again, spot-in, spot-last, slot-again}
+use Rattle.lf_state_text.specs.Saved.{SavedTeam, AreSaved, Both, HasWords, IsSpot, IsSpottedCell, IsSpottedEntry, IsSavedTeamOf, lines_by, slot_line, cell_line, move_line, entry_lines, head_line, saved_team_lines, title, state_text}
+use Rattle.lf_state_text.specs.Reading.{Numbers, slot_at, read_cell, move_at, entry_at, named_at, numbers_at, rows_at, team_at, opening_at, all_at, saved_state_of, many_at, each_at, due_at, with_fault_line}
+use Rattle.lf_state_text.proofs.Fields.{after_it-front, due-again, number-again, below-again, count-again, spot-in, spot-last, slot-again}
 use Rattle.lf_state_text.proofs.Lines.{line-rest}
 use Rattle.lf_state_text.proofs.Loop.{many-again, each-again}
 
@@ -38,18 +38,18 @@ both_with H P (a ∷ firsts) (b ∷ seconds) both all = ((both.0, all.0), both_w
 
 -- ---- lines
 
-space-again : (n : FaultNumber) (rest : List ℕ) → due_at n (codes " ") (32 ∷ rest) ≡ Ok rest
+space-again : (n : StateFaultNumber) (rest : List ℕ) → due_at n (codes " ") (32 ∷ rest) ≡ Ok rest
 space-again n rest = due-again n (codes " ") rest
 
 slot_line-again : (revision : ℕ) → revision < 2 ^ 32 → (s : _) (rest : List ℕ) → IfSome s (λ seen. seen ≤ revision) → slot_at revision (slot_line s ++ rest) ≡ Ok (s, rest)
 slot_line-again revision small s rest within = ap (slot_at revision) (line-rest (slot_text s) [] rest) ∙ slot-again revision s rest small within
 
-cell_line-again : (name : List ℕ) (c : SavedCell) (rest : List ℕ) → IsSpottedCell c → cell_at name (cell_line name c ++ rest) ≡ Ok (c, rest)
-unfolding cell_at
+cell_line-again : (name : List ℕ) (c : SavedCell) (rest : List ℕ) → IsSpottedCell c → read_cell name (cell_line name c ++ rest) ≡ Ok (c, rest)
+unfolding read_cell
 cell_line-again name c rest fits =
     let last = place_text c.committed ++ (10 ∷ rest) in
     let between = place_text c.working ++ (32 ∷ last) in
-    ap (cell_at name) (line-rest name (place_text c.working ∷ place_text c.committed ∷ []) rest)
+    ap (read_cell name) (line-rest name (place_text c.working ∷ place_text c.committed ∷ []) rest)
     ∙ rw (due-again OtherDesign name (32 ∷ between), space-again OtherDesign between, spot-in c.working last fits.0, spot-last c.committed rest fits.1) refl
 
 move_line-again : (cells : ℕ) → cells < 2 ^ 32 → (m : Move) (rest : List ℕ) → (m.own < cells) × IfSome m.old IsSpot → move_at cells (move_line m ++ rest) ≡ Ok (m, rest)
@@ -66,7 +66,7 @@ entry_lines-again cells small ms rest fits =
     let moves = flat_map move_line ms ++ rest in
     let counted = decimal (length ms) ++ (10 ∷ moves) in
     let undo : due_at Unexpected (codes "undo ") (codes "undo" ++ (32 ∷ counted)) ≡ Ok counted = due-again Unexpected (codes "undo ") counted in
-    ap (entry_at cells) (append_assoc (line_of (codes "undo" ∷ decimal (length ms) ∷ [])) (flat_map move_line ms) rest ∙ line-rest (codes "undo") (decimal (length ms) ∷ []) moves)
+    ap (entry_at cells) (append_assoc (words_line (codes "undo" ∷ decimal (length ms) ∷ [])) (flat_map move_line ms) rest ∙ line-rest (codes "undo") (decimal (length ms) ∷ []) moves)
     ∙ rw (undo, number-again 10 (length ms) moves (omega arith) fits.1.0)
     (many-again (move_at cells) move_line (λ m. (m.own < cells) × IfSome m.old IsSpot) (move_line-again cells small) ms rest
     (both_all (λ (m : Move). m.own < cells) (λ (m : Move). IfSome m.old IsSpot) ms fits.0 fits.1.1))
@@ -76,8 +76,8 @@ entry_lines-again cells small ms rest fits =
 named-again : (name rest : List ℕ) → named_at name (codes "team" ++ (32 ∷ (name ++ (32 ∷ rest)))) ≡ Ok rest
 unfolding named_at
 named-again name rest =
-    let behind_team = name ++ (32 ∷ rest) in
-    let team : due_at Unexpected (codes "team ") (codes "team" ++ (32 ∷ behind_team)) ≡ Ok behind_team = due-again Unexpected (codes "team ") behind_team in
+    let after_team = name ++ (32 ∷ rest) in
+    let team : due_at Unexpected (codes "team ") (codes "team" ++ (32 ∷ after_team)) ≡ Ok after_team = due-again Unexpected (codes "team ") after_team in
     rw (team, due-again OtherDesign name (32 ∷ rest), space-again OtherDesign rest) refl
 
 abbrev numbers_of : SavedTeam → Numbers
@@ -87,7 +87,7 @@ abbrev numbers_text : SavedTeam → List ℕ → List ℕ
 numbers_text t rest =
     decimal t.revision ++ (32 ∷ (decimal t.padding ++ (32 ∷ (decimal (length t.slots) ++ (32 ∷ (decimal (length t.cells) ++ (32 ∷ (decimal (length t.entries) ++ (10 ∷ rest)))))))))
 
-numbers-again : (limits : Limits) (named : NamedTeam) (t : SavedTeam) (rest : List ℕ) → IsTeamOf limits named t → length t.cells < 2 ^ 32
+numbers-again : (limits : Limits) (named : NamedTeam) (t : SavedTeam) (rest : List ℕ) → IsSavedTeamOf limits named t → length t.cells < 2 ^ 32
     → numbers_at limits (length named.cells) (numbers_text t rest) ≡ Ok (numbers_of t, rest)
 unfolding numbers_at
 numbers-again limits named t rest of few =
@@ -112,12 +112,12 @@ numbers-again limits named t rest of few =
 
 -- ---- a team
 
-rows-again : (limits : Limits) (named : NamedTeam) (t : SavedTeam) (rest : List ℕ) → IsTeamOf limits named t → HasWords t
-    → rows_at limits named (numbers_of t) (flat_map slot_line t.slots ++ (lines_of cell_line named.cells t.cells ++ (flat_map entry_lines t.entries ++ rest))) ≡ Ok (t, rest)
+rows-again : (limits : Limits) (named : NamedTeam) (t : SavedTeam) (rest : List ℕ) → IsSavedTeamOf limits named t → HasWords t
+    → rows_at limits named (numbers_of t) (flat_map slot_line t.slots ++ (lines_by cell_line named.cells t.cells ++ (flat_map entry_lines t.entries ++ rest))) ≡ Ok (t, rest)
 unfolding rows_at
 rows-again limits named t rest of words =
     let entries = flat_map entry_lines t.entries ++ rest in
-    let cells = lines_of cell_line named.cells t.cells ++ entries in
+    let cells = lines_by cell_line named.cells t.cells ++ entries in
     let revisions_most = limits.allowed.revisions_within.most in
     let revision_is = of.revision in
     let small : t.revision < 2 ^ 32 = omega arith in
@@ -127,21 +127,21 @@ rows-again limits named t rest of words =
     (many-again (slot_at t.revision) slot_line (λ s. IfSome s (λ seen. seen ≤ t.revision)) (slot_line-again t.revision small) t.slots cells of.seen) in
     rw (
       slots_read,
-      each-again cell_at cell_line (λ name c. IsSpottedCell c) cell_line-again named.cells t.cells entries (both_long IsSpottedCell named.cells t.cells of.cells words.cells),
+      each-again read_cell cell_line (λ name c. IsSpottedCell c) cell_line-again named.cells t.cells entries (both_long IsSpottedCell named.cells t.cells of.cells words.cells),
       many-again (entry_at (length named.cells)) entry_lines (λ ms. AllByRecursion (λ m. m.own < length named.cells) ms × IsSpottedEntry ms) (entry_lines-again (length named.cells) few)
           t.entries rest (both_all (λ (ms : List Move). AllByRecursion (λ m. m.own < length named.cells) ms) IsSpottedEntry t.entries of.own words.entries),
     ) refl
 
-team_lines-again : (limits : Limits) (named : NamedTeam) (t : SavedTeam) (rest : List ℕ) → IsTeamOf limits named t × HasWords t
-    → team_at limits named (team_lines named t ++ rest) ≡ Ok (t, rest)
+team_lines-again : (limits : Limits) (named : NamedTeam) (t : SavedTeam) (rest : List ℕ) → IsSavedTeamOf limits named t × HasWords t
+    → team_at limits named (saved_team_lines named t ++ rest) ≡ Ok (t, rest)
 unfolding team_at
 team_lines-again limits named t rest fits =
-    let behind_head = flat_map slot_line t.slots ++ (lines_of cell_line named.cells t.cells ++ (flat_map entry_lines t.entries ++ rest)) in
-    let written : team_lines named t ++ rest ≡ codes "team" ++ (32 ∷ (named.name ++ (32 ∷ numbers_text t behind_head))) =
-    regroup (head_line named.name t) (flat_map slot_line t.slots) (lines_of cell_line named.cells t.cells) (flat_map entry_lines t.entries) rest
-    ∙ numbers_written named.name t behind_head in
+    let after_head = flat_map slot_line t.slots ++ (lines_by cell_line named.cells t.cells ++ (flat_map entry_lines t.entries ++ rest)) in
+    let written : saved_team_lines named t ++ rest ≡ codes "team" ++ (32 ∷ (named.name ++ (32 ∷ numbers_text t after_head))) =
+    regroup (head_line named.name t) (flat_map slot_line t.slots) (lines_by cell_line named.cells t.cells) (flat_map entry_lines t.entries) rest
+    ∙ numbers_written named.name t after_head in
     ap (team_at limits named) written
-    ∙ rw (named-again named.name (numbers_text t behind_head), numbers-again limits named t behind_head fits.0 fits.1.few) (rows-again limits named t rest fits.0 fits.1)
+    ∙ rw (named-again named.name (numbers_text t after_head), numbers-again limits named t after_head fits.0 fits.1.few) (rows-again limits named t rest fits.0 fits.1)
   where
     regroup : (a b c d e : List ℕ) → (a ++ (b ++ (c ++ d))) ++ e ≡ a ++ (b ++ (c ++ (d ++ e)))
     regroup a b c d e = simp append_assoc
@@ -155,19 +155,19 @@ team_lines-again limits named t rest fits =
 all-again : (design : NamedDesign) (ts : List SavedTeam) → AreSaved design ts → all_at design (state_text design ts) ≡ Ok ts
 unfolding all_at opening_at
 all-again design ts saved =
-    let teams = lines_of team_lines design.teams ts in
+    let teams = lines_by saved_team_lines design.teams ts in
     let counted = decimal (length design.teams) ++ (10 ∷ teams) in
-    let of_line : line_of (codes "teams" ∷ decimal (length design.teams) ∷ []) ++ teams ≡ codes "teams" ++ (32 ∷ counted) =
+    let of_line : words_line (codes "teams" ∷ decimal (length design.teams) ∷ []) ++ teams ≡ codes "teams" ++ (32 ∷ counted) =
     line-rest (codes "teams") (decimal (length design.teams) ∷ []) teams in
     let written : state_text design ts ≡ title ++ (codes "teams" ++ (32 ∷ counted)) =
-    append_assoc title (line_of (codes "teams" ∷ decimal (length design.teams) ∷ [])) teams ∙ ap (λ (l : List ℕ). title ++ l) of_line in
+    append_assoc title (words_line (codes "teams" ∷ decimal (length design.teams) ∷ [])) teams ∙ ap (λ (l : List ℕ). title ++ l) of_line in
     let teams_due : due_at Unexpected (codes "teams ") (codes "teams" ++ (32 ∷ counted)) ≡ Ok counted = due-again Unexpected (codes "teams ") counted in
     let each : each_at (team_at design.limits) design.teams teams ≡ Ok (ts, []) =
     ap (each_at (team_at design.limits) design.teams) (sym (append-nil teams))
-    ∙ each-again (team_at design.limits) team_lines (λ named t. IsTeamOf design.limits named t × HasWords t) (team_lines-again design.limits) design.teams ts []
-    (both_with (IsTeamOf design.limits) HasWords design.teams ts saved.of_design saved.words) in
+    ∙ each-again (team_at design.limits) saved_team_lines (λ named t. IsSavedTeamOf design.limits named t × HasWords t) (team_lines-again design.limits) design.teams ts []
+    (both_with (IsSavedTeamOf design.limits) HasWords design.teams ts saved.of_design saved.words) in
     ap (all_at design) written
-    ∙ rw (behind-front title (codes "teams" ++ (32 ∷ counted)), teams_due, count-again (length design.teams) 10 (length design.teams) teams (omega arith) saved.few refl, each) refl
+    ∙ rw (after_it-front title (codes "teams" ++ (32 ∷ counted)), teams_due, count-again (length design.teams) 10 (length design.teams) teams (omega arith) saved.few refl, each) refl
 
-pub state-again : (design : NamedDesign) (ts : List SavedTeam) → AreSaved design ts → state_of design (state_text design ts) ≡ Ok ts
-state-again design ts saved = ap (with_line (state_text design ts)) (all-again design ts saved)
+pub state-again : (design : NamedDesign) (ts : List SavedTeam) → AreSaved design ts → saved_state_of design (state_text design ts) ≡ Ok ts
+state-again design ts saved = ap (with_fault_line (state_text design ts)) (all-again design ts saved)

@@ -21,10 +21,10 @@ use Rattle.lf_proto.specs.Numbers.{digits, below, negative, positive, coordinate
 use Rattle.lf_proto.specs.Requests.{orient_named}
 use Rattle.lf_proto.proofs.Digits.{all_digits, is_digit_at, Digits}
 use Rattle.lf_proto.proofs.Places.{place_written-some}
-use Rattle.lf_state_text.specs.declared.fault.FaultNumber.{FaultNumber}
-use Rattle.lf_state_text.specs.Words.{behind, number, cut, place_in, place_on, slot_on, place_text, slot_text}
+use Rattle.lf_state_text.specs.declared.fault.StateFaultNumber.{StateFaultNumber}
+use Rattle.lf_state_text.specs.Words.{bytes_after, number, cut, place_in_word, place_or_dash, slot_on, place_text, slot_text}
 use Rattle.lf_state_text.specs.Saved.{IsSpot}
-use Rattle.lf_state_text.specs.Reading.{is_seen_by, word_at, due_at, number_at, below_at, count_at, spot_at, slot_at}
+use Rattle.lf_state_text.specs.Reading.{is_seen_by, word_at, due_at, number_at, below_at, count_at, read_spot, slot_at}
 
 -- no byte is this one
 abbrev pub lacks : ℕ → List ℕ → Bool
@@ -44,8 +44,8 @@ unfolding cut
 cut-word byte w rest without =
     let at = first_is byte w rest without in
     let less : nat_lt (length w) (length (w ++ (byte ∷ rest))) ≡ true = lt-ltb _ _ (omega (arith, length-append w (byte ∷ rest))) in
-    let behind : drop (length w + 1) (w ++ (byte ∷ rest)) ≡ rest = drop_past w byte rest in
-    rw (at, less, take_at w (byte ∷ rest) (length w) refl, behind) refl
+    let bytes_after : drop (length w + 1) (w ++ (byte ∷ rest)) ≡ rest = drop_past w byte rest in
+    rw (at, less, take_at w (byte ∷ rest) (length w) refl, bytes_after) refl
   where
     drop_past : (w : List ℕ) (byte : ℕ) (rest : List ℕ) → drop (length w + 1) (w ++ (byte ∷ rest)) ≡ rest
     drop_past [] byte rest = refl
@@ -56,9 +56,9 @@ drop_front [] rest = refl
 drop_front (b ∷ w) rest = drop_front w rest
 
 -- the expected bytes come first
-pub behind-front : (due rest : List ℕ) → behind due (due ++ rest) ≡ Some rest
-unfolding behind
-behind-front due rest =
+pub after_it-front : (due rest : List ℕ) → bytes_after due (due ++ rest) ≡ Some rest
+unfolding bytes_after
+after_it-front due rest =
     let same : bytes_eq (take (length due) (due ++ rest)) due ≡ true = (bytes_eq-Decides (take (length due) (due ++ rest)) due).1 (take-append_seam due rest) in
     rw (same, drop_front due rest) refl
 
@@ -163,8 +163,8 @@ mark10 = record { below = omega arith; other = refl }
 pub mark44 : IsMark 44
 mark44 = record { below = omega arith; other = refl }
 
-place_in-text : (p : Place) → IsSpot p → place_in (place_text (Some p)) ≡ Some p
-unfolding place_in
+place_in-text : (p : Place) → IsSpot p → place_in_word (place_text (Some p)) ≡ Some p
+unfolding place_in_word
 place_in-text p spot =
     let y_text = signed_decimal p.y ++ (44 ∷ orient_word p.orient) in
     rw (cut-word 44 (signed_decimal p.x) y_text (signed-lacks 44 p.x mark44 p.x_in_def spot.0), cut-word 44 (signed_decimal p.y) (orient_word p.orient) (signed-lacks 44 p.y mark44 p.y_in_def spot.1))
@@ -174,19 +174,19 @@ place_in-text p spot =
     (orient_named-text p.orient))
 
 -- a place's text is not a minus alone, since that has no comma
-pub no_dash : (w : List ℕ) (p : Place) → place_in w ≡ Some p → bytes_eq w (codes "-") ≡ false
-unfolding place_in cut
+pub no_dash : (w : List ℕ) (p : Place) → place_in_word w ≡ Some p → bytes_eq w (codes "-") ≡ false
+unfolding place_in_word cut
 no_dash w p is = cases_dash (bytes_eq w (codes "-")) refl
   where
     cases_dash : (b : Bool) → bytes_eq w (codes "-") ≡ b → b ≡ false
     cases_dash false e = refl
     cases_dash true e =
         let same : w ≡ codes "-" = (bytes_eq-Decides w (codes "-")).0 e in
-        let none : place_in (codes "-") ≡ Some p = subst (λ (v : List ℕ). place_in v ≡ Some p) same is in
+        let none : place_in_word (codes "-") ≡ Some p = subst (λ (v : List ℕ). place_in_word v ≡ Some p) same is in
         absurd cc
 
-pub place_on-text : (o : Option Place) → IfSome o IsSpot → place_on (place_text o) ≡ Some o
-unfolding place_on
+pub place_on-text : (o : Option Place) → IfSome o IsSpot → place_or_dash (place_text o) ≡ Some o
+unfolding place_or_dash
 place_on-text None fits = refl
 place_on-text (Some p) fits = rw (no_dash (place_text (Some p)) p (place_in-text p fits), place_in-text p fits) refl
 
@@ -217,9 +217,9 @@ slot-lacks (Some n) fits = decimal-lacks 10 n (omega arith) (omega arith)
 
 -- ---- words at their positions
 
-pub due-again : (n : FaultNumber) (due rest : List ℕ) → due_at n due (due ++ rest) ≡ Ok rest
+pub due-again : (n : StateFaultNumber) (due rest : List ℕ) → due_at n due (due ++ rest) ≡ Ok rest
 unfolding due_at
-due-again n due rest = rw (behind-front due rest) refl
+due-again n due rest = rw (after_it-front due rest) refl
 
 pub number-again : (byte n : ℕ) (rest : List ℕ) → byte < 48 → n < 2 ^ 32 → number_at byte (decimal n ++ (byte ∷ rest)) ≡ Ok (n, rest)
 unfolding number_at word_at
@@ -236,14 +236,14 @@ pub count-again : (count byte n : ℕ) (rest : List ℕ) → byte < 48 → n < 2
 unfolding count_at
 count-again count byte n rest low small is = rw (number-again byte n rest low small, same_number n count is) refl
 
-pub spot-again : (byte : ℕ) (o : Option Place) (rest : List ℕ) → IsMark byte → (44 == byte) ≡ false → IfSome o IsSpot → spot_at byte (place_text o ++ (byte ∷ rest)) ≡ Ok (o, rest)
-unfolding spot_at word_at
+pub spot-again : (byte : ℕ) (o : Option Place) (rest : List ℕ) → IsMark byte → (44 == byte) ≡ false → IfSome o IsSpot → read_spot byte (place_text o ++ (byte ∷ rest)) ≡ Ok (o, rest)
+unfolding read_spot word_at
 spot-again byte o rest mark comma fits = rw (cut-word byte (place_text o) rest (place-lacks byte o mark comma fits), place_on-text o fits) refl
 
-pub spot-in : (o : Option Place) (rest : List ℕ) → IfSome o IsSpot → spot_at 32 (place_text o ++ (32 ∷ rest)) ≡ Ok (o, rest)
+pub spot-in : (o : Option Place) (rest : List ℕ) → IfSome o IsSpot → read_spot 32 (place_text o ++ (32 ∷ rest)) ≡ Ok (o, rest)
 spot-in o rest fits = spot-again 32 o rest mark32 refl fits
 
-pub spot-last : (o : Option Place) (rest : List ℕ) → IfSome o IsSpot → spot_at 10 (place_text o ++ (10 ∷ rest)) ≡ Ok (o, rest)
+pub spot-last : (o : Option Place) (rest : List ℕ) → IfSome o IsSpot → read_spot 10 (place_text o ++ (10 ∷ rest)) ≡ Ok (o, rest)
 spot-last o rest fits = spot-again 10 o rest mark10 refl fits
 
 -- a slot whose session has seen no revision above the team's

@@ -21,8 +21,8 @@ use Rattle.lf_proto.specs.Numbers.{digits, negative, positive, coordinate}
 use Rattle.lf_proto.specs.Requests.{orient_named}
 use Rattle.lf_proto.proofs.Digits.{Digits, short_value}
 use Rattle.lf_proto.proofs.Places.{place_written-some}
-use Rattle.lf_state_text.specs.Words.{Begins, place_in, place_on}
-use Rattle.lf_state_text.specs.Reading.{number_at, spot_at, word_at}
+use Rattle.lf_state_text.specs.Words.{Begins, place_in_word, place_or_dash}
+use Rattle.lf_state_text.specs.Reading.{number_at, read_spot, word_at}
 use Rattle.lf_state_text.proofs.Fields.{lacks, lacks-weaker, lacks-both, digit-no_mark, no_dash, below-less, cut-word, drop_front, IsMark, mark44}
 
 -- ---- a word up to a byte
@@ -139,21 +139,21 @@ rest-in_front byte bytes rest_x rest_y rest x y o in_x in_y in_o =
 
 pub spot-in_front : (byte : ℕ) (bytes rest_x rest_y rest later : List ℕ) (p : Place) → byte ≤ 32
     → Begins coordinate 44 bytes p.x rest_x → Begins coordinate 44 rest_x p.y rest_y → Begins orient_named byte rest_y p.orient rest
-    → spot_at byte (bytes ++ later) ≡ Ok (Some p, rest ++ later)
-unfolding spot_at word_at place_in place_on
+    → read_spot byte (bytes ++ later) ≡ Ok (Some p, rest ++ later)
+unfolding read_spot word_at place_in_word place_or_dash
 spot-in_front byte bytes rest_x rest_y rest later p low x y orient =
     let mark = mark-low byte low in
-    let behind_x = y.word ++ (44 ∷ orient.word) in
-    let word = x.word ++ (44 ∷ behind_x) in
+    let after_x = y.word ++ (44 ∷ orient.word) in
+    let word = x.word ++ (44 ∷ after_x) in
     let without : lacks byte word ≡ true =
-    lacks-both byte 44 x.word behind_x (comma-low byte low) (coordinate-lacks byte x.word p.x mark x.said)
+    lacks-both byte 44 x.word after_x (comma-low byte low) (coordinate-lacks byte x.word p.x mark x.said)
     (lacks-both byte 44 y.word orient.word (comma-low byte low) (coordinate-lacks byte y.word p.y mark y.said) (orient-lacks byte orient.word p.orient mark orient.said)) in
-    let placed : place_in word ≡ Some p =
-    rw (cut-word 44 x.word behind_x (coordinate-lacks 44 x.word p.x mark44 x.said), cut-word 44 y.word orient.word (coordinate-lacks 44 y.word p.y mark44 y.said))
+    let placed : place_in_word word ≡ Some p =
+    rw (cut-word 44 x.word after_x (coordinate-lacks 44 x.word p.x mark44 x.said), cut-word 44 y.word orient.word (coordinate-lacks 44 y.word p.y mark44 y.said))
     (place_written-some x.word y.word orient.word p x.said y.said orient.said) in
     let together : bytes ++ later ≡ word ++ (byte ∷ (rest ++ later)) =
     ap (λ (t : List ℕ). t ++ later) (apart byte bytes rest_x rest_y rest p.x p.y p.orient x y orient) ∙ regroup x.word y.word orient.word (byte ∷ rest) later in
-    ap (spot_at byte) together
+    ap (read_spot byte) together
     ∙ rw (cut-word byte word (rest ++ later) without, no_dash word p placed, placed) refl
   where
     regroup : (a b c d e : List ℕ) → (a ++ (44 ∷ (b ++ (44 ∷ (c ++ d))))) ++ e ≡ (a ++ (44 ∷ (b ++ (44 ∷ c)))) ++ (d ++ e)

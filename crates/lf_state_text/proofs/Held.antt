@@ -8,13 +8,13 @@ use Rattle.lf_lex.specs.Tokens.{line_feeds}
 use Rattle.lf_lex.proofs.Scanning.{line_feeds_cons}
 use Rattle.std.proofs.Math.Seq.{take-append_seam}
 use Rattle.lf_state_text.specs.declared.cursor.Cursor.{Cursor}
-use Rattle.lf_state_text.specs.declared.fault.FaultNumber.{FaultNumber}
+use Rattle.lf_state_text.specs.declared.fault.StateFaultNumber.{StateFaultNumber}
 use Rattle.lf_state_text.specs.declared.fault.StateFault.{StateFault}
-use Rattle.lf_state_text.specs.Pieces.{AreLines, IsEnd, joined, rest}
-use Rattle.lf_state_text.specs.Reading.{TextFault, located, with_line}
+use Rattle.lf_state_text.specs.Pieces.{AreLines, IsEnd, text_of_chunks, rest}
+use Rattle.lf_state_text.specs.Reading.{TextFault, fault_with_line, with_fault_line}
 use Rattle.lf_state_text.specs.declared.refusal.ChunkError.{ChunkError}
 use Rattle.lf_state_text.specs.declared.refusal.ChunkError.TheVariants as pieces
-use Rattle.lf_state_text.specs.Refused.{FailsIn, IsRefused}
+use Rattle.lf_state_text.specs.Refused.{FailsIn, IsRefusedState}
 
 pub feeds-append : (xs ys : List ℕ) → line_feeds (xs ++ ys) ≡ line_feeds xs + line_feeds ys
 feeds-append [] ys = omega arith
@@ -38,24 +38,24 @@ held-on gone piece later text start is =
 before-here : (text : List ℕ) (c : Cursor) (end : IsEnd text c) → take (length text - length (rest c)) text ≡ end.gone ++ take c.at c.piece.items
 before-here text c end =
     let before = end.gone ++ take c.at c.piece.items in
-    let is : text ≡ before ++ rest c = held-on end.gone c.piece.items (joined c.later.items) text c.at end.is in
+    let is : text ≡ before ++ rest c = held-on end.gone c.piece.items (text_of_chunks c.later.items) text c.at end.is in
     let many : length text - length (rest c) ≡ length before = omega (arith, ap (λ (t : List ℕ). length t) is, length-append before (rest c)) in
     rw many (ap (take (length before)) is ∙ take-append_seam before (rest c))
 
-pub line-here : (text : List ℕ) (c : Cursor) (number : FaultNumber) (line : ℕ) → IsEnd text c → line ≡ c.lines + line_feeds (take c.at c.piece.items) + 1
-    → ◌≡◌ {A = StateFault} (record { number = number; line = line }) (located text (record { number = number; left = length (rest c) }))
+pub line-here : (text : List ℕ) (c : Cursor) (number : StateFaultNumber) (line : ℕ) → IsEnd text c → line ≡ c.lines + line_feeds (take c.at c.piece.items) + 1
+    → ◌≡◌ {A = StateFault} (record { number = number; line = line }) (fault_with_line text (record { number = number; left = length (rest c) }))
 line-here text c number line end is =
     let counted : line ≡ line_feeds (take (length text - length (rest c)) text) + 1 =
     rw (before-here text c end) (omega (arith, is, end.lines, feeds-append end.gone (take c.at c.piece.items))) in
     ap (with_number number) counted
   where
-    with_number : FaultNumber → ℕ → StateFault
+    with_number : StateFaultNumber → ℕ → StateFault
     with_number n l = record { number = n; line = l }
 
 -- a refusal is the fault of the result of reading
-pub refused-is : {Y : Type 0} (text : List ℕ) (fault : TextFault) (found : Result Y TextFault) (e : ChunkError) → found ≡ Err fault → IsRefused text fault e → FailsIn e (with_line text found)
-refused-is text fault found pieces.Memory is told = tt
-refused-is text fault found (pieces.Refused r) is told = rw is (ap Err (sym told))
+pub refused-is : {Y : Type 0} (text : List ℕ) (fault : TextFault) (found : Result Y TextFault) (e : ChunkError) → found ≡ Err fault → IsRefusedState text fault e → FailsIn e (with_fault_line text found)
+refused-is text fault found pieces.Memory is reported = tt
+refused-is text fault found (pieces.Refused r) is reported = rw is (ap Err (sym reported))
 
 -- ---- the first such byte
 

@@ -8,10 +8,10 @@ use Rattle.std.proofs.lemmas.List.Sums.{length-filter}
 use Rattle.std.specs.List.{flat_map}
 use Rattle.std.proofs.lemmas.List.{take_all}
 use Rattle.lf_lex.specs.Splices.{spaced}
-use Rattle.lf_team_def.specs.TeamText.{line_of}
+use Rattle.lf_team_def.specs.TeamText.{words_line}
 use Rattle.lf_undo.specs.declared.moves.Move.{Move}
-use Rattle.lf_state_text.specs.Saved.{IsSpot, IsSpottedEntry, entry_lines, lines_of, move_line, moves_within}
-use Rattle.lf_state_text.specs.Writing.{entry_if, line_at, line_if, move_within}
+use Rattle.lf_state_text.specs.Saved.{IsSpot, IsSpottedEntry, entry_lines, lines_by, move_line, moves_within}
+use Rattle.lf_state_text.specs.Writing.{entry_if, line_of_pair, line_if, move_within}
 
 -- the words of a line after its first, and the bytes after the line
 abbrev pub line_rest : List (List ℕ) → List ℕ → List ℕ
@@ -26,7 +26,7 @@ spaced-rest (w ∷ ws) rest =
     regroup : (a b c d : List ℕ) → ((a ++ b) ++ c) ++ d ≡ a ++ ((b ++ c) ++ d)
     regroup a b c d = simp append_assoc
 
-pub line-rest : (w : List ℕ) (ws : List (List ℕ)) (rest : List ℕ) → line_of (w ∷ ws) ++ rest ≡ w ++ line_rest ws rest
+pub line-rest : (w : List ℕ) (ws : List (List ℕ)) (rest : List ℕ) → words_line (w ∷ ws) ++ rest ≡ w ++ line_rest ws rest
 line-rest w ws rest = regroup w (spaced ws) (10 ∷ []) rest ∙ ap (λ (l : List ℕ). w ++ l) (spaced-rest ws rest)
   where
     regroup : (a b c d : List ℕ) → ((a ++ b) ++ c) ++ d ≡ a ++ ((b ++ c) ++ d)
@@ -45,11 +45,11 @@ put_all g old a xs i past so_far = so_far ∙ ap (λ ys. old ++ flat_map g ys) (
 -- ---- lines by two lists
 
 module _ {A B : Type 0} (line : A → B → List ℕ) where
-  lines_none : (firsts : List A) → lines_of line firsts [] ≡ []
+  lines_none : (firsts : List A) → lines_by line firsts [] ≡ []
   lines_none [] = refl
   lines_none (a ∷ firsts) = refl
 
-  one_line : (firsts : List A) (seconds : List B) (i : ℕ) → lines_of line firsts (take (suc i) seconds) ≡ lines_of line firsts (take i seconds) ++ line_at line firsts seconds i
+  one_line : (firsts : List A) (seconds : List B) (i : ℕ) → lines_by line firsts (take (suc i) seconds) ≡ lines_by line firsts (take i seconds) ++ line_of_pair line firsts seconds i
   one_line [] [] zero = refl
   one_line [] [] (suc i) = refl
   one_line (a ∷ firsts) [] zero = refl
@@ -63,26 +63,26 @@ module _ {A B : Type 0} (line : A → B → List ℕ) where
   one_line (a ∷ firsts) (b ∷ seconds) zero =
       ap (λ (l : List ℕ). line a b ++ l) (lines_none firsts) ∙ append-nil (line a b)
   one_line (a ∷ firsts) (b ∷ seconds) (suc i) =
-      ap (λ (l : List ℕ). line a b ++ l) (one_line firsts seconds i) ∙ sym (append_assoc (line a b) (lines_of line firsts (take i seconds)) (line_at line firsts seconds i))
+      ap (λ (l : List ℕ). line a b ++ l) (one_line firsts seconds i) ∙ sym (append_assoc (line a b) (lines_by line firsts (take i seconds)) (line_of_pair line firsts seconds i))
 
   -- no line yet
-  pub no_line : (before : List ℕ) (firsts : List A) → before ≡ before ++ lines_of line firsts []
+  pub no_line : (before : List ℕ) (firsts : List A) → before ≡ before ++ lines_by line firsts []
   no_line before firsts = sym (ap (λ (l : List ℕ). before ++ l) (lines_none firsts) ∙ append-nil before)
 
   -- the lines so far and the next one
-  pub next_line : (before : List ℕ) (firsts : List A) (seconds : List B) (i : ℕ) → (before ++ lines_of line firsts (take i seconds)) ++ line_at line firsts seconds i ≡ before ++ lines_of line firsts (take (i + 1) seconds)
+  pub next_line : (before : List ℕ) (firsts : List A) (seconds : List B) (i : ℕ) → (before ++ lines_by line firsts (take i seconds)) ++ line_of_pair line firsts seconds i ≡ before ++ lines_by line firsts (take (i + 1) seconds)
   next_line before firsts seconds i =
       let more : i + 1 ≡ suc i = omega arith in
-      append_assoc before (lines_of line firsts (take i seconds)) (line_at line firsts seconds i)
+      append_assoc before (lines_by line firsts (take i seconds)) (line_of_pair line firsts seconds i)
       ∙ ap (λ (l : List ℕ). before ++ l) (sym (rw more (one_line firsts seconds i)))
 
   -- the lines so far are all lines
-  pub all_lines : (before : List ℕ) (firsts : List A) (seconds : List B) (i : ℕ) → length seconds ≤ i → before ++ lines_of line firsts (take i seconds) ≡ before ++ lines_of line firsts seconds
-  all_lines before firsts seconds i past = ap (λ (xs : List B). before ++ lines_of line firsts xs) (take_all i seconds past)
+  pub all_lines : (before : List ℕ) (firsts : List A) (seconds : List B) (i : ℕ) → length seconds ≤ i → before ++ lines_by line firsts (take i seconds) ≡ before ++ lines_by line firsts seconds
+  all_lines before firsts seconds i past = ap (λ (xs : List B). before ++ lines_by line firsts xs) (take_all i seconds past)
 
   -- the line at that position, if both lists have an element there
   pub line_there : (firsts : List A) (seconds : List B) (i : ℕ) (a : A) (b : B) → i < length firsts → i < length seconds
-      → line_at line firsts seconds i ≡ line (get_or firsts i a) (get_or seconds i b)
+      → line_of_pair line firsts seconds i ≡ line (get_or firsts i a) (get_or seconds i b)
   line_there [] seconds i a b here there = absurd (omega arith)
   line_there (x ∷ firsts) [] i a b here there = absurd (omega arith)
   line_there (x ∷ firsts) (y ∷ seconds) zero a b here there = refl
@@ -121,11 +121,11 @@ moves_put cells (m ∷ moves) =
 
 -- an entry, whose moves are counted first
 pub entry_put : (cells count : ℕ) (moves : List Move) → count ≡ count_by (λ m. nat_lt m.own cells) moves
-    → line_of (codes "undo" ∷ decimal count ∷ []) ++ flat_map (move_within cells) moves ≡ entry_lines (moves_within cells moves)
+    → words_line (codes "undo" ∷ decimal count ∷ []) ++ flat_map (move_within cells) moves ≡ entry_lines (moves_within cells moves)
 entry_put cells count moves is =
     let many : count ≡ length (moves_within cells moves) = is ∙ sym (length-filter (λ (m : Move). nat_lt m.own cells) moves) in
-    ap (λ (n : ℕ). line_of (codes "undo" ∷ decimal n ∷ []) ++ flat_map (move_within cells) moves) many
-    ∙ ap (λ (l : List ℕ). line_of (codes "undo" ∷ decimal (length (moves_within cells moves)) ∷ []) ++ l) (moves_put cells moves)
+    ap (λ (n : ℕ). words_line (codes "undo" ∷ decimal n ∷ []) ++ flat_map (move_within cells) moves) many
+    ∙ ap (λ (l : List ℕ). words_line (codes "undo" ∷ decimal (length (moves_within cells moves)) ∷ []) ++ l) (moves_put cells moves)
 
 -- ---- states that have a text
 

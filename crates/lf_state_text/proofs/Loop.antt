@@ -7,8 +7,8 @@ use Rattle.std.specs.List.{flat_map, AllByRecursion}
 use Rattle.std.proofs.lemmas.List.Concat.{flat_map-cons}
 use Rattle.lf_state_text.specs.declared.fault.ReadError.{ReadError}
 use Rattle.lf_state_text.specs.declared.fault.ReadError.TheVariants as errors
-use Rattle.lf_state_text.specs.Saved.{Both, lines_of}
-use Rattle.lf_state_text.specs.Reading.{◌>>=◌, TextFault, Fails, each_at, many_at}
+use Rattle.lf_state_text.specs.Saved.{Both, lines_by}
+use Rattle.lf_state_text.specs.Reading.{◌>>=◌, TextFault, FailsAtRest, each_at, many_at}
 
 -- the items read earlier, followed by the result of further reading
 abbrev pub with_front : {X : Type 0} → List X → Result (List X × List ℕ) TextFault → Result (List X × List ℕ) TextFault
@@ -28,7 +28,7 @@ module _ {X : Type 0} (item : List ℕ → Result (X × List ℕ) TextFault) whe
       sym one ∙ so_far
 
   pub ends : (e : ReadError) (front : List X) (count i : ℕ) (bytes : List ℕ) (total : Result (List X × List ℕ) TextFault) (left : ℕ) → i < count
-      → Fails e (item bytes) left → with_front front (many_at item (count - i) bytes) ≡ total → Fails e total left
+      → FailsAtRest e (item bytes) left → with_front front (many_at item (count - i) bytes) ≡ total → FailsAtRest e total left
   unfolding many_at
   ends errors.Memory front count i bytes total left lt h so_far = tt
   ends (errors.Fault number) front count i bytes total left lt h so_far =
@@ -71,8 +71,8 @@ module _ {D X : Type 0} (item : D → List ℕ → Result (X × List ℕ) TextFa
       sym one ∙ so_far
 
   pub each_ends : (e : ReadError) (front : List X) (dues : List D) (i : ℕ) (d : D) (bytes : List ℕ) (total : Result (List X × List ℕ) TextFault) (left : ℕ)
-      → i < length dues → Fails e (item (get_or dues i d) bytes) left
-      → with_front front (each_at item (drop i dues) bytes) ≡ total → Fails e total left
+      → i < length dues → FailsAtRest e (item (get_or dues i d) bytes) left
+      → with_front front (each_at item (drop i dues) bytes) ≡ total → FailsAtRest e total left
   unfolding each_at
   each_ends errors.Memory front dues i d bytes total left lt h so_far = tt
   each_ends (errors.Fault number) front dues i d bytes total left lt h so_far =
@@ -89,11 +89,11 @@ module _ {D X : Type 0} (item : D → List ℕ → Result (X × List ℕ) TextFa
 
   -- items that are read back one by one are read back as a list
   pub each-again : (text : D → X → List ℕ) (Fits : D → X → Type 0) → ((d : D) (x : X) (rest : List ℕ) → Fits d x → item d (text d x ++ rest) ≡ Ok (x, rest))
-      → (dues : List D) (xs : List X) (rest : List ℕ) → Both Fits dues xs → each_at item dues (lines_of text dues xs ++ rest) ≡ Ok (xs, rest)
+      → (dues : List D) (xs : List X) (rest : List ℕ) → Both Fits dues xs → each_at item dues (lines_by text dues xs ++ rest) ≡ Ok (xs, rest)
   unfolding each_at
   each-again text Fits one [] [] rest fits = refl
   each-again text Fits one (d ∷ dues) (x ∷ xs) rest fits =
-      let regrouped : lines_of text (d ∷ dues) (x ∷ xs) ++ rest ≡ text d x ++ (lines_of text dues xs ++ rest) = append_assoc (text d x) (lines_of text dues xs) rest in
-      ap (each_at item (d ∷ dues)) regrouped ∙ rw (one d x (lines_of text dues xs ++ rest) fits.0, each-again text Fits one dues xs rest fits.1) refl
+      let regrouped : lines_by text (d ∷ dues) (x ∷ xs) ++ rest ≡ text d x ++ (lines_by text dues xs ++ rest) = append_assoc (text d x) (lines_by text dues xs) rest in
+      ap (each_at item (d ∷ dues)) regrouped ∙ rw (one d x (lines_by text dues xs ++ rest) fits.0, each-again text Fits one dues xs rest fits.1) refl
   each-again text Fits one [] (x ∷ xs) rest fits = absurd fits
   each-again text Fits one (d ∷ dues) [] rest fits = absurd fits

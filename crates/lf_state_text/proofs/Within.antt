@@ -5,14 +5,14 @@ use Rattle.std.specs.List.{AllByRecursion}
 use Rattle.std.proofs.lemmas.Bool.{leb-true, ltb-true}
 use Rattle.lf_floorplan.specs.declared.limits.Limits.{Limits}
 use Rattle.lf_undo.specs.declared.moves.Move.{Move}
-use Rattle.lf_state_text.specs.declared.fault.FaultNumber.TheVariants.{Unexpected, BadNumber}
+use Rattle.lf_state_text.specs.declared.fault.StateFaultNumber.TheVariants.{Unexpected, BadNumber}
 use Rattle.lf_state_text.specs.declared.fault.StateError.{StateError}
 use Rattle.lf_state_text.specs.declared.refusal.ChunkError.{ChunkError}
 use Rattle.lf_state_text.specs.Refused.{ReturnsIn}
 use Rattle.lf_state_text.specs.Designs.{NamedDesign, NamedTeam}
 use Rattle.lf_state_text.specs.Words.{slot_on}
-use Rattle.lf_state_text.specs.Saved.{SavedTeam, AreOf, Both, IsTeamOf}
-use Rattle.lf_state_text.specs.Reading.{◌>>=◌, TextFault, Numbers, ReturnsAt, or_fault, is_seen_by, word_at, due_at, number_at, below_at, count_at, spot_at, slot_at, cell_at, move_at, entry_at, named_at, numbers_at, rows_at, team_at, opening_at, all_at, state_of, many_at, each_at, with_line}
+use Rattle.lf_state_text.specs.Saved.{SavedTeam, AreOf, Both, IsSavedTeamOf}
+use Rattle.lf_state_text.specs.Reading.{◌>>=◌, TextFault, Numbers, ReturnsAt, or_fault, is_seen_by, word_at, due_at, number_at, below_at, count_at, read_spot, slot_at, read_cell, move_at, entry_at, named_at, numbers_at, rows_at, team_at, opening_at, all_at, saved_state_of, many_at, each_at, with_fault_line}
 
 -- ---- successive steps of reading
 
@@ -94,7 +94,7 @@ move-within : (cells : ℕ) (bytes : List ℕ) (r : Move × List ℕ) → move_a
 unfolding move_at
 move-within cells bytes r is =
     let own = steps (below_at cells 32 bytes) _ r is in
-    let place = steps (spot_at 10 own.first.1) _ r own.rest in
+    let place = steps (read_spot 10 own.first.1) _ r own.rest in
     subst (λ (x : Move × List ℕ). x.0.own < cells) (same_ok place.rest) (below-within cells 32 bytes own.first own.is)
 
 entry-within : (cells : ℕ) (bytes : List ℕ) (r : List Move × List ℕ) → entry_at cells bytes ≡ Ok r → AllByRecursion (λ m. m.own < cells) r.0
@@ -127,20 +127,20 @@ numbers-within limits cells bytes r is =
     }
 
 rows-within : (limits : Limits) (named : NamedTeam) (numbers : Numbers) (bytes : List ℕ) (r : SavedTeam × List ℕ) → AreWithin limits numbers
-    → rows_at limits named numbers bytes ≡ Ok r → IsTeamOf limits named r.0
+    → rows_at limits named numbers bytes ≡ Ok r → IsSavedTeamOf limits named r.0
 unfolding rows_at
 rows-within limits named numbers bytes r within is =
     let own = length named.cells in
     let slots = steps (many_at (slot_at numbers.revision) limits.sessions bytes) _ r is in
-    let cells = steps (each_at cell_at named.cells slots.first.1) _ r slots.rest in
+    let cells = steps (each_at read_cell named.cells slots.first.1) _ r slots.rest in
     let entries = steps (many_at (entry_at own) numbers.entries cells.first.1) _ r cells.rest in
     let seen = many-within (slot_at numbers.revision) (λ s. IfSome s (λ n. n ≤ numbers.revision)) (slot-within numbers.revision) limits.sessions bytes slots.first slots.is in
     let moves = many-within (entry_at own) (λ ms. AllByRecursion (λ m. m.own < own) ms) (entry-within own) numbers.entries cells.first.1 entries.first entries.is in
-    let places = each-within cell_at (λ name c. Unit {0}) (λ name b x read. tt) named.cells slots.first.1 cells.first cells.is in
+    let places = each-within read_cell (λ name c. Unit {0}) (λ name b x read. tt) named.cells slots.first.1 cells.first cells.is in
     let revision_is = within.revision in
     let padding_is = within.padding in
     let entries_is = within.entries in
-    subst (λ (x : SavedTeam × List ℕ). IsTeamOf limits named x.0) (same_ok entries.rest) record {
+    subst (λ (x : SavedTeam × List ℕ). IsSavedTeamOf limits named x.0) (same_ok entries.rest) record {
       revision = omega arith;
       padding = omega arith;
       slots = seen.0;
@@ -150,7 +150,7 @@ rows-within limits named numbers bytes r within is =
       own = moves.1;
     }
 
-team-within : (limits : Limits) (named : NamedTeam) (bytes : List ℕ) (r : SavedTeam × List ℕ) → team_at limits named bytes ≡ Ok r → IsTeamOf limits named r.0
+team-within : (limits : Limits) (named : NamedTeam) (bytes : List ℕ) (r : SavedTeam × List ℕ) → team_at limits named bytes ≡ Ok r → IsSavedTeamOf limits named r.0
 unfolding team_at
 team-within limits named bytes r is =
     let rest = steps (named_at named.name bytes) _ r is in
@@ -163,19 +163,19 @@ all-within design text ts is =
     let rest = steps (opening_at design text) _ ts is in
     let teams = steps (each_at (team_at design.limits) design.teams rest.first) _ ts rest.rest in
     let test = passed (length teams.first.1 == 0) teams.first.0 ts _ teams.rest in
-    subst (AreOf design) test.same (each-within (team_at design.limits) (IsTeamOf design.limits) (team-within design.limits) design.teams rest.first teams.first teams.is)
+    subst (AreOf design) test.same (each-within (team_at design.limits) (IsSavedTeamOf design.limits) (team-within design.limits) design.teams rest.first teams.first teams.is)
 
 -- the same for the fault with its line
-state-within : (design : NamedDesign) (text : List ℕ) (read : Result (List SavedTeam) TextFault) (ts : List SavedTeam) → all_at design text ≡ read → with_line text read ≡ Ok ts → AreOf design ts
-state-within design text (Ok xs) ts is told = subst (AreOf design) (same_ok told) (all-within design text xs is)
-state-within design text (Err f) ts is told = absurd cc
+state-within : (design : NamedDesign) (text : List ℕ) (read : Result (List SavedTeam) TextFault) (ts : List SavedTeam) → all_at design text ≡ read → with_fault_line text read ≡ Ok ts → AreOf design ts
+state-within design text (Ok xs) ts is reported = subst (AreOf design) (same_ok reported) (all-within design text xs is)
+state-within design text (Err f) ts is reported = absurd cc
 
-pub told-within : {X : Type 0} (view : X → List SavedTeam) (design : NamedDesign) (text : List ℕ) (result : Result X ChunkError) → ReturnsIn view result (state_of design text)
+pub reported-within : {X : Type 0} (view : X → List SavedTeam) (design : NamedDesign) (text : List ℕ) (result : Result X ChunkError) → ReturnsIn view result (saved_state_of design text)
     → IfOk result (λ rows. AreOf design (view rows))
-told-within view design text (Ok rows) told = state-within design text (all_at design text) (view rows) refl told
-told-within view design text (Err e) told = tt
+reported-within view design text (Ok rows) reported = state-within design text (all_at design text) (view rows) refl reported
+reported-within view design text (Err e) reported = tt
 
-pub told-at : {X : Type 0} (view : X → List SavedTeam) (design : NamedDesign) (text : List ℕ) (result : Result X StateError) → ReturnsAt view result (state_of design text)
+pub reported-at : {X : Type 0} (view : X → List SavedTeam) (design : NamedDesign) (text : List ℕ) (result : Result X StateError) → ReturnsAt view result (saved_state_of design text)
     → IfOk result (λ rows. AreOf design (view rows))
-told-at view design text (Ok rows) told = state-within design text (all_at design text) (view rows) refl told
-told-at view design text (Err e) told = tt
+reported-at view design text (Ok rows) reported = state-within design text (all_at design text) (view rows) refl reported
+reported-at view design text (Err e) reported = tt

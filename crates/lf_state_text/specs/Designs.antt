@@ -13,5 +13,5 @@ pub record NamedDesign : Type 0 where
   pub limits : Limits
 
 -- the team of that number, which must exist
-abbrev pub team_of : NamedDesign → ℕ → NamedTeam
-team_of design team = slice_index_or design.teams team record { name = []; cells = [] }
+abbrev pub named_team_of : NamedDesign → ℕ → NamedTeam
+named_team_of design team = slice_index_or design.teams team record { name = []; cells = [] }

@@ -5,12 +5,12 @@ use Rattle.lf_lex.specs.Tokens.{line_feeds}
 use Rattle.lf_state_text.specs.declared.cursor.Cursor.{Cursor}
 
 -- the text of all chunks
-abbrev pub joined : {A : Type 0} → List (Vec ℕ A) → List ℕ
-joined pieces = flat_map (λ piece. piece.items) pieces
+abbrev pub text_of_chunks : {A : Type 0} → List (Vec ℕ A) → List ℕ
+text_of_chunks pieces = flat_map (λ piece. piece.items) pieces
 
 -- the bytes that are still held
 abbrev pub held_bytes : Cursor → List ℕ
-held_bytes c = c.piece.items ++ joined c.later.items
+held_bytes c = c.piece.items ++ text_of_chunks c.later.items
 
 -- the unread rest of the chunk
 abbrev pub front : Cursor → List ℕ
@@ -18,7 +18,7 @@ front c = drop c.at c.piece.items
 
 -- the unread rest of the text
 abbrev pub rest : Cursor → List ℕ
-rest c = front c ++ joined c.later.items
+rest c = front c ++ text_of_chunks c.later.items
 
 -- whole lines, or nothing
 abbrev pub AreLines : List ℕ → Type 0

@@ -4,8 +4,8 @@ use Rattle.lf_floorplan.specs.declared.limits.Limits.{Limits}
 use Rattle.lf_floorplan.specs.declared.place.Place.{Place}
 use Rattle.lf_undo.specs.declared.moves.Move.{Move}
 use Rattle.lf_lex.specs.Tokens.{line_feeds}
-use Rattle.lf_state_text.specs.declared.fault.FaultNumber.{FaultNumber}
-use Rattle.lf_state_text.specs.declared.fault.FaultNumber.TheVariants.{UnexpectedEnd, Unexpected, BadNumber, OtherVersion, OtherDesign, OutOfRange}
+use Rattle.lf_state_text.specs.declared.fault.StateFaultNumber.{StateFaultNumber}
+use Rattle.lf_state_text.specs.declared.fault.StateFaultNumber.TheVariants.{UnexpectedEnd, Unexpected, BadNumber, OtherVersion, OtherDesign, OutOfRange}
 use Rattle.lf_state_text.specs.declared.fault.ReadError.{ReadError}
 use Rattle.lf_state_text.specs.declared.fault.ReadError.TheVariants as reading
 use Rattle.lf_state_text.specs.declared.fault.StateFault.{StateFault}
@@ -13,12 +13,12 @@ use Rattle.lf_state_text.specs.declared.fault.StateError.{StateError}
 use Rattle.lf_state_text.specs.declared.fault.StateError.TheVariants as states
 use Rattle.lf_state_text.specs.declared.saved_rows.SavedCell.{SavedCell}
 use Rattle.lf_state_text.specs.Designs.{NamedDesign, NamedTeam}
-use Rattle.lf_state_text.specs.Words.{behind, cut, number, place_on, slot_on}
+use Rattle.lf_state_text.specs.Words.{bytes_after, cut, number, place_or_dash, slot_on}
 use Rattle.lf_state_text.specs.Saved.{SavedTeam, title}
 
 -- the first fault of a text, in its order, and the number of unread bytes there
 pub record TextFault : Type 0 where
-  pub number : FaultNumber
+  pub number : StateFaultNumber
   pub left : ℕ
 
 infixl 10 ◌>>=◌
@@ -30,13 +30,13 @@ abbrev pub ◌>>=◌ : {A B : Type 0} → Result A TextFault → (A → Result B
 -- with the unread bytes
 
 -- the fault at this number of unread bytes
-abbrev pub Fails : {Y : Type 0} → ReadError → Result Y TextFault → ℕ → Type 0
-Fails reading.Memory read left = Unit {0}
-Fails (reading.Fault number) read left = read ≡ Err (record { number = number; left = left })
+abbrev pub FailsAtRest : {Y : Type 0} → ReadError → Result Y TextFault → ℕ → Type 0
+FailsAtRest reading.Memory read left = Unit {0}
+FailsAtRest (reading.Fault number) read left = read ≡ Err (record { number = number; left = left })
 
-abbrev pub Reads : {X Y : Type 0} → (X → List ℕ → Y) → Result X ReadError → Result Y TextFault → List ℕ → Type 0
-Reads view (Ok x) read left = read ≡ Ok (view x left)
-Reads view (Err e) read left = Fails e read (length left)
+abbrev pub ReadsState : {X Y : Type 0} → (X → List ℕ → Y) → Result X ReadError → Result Y TextFault → List ℕ → Type 0
+ReadsState view (Ok x) read left = read ≡ Ok (view x left)
+ReadsState view (Err e) read left = FailsAtRest e read (length left)
 
 -- the same for a fault with its line
 abbrev pub FailsAt : {Y : Type 0} → StateError → Result Y StateFault → Type 0
@@ -50,31 +50,31 @@ ReturnsAt view (Err e) read = FailsAt e read
 -- ---- faults
 
 -- the fault of that number at these unread bytes
-abbrev pub fault : {A : Type 0} → FaultNumber → List ℕ → Result A TextFault
+abbrev pub fault : {A : Type 0} → StateFaultNumber → List ℕ → Result A TextFault
 fault number bytes = Err (record { number = number; left = length bytes })
 
-abbrev pub or_fault : {A : Type 0} → FaultNumber → List ℕ → Option A → Result A TextFault
+abbrev pub or_fault : {A : Type 0} → StateFaultNumber → List ℕ → Option A → Result A TextFault
 or_fault number bytes None = fault number bytes
 or_fault number bytes (Some x) = Ok x
 
 -- the fault of a line that continues differently: that number, or UnexpectedEnd if the text ends
 -- within the line
-abbrev pub mismatch : FaultNumber → List ℕ → FaultNumber
+abbrev pub mismatch : StateFaultNumber → List ℕ → StateFaultNumber
 mismatch number bytes = cond (is_some (cut 10 bytes)) number UnexpectedEnd
 
 -- the fault with its line in the text
-abbrev pub located : List ℕ → TextFault → StateFault
-located text f = record { number = f.number; line = line_feeds (take (length text - f.left) text) + 1 }
+abbrev pub fault_with_line : List ℕ → TextFault → StateFault
+fault_with_line text f = record { number = f.number; line = line_feeds (take (length text - f.left) text) + 1 }
 
-abbrev pub with_line : {A : Type 0} → List ℕ → Result A TextFault → Result A StateFault
-with_line text (Ok x) = Ok x
-with_line text (Err f) = Err (located text f)
+abbrev pub with_fault_line : {A : Type 0} → List ℕ → Result A TextFault → Result A StateFault
+with_fault_line text (Ok x) = Ok x
+with_fault_line text (Err f) = Err (fault_with_line text f)
 
 -- ---- words: the value of each, and the bytes after it
 
 -- the expected bytes
-unfoldable pub due_at : FaultNumber → List ℕ → List ℕ → Result (List ℕ) TextFault
-due_at number due bytes = or_fault (mismatch number bytes) bytes (behind due bytes)
+unfoldable pub due_at : StateFaultNumber → List ℕ → List ℕ → Result (List ℕ) TextFault
+due_at number due bytes = or_fault (mismatch number bytes) bytes (bytes_after due bytes)
 
 -- a word up to that byte
 unfoldable pub word_at : ℕ → List ℕ → Result (List ℕ × List ℕ) TextFault
@@ -98,10 +98,10 @@ count_at count byte bytes = do
   n ← number_at byte bytes
   cond (n.0 == count) (Ok n.1) (fault OtherDesign bytes)
 
-unfoldable pub spot_at : ℕ → List ℕ → Result (Option Place × List ℕ) TextFault
-spot_at byte bytes = do
+unfoldable pub read_spot : ℕ → List ℕ → Result (Option Place × List ℕ) TextFault
+read_spot byte bytes = do
   word ← word_at byte bytes
-  place ← or_fault BadNumber bytes (place_on word.0)
+  place ← or_fault BadNumber bytes (place_or_dash word.0)
   Ok (place, word.1)
 
 -- ---- lines
@@ -117,19 +117,19 @@ slot_at revision bytes = do
   slot ← or_fault BadNumber bytes (slot_on word.0)
   cond (is_seen_by revision slot) (Ok (slot, word.1)) (fault OutOfRange bytes)
 
-unfoldable pub cell_at : List ℕ → List ℕ → Result (SavedCell × List ℕ) TextFault
-cell_at name bytes = do
+unfoldable pub read_cell : List ℕ → List ℕ → Result (SavedCell × List ℕ) TextFault
+read_cell name bytes = do
   named ← due_at OtherDesign name bytes
   rest ← due_at OtherDesign (codes " ") named
-  working ← spot_at 32 rest
-  committed ← spot_at 10 working.1
+  working ← read_spot 32 rest
+  committed ← read_spot 10 working.1
   Ok (record { working = working.0; committed = committed.0 }, committed.1)
 
 -- a move of one of the cells of a team of this size
 unfoldable pub move_at : ℕ → List ℕ → Result (Move × List ℕ) TextFault
 move_at cells bytes = do
   own ← below_at cells 32 bytes
-  place ← spot_at 10 own.1
+  place ← read_spot 10 own.1
   Ok (record { own = own.0; old = place.0 }, place.1)
 
 -- this number of items, one after another
@@ -182,7 +182,7 @@ numbers_at limits cells bytes = do
 unfoldable pub rows_at : Limits → NamedTeam → Numbers → List ℕ → Result (SavedTeam × List ℕ) TextFault
 rows_at limits named numbers bytes = do
   slots ← many_at (slot_at numbers.revision) limits.sessions bytes
-  cells ← each_at cell_at named.cells slots.1
+  cells ← each_at read_cell named.cells slots.1
   entries ← many_at (entry_at (length named.cells)) numbers.entries cells.1
   Ok (record { revision = numbers.revision; padding = numbers.padding; slots = slots.0; cells = cells.0; entries = entries.0 }, entries.1)
 
@@ -194,7 +194,7 @@ team_at limits named bytes = do
 
 -- the title of version 1
 abbrev pub title_at : List ℕ → Result (List ℕ) TextFault
-title_at text = or_fault OtherVersion text (behind title text)
+title_at text = or_fault OtherVersion text (bytes_after title text)
 
 -- the title, and the number of teams
 unfoldable pub opening_at : NamedDesign → List ℕ → Result (List ℕ) TextFault
@@ -211,5 +211,5 @@ all_at design text = do
   cond (length teams.1 == 0) (Ok teams.0) (fault Unexpected teams.1)
 
 -- the saved teams in the text of a state of the design, or its first fault with its line
-abbrev pub state_of : NamedDesign → List ℕ → Result (List SavedTeam) StateFault
-state_of design text = with_line text (all_at design text)
+abbrev pub saved_state_of : NamedDesign → List ℕ → Result (List SavedTeam) StateFault
+saved_state_of design text = with_fault_line text (all_at design text)

@@ -5,7 +5,7 @@ use Rattle.std.specs.Fmt.{decimal}
 use Rattle.lf_floorplan.specs.declared.limits.Limits.{Limits}
 use Rattle.lf_floorplan.specs.declared.place.Place.{Place}
 use Rattle.lf_undo.specs.declared.moves.Move.{Move}
-use Rattle.lf_team_def.specs.TeamText.{line_of}
+use Rattle.lf_team_def.specs.TeamText.{words_line}
 use Rattle.lf_state_text.specs.declared.saved_rows.SavedCell.{SavedCell}
 use Rattle.lf_state_text.specs.declared.saved_rows.TeamRow.{TeamRow}
 use Rattle.lf_state_text.specs.Designs.{NamedDesign, NamedTeam}
@@ -39,49 +39,49 @@ moves_within cells moves = filter (λ m. nat_lt m.own cells) moves
 -- ---- lines
 
 -- the text of each pair of elements of the two lists, one after another
-abbrev pub lines_of : {A B : Type 0} → (A → B → List ℕ) → List A → List B → List ℕ
-lines_of line [] seconds = []
-lines_of line (a ∷ firsts) [] = []
-lines_of line (a ∷ firsts) (b ∷ seconds) = line a b ++ lines_of line firsts seconds
+abbrev pub lines_by : {A B : Type 0} → (A → B → List ℕ) → List A → List B → List ℕ
+lines_by line [] seconds = []
+lines_by line (a ∷ firsts) [] = []
+lines_by line (a ∷ firsts) (b ∷ seconds) = line a b ++ lines_by line firsts seconds
 
 -- - or the revision that the session has seen
 abbrev pub slot_line : Option ℕ → List ℕ
-slot_line seen = line_of (slot_text seen ∷ [])
+slot_line seen = words_line (slot_text seen ∷ [])
 
 -- NAME WORKING COMMITTED
 abbrev pub cell_line : List ℕ → SavedCell → List ℕ
-cell_line name c = line_of (name ∷ place_text c.working ∷ place_text c.committed ∷ [])
+cell_line name c = words_line (name ∷ place_text c.working ∷ place_text c.committed ∷ [])
 
 -- CELL PLACE: the cell's position among the team's, and the place that it had
 abbrev pub move_line : Move → List ℕ
-move_line m = line_of (decimal m.own ∷ place_text m.old ∷ [])
+move_line m = words_line (decimal m.own ∷ place_text m.old ∷ [])
 
 -- undo MOVES, and a line for each move
 abbrev pub entry_lines : List Move → List ℕ
-entry_lines moves = line_of (codes "undo" ∷ decimal (length moves) ∷ []) ++ flat_map move_line moves
+entry_lines moves = words_line (codes "undo" ∷ decimal (length moves) ∷ []) ++ flat_map move_line moves
 
 -- team NAME REVISION PADDING SLOTS CELLS ENTRIES
 abbrev pub head_line : List ℕ → SavedTeam → List ℕ
 head_line name t =
-    line_of
+    words_line
     (codes "team" ∷ name ∷ decimal t.revision ∷ decimal t.padding ∷ decimal (length t.slots) ∷ decimal (length t.cells) ∷ decimal (length t.entries) ∷ [])
 
 -- the first line, the slots, the cells and the undo entries
-abbrev pub team_lines : NamedTeam → SavedTeam → List ℕ
-team_lines named t =
-    head_line named.name t ++ (flat_map slot_line t.slots ++ (lines_of cell_line named.cells t.cells ++ flat_map entry_lines t.entries))
+abbrev pub saved_team_lines : NamedTeam → SavedTeam → List ℕ
+saved_team_lines named t =
+    head_line named.name t ++ (flat_map slot_line t.slots ++ (lines_by cell_line named.cells t.cells ++ flat_map entry_lines t.entries))
 
 -- lefence-state 1
 abbrev pub title : List ℕ
-title = line_of (codes "lefence-state" ∷ codes "1" ∷ [])
+title = words_line (codes "lefence-state" ∷ codes "1" ∷ [])
 
 -- the title with the version, and the number of teams
 abbrev pub opening_lines : ℕ → List ℕ
-opening_lines count = title ++ line_of (codes "teams" ∷ decimal count ∷ [])
+opening_lines count = title ++ words_line (codes "teams" ∷ decimal count ∷ [])
 
 -- the opening lines, and the lines of each team
 abbrev pub state_text : NamedDesign → List SavedTeam → List ℕ
-state_text design teams = opening_lines (length design.teams) ++ lines_of team_lines design.teams teams
+state_text design teams = opening_lines (length design.teams) ++ lines_by saved_team_lines design.teams teams
 
 -- ---- states that have a text
 
@@ -92,7 +92,7 @@ Both Holds (a ∷ firsts) (b ∷ seconds) = Holds a b × Both Holds firsts secon
 Both Holds _ _ = ⊥
 
 -- a saved team is a team of the design, within its limits
-pub record IsTeamOf (limits : Limits) (named : NamedTeam) (t : SavedTeam) : Type 0 where
+pub record IsSavedTeamOf (limits : Limits) (named : NamedTeam) (t : SavedTeam) : Type 0 where
   pub revision : t.revision ≤ limits.revisions
   pub padding : t.padding ≤ 16
   pub slots : length t.slots ≡ limits.sessions
@@ -103,7 +103,7 @@ pub record IsTeamOf (limits : Limits) (named : NamedTeam) (t : SavedTeam) : Type
 
 -- the saved teams are those of the design, in their order
 abbrev pub AreOf : NamedDesign → List SavedTeam → Type 0
-AreOf design teams = Both (IsTeamOf design.limits) design.teams teams
+AreOf design teams = Both (IsSavedTeamOf design.limits) design.teams teams
 
 -- both coordinates are below 2^31
 abbrev pub IsSpot : Place → Type 0
@@ -118,7 +118,7 @@ IsSpottedEntry moves = (length moves < 2 ^ 32) × AllByRecursion (λ m. IfSome m
 
 -- the coordinates of the team's cells and undo entries are below 2^31, and its padding is at most
 -- 16
-pub record IsInRange (t : SavedTeam) : Type 0 where
+pub record IsSavedInRange (t : SavedTeam) : Type 0 where
   pub padding : t.padding ≤ 16
   pub cells : All IsSpottedCell t.cells
   pub entries : All IsSpottedEntry t.entries

@@ -12,8 +12,8 @@ unfoldable pub cut : ℕ → List ℕ → Option (List ℕ × List ℕ)
 cut byte bytes = option_map (λ at. (take at bytes, drop (at + 1) bytes)) (position (λ b. b == byte) bytes)
 
 -- the bytes after the expected ones, if those come first
-unfoldable pub behind : List ℕ → List ℕ → Option (List ℕ)
-behind due bytes = cond (bytes_eq (take (length due) bytes) due) (Some (drop (length due) bytes)) None
+unfoldable pub bytes_after : List ℕ → List ℕ → Option (List ℕ)
+bytes_after due bytes = cond (bytes_eq (take (length due) bytes) due) (Some (drop (length due) bytes)) None
 
 -- a number below 2^32, in 1 to 10 digits
 abbrev pub number : List ℕ → Option ℕ
@@ -22,15 +22,15 @@ number word = do
   below (2 ^ 32) n
 
 -- X,Y,O in database units
-unfoldable pub place_in : List ℕ → Option Place
-place_in word = do
+unfoldable pub place_in_word : List ℕ → Option Place
+place_in_word word = do
   x ← cut 44 word
   y ← cut 44 x.1
   place_written x.0 y.0 y.1
 
 -- a place, or - for no place
-unfoldable pub place_on : List ℕ → Option (Option Place)
-place_on word = cond (bytes_eq word (codes "-")) (Some None) (option_map (λ p. Some p) (place_in word))
+unfoldable pub place_or_dash : List ℕ → Option (Option Place)
+place_or_dash word = cond (bytes_eq word (codes "-")) (Some None) (option_map (λ p. Some p) (place_in_word word))
 
 -- the revision that a session has seen, or - for a free slot
 unfoldable pub slot_on : List ℕ → Option (Option ℕ)

@@ -9,11 +9,11 @@ use Rattle.lf_state_text.specs.Reading.{Numbers}
 use Rattle.lf_state_text.specs.Words.{place_text, slot_text}
 
 -- the text of a word
-abbrev pub word_text : Word → List ℕ
-word_text (Text text) = text.now
-word_text (Count n) = decimal n
-word_text (Spot place) = place_text place
-word_text (Slot seen) = slot_text seen
+abbrev pub state_word_text : Word → List ℕ
+state_word_text (Text text) = text.now
+state_word_text (Count n) = decimal n
+state_word_text (Spot place) = place_text place
+state_word_text (Slot seen) = slot_text seen
 
 -- the numbers of a team's first line
 abbrev pub numbers_view : KeptNumbers → Numbers
@@ -38,5 +38,5 @@ line_if line a None = []
 line_if line a (Some b) = line_with line a b
 
 -- the line of that position in both lists
-abbrev pub line_at : {A B : Type 0} → (A → B → List ℕ) → List A → List B → ℕ → List ℕ
-line_at line firsts seconds at = line_if line (slice_get firsts at) (slice_get seconds at)
+abbrev pub line_of_pair : {A B : Type 0} → (A → B → List ℕ) → List A → List B → ℕ → List ℕ
+line_of_pair line firsts seconds at = line_if line (slice_get firsts at) (slice_get seconds at)

@@ -25,7 +25,7 @@ fn lines_len(bytes: &[u8], count: usize) -> usize
 }
 
 /// Returns the bytes after the first `count`.
-fn behind(bytes: &[u8], count: usize) -> &[u8]
+fn after_it(bytes: &[u8], count: usize) -> &[u8]
     requires { count ≤ length bytes.now }
     ensures { result.now ≡ drop count bytes.now }
 {
@@ -36,7 +36,7 @@ fn behind(bytes: &[u8], count: usize) -> &[u8]
 pub(crate) fn front(cursor: &Cursor) -> &[u8]
     ensures { result.now ≡ front cursor.now }
 {
-    behind(&cursor.piece, cursor.at)
+    after_it(&cursor.piece, cursor.at)
 }
 
 /// Drops the complete lines already read from the current chunk.
@@ -51,7 +51,7 @@ fn drop_lines_read(cursor: &mut Cursor) -> Result<(), AllocError>
     let Some(lines) = cursor.lines.checked_add(line_feeds(&cursor.piece[..start])) else {
         return Err(AllocError);
     };
-    let piece = Vec::from_slice(cursor.alloc, behind(&cursor.piece, start))?;
+    let piece = Vec::from_slice(cursor.alloc, after_it(&cursor.piece, start))?;
     cursor.at -= start;
     cursor.piece = piece;
     cursor.lines = lines;

@@ -8,7 +8,7 @@ use std::alloc::{AllocError, AllocFailed};
 
 /// The fault of a text. A fault that readers of other texts know too has their number.
 #[derive(Clone, Copy, Debug, PartialEq, Eq)]
-pub enum FaultNumber {
+pub enum StateFaultNumber {
     /// The text ends within a line, or lines are missing at its end.
     UnexpectedEnd,
     /// Another word is expected, or there is text after the last line.
@@ -29,7 +29,7 @@ pub enum FaultNumber {
 #[derive(Debug, Drop)]
 pub(crate) enum ReadError {
     Memory,
-    Fault(FaultNumber),
+    Fault(StateFaultNumber),
 }
 
 impl From<AllocError> for ReadError {
@@ -51,7 +51,7 @@ impl<T: Drop> From<AllocFailed<T>> for ReadError {
 /// The first fault of a text, in its order, and its line.
 #[derive(Clone, Copy, Debug, PartialEq, Eq)]
 pub struct StateFault {
-    pub number: FaultNumber,
+    pub number: StateFaultNumber,
     pub line: usize,
 }
 
@@ -81,9 +81,9 @@ pub(crate) fn line_feeds(text: &[u8]) -> usize
     let mut feeds = 0;
     let mut rest = text;
     while !rest.is_empty() {
-        let (bytes, behind) = rest.split_at(rest.len().min(255));
+        let (bytes, after_it) = rest.split_at(rest.len().min(255));
         feeds += usize::from(few_line_feeds(bytes));
-        rest = behind;
+        rest = after_it;
     }
     feeds
 }

@@ -52,7 +52,7 @@ mod schema;
 mod team_views;
 mod write;
 
-pub use fault::{FaultNumber, StateError, StateFault};
+pub use fault::{StateError, StateFault, StateFaultNumber};
 pub use laws::saved_reads_back;
 pub use read::{read_chunks, read_state};
 pub use refusal::{ChunkError, StateRefused};

@@ -2,16 +2,16 @@
 
 ghost use Rattle.std.specs.Prelude.{◌≡◌, ◌<◌, IfErr, IfOk, List, Ok, Result, ℕ, length};
 ghost use Rattle.lf_state_text.specs.declared.fault.StateFault.{StateFault};
-ghost use Rattle.lf_state_text.specs.Designs.{team_of};
-ghost use Rattle.lf_state_text.specs.Pieces.{IsEnd, joined, rest};
+ghost use Rattle.lf_state_text.specs.Designs.{named_team_of};
+ghost use Rattle.lf_state_text.specs.Pieces.{IsEnd, text_of_chunks, rest};
 ghost use Rattle.lf_state_text.specs.Refused.{ReturnsIn, HoldsEnd};
 ghost use Rattle.lf_state_text.specs.Saved.{AreOf, AreSaved, SavedTeam, state_text, team_view, team_views};
-ghost use Rattle.lf_state_text.specs.Reading.{TextFault, ReturnsAt, Reads, all_at, each_at, named_at, numbers_at, opening_at, rows_at, state_of, team_at, title_at, with_line};
+ghost use Rattle.lf_state_text.specs.Reading.{TextFault, ReturnsAt, ReadsState, all_at, each_at, named_at, numbers_at, opening_at, rows_at, saved_state_of, team_at, title_at, with_fault_line};
 ghost use Rattle.lf_state_text.specs.Writing.{numbers_view};
 
 use crate::cursor::Cursor;
 use crate::cursor_steps::{begins, is_done, skip};
-use crate::fault::{FaultNumber, ReadError, StateError};
+use crate::fault::{ReadError, StateError, StateFaultNumber};
 use crate::read_lists::{read_cells, read_entries, read_slots};
 use crate::read_words::{below_at, count_at, expect_bytes};
 use crate::refusal::{ChunkError, refusal_at};
@@ -33,12 +33,12 @@ struct Numbers {
 /// Reads the keyword of a team's first line, and the team's name.
 #[tactic(auto, unfolding(crate::specs::Reading::named_at))]
 fn named_at(name: &[u8], cursor: &mut Cursor) -> Result<(), ReadError>
-    ensures read { Reads (λ _ left. left) result (named_at name.now (rest cursor.old)) (rest cursor.new) }
+    ensures read { ReadsState (λ _ left. left) result (named_at name.now (rest cursor.old)) (rest cursor.new) }
     ensures ends { (text : List ℕ) → IsEnd text cursor.old → IsEnd text cursor.new }
 {
-    expect_bytes(FaultNumber::Unexpected, b"team ", cursor)?;
-    expect_bytes(FaultNumber::OtherDesign, name, cursor)?;
-    expect_bytes(FaultNumber::OtherDesign, b" ", cursor)
+    expect_bytes(StateFaultNumber::Unexpected, b"team ", cursor)?;
+    expect_bytes(StateFaultNumber::OtherDesign, name, cursor)?;
+    expect_bytes(StateFaultNumber::OtherDesign, b" ", cursor)
 }
 
 /// Returns the padding of `sites` core sites, at most 16.
@@ -56,7 +56,7 @@ fn padding_of(sites: u32) -> Padding
 /// `cells`.
 #[tactic(auto, unfolding(crate::specs::Reading::numbers_at))]
 fn numbers_at(limits: &Limits, cells: usize, cursor: &mut Cursor) -> Result<Numbers, ReadError>
-    ensures read { Reads (λ numbers left. (numbers_view numbers, left)) result (numbers_at limits.now cells (rest cursor.old)) (rest cursor.new) }
+    ensures read { ReadsState (λ numbers left. (numbers_view numbers, left)) result (numbers_at limits.now cells (rest cursor.old)) (rest cursor.new) }
     ensures ends { (text : List ℕ) → IsEnd text cursor.old → IsEnd text cursor.new }
 {
     let revision = below_at(limits.revisions as usize + 1, b' ', cursor)?;
@@ -80,8 +80,8 @@ fn rows_at<D: DesignSchema>(
     numbers: Numbers,
     cursor: &mut Cursor,
 ) -> Result<TeamRow, ReadError>
-    ensures read { Reads (λ row left. (team_view row, left)) result
-        (rows_at (D.named design.now).limits (team_of (D.named design.now) team) (numbers_view numbers) (rest cursor.old)) (rest cursor.new) }
+    ensures read { ReadsState (λ row left. (team_view row, left)) result
+        (rows_at (D.named design.now).limits (named_team_of (D.named design.now) team) (numbers_view numbers) (rest cursor.old)) (rest cursor.new) }
     ensures ends { (text : List ℕ) → IsEnd text cursor.old → IsEnd text cursor.new }
 {
     let cells = design.cell_count(team);
@@ -106,8 +106,8 @@ fn read_team<D: DesignSchema>(
     cursor: &mut Cursor,
 ) -> Result<TeamRow, ReadError>
     requires { team < length (D.named design.now).teams }
-    ensures read { Reads (λ row left. (team_view row, left)) result
-        (team_at (D.named design.now).limits (team_of (D.named design.now) team) (rest cursor.old)) (rest cursor.new) }
+    ensures read { ReadsState (λ row left. (team_view row, left)) result
+        (team_at (D.named design.now).limits (named_team_of (D.named design.now) team) (rest cursor.old)) (rest cursor.new) }
     ensures ends { (text : List ℕ) → IsEnd text cursor.old → IsEnd text cursor.new }
 {
     named_at(name_of_team(design, team), cursor)?;
@@ -121,7 +121,7 @@ fn read_teams<D: DesignSchema>(
     design: &D,
     cursor: &mut Cursor,
 ) -> Result<Vec<TeamRow>, ReadError>
-    ensures read { Reads (λ rows left. (team_views rows.items, left)) result
+    ensures read { ReadsState (λ rows left. (team_views rows.items, left)) result
         (each_at (team_at (D.named design.now).limits) (D.named design.now).teams (rest cursor.old)) (rest cursor.new) }
     ensures ends { (text : List ℕ) → IsEnd text cursor.old → IsEnd text cursor.new }
 {
@@ -134,9 +134,9 @@ fn read_teams<D: DesignSchema>(
 }
 
 /// Reads the title with the version that is supported.
-#[tactic(auto, unfolding(crate::specs::Words::behind))]
+#[tactic(auto, unfolding(crate::specs::Words::bytes_after))]
 fn read_title(cursor: &mut Cursor) -> Result<(), ReadError>
-    ensures read { Reads (λ _ left. left) result (title_at (rest cursor.old)) (rest cursor.new) }
+    ensures read { ReadsState (λ _ left. left) result (title_at (rest cursor.old)) (rest cursor.new) }
     ensures ends { (text : List ℕ) → IsEnd text cursor.old → IsEnd text cursor.new }
 {
     let title = b"lefence-state 1\n".as_slice();
@@ -144,17 +144,17 @@ fn read_title(cursor: &mut Cursor) -> Result<(), ReadError>
         skip(title.len(), cursor);
         return Ok(());
     }
-    Err(ReadError::Fault(FaultNumber::OtherVersion))
+    Err(ReadError::Fault(StateFaultNumber::OtherVersion))
 }
 
 /// Reads the title and the number of teams.
 #[tactic(auto, unfolding(crate::specs::Reading::opening_at))]
 fn read_opening<D: DesignSchema>(design: &D, cursor: &mut Cursor) -> Result<(), ReadError>
-    ensures read { Reads (λ _ left. left) result (opening_at (D.named design.now) (rest cursor.old)) (rest cursor.new) }
+    ensures read { ReadsState (λ _ left. left) result (opening_at (D.named design.now) (rest cursor.old)) (rest cursor.new) }
     ensures ends { (text : List ℕ) → IsEnd text cursor.old → IsEnd text cursor.new }
 {
     read_title(cursor)?;
-    expect_bytes(FaultNumber::Unexpected, b"teams ", cursor)?;
+    expect_bytes(StateFaultNumber::Unexpected, b"teams ", cursor)?;
     count_at(design.team_count(), b'\n', cursor)
 }
 
@@ -165,21 +165,21 @@ fn read_all<D: DesignSchema>(
     design: &D,
     cursor: &mut Cursor,
 ) -> Result<Vec<TeamRow>, ReadError>
-    ensures read { Reads (λ rows _. team_views rows.items) result (all_at (D.named design.now) (rest cursor.old)) (rest cursor.new) }
+    ensures read { ReadsState (λ rows _. team_views rows.items) result (all_at (D.named design.now) (rest cursor.old)) (rest cursor.new) }
     ensures ends { (text : List ℕ) → IsEnd text cursor.old → IsEnd text cursor.new }
 {
     read_opening(design, cursor)?;
     let teams = read_teams(alloc, design, cursor)?;
     if !is_done(cursor)? {
-        return Err(ReadError::Fault(FaultNumber::Unexpected));
+        return Err(ReadError::Fault(StateFaultNumber::Unexpected));
     }
     Ok(teams)
 }
 
 /// Makes a cursor at the start of the text with these chunks.
 fn cursor_at(alloc: Global, pieces: VecDeque<Vec<u8>>) -> Cursor
-    ensures rest { rest result ≡ joined pieces.items }
-    ensures end { IsEnd (joined pieces.items) result }
+    ensures rest { rest result ≡ text_of_chunks pieces.items }
+    ensures end { IsEnd (text_of_chunks pieces.items) result }
 {
     Cursor {
         alloc,
@@ -196,7 +196,7 @@ fn with_text_end(
     cursor: Cursor,
 ) -> Result<Vec<TeamRow>, ChunkError>
     ensures read { (text : List ℕ) (found : Result (List SavedTeam) TextFault) → IsEnd text cursor
-        → Reads (λ rows _. team_views rows.items) read found (rest cursor) → ReturnsIn (λ rows. team_views rows.items) result (with_line text found) }
+        → ReadsState (λ rows _. team_views rows.items) read found (rest cursor) → ReturnsIn (λ rows. team_views rows.items) result (with_fault_line text found) }
     ensures end { (text : List ℕ) → IsEnd text cursor → IfErr result (HoldsEnd text) }
 {
     match read {
@@ -217,11 +217,11 @@ pub fn read_chunks<D: DesignSchema>(
     pieces: VecDeque<Vec<u8>>,
 ) -> Result<Vec<TeamRow>, ChunkError>
     // The teams, or the fault.
-    ensures exact { ReturnsIn (λ rows. team_views rows.items) result (state_of (D.named design.now) (joined pieces.items)) }
+    ensures exact { ReturnsIn (λ rows. team_views rows.items) result (saved_state_of (D.named design.now) (text_of_chunks pieces.items)) }
     // The result is within the design's limits.
     ensures fits { IfOk result (λ rows. AreOf (D.named design.now) (team_views rows.items)) }
     // The end of a refused text.
-    ensures end { IfErr result (λ error. HoldsEnd (joined pieces.items) error) }
+    ensures end { IfErr result (λ error. HoldsEnd (text_of_chunks pieces.items) error) }
 {
     let mut cursor = cursor_at(alloc, pieces);
     let read = read_all(alloc, design, &mut cursor);
@@ -232,7 +232,7 @@ pub fn read_chunks<D: DesignSchema>(
 ///
 /// `Err` if an allocation fails.
 fn piece_of(alloc: Global, text: &[u8]) -> Result<VecDeque<Vec<u8>>, ReadError>
-    ensures { IfOk result (λ pieces. joined pieces.items ≡ text.now) }
+    ensures { IfOk result (λ pieces. text_of_chunks pieces.items ≡ text.now) }
 {
     let mut pieces = VecDeque::new(alloc);
     pieces.push_back(Vec::from_slice(alloc, text)?)?;
@@ -261,7 +261,7 @@ pub fn read_state<D: DesignSchema>(
     text: &[u8],
 ) -> Result<Vec<TeamRow>, StateError>
     // The teams, or the fault.
-    ensures exact { ReturnsAt (λ rows. team_views rows.items) result (state_of (D.named design.now) text.now) }
+    ensures exact { ReturnsAt (λ rows. team_views rows.items) result (saved_state_of (D.named design.now) text.now) }
     // The result is within the design's limits.
     ensures fits { IfOk result (λ rows. AreOf (D.named design.now) (team_views rows.items)) }
     // A written text is read back, unless memory runs out.

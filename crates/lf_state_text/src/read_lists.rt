@@ -1,12 +1,12 @@
 //! Lists of lines.
 
 ghost use Rattle.std.specs.Prelude.{◌≡◌, List, ℕ};
-ghost use Rattle.lf_state_text.specs.Designs.{team_of};
+ghost use Rattle.lf_state_text.specs.Designs.{named_team_of};
 ghost use Rattle.lf_state_text.specs.Pieces.{IsEnd, rest};
-ghost use Rattle.lf_state_text.specs.Reading.{Reads, cell_at, each_at, entry_at, many_at, move_at, slot_at};
+ghost use Rattle.lf_state_text.specs.Reading.{ReadsState, read_cell, each_at, entry_at, many_at, move_at, slot_at};
 
 use crate::cursor::Cursor;
-use crate::fault::{FaultNumber, ReadError};
+use crate::fault::{ReadError, StateFaultNumber};
 use crate::read_words::{below_at, expect_bytes, number_at, read_place_or_none, slot_at};
 use crate::saved_rows::SavedCell;
 use crate::schema::{DesignSchema, name_of_cell};
@@ -14,13 +14,13 @@ use lf_undo::{Move, Moves};
 use std::alloc::Global;
 
 /// Reads the line of the cell of that name.
-#[tactic(auto, unfolding(crate::specs::Reading::cell_at))]
+#[tactic(auto, unfolding(crate::specs::Reading::read_cell))]
 fn cell_at(name: &[u8], cursor: &mut Cursor) -> Result<SavedCell, ReadError>
-    ensures read { Reads (λ cell left. (cell, left)) result (cell_at name.now (rest cursor.old)) (rest cursor.new) }
+    ensures read { ReadsState (λ cell left. (cell, left)) result (read_cell name.now (rest cursor.old)) (rest cursor.new) }
     ensures ends { (text : List ℕ) → IsEnd text cursor.old → IsEnd text cursor.new }
 {
-    expect_bytes(FaultNumber::OtherDesign, name, cursor)?;
-    expect_bytes(FaultNumber::OtherDesign, b" ", cursor)?;
+    expect_bytes(StateFaultNumber::OtherDesign, name, cursor)?;
+    expect_bytes(StateFaultNumber::OtherDesign, b" ", cursor)?;
     let working = read_place_or_none(b' ', cursor)?;
     let committed = read_place_or_none(b'\n', cursor)?;
     Ok(SavedCell { working, committed })
@@ -29,7 +29,7 @@ fn cell_at(name: &[u8], cursor: &mut Cursor) -> Result<SavedCell, ReadError>
 /// Reads the line of a move of one of `cells` cells.
 #[tactic(auto, unfolding(crate::specs::Reading::move_at))]
 fn move_at(cells: usize, cursor: &mut Cursor) -> Result<Move, ReadError>
-    ensures read { Reads (λ made left. (made, left)) result (move_at cells (rest cursor.old)) (rest cursor.new) }
+    ensures read { ReadsState (λ made left. (made, left)) result (move_at cells (rest cursor.old)) (rest cursor.new) }
     ensures ends { (text : List ℕ) → IsEnd text cursor.old → IsEnd text cursor.new }
 {
     let own = below_at(cells, b' ', cursor)?;
@@ -44,7 +44,7 @@ pub(crate) fn read_slots(
     count: u32,
     cursor: &mut Cursor,
 ) -> Result<Vec<Option<u32>>, ReadError>
-    ensures read { Reads (λ slots left. (slots.items, left)) result (many_at (slot_at revision) count (rest cursor.old)) (rest cursor.new) }
+    ensures read { ReadsState (λ slots left. (slots.items, left)) result (many_at (slot_at revision) count (rest cursor.old)) (rest cursor.new) }
     ensures ends { (text : List ℕ) → IsEnd text cursor.old → IsEnd text cursor.new }
 {
     let mut items = Vec::with_capacity(alloc, count as usize)?;
@@ -62,8 +62,8 @@ pub(crate) fn read_cells<D: DesignSchema>(
     team: usize,
     cursor: &mut Cursor,
 ) -> Result<Vec<SavedCell>, ReadError>
-    ensures read { Reads (λ cells left. (cells.items, left)) result
-        (each_at cell_at (team_of (D.named design.now) team).cells (rest cursor.old)) (rest cursor.new) }
+    ensures read { ReadsState (λ cells left. (cells.items, left)) result
+        (each_at read_cell (named_team_of (D.named design.now) team).cells (rest cursor.old)) (rest cursor.new) }
     ensures ends { (text : List ℕ) → IsEnd text cursor.old → IsEnd text cursor.new }
 {
     let count = design.cell_count(team);
@@ -83,7 +83,7 @@ fn read_moves(
     count: u32,
     cursor: &mut Cursor,
 ) -> Result<Moves, ReadError>
-    ensures read { Reads (λ moves left. (moves, left)) result (many_at (move_at cells) count (rest cursor.old)) (rest cursor.new) }
+    ensures read { ReadsState (λ moves left. (moves, left)) result (many_at (move_at cells) count (rest cursor.old)) (rest cursor.new) }
     ensures ends { (text : List ℕ) → IsEnd text cursor.old → IsEnd text cursor.new }
 {
     let mut items = Moves::with_capacity(alloc, cells.min(count as usize))?;
@@ -97,10 +97,10 @@ fn read_moves(
 /// Reads an undo entry of a team of `cells` cells: its line, and its moves.
 #[tactic(auto, unfolding(crate::specs::Reading::entry_at))]
 fn entry_at(alloc: Global, cells: usize, cursor: &mut Cursor) -> Result<Moves, ReadError>
-    ensures read { Reads (λ moves left. (moves, left)) result (entry_at cells (rest cursor.old)) (rest cursor.new) }
+    ensures read { ReadsState (λ moves left. (moves, left)) result (entry_at cells (rest cursor.old)) (rest cursor.new) }
     ensures ends { (text : List ℕ) → IsEnd text cursor.old → IsEnd text cursor.new }
 {
-    expect_bytes(FaultNumber::Unexpected, b"undo ", cursor)?;
+    expect_bytes(StateFaultNumber::Unexpected, b"undo ", cursor)?;
     let count = number_at(b'\n', cursor)?;
     read_moves(alloc, cells, count, cursor)
 }
@@ -112,7 +112,7 @@ pub(crate) fn read_entries(
     count: u32,
     cursor: &mut Cursor,
 ) -> Result<Vec<Moves>, ReadError>
-    ensures read { Reads (λ entries left. (entries.items, left)) result (many_at (entry_at cells) count (rest cursor.old)) (rest cursor.new) }
+    ensures read { ReadsState (λ entries left. (entries.items, left)) result (many_at (entry_at cells) count (rest cursor.old)) (rest cursor.new) }
     ensures ends { (text : List ℕ) → IsEnd text cursor.old → IsEnd text cursor.new }
 {
     let mut items = Vec::new(alloc);

@@ -2,8 +2,8 @@
 
 ghost use Rattle.std.specs.Prelude.{◌≡◌, ◌<◌, ◌≤◌, ◌==◌, ◌++◌, IfSome, List, Ok, Some, ℕ, drop, length, option_map, position, slice_index};
 ghost use Rattle.lf_proto.specs.Requests.{orient_named, place_written};
-ghost use Rattle.lf_state_text.specs.Reading.{spot_at};
-ghost use Rattle.lf_state_text.specs.Words.{Begins, cut, place_in, place_on};
+ghost use Rattle.lf_state_text.specs.Reading.{read_spot};
+ghost use Rattle.lf_state_text.specs.Words.{Begins, cut, place_in_word, place_or_dash};
 
 use crate::read_numbers::{coordinate_of, front_coordinate};
 use lf_floorplan::{PackedPlace, Place};
@@ -54,9 +54,9 @@ fn read_place(x: &[u8], y: &[u8], orient: &[u8]) -> Option<Place>
 }
 
 /// Returns the place in a word with commas between its parts. `None` if it is not a place.
-#[tactic(auto, unfolding(crate::specs::Words::place_in))]
+#[tactic(auto, unfolding(crate::specs::Words::place_in_word))]
 fn place_in(word: &[u8]) -> Option<Place>
-    ensures { result ≡ place_in word.now }
+    ensures { result ≡ place_in_word word.now }
 {
     let (x, rest) = cut(b',', word)?;
     let (y, orient) = cut(b',', rest)?;
@@ -64,9 +64,9 @@ fn place_in(word: &[u8]) -> Option<Place>
 }
 
 /// Returns the place in a word; a minus alone is no place. `None` if the word is neither.
-#[tactic(auto, unfolding(crate::specs::Words::place_on))]
+#[tactic(auto, unfolding(crate::specs::Words::place_or_dash))]
 pub(crate) fn place_on(word: &[u8]) -> Option<PackedPlace>
-    ensures { result ≡ place_on word.now }
+    ensures { result ≡ place_or_dash word.now }
 {
     if word == b"-".as_slice() {
         return Some(PackedPlace::of(None));
@@ -103,7 +103,7 @@ fn front_orient(byte: u8, bytes: &[u8]) -> Option<(Orient, &[u8])>
 pub(crate) fn front_place(byte: u8, bytes: &[u8]) -> Option<(Place, usize)>
     requires { byte ≤ 32 }
     ensures within { IfSome result (λ x. x.1 ≤ length bytes.now) }
-    ensures read { IfSome result (λ x. (later : List ℕ) → spot_at byte (bytes.now ++ later) ≡ Ok (Some x.0, drop x.1 bytes.now ++ later)) }
+    ensures read { IfSome result (λ x. (later : List ℕ) → read_spot byte (bytes.now ++ later) ≡ Ok (Some x.0, drop x.1 bytes.now ++ later)) }
 {
     let (x, rest) = front_coordinate(bytes)?;
     let (y, rest) = front_coordinate(rest)?;

@@ -3,11 +3,11 @@
 ghost use Rattle.std.specs.Prelude.{◌≡◌, ◌+◌, ◌<◌, ◌≤◌, List, ℕ, IfOk, drop, length, take};
 ghost use Rattle.lf_state_text.specs.Words.{slot_on};
 ghost use Rattle.lf_state_text.specs.Pieces.{IsEnd, front, rest};
-ghost use Rattle.lf_state_text.specs.Reading.{Reads, below_at, count_at, due_at, is_seen_by, number_at, slot_at, spot_at, mismatch, word_at};
+ghost use Rattle.lf_state_text.specs.Reading.{ReadsState, below_at, count_at, due_at, is_seen_by, number_at, slot_at, read_spot, mismatch, word_at};
 
 use crate::cursor::Cursor;
 use crate::cursor_steps::{begins, find, front, skip, word};
-use crate::fault::{FaultNumber, ReadError};
+use crate::fault::{ReadError, StateFaultNumber};
 use crate::read_numbers::{front_u32, number_of};
 use crate::read_places::{front_place, place_on};
 use lf_floorplan::PackedPlace;
@@ -16,47 +16,47 @@ use std::alloc::AllocError;
 /// Returns the fault of a line that continues differently: that number, or `UnexpectedEnd` if the
 /// text ends within the line.
 #[tactic(auto, unfolding(crate::specs::Words::cut))]
-fn mismatch(number: FaultNumber, cursor: &mut Cursor) -> Result<FaultNumber, AllocError>
-    ensures unmet { IfOk result (λ met. met ≡ mismatch number (rest cursor.old)) }
+fn mismatch(number: StateFaultNumber, cursor: &mut Cursor) -> Result<StateFaultNumber, AllocError>
+    ensures unmet { IfOk result (λ overlapping_one. overlapping_one ≡ mismatch number (rest cursor.old)) }
     ensures rest { rest cursor.new ≡ rest cursor.old }
     ensures ends { (text : List ℕ) → IsEnd text cursor.old → IsEnd text cursor.new }
 {
     match find(b'\n', cursor)? {
         Some(_) => Ok(number),
-        None => Ok(FaultNumber::UnexpectedEnd),
+        None => Ok(StateFaultNumber::UnexpectedEnd),
     }
 }
 
 /// Takes the expected bytes.
-#[tactic(auto, unfolding(crate::specs::Reading::due_at, crate::specs::Words::behind))]
+#[tactic(auto, unfolding(crate::specs::Reading::due_at, crate::specs::Words::bytes_after))]
 pub(crate) fn expect_bytes(
-    number: FaultNumber,
+    number: StateFaultNumber,
     due: &[u8],
     cursor: &mut Cursor,
 ) -> Result<(), ReadError>
-    ensures read { Reads (λ _ left. left) result (due_at number due.now (rest cursor.old)) (rest cursor.new) }
+    ensures read { ReadsState (λ _ left. left) result (due_at number due.now (rest cursor.old)) (rest cursor.new) }
     ensures ends { (text : List ℕ) → IsEnd text cursor.old → IsEnd text cursor.new }
 {
     if begins(due, cursor)? {
         skip(due.len(), cursor);
         return Ok(());
     }
-    let met = mismatch(number, cursor)?;
-    Err(ReadError::Fault(met))
+    let overlapping_one = mismatch(number, cursor)?;
+    Err(ReadError::Fault(overlapping_one))
 }
 
 /// Returns the length of the word up to the next `byte`; the current chunk then has the word and
 /// `byte`.
 #[tactic(auto, unfolding(crate::specs::Reading::word_at, crate::specs::Words::cut))]
 fn word_len(byte: u8, cursor: &mut Cursor) -> Result<usize, ReadError>
-    ensures read { Reads (λ len left. (take len left, drop (len + 1) left)) result (word_at byte (rest cursor.old)) (rest cursor.new) }
+    ensures read { ReadsState (λ len left. (take len left, drop (len + 1) left)) result (word_at byte (rest cursor.old)) (rest cursor.new) }
     ensures within { IfOk result (λ len. len < length (front cursor.new)) }
     ensures rest { rest cursor.new ≡ rest cursor.old }
     ensures ends { (text : List ℕ) → IsEnd text cursor.old → IsEnd text cursor.new }
 {
     match find(byte, cursor)? {
         Some(len) => Ok(len),
-        None => Err(ReadError::Fault(FaultNumber::UnexpectedEnd)),
+        None => Err(ReadError::Fault(StateFaultNumber::UnexpectedEnd)),
     }
 }
 
@@ -65,7 +65,7 @@ fn word_len(byte: u8, cursor: &mut Cursor) -> Result<usize, ReadError>
 #[tactic(auto, unfolding(crate::specs::Reading::number_at))]
 fn next_number(byte: u8, cursor: &mut Cursor) -> Result<(u32, usize), ReadError>
     requires { byte < 48 }
-    ensures read { Reads (λ x left. (x.0, drop x.1 left)) result (number_at byte (rest cursor.old)) (rest cursor.new) }
+    ensures read { ReadsState (λ x left. (x.0, drop x.1 left)) result (number_at byte (rest cursor.old)) (rest cursor.new) }
     ensures within { IfOk result (λ x. x.1 ≤ length (front cursor.new)) }
     ensures rest { rest cursor.new ≡ rest cursor.old }
     ensures ends { (text : List ℕ) → IsEnd text cursor.old → IsEnd text cursor.new }
@@ -75,7 +75,7 @@ fn next_number(byte: u8, cursor: &mut Cursor) -> Result<(u32, usize), ReadError>
     }
     let len = word_len(byte, cursor)?;
     let Some(number) = number_of(word(len, cursor)) else {
-        return Err(ReadError::Fault(FaultNumber::BadNumber));
+        return Err(ReadError::Fault(StateFaultNumber::BadNumber));
     };
     Ok((number, len + 1))
 }
@@ -83,7 +83,7 @@ fn next_number(byte: u8, cursor: &mut Cursor) -> Result<(u32, usize), ReadError>
 /// Reads a number below 2^32.
 pub(crate) fn number_at(byte: u8, cursor: &mut Cursor) -> Result<u32, ReadError>
     requires { byte < 48 }
-    ensures read { Reads (λ n left. (n, left)) result (number_at byte (rest cursor.old)) (rest cursor.new) }
+    ensures read { ReadsState (λ n left. (n, left)) result (number_at byte (rest cursor.old)) (rest cursor.new) }
     ensures ends { (text : List ℕ) → IsEnd text cursor.old → IsEnd text cursor.new }
 {
     let (number, len) = next_number(byte, cursor)?;
@@ -95,7 +95,7 @@ pub(crate) fn number_at(byte: u8, cursor: &mut Cursor) -> Result<u32, ReadError>
 #[tactic(auto, unfolding(crate::specs::Reading::below_at))]
 pub(crate) fn below_at(limit: usize, byte: u8, cursor: &mut Cursor) -> Result<u32, ReadError>
     requires { byte < 48 }
-    ensures read { Reads (λ n left. (n, left)) result (below_at limit byte (rest cursor.old)) (rest cursor.new) }
+    ensures read { ReadsState (λ n left. (n, left)) result (below_at limit byte (rest cursor.old)) (rest cursor.new) }
     ensures ends { (text : List ℕ) → IsEnd text cursor.old → IsEnd text cursor.new }
 {
     let (number, len) = next_number(byte, cursor)?;
@@ -103,14 +103,14 @@ pub(crate) fn below_at(limit: usize, byte: u8, cursor: &mut Cursor) -> Result<u3
         skip(len, cursor);
         return Ok(number);
     }
-    Err(ReadError::Fault(FaultNumber::OutOfRange))
+    Err(ReadError::Fault(StateFaultNumber::OutOfRange))
 }
 
 /// Takes the expected number.
 #[tactic(auto, unfolding(crate::specs::Reading::count_at))]
 pub(crate) fn count_at(count: usize, byte: u8, cursor: &mut Cursor) -> Result<(), ReadError>
     requires { byte < 48 }
-    ensures read { Reads (λ _ left. left) result (count_at count byte (rest cursor.old)) (rest cursor.new) }
+    ensures read { ReadsState (λ _ left. left) result (count_at count byte (rest cursor.old)) (rest cursor.new) }
     ensures ends { (text : List ℕ) → IsEnd text cursor.old → IsEnd text cursor.new }
 {
     let (number, len) = next_number(byte, cursor)?;
@@ -118,14 +118,14 @@ pub(crate) fn count_at(count: usize, byte: u8, cursor: &mut Cursor) -> Result<()
         skip(len, cursor);
         return Ok(());
     }
-    Err(ReadError::Fault(FaultNumber::OtherDesign))
+    Err(ReadError::Fault(StateFaultNumber::OtherDesign))
 }
 
 /// Reads a place, or a minus for no place.
-#[tactic(auto, unfolding(crate::specs::Reading::spot_at))]
+#[tactic(auto, unfolding(crate::specs::Reading::read_spot))]
 pub(crate) fn read_place_or_none(byte: u8, cursor: &mut Cursor) -> Result<PackedPlace, ReadError>
     requires { byte ≤ 32 }
-    ensures read { Reads (λ place left. (place, left)) result (spot_at byte (rest cursor.old)) (rest cursor.new) }
+    ensures read { ReadsState (λ place left. (place, left)) result (read_spot byte (rest cursor.old)) (rest cursor.new) }
     ensures ends { (text : List ℕ) → IsEnd text cursor.old → IsEnd text cursor.new }
 {
     if let Some((place, len)) = front_place(byte, front(cursor)) {
@@ -134,7 +134,7 @@ pub(crate) fn read_place_or_none(byte: u8, cursor: &mut Cursor) -> Result<Packed
     }
     let len = word_len(byte, cursor)?;
     let Some(place) = place_on(word(len, cursor)) else {
-        return Err(ReadError::Fault(FaultNumber::BadNumber));
+        return Err(ReadError::Fault(StateFaultNumber::BadNumber));
     };
     skip(len + 1, cursor);
     Ok(place)
@@ -165,16 +165,16 @@ fn is_seen_by(revision: u32, slot: Option<u32>) -> bool
 /// Reads the line of a session slot of a team with this revision.
 #[tactic(auto, unfolding(crate::specs::Reading::slot_at))]
 pub(crate) fn slot_at(revision: u32, cursor: &mut Cursor) -> Result<Option<u32>, ReadError>
-    ensures read { Reads (λ slot left. (slot, left)) result (slot_at revision (rest cursor.old)) (rest cursor.new) }
+    ensures read { ReadsState (λ slot left. (slot, left)) result (slot_at revision (rest cursor.old)) (rest cursor.new) }
     ensures ends { (text : List ℕ) → IsEnd text cursor.old → IsEnd text cursor.new }
 {
     let len = word_len(b'\n', cursor)?;
     let Some(slot) = slot_on(word(len, cursor)) else {
-        return Err(ReadError::Fault(FaultNumber::BadNumber));
+        return Err(ReadError::Fault(StateFaultNumber::BadNumber));
     };
     if is_seen_by(revision, slot) {
         skip(len + 1, cursor);
         return Ok(slot);
     }
-    Err(ReadError::Fault(FaultNumber::OutOfRange))
+    Err(ReadError::Fault(StateFaultNumber::OutOfRange))
 }

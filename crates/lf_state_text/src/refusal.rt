@@ -3,11 +3,11 @@
 ghost use Rattle.std.specs.Prelude.{◌≡◌, ◌+◌, IfOk, IfSome, [], List, ℕ, length, take};
 ghost use Rattle.lf_lex.specs.Tokens.{line_feeds};
 ghost use Rattle.lf_state_text.specs.Pieces.{IsEnd, rest};
-ghost use Rattle.lf_state_text.specs.Refused.{HoldsEnd, IsRefused};
+ghost use Rattle.lf_state_text.specs.Refused.{HoldsEnd, IsRefusedState};
 
 use crate::cursor::Cursor;
 use crate::cursor_steps::append;
-use crate::fault::{FaultNumber, StateFault, line_feeds};
+use crate::fault::{StateFault, StateFaultNumber, line_feeds};
 use std::alloc::AllocError;
 
 /// The fault of a refused text in chunks, and the end of the text. The end starts at the start of a
@@ -48,8 +48,8 @@ fn line_of(cursor: &Cursor) -> Option<usize>
 }
 
 /// Returns the fault of that number at the cursor.
-pub(crate) fn refusal_at(number: FaultNumber, cursor: Cursor) -> ChunkError
-    ensures fault { (text : List ℕ) → IsEnd text cursor → IsRefused text (record { number = number; left = length (rest cursor) }) result }
+pub(crate) fn refusal_at(number: StateFaultNumber, cursor: Cursor) -> ChunkError
+    ensures fault { (text : List ℕ) → IsEnd text cursor → IsRefusedState text (record { number = number; left = length (rest cursor) }) result }
     ensures end { (text : List ℕ) → IsEnd text cursor → HoldsEnd text result }
 {
     let mut left = cursor;

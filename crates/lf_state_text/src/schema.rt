@@ -1,7 +1,7 @@
 //! The names and limits of a design.
 
 ghost use Rattle.std.specs.Prelude.{◌≡◌, ◌<◌, length, option_map, slice_get, slice_index_or, []};
-ghost use Rattle.lf_state_text.specs.Designs.{team_of};
+ghost use Rattle.lf_state_text.specs.Designs.{named_team_of};
 
 use lf_floorplan::Limits;
 
@@ -26,17 +26,17 @@ pub trait DesignSchema {
 
     /// Returns the number of a team's cells; 0 if there is no such team.
     fn cell_count(&self, team: usize) -> usize
-        ensures { result ≡ length (team_of (named self.now) team).cells };
+        ensures { result ≡ length (named_team_of (named self.now) team).cells };
 
     /// Returns the name of a team's cell. `None` if and only if there is no such cell.
     fn cell_name(&self, team: usize, own: usize) -> Option<&[u8]>
-        ensures { option_map (λ name. name.now) result ≡ slice_get (team_of (named self.now) team).cells own };
+        ensures { option_map (λ name. name.now) result ≡ slice_get (named_team_of (named self.now) team).cells own };
 }
 
 /// Returns the name of a team, which must exist.
 pub(crate) fn name_of_team<D: DesignSchema>(design: &D, team: usize) -> &[u8]
     requires { team < length (D.named design.now).teams }
-    ensures { result.now ≡ (team_of (D.named design.now) team).name }
+    ensures { result.now ≡ (named_team_of (D.named design.now) team).name }
 {
     match design.team_name(team) {
         Some(name) => name,
@@ -46,8 +46,8 @@ pub(crate) fn name_of_team<D: DesignSchema>(design: &D, team: usize) -> &[u8]
 
 /// Returns the name of a team's cell, which must exist.
 pub(crate) fn name_of_cell<D: DesignSchema>(design: &D, team: usize, own: usize) -> &[u8]
-    requires { own < length (team_of (D.named design.now) team).cells }
-    ensures { result.now ≡ slice_index_or (team_of (D.named design.now) team).cells own [] }
+    requires { own < length (named_team_of (D.named design.now) team).cells }
+    ensures { result.now ≡ slice_index_or (named_team_of (D.named design.now) team).cells own [] }
 {
     match design.cell_name(team, own) {
         Some(name) => name,

@@ -4,12 +4,12 @@ ghost use Rattle.std.specs.Prelude.{◌≡◌, ◌∷◌, ◌<◌, ◌≤◌, Al
 ghost use Rattle.std.specs.List.{flat_map};
 ghost use Rattle.lf_lex.specs.Splices.{spaced};
 ghost use Rattle.lf_team_def.specs.Output.{PutsText};
-ghost use Rattle.lf_team_def.specs.TeamText.{line_of};
-ghost use Rattle.lf_state_text.specs.Designs.{team_of};
-ghost use Rattle.lf_state_text.specs.Saved.{IsInRange, IsSpottedCell, IsSpottedEntry};
-ghost use Rattle.lf_state_text.specs.Saved.{cell_line, entry_lines, head_line, lines_of, move_line, moves_within, opening_lines};
-ghost use Rattle.lf_state_text.specs.Saved.{slot_line, state_text, saved_at, team_lines};
-ghost use Rattle.lf_state_text.specs.Writing.{entry_if, line_at, move_within, word_text};
+ghost use Rattle.lf_team_def.specs.TeamText.{words_line};
+ghost use Rattle.lf_state_text.specs.Designs.{named_team_of};
+ghost use Rattle.lf_state_text.specs.Saved.{IsSavedInRange, IsSpottedCell, IsSpottedEntry};
+ghost use Rattle.lf_state_text.specs.Saved.{cell_line, entry_lines, head_line, lines_by, move_line, moves_within, opening_lines};
+ghost use Rattle.lf_state_text.specs.Saved.{slot_line, state_text, saved_at, saved_team_lines};
+ghost use Rattle.lf_state_text.specs.Writing.{entry_if, line_of_pair, move_within, state_word_text};
 ghost use Rattle.lf_state_text.specs.Words.{place_text};
 
 use crate::known_ranges::{cell_known, moves_known};
@@ -45,7 +45,7 @@ fn put_place<O: Output>(out: &mut O, place: &Place)
 
 /// Writes the word.
 fn put_word<O: Output>(out: &mut O, word: &Word<'_>)
-    ensures { PutsText O.took out.old out.new (word_text word.now) }
+    ensures { PutsText O.took out.old out.new (state_word_text word.now) }
 {
     match word {
         Word::Text(text) => out.put(text),
@@ -61,7 +61,7 @@ fn put_word<O: Output>(out: &mut O, word: &Word<'_>)
 
 /// Writes the words, each after a space.
 fn put_spaced<O: Output>(out: &mut O, words: &[Word<'_>])
-    ensures { PutsText O.took out.old out.new (spaced (map word_text words.now)) }
+    ensures { PutsText O.took out.old out.new (spaced (map state_word_text words.now)) }
 {
     for word in words {
         out.put(b" ");
@@ -71,7 +71,7 @@ fn put_spaced<O: Output>(out: &mut O, words: &[Word<'_>])
 
 /// Writes a line of words, given its first word and the others.
 fn put_line<O: Output>(out: &mut O, first: &Word<'_>, words: &[Word<'_>])
-    ensures { PutsText O.took out.old out.new (line_of (word_text first.now ∷ map word_text words.now)) }
+    ensures { PutsText O.took out.old out.new (words_line (state_word_text first.now ∷ map state_word_text words.now)) }
 {
     put_word(out, first);
     put_spaced(out, words);
@@ -108,7 +108,7 @@ fn put_cell_at<O: Output, D: DesignSchema, T: TeamViews>(
 )
     requires { team < length (T.saved teams.now) }
     ensures text { PutsText O.took out.old out.new
-        (line_at cell_line (team_of (D.named design.now) team).cells (saved_at (T.saved teams.now) team).cells own) }
+        (line_of_pair cell_line (named_team_of (D.named design.now) team).cells (saved_at (T.saved teams.now) team).cells own) }
     ensures spotted { IfSome (slice_get (saved_at (T.saved teams.now) team).cells own) IsSpottedCell }
 {
     if let Some(cell) = teams.cell(team, own) {
@@ -128,7 +128,7 @@ fn put_cells<O: Output, D: DesignSchema, T: TeamViews>(
 )
     requires { team < length (T.saved teams.now) }
     ensures text { PutsText O.took out.old out.new
-        (lines_of cell_line (team_of (D.named design.now) team).cells (saved_at (T.saved teams.now) team).cells) }
+        (lines_by cell_line (named_team_of (D.named design.now) team).cells (saved_at (T.saved teams.now) team).cells) }
     ensures spotted { All IsSpottedCell (saved_at (T.saved teams.now) team).cells }
 {
     for own in 0..teams.cell_count(team) {
@@ -249,9 +249,9 @@ fn put_team<O: Output, D: DesignSchema, T: TeamViews>(
     team: usize,
 )
     requires named { team < length (D.named design.now).teams }
-    requires told { team < length (T.saved teams.now) }
-    ensures text { PutsText O.took out.old out.new (team_lines (team_of (D.named design.now) team) (saved_at (T.saved teams.now) team)) }
-    ensures in_range { IsInRange (saved_at (T.saved teams.now) team) }
+    requires reported { team < length (T.saved teams.now) }
+    ensures text { PutsText O.took out.old out.new (saved_team_lines (named_team_of (D.named design.now) team) (saved_at (T.saved teams.now) team)) }
+    ensures in_range { IsSavedInRange (saved_at (T.saved teams.now) team) }
 {
     put_head(out, name_of_team(design, team), teams, team);
     put_slots(out, teams.slots(team));
@@ -262,8 +262,8 @@ fn put_team<O: Output, D: DesignSchema, T: TeamViews>(
 /// Writes the lines of the teams.
 fn put_teams<O: Output, D: DesignSchema, T: TeamViews>(out: &mut O, design: &D, teams: &T)
     requires { length (T.saved teams.now) ≡ length (D.named design.now).teams }
-    ensures text { PutsText O.took out.old out.new (lines_of team_lines (D.named design.now).teams (T.saved teams.now)) }
-    ensures in_range { All IsInRange (T.saved teams.now) }
+    ensures text { PutsText O.took out.old out.new (lines_by saved_team_lines (D.named design.now).teams (T.saved teams.now)) }
+    ensures in_range { All IsSavedInRange (T.saved teams.now) }
 {
     for team in 0..design.team_count() {
         put_team(out, design, teams, team);
@@ -283,7 +283,7 @@ pub fn write_state<O: Output, D: DesignSchema, T: TeamViews>(out: &mut O, design
     requires { length (T.saved teams.now) ≡ length (D.named design.now).teams }
     ensures text { PutsText O.took out.old out.new (state_text (D.named design.now) (T.saved teams.now)) }
     // Each place has a text, and each number can be read.
-    ensures in_range { All IsInRange (T.saved teams.now) }
+    ensures in_range { All IsSavedInRange (T.saved teams.now) }
 {
     put_opening(out, design.team_count());
     put_teams(out, design, teams);

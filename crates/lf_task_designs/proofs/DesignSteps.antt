@@ -10,20 +10,20 @@ use Rattle.lf_lex.specs.Faults.{load_fault_of}
 use Rattle.lf_lef.specs.Contents.{Contents}
 use Rattle.lf_def.specs.Document.{Document, document_of}
 use Rattle.lf_floorplan.specs.declared.limits.Limits.{Limits}
-use Rattle.lf_frame_checks.specs.Meetings.{Conflict, no_fence}
+use Rattle.lf_frame_checks.specs.Conflicts.{Conflict, no_fence}
 use Rattle.lf_task_designs.specs.declared.faults.Fault.{Fault}
-use Rattle.lf_task_designs.specs.declared.faults.Fault.TheVariants.{Refused, File, NoState, NoTeam, ReadFault, WriteFault, TooManyLines, OutOfMemory, Output, Bind, Accept, Unwritten, Unsaved, Unlisted, NoMemory, NoRoom}
+use Rattle.lf_task_designs.specs.declared.faults.Fault.TheVariants.{Refused, File, RefusedState, NoTeam, ReadFault, WriteFault, TooManyLines, OutOfMemory, Output, Bind, Accept, Unwritten, Unsaved, Unlisted, SetupOutOfMemory, OutputOutOfMemory}
 use Rattle.lf_task_designs.specs.declared.faults.TextKind.{TextKind}
 use Rattle.lf_task_designs.specs.declared.faults.TextKind.TheVariants.{Lef, Def}
 use Rattle.lf_task_designs.specs.Refusals.{IsReportedConflict}
-use Rattle.lf_task_designs.specs.Designs.{AddsFile, RefusalCause, ReadsFile, IsDefRefusal, IsFileFault, IsLefRefusal, IsLibraryFault, IsLibraryOf, IsLoadRefusal, IsRefused, ConflictsIn}
+use Rattle.lf_task_designs.specs.Designs.{AddsFile, RefusalCause, ReadsFile, IsDefRefusal, IsFileFault, IsLefRefusal, IsLibraryFault, IsLibraryOf, IsLoadRefusal, IsRefusedText, ConflictsIn}
 
 -- A refusal for one cause is a refusal for a cause that includes it.
-pub refused_as : (kind : TextKind) (path text : List ℕ) (P Q : RefusalCause) (fault : Fault) → IsRefused kind path text P fault
-    → ((refusal : LoadFault) (met : Conflict) → P refusal met → Q refusal met) → IsRefused kind path text Q fault
+pub refused_as : (kind : TextKind) (path text : List ℕ) (P Q : RefusalCause) (fault : Fault) → IsRefusedText kind path text P fault
+    → ((refusal : LoadFault) (overlapping_one : Conflict) → P refusal overlapping_one → Q refusal overlapping_one) → IsRefusedText kind path text Q fault
 refused_as kind path text P Q (Refused file its) is gives = (is.0, (is.1.0, is.1.1, gives is.1.0 is.1.1 is.1.2, is.1.3))
 refused_as kind path text P Q (File file why) is gives = absurd is
-refused_as kind path text P Q (NoState its_path its) is gives = absurd is
+refused_as kind path text P Q (RefusedState its_path its) is gives = absurd is
 refused_as kind path text P Q (NoTeam name) is gives = absurd is
 refused_as kind path text P Q ReadFault is gives = absurd is
 refused_as kind path text P Q WriteFault is gives = absurd is
@@ -35,33 +35,33 @@ refused_as kind path text P Q Accept is gives = absurd is
 refused_as kind path text P Q (Unwritten its_path why) is gives = absurd is
 refused_as kind path text P Q (Unsaved its_path why) is gives = absurd is
 refused_as kind path text P Q (Unlisted its_path why) is gives = absurd is
-refused_as kind path text P Q NoMemory is gives = absurd is
-refused_as kind path text P Q NoRoom is gives = absurd is
+refused_as kind path text P Q SetupOutOfMemory is gives = absurd is
+refused_as kind path text P Q OutputOutOfMemory is gives = absurd is
 
 -- A cause for which a document is not loaded is a cause to refuse its text.
-load_refused : (limits : Limits) (library : Contents) (text : List ℕ) (document : Document) (refusal : LoadFault) (met : Conflict) → document_of text ≡ Ok document
-    → IsLoadRefusal limits library document refusal met → IsDefRefusal limits library text refusal met
-load_refused limits library text document refusal met is (inl memory, meets) = inl (inl memory, subst (λ (found : LoadFault). ConflictsIn document found met) memory meets)
-load_refused limits library text document refusal met is (inr found, meets) = inr (document, is, found, meets)
+load_refused : (limits : Limits) (library : Contents) (text : List ℕ) (document : Document) (refusal : LoadFault) (overlapping_one : Conflict) → document_of text ≡ Ok document
+    → IsLoadRefusal limits library document refusal overlapping_one → IsDefRefusal limits library text refusal overlapping_one
+load_refused limits library text document refusal overlapping_one is (inl memory, does_overlap) = inl (inl memory, subst (λ (found : LoadFault). ConflictsIn document found overlapping_one) memory does_overlap)
+load_refused limits library text document refusal overlapping_one is (inr found, does_overlap) = inr (document, is, found, does_overlap)
 
 -- A refusal of loading a document is a refusal of its text.
 pub text_refused : (limits : Limits) (library : Contents) (path text : List ℕ) (document : Document) (fault : Fault) → document_of text ≡ Ok document
-    → IsRefused Def path text (IsLoadRefusal limits library document) fault → IsRefused Def path text (IsDefRefusal limits library text) fault
+    → IsRefusedText Def path text (IsLoadRefusal limits library document) fault → IsRefusedText Def path text (IsDefRefusal limits library text) fault
 text_refused limits library path text document fault is refused =
     refused_as Def path text (IsLoadRefusal limits library document) (IsDefRefusal limits library text) fault refused
-    (λ refusal met why. load_refused limits library text document refusal met is why)
+    (λ refusal overlapping_one why. load_refused limits library text document refusal overlapping_one is why)
 
 -- The reported fault is the one that was found with its fences, or a failed allocation.
-told_of : (P : RefusalCause) (found told : LoadFault) (met fences : Conflict) → IsReportedConflict found met told fences → P found met → P (load_fault_of Memory) no_fence
-    → P told fences
-told_of P found told met fences (inl same) holds memory = rw (same.0, same.1) holds
-told_of P found told met fences (inr same) holds memory = rw (same.0, same.1) memory
+reported_of : (P : RefusalCause) (found reported : LoadFault) (overlapping_one fences : Conflict) → IsReportedConflict found overlapping_one reported fences → P found overlapping_one → P (load_fault_of Memory) no_fence
+    → P reported fences
+reported_of P found reported overlapping_one fences (inl same) holds memory = rw (same.0, same.1) holds
+reported_of P found reported overlapping_one fences (inr same) holds memory = rw (same.0, same.1) memory
 
 -- Both are refusals for a cause that includes them.
-pub told_as : (kind : TextKind) (path text : List ℕ) (P : RefusalCause) (found : LoadFault) (met : Conflict) (fault : Fault)
-    → IsRefused kind path text (IsReportedConflict found met) fault → P found met → P (load_fault_of Memory) no_fence → IsRefused kind path text P fault
-told_as kind path text P found met fault is holds memory =
-    refused_as kind path text (IsReportedConflict found met) P fault is (λ told fences one. told_of P found told met fences one holds memory)
+pub reported_as : (kind : TextKind) (path text : List ℕ) (P : RefusalCause) (found : LoadFault) (overlapping_one : Conflict) (fault : Fault)
+    → IsRefusedText kind path text (IsReportedConflict found overlapping_one) fault → P found overlapping_one → P (load_fault_of Memory) no_fence → IsRefusedText kind path text P fault
+reported_as kind path text P found overlapping_one fault is holds memory =
+    refused_as kind path text (IsReportedConflict found overlapping_one) P fault is (λ reported fences one. reported_of P found reported overlapping_one fences one holds memory)
 
 abbrev Path : Type 0
 Path = Bor (List ℕ)

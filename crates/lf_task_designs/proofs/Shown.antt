@@ -6,8 +6,8 @@ use Rattle.std.proofs.Math.Seq.{drop-cons, take-append-add}
 use Rattle.std.proofs.lemmas.List.{take-append-le, take_min}
 use Rattle.std.specs.Io.KnownBytes.{Appends}
 use Rattle.lf_io.proofs.Known.{Appends-more}
-use Rattle.lf_task_designs.specs.Faults.{shown, shown_byte}
-use Rattle.lf_task_designs.specs.Refusals.{behind_line, behind_lines}
+use Rattle.lf_task_designs.specs.Faults.{shown_bytes, shown_byte}
+use Rattle.lf_task_designs.specs.Refusals.{after_line, after_lines}
 
 -- Bytes that were appended come before those that are appended on success.
 pub before : {T E : Type 0} (r : Result T E) (a b c : Option (List ℕ)) (xs ys : List ℕ) → Appends a b xs → OnOk r (Appends b c ys)
@@ -16,12 +16,12 @@ before (Ok value) a b c xs ys first then = Appends-more a b c xs ys first then
 before (Err fault) a b c xs ys first then = tt
 
 -- The bytes from a position on are that byte and the later ones.
-ahead : (bytes : List ℕ) (i d : ℕ) → i < length bytes → shown (drop i bytes) ≡ shown_byte (slice_index_or bytes i d) ++ shown (drop (i + 1) bytes)
-ahead bytes i d lt = ap shown (drop-cons bytes i d lt) ∙ ap (λ n. shown_byte (slice_index_or bytes i d) ++ shown (drop n bytes)) (suc-eq-add-one i)
+ahead : (bytes : List ℕ) (i d : ℕ) → i < length bytes → shown_bytes (drop i bytes) ≡ shown_byte (slice_index_or bytes i d) ++ shown_bytes (drop (i + 1) bytes)
+ahead bytes i d lt = ap shown_bytes (drop-cons bytes i d lt) ∙ ap (λ n. shown_byte (slice_index_or bytes i d) ++ shown_bytes (drop n bytes)) (suc-eq-add-one i)
 
 -- What completes the remaining bytes completes all of them.
 abbrev pub Completes : Option (List ℕ) → Option (List ℕ) → List ℕ → List ℕ → Type 0
-Completes start here left all = (end : Option (List ℕ)) → Appends here end (shown left) → Appends start end (shown all)
+Completes start here left all = (end : Option (List ℕ)) → Appends here end (shown_bytes left) → Appends start end (shown_bytes all)
 
 -- After one more byte, it still does.
 pub one_more : (start here next : Option (List ℕ)) (bytes : List ℕ) (i d : ℕ) → i < length bytes → Completes start here (drop i bytes) bytes
@@ -30,10 +30,10 @@ one_more start here next bytes i d lt completes put = λ end rest.
     completes end (subst (λ (t : List ℕ). Appends here end t) (sym (ahead bytes i d lt)) (Appends-more here next end _ _ put rest))
 
 -- One more line is skipped.
-pub passed : (lines i : ℕ) (text rest : List ℕ) → i < lines → behind_lines (lines - i) rest ≡ behind_lines lines text
-    → behind_lines (lines - (i + 1)) (behind_line rest) ≡ behind_lines lines text
+pub passed : (lines i : ℕ) (text rest : List ℕ) → i < lines → after_lines (lines - i) rest ≡ after_lines lines text
+    → after_lines (lines - (i + 1)) (after_line rest) ≡ after_lines lines text
 passed lines i text rest lt same =
-    let more : lines - i ≡ suc (lines - (i + 1)) = omega (arith, lt) in ap (λ n. behind_lines n rest) (sym more) ∙ same
+    let more : lines - i ≡ suc (lines - (i + 1)) = omega (arith, lt) in ap (λ n. after_lines n rest) (sym more) ∙ same
 
 -- ---- fronts
 

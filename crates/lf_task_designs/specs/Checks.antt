@@ -1,7 +1,7 @@
 -- What a check of a design writes.
 use Rattle.std.specs.Prelude.{ℕ, List, [], ◌∷◌, ◌++◌, Option, map, take}
 use Rattle.std.specs.Io.KnownBytes.{Appends}
-use Rattle.lf_floorplan.specs.declared.loaded.Cell.{Cell}
+use Rattle.lf_floorplan.specs.declared.loaded.LoadedCell.{LoadedCell}
 use Rattle.lf_floorplan.specs.declared.loaded.Loaded.{Loaded}
 use Rattle.lf_floorplan.specs.declared.place.Place.{Place}
 use Rattle.lf_rules.specs.declared.report_types.Report.{Report}
@@ -13,7 +13,7 @@ use Rattle.lf_task_designs.specs.declared.faults.Fault.{Fault}
 use Rattle.lf_task_designs.specs.Faults.{IsReportFault}
 
 -- The cells' places in the DEF text, in loading order; `None` if a cell is unplaced there.
-abbrev pub def_places : List Cell → List (Option Place)
+abbrev pub def_places : List LoadedCell → List (Option Place)
 def_places cells = map (λ cell. cell.place) cells
 
 -- The report of the cells of all teams, each at its place in the DEF text.

@@ -8,13 +8,13 @@ use Rattle.lf_lef.specs.Library as lef
 use Rattle.lf_def.specs.Document as def
 use Rattle.lf_floorplan.specs.declared.limits.Limits.{Limits}
 use Rattle.lf_floorplan.specs.declared.loaded.Loaded.{Loaded}
-use Rattle.lf_frame_checks.specs.Findings.{IsFault}
-use Rattle.lf_frame_checks.specs.Meetings.{ConflictsWith, Conflict, no_fence}
+use Rattle.lf_frame_checks.specs.Findings.{IsLoadFault}
+use Rattle.lf_frame_checks.specs.Conflicts.{ConflictsWith, Conflict, no_fence}
 use Rattle.lf_frame.specs.Loads.{IsLoadedFrom}
 use Rattle.lf_write.specs.Export.{ClauseFacts, clause_of}
 use Rattle.lf_task_designs.specs.declared.loading.TheConstants.{BUILT_IN}
 use Rattle.lf_task_designs.specs.declared.faults.Fault.{Fault}
-use Rattle.lf_task_designs.specs.declared.faults.Fault.TheVariants.{Refused, File, NoMemory}
+use Rattle.lf_task_designs.specs.declared.faults.Fault.TheVariants.{Refused, File, SetupOutOfMemory}
 use Rattle.lf_task_designs.specs.declared.faults.TextKind.{TextKind}
 use Rattle.lf_task_designs.specs.declared.faults.TextKind.TheVariants.{Lef, Def}
 use Rattle.lf_task_designs.specs.declared.opening.OpenedDesign.{OpenedDesign}
@@ -57,7 +57,7 @@ IsLoadedIn limits library document loaded = IsLoadedFrom (record { library = lib
 
 -- The fault for which no design is loaded from them.
 abbrev pub IsFaultIn : Limits → Contents → def.Document → LoadFault → Type 0
-IsFaultIn limits library document refusal = IsFault (record { library = library; document = document; limits = limits }) refusal
+IsFaultIn limits library document refusal = IsLoadFault (record { library = library; document = document; limits = limits }) refusal
 
 -- Why a text is refused: the fault, and the fences in conflict.
 abbrev pub RefusalCause : Type 1
@@ -70,8 +70,8 @@ ConflictsIn document = ConflictsWith document.regions document.groups
 -- Why loading is refused: a fault that it finds, with the fences in conflict, or a failed
 -- allocation.
 abbrev pub IsLoadRefusal : Limits → Contents → def.Document → RefusalCause
-IsLoadRefusal limits library document refusal met =
-    ((refusal ≡ load_fault_of Memory) ⊎ IsFaultIn limits library document refusal) × ConflictsIn document refusal met
+IsLoadRefusal limits library document refusal overlapping_one =
+    ((refusal ≡ load_fault_of Memory) ⊎ IsFaultIn limits library document refusal) × ConflictsIn document refusal overlapping_one
 
 -- The design of a DEF text over the library.
 abbrev pub IsDesignIn : Limits → Contents → List ℕ → Loaded → Type 0
@@ -79,7 +79,7 @@ IsDesignIn limits library text loaded = (document : def.Document) × (def.docume
 
 -- What is kept of a DEF text besides its bytes: the design of its document over the library, and
 -- the clauses of its components.
-pub record IsKept (limits : Limits) (text : List ℕ) (library : Contents) (document : def.Document) (clauses : List ClauseFacts) (loaded : Loaded) : Type 0 where
+pub record IsLoadedText (limits : Limits) (text : List ℕ) (library : Contents) (document : def.Document) (clauses : List ClauseFacts) (loaded : Loaded) : Type 0 where
   pub read : def.document_of text ≡ Ok document
   pub clauses_are : clauses ≡ map (clause_of text) document.components
   pub loads : IsLoadedIn limits library document loaded
@@ -117,35 +117,35 @@ IsTextDesign limits text lef_text loaded = (library : Contents) × (lef.library_
 -- Why a LEF text is refused over the library: its first fault with its line, or a failed
 -- allocation.
 abbrev pub IsLefRefusal : Contents → List ℕ → RefusalCause
-IsLefRefusal library text refusal met = lef.Refuses refusal (lef.library_after library text) × (met ≡ no_fence)
+IsLefRefusal library text refusal overlapping_one = lef.RefusesLef refusal (lef.library_after library text) × (overlapping_one ≡ no_fence)
 
 -- Why a DEF text is not read: its first fault with its line, or a failed allocation.
 abbrev pub IsReadRefusal : List ℕ → RefusalCause
-IsReadRefusal text refusal met = def.Refuses refusal (def.document_of text) × (met ≡ no_fence)
+IsReadRefusal text refusal overlapping_one = def.RefusesDef refusal (def.document_of text) × (overlapping_one ≡ no_fence)
 
 -- Why a DEF text has no design over the library: it is not read, or the document is not loaded.
 abbrev pub IsDefRefusal : Limits → Contents → List ℕ → RefusalCause
-IsDefRefusal limits library text refusal met =
-    IsReadRefusal text refusal met
-    ⊎ ((document : def.Document) × (def.document_of text ≡ Ok document) × IsFaultIn limits library document refusal × ConflictsIn document refusal met)
+IsDefRefusal limits library text refusal overlapping_one =
+    IsReadRefusal text refusal overlapping_one
+    ⊎ ((document : def.Document) × (def.document_of text ≡ Ok document) × IsFaultIn limits library document refusal × ConflictsIn document refusal overlapping_one)
 
 -- The fault reports a refusal for this cause, of the text that was read as this kind from the file
 -- of the path.
-abbrev pub IsRefused : TextKind → List ℕ → List ℕ → RefusalCause → Fault → Type 0
-IsRefused kind path text why (Refused file its) =
-    IsFile kind path file × ((refusal : LoadFault) × (met : Conflict) × why refusal met × ReportsFault kind text refusal met its)
-IsRefused kind path text why _ = ⊥
+abbrev pub IsRefusedText : TextKind → List ℕ → List ℕ → RefusalCause → Fault → Type 0
+IsRefusedText kind path text why (Refused file its) =
+    IsFile kind path file × ((refusal : LoadFault) × (overlapping_one : Conflict) × why refusal overlapping_one × ReportsFault kind text refusal overlapping_one its)
+IsRefusedText kind path text why _ = ⊥
 
 -- Why the text of a file was not read: an allocation failed, or the file cannot be read.
 abbrev pub IsUnread : ReadsFile → TextKind → List ℕ → Fault → Type 0
-IsUnread gives kind path NoMemory = Unit {0}
+IsUnread gives kind path SetupOutOfMemory = Unit {0}
 IsUnread gives kind path (File file why) = IsFile kind path file × gives path None
 IsUnread gives kind path _ = ⊥
 
 -- Why a file cannot be used: its text was not read, or is refused for this cause.
 abbrev pub IsFileFault : ReadsFile → TextKind → List ℕ → (List ℕ → RefusalCause) → Fault → Type 0
 IsFileFault gives kind path why fault =
-    IsUnread gives kind path fault ⊎ ((text : List ℕ) × gives path (Some text) × IsRefused kind path text (why text) fault)
+    IsUnread gives kind path fault ⊎ ((text : List ℕ) × gives path (Some text) × IsRefusedText kind path text (why text) fault)
 
 -- Why these LEF files have no library: the fault of the first faulty file, over the library of the
 -- earlier files.
@@ -165,5 +165,5 @@ IsDesignFault limits gives path lefs fault =
 -- if it is accepted, of the DEF text.
 abbrev pub IsTextFault : Limits → List ℕ → List ℕ → Fault → Type 0
 IsTextFault limits text lef_text fault =
-    IsRefused Lef BUILT_IN.now lef_text (IsLefRefusal no_library lef_text) fault
-    ⊎ ((library : Contents) × (lef.library_after no_library lef_text ≡ Ok library) × IsRefused Def BUILT_IN.now text (IsDefRefusal limits library text) fault)
+    IsRefusedText Lef BUILT_IN.now lef_text (IsLefRefusal no_library lef_text) fault
+    ⊎ ((library : Contents) × (lef.library_after no_library lef_text ≡ Ok library) × IsRefusedText Def BUILT_IN.now text (IsDefRefusal limits library text) fault)

@@ -5,12 +5,12 @@ use Rattle.std.specs.Char.{digit_char}
 use Rattle.std.specs.Io.KnownBytes.{Appends}
 use Rattle.lf_lex.specs.declared.fault.FaultNumber.{FaultNumber}
 use Rattle.lf_lex.specs.declared.fault.FaultNumber.TheVariants as number
-use Rattle.lf_state_text.specs.declared.fault.FaultNumber.{FaultNumber as StateNumber}
-use Rattle.lf_state_text.specs.declared.fault.FaultNumber.TheVariants as state
+use Rattle.lf_state_text.specs.declared.fault.StateFaultNumber.{StateFaultNumber as StateNumber}
+use Rattle.lf_state_text.specs.declared.fault.StateFaultNumber.TheVariants as state
 use Rattle.lf_task_designs.specs.declared.faults.TaskExit.{TaskExit}
 use Rattle.lf_task_designs.specs.declared.faults.Fault.{Fault}
-use Rattle.lf_task_designs.specs.declared.faults.Fault.TheVariants.{Refused, File, NoState, NoTeam, ReadFault, WriteFault, TooManyLines, OutOfMemory}
-use Rattle.lf_task_designs.specs.declared.faults.Fault.TheVariants.{Output, Bind, Accept, Unwritten, Unsaved, Unlisted, NoMemory, NoRoom}
+use Rattle.lf_task_designs.specs.declared.faults.Fault.TheVariants.{Refused, File, RefusedState, NoTeam, ReadFault, WriteFault, TooManyLines, OutOfMemory}
+use Rattle.lf_task_designs.specs.declared.faults.Fault.TheVariants.{Output, Bind, Accept, Unwritten, Unsaved, Unlisted, SetupOutOfMemory, OutputOutOfMemory}
 use Rattle.lf_task_designs.specs.declared.faults.TextFile.{TextFile}
 use Rattle.lf_task_designs.specs.declared.faults.TextKind.{TextKind}
 use Rattle.lf_task_designs.specs.declared.faults.TextKind.TheVariants.{Lef, Def, State}
@@ -29,31 +29,31 @@ use Rattle.lf_task_designs.specs.declared.input_files.ReadFailure.{ReadFailure}
 use Rattle.lf_task_designs.specs.declared.input_files.ReadFailure.TheVariants as unread
 
 -- The number and the name of a refusal of reading or loading.
-abbrev pub numbered : FaultNumber → List ℕ
-numbered number.BadToken = codes "1 BadToken"
-numbered number.UnexpectedEnd = codes "2 UnexpectedEnd"
-numbered number.Unexpected = codes "3 Unexpected"
-numbered number.BadNumber = codes "4 BadNumber"
-numbered number.WrongEnd = codes "5 WrongEnd"
-numbered number.UnknownStatement = codes "6 UnknownStatement"
-numbered number.NoUnits = codes "7 NoUnits"
-numbered number.NoSite = codes "8 NoSite"
-numbered number.NoRows = codes "9 NoRows"
-numbered number.VerticalRow = codes "10 VerticalRow"
-numbered number.BadStep = codes "11 BadStep"
-numbered number.RowOrient = codes "12 RowOrient"
-numbered number.RowsOverlap = codes "13 RowsOverlap"
-numbered number.NoMacro = codes "14 NoMacro"
-numbered number.NoSize = codes "15 NoSize"
-numbered number.NotWhole = codes "16 NotWhole"
-numbered number.SecondName = codes "17 SecondName"
-numbered number.SecondRegion = codes "18 SecondRegion"
-numbered number.NoRegion = codes "19 NoRegion"
-numbered number.TeamName = codes "20 TeamName"
-numbered number.FencesOverlap = codes "21 FencesOverlap"
-numbered number.TwoFences = codes "22 TwoFences"
-numbered number.TooMany = codes "23 TooMany"
-numbered number.OutOfMemory = codes "24 OutOfMemory"
+abbrev pub numbered_refusal : FaultNumber → List ℕ
+numbered_refusal number.BadToken = codes "1 BadToken"
+numbered_refusal number.UnexpectedEnd = codes "2 UnexpectedEnd"
+numbered_refusal number.Unexpected = codes "3 Unexpected"
+numbered_refusal number.BadNumber = codes "4 BadNumber"
+numbered_refusal number.WrongEnd = codes "5 WrongEnd"
+numbered_refusal number.UnknownStatement = codes "6 UnknownStatement"
+numbered_refusal number.NoUnits = codes "7 NoUnits"
+numbered_refusal number.NoSite = codes "8 NoSite"
+numbered_refusal number.NoRows = codes "9 NoRows"
+numbered_refusal number.VerticalRow = codes "10 VerticalRow"
+numbered_refusal number.BadStep = codes "11 BadStep"
+numbered_refusal number.RowOrient = codes "12 RowOrient"
+numbered_refusal number.RowsOverlap = codes "13 RowsOverlap"
+numbered_refusal number.NoMacro = codes "14 NoMacro"
+numbered_refusal number.NoSize = codes "15 NoSize"
+numbered_refusal number.NotWhole = codes "16 NotWhole"
+numbered_refusal number.SecondName = codes "17 SecondName"
+numbered_refusal number.SecondRegion = codes "18 SecondRegion"
+numbered_refusal number.NoRegion = codes "19 NoRegion"
+numbered_refusal number.TeamName = codes "20 TeamName"
+numbered_refusal number.FencesOverlap = codes "21 FencesOverlap"
+numbered_refusal number.TwoFences = codes "22 TwoFences"
+numbered_refusal number.TooMany = codes "23 TooMany"
+numbered_refusal number.OutOfMemory = codes "24 OutOfMemory"
 
 -- The number and the name of a refusal of a state text.
 abbrev pub state_numbered : StateNumber → List ℕ
@@ -76,7 +76,7 @@ name_words (Some name) = codes " " ++ name
 
 -- The text of a refusal: its number, its name, and its line and name if it has them.
 abbrev pub refusal_text : TextRefusal → List ℕ
-refusal_text refusal = numbered refusal.number ++ line_words refusal.line ++ name_words (option_map (λ name. name.items) refusal.name)
+refusal_text refusal = numbered_refusal refusal.number ++ line_words refusal.line ++ name_words (option_map (λ name. name.items) refusal.name)
 
 -- The text of a refusal of a state text: its number, its name and its line.
 abbrev pub state_refusal_text : StateRefusal → List ℕ
@@ -86,7 +86,7 @@ state_refusal_text refusal = state_numbered refusal.number ++ line_words (Some r
 abbrev pub fault_text : Fault → List ℕ
 fault_text (Refused file refusal) = refusal_text refusal
 fault_text (File file why) = codes "File"
-fault_text (NoState path refusal) = state_refusal_text refusal
+fault_text (RefusedState path refusal) = state_refusal_text refusal
 fault_text (NoTeam name) = codes "NoTeam"
 fault_text ReadFault = codes "ReadFault"
 fault_text WriteFault = codes "WriteFault"
@@ -98,8 +98,8 @@ fault_text Accept = codes "Accept"
 fault_text (Unwritten path why) = codes "File"
 fault_text (Unsaved path why) = codes "File"
 fault_text (Unlisted path why) = codes "File"
-fault_text NoMemory = codes "24 OutOfMemory"
-fault_text NoRoom = codes "24 OutOfMemory"
+fault_text SetupOutOfMemory = codes "24 OutOfMemory"
+fault_text OutputOutOfMemory = codes "24 OutOfMemory"
 
 -- The line of a fault on standard error.
 abbrev pub fault_line : Fault → List ℕ
@@ -112,17 +112,17 @@ abbrev pub shown_byte : ℕ → List ℕ
 shown_byte byte =
     if nat_le 32 byte && nat_le byte 126 then byte ∷ [] else 92 ∷ 120 ∷ digit_char (byte / 16) ∷ digit_char (byte % 16) ∷ []
 
-abbrev pub shown : List ℕ → List ℕ
-shown bytes = flat_map shown_byte bytes
+abbrev pub shown_bytes : List ℕ → List ℕ
+shown_bytes bytes = flat_map shown_byte bytes
 
-abbrev pub kind_words : TextKind → List ℕ
-kind_words Lef = codes "LEF file "
-kind_words Def = codes "DEF file "
-kind_words State = codes "state file "
+abbrev pub text_kind_words : TextKind → List ℕ
+text_kind_words Lef = codes "LEF file "
+text_kind_words Def = codes "DEF file "
+text_kind_words State = codes "state file "
 
 -- The kind of a file, and its path.
 abbrev pub file_words : TextFile → List ℕ
-file_words file = kind_words file.kind ++ shown file.path.now
+file_words file = text_kind_words file.kind ++ shown_bytes file.path.now
 
 -- The line of an earlier entry of the same name.
 abbrev pub first_words : ℕ → List ℕ
@@ -139,7 +139,7 @@ fence_line_words (Some number) = codes " of line " ++ decimal number
 
 -- A fence and its line.
 abbrev pub fence_words : FenceLine → List ℕ
-fence_words fence = codes "fence " ++ shown fence.name.items ++ fence_line_words fence.line
+fence_words fence = codes "fence " ++ shown_bytes fence.name.items ++ fence_line_words fence.line
 
 -- The fence that overlaps the refused one.
 abbrev pub overlapped_fence_words : FenceLine → List ℕ
@@ -160,7 +160,7 @@ number_words number = codes ", line " ++ decimal number
 
 -- The bytes of a line, after its number.
 abbrev pub bytes_words : List ℕ → List ℕ
-bytes_words bytes = codes ": " ++ shown bytes
+bytes_words bytes = codes ": " ++ shown_bytes bytes
 
 -- The number of the line for which a text is refused, the remark `beside`, and the line's first
 -- bytes.
@@ -170,34 +170,34 @@ line_shown (Some number) beside bytes = number_words number ++ beside ++ bytes_w
 
 -- The remark about that line: the line of an earlier entry, and the fences in conflict.
 abbrev pub beside_words : TextRefusal → List ℕ
-beside_words refusal = earlier_words refusal.earlier ++ conflict_words refusal.first_met refusal.second_met
+beside_words refusal = earlier_words refusal.earlier ++ conflict_words refusal.first_overlapped refusal.second_overlapped
 
 abbrev pub shown_line : TextRefusal → List ℕ
 shown_line refusal = line_shown refusal.at (beside_words refusal) refusal.shown.items
 
 -- The path of the exported file.
 abbrev pub export_words : List ℕ → List ℕ
-export_words path = codes "export file " ++ shown path
+export_words path = codes "export file " ++ shown_bytes path
 
 -- The path of a saved state.
 abbrev pub state_words : List ℕ → List ℕ
-state_words path = codes "state file " ++ shown path
+state_words path = codes "state file " ++ shown_bytes path
 
 -- The path of the file for the commands of a repair.
 abbrev pub lines_words : List ℕ → List ℕ
-lines_words path = codes "lines file " ++ shown path
+lines_words path = codes "lines file " ++ shown_bytes path
 
 -- The name of a team.
 abbrev pub team_words : List ℕ → List ℕ
-team_words name = codes "team " ++ shown name
+team_words name = codes "team " ++ shown_bytes name
 
 -- The line of a refused state text.
 abbrev pub state_line : List ℕ → StateRefusal → List ℕ
 state_line path refusal = codes "lefence: " ++ state_words path ++ number_words refusal.line ++ bytes_words refusal.shown.items ++ 10 ∷ []
 
 -- A port of this machine.
-abbrev pub port_words : ℕ → List ℕ
-port_words port = codes "port " ++ decimal port ++ codes " of 127.0.0.1"
+abbrev pub port_text : ℕ → List ℕ
+port_text port = codes "port " ++ decimal port ++ codes " of 127.0.0.1"
 
 -- True if the refusal is a failed allocation.
 abbrev pub is_memory : FaultNumber → Bool
@@ -213,8 +213,8 @@ hint_words Def (Some OtherKind) = codes " (read as DEF: is the DEF text first?)"
 hint_words State (Some OtherKind) = []
 
 -- The line of a refused text. It is empty if the refusal is a failed allocation.
-abbrev pub refusal_words : TextFile → TextRefusal → List ℕ
-refusal_words file refusal =
+abbrev pub text_refusal_words : TextFile → TextRefusal → List ℕ
+text_refusal_words file refusal =
     if is_memory refusal.number then [] else codes "lefence: " ++ file_words file ++ hint_words file.kind refusal.hint ++ shown_line refusal ++ 10 ∷ []
 
 -- The file, path, port or team at fault.
@@ -224,7 +224,7 @@ subject_words (Unwritten path why) = export_words path.now
 subject_words (Unsaved path why) = state_words path.now
 subject_words (Unlisted path why) = lines_words path.now
 subject_words (NoTeam name) = team_words name.now
-subject_words (Bind port why) = port_words port
+subject_words (Bind port why) = port_text port
 subject_words _ = []
 
 -- What is wrong with it.
@@ -275,9 +275,9 @@ complaint_line fault = codes "lefence: " ++ subject_words fault ++ complaint_wor
 -- The second line on standard error: the line of a text, or the file, path, port or team at fault.
 -- Empty for other faults.
 abbrev pub second_line : Fault → List ℕ
-second_line (Refused file refusal) = refusal_words file refusal
+second_line (Refused file refusal) = text_refusal_words file refusal
 second_line (File file why) = complaint_line (File file why)
-second_line (NoState path refusal) = state_line path.now refusal
+second_line (RefusedState path refusal) = state_line path.now refusal
 second_line (Unwritten path why) = complaint_line (Unwritten path why)
 second_line (Unsaved path why) = complaint_line (Unsaved path why)
 second_line (Unlisted path why) = complaint_line (Unlisted path why)
@@ -294,10 +294,10 @@ fault_lines_text fault = fault_line fault ++ second_line fault
 -- The exit status of a fault.
 abbrev pub status_of : Fault → ℕ
 status_of (Refused file refusal) = 1
-status_of (NoState path refusal) = 1
+status_of (RefusedState path refusal) = 1
 status_of (NoTeam name) = 1
-status_of NoMemory = 1
-status_of NoRoom = 1
+status_of SetupOutOfMemory = 1
+status_of OutputOutOfMemory = 1
 status_of _ = 3
 
 -- ---- how a task ends
@@ -306,15 +306,15 @@ status_of _ = 3
 -- faults unless writing them failed.
 pub record EndsWith (fault : Fault) (old new : Option (List ℕ)) (failed : Bool) (exit : TaskExit) : Type 0 where
   pub status : exit.status ≡ status_of fault
-  pub told : IsTrue exit.is_told → Appends old new (fault_lines_text fault)
-  pub untold : exit.is_told ≡ false → failed ≡ true
+  pub reported : IsTrue exit.is_printed → Appends old new (fault_lines_text fault)
+  pub untold : exit.is_printed ≡ false → failed ≡ true
 
 -- ---- kinds of faults
 
 -- The fault of a file that was not read.
 abbrev pub unread_fault : TextFile → ReadFailure → Fault
 unread_fault file (unread.File why) = File file why
-unread_fault file unread.OutOfMemory = NoMemory
+unread_fault file unread.OutOfMemory = SetupOutOfMemory
 
 -- The file is read as this kind, and has this path.
 pub record IsFile (kind : TextKind) (path : List ℕ) (file : TextFile) : Type 0 where
@@ -323,7 +323,7 @@ pub record IsFile (kind : TextKind) (path : List ℕ) (file : TextFile) : Type 0
 
 -- A report was not written: an allocation for its text failed, or the writer failed.
 abbrev pub IsReportFault : Fault → Type 0
-IsReportFault fault = (fault ≡ NoMemory) ⊎ (fault ≡ Output)
+IsReportFault fault = (fault ≡ SetupOutOfMemory) ⊎ (fault ≡ Output)
 
 -- ---- which device is to blame
 
@@ -331,9 +331,9 @@ IsReportFault fault = (fault ≡ NoMemory) ⊎ (fault ≡ Output)
 abbrev pub IsEarly : Fault → Type 0
 IsEarly (Refused file refusal) = Unit {0}
 IsEarly (File file why) = Unit {0}
-IsEarly (NoState path refusal) = Unit {0}
+IsEarly (RefusedState path refusal) = Unit {0}
 IsEarly (NoTeam name) = Unit {0}
-IsEarly NoMemory = Unit {0}
+IsEarly SetupOutOfMemory = Unit {0}
 IsEarly _ = ⊥
 
 -- The faults of the writer.
@@ -359,12 +359,12 @@ IsOfService _ = ⊥
 abbrev pub IsOfNone : Fault → Type 0
 IsOfNone (Refused file refusal) = Unit {0}
 IsOfNone (File file why) = Unit {0}
-IsOfNone (NoState path refusal) = Unit {0}
+IsOfNone (RefusedState path refusal) = Unit {0}
 IsOfNone (NoTeam name) = Unit {0}
 IsOfNone TooManyLines = Unit {0}
 IsOfNone OutOfMemory = Unit {0}
-IsOfNone NoMemory = Unit {0}
-IsOfNone NoRoom = Unit {0}
+IsOfNone SetupOutOfMemory = Unit {0}
+IsOfNone OutputOutOfMemory = Unit {0}
 IsOfNone _ = ⊥
 
 -- What a fault implies about the devices of a task.

@@ -9,7 +9,7 @@ ghost use Rattle.lf_reports.specs.Reports.{AreVerdicts, IsFaultless, violations_
 ghost use Rattle.lf_proto.specs.ReportText.{report_text, violations_text};
 ghost use Rattle.lf_task_designs.specs.Checks.{IsLegalDesign, IsNotReported, def_places, design_report, report_line};
 ghost use Rattle.lf_task_designs.specs.Faults.{BlamesWriter};
-ghost use Rattle.lf_task_designs.specs.Reporting.{listed_of, names_of};
+ghost use Rattle.lf_task_designs.specs.Reporting.{listed_as_loaded, cell_names_of};
 
 use crate::faults::Fault;
 use lf_frame::{Loaded, LoadedCells, Place};
@@ -67,7 +67,7 @@ struct DesignNames<'a> {
 }
 
 impl<'a> Names for DesignNames<'a> {
-    ghost names = { λ s. names_of s.cells.now };
+    ghost names = { λ s. cell_names_of s.cells.now };
 
     fn name(&self, own: usize) -> Option<&[u8]> {
         Some(self.cells.get(own)?.name)
@@ -82,9 +82,9 @@ fn put_cells(
     text: &mut Vec<u8>,
 ) -> Result<(), AllocError>
     requires { length verdicts.now ≡ length loaded.now.cells }
-    ensures { (l : Legalizer) → AreVerdicts l loaded.now.frame 0 (map listed_of loaded.now.cells) verdicts.now
+    ensures { (l : Legalizer) → AreVerdicts l loaded.now.frame 0 (map listed_as_loaded loaded.now.cells) verdicts.now
         → OnOk result (text.new.items ++ violations_text true []
-        ≡ text.old.items ++ violations_text false (violations_in l loaded.now.frame 0 (map listed_of loaded.now.cells))) }
+        ≡ text.old.items ++ violations_text false (violations_in l loaded.now.frame 0 (map listed_as_loaded loaded.now.cells))) }
 {
     let names = DesignNames {
         cells: &loaded.cells,
@@ -106,7 +106,7 @@ fn text_by_verdicts(
 ) -> Result<Text, AllocError>
     requires { length verdicts.now ≡ length loaded.now.cells }
     ensures { (l : Legalizer) → unplaced ≡ (design_report l loaded.now).unplaced
-        → AreVerdicts l loaded.now.frame 0 (map listed_of loaded.now.cells) verdicts.now →
+        → AreVerdicts l loaded.now.frame 0 (map listed_as_loaded loaded.now.cells) verdicts.now →
         IfOk result (λ text. text ≡ report_text (design_report l loaded.now)) }
 {
     let mut text = report_begun(alloc, loaded.cells.len(), unplaced)?;
@@ -156,7 +156,7 @@ pub fn report_design<'f, W: Sink>(
     ensures writer_held { W.holds writer.new ≡ W.holds writer.old }
 {
     let Ok(report) = design_report(alloc, loaded) else {
-        return Err(Fault::NoMemory);
+        return Err(Fault::SetupOutOfMemory);
     };
     match put_line(writer, report.text.as_bytes()) {
         Ok(()) => Ok(report.legal),

@@ -4,8 +4,8 @@ ghost use Rattle.std.specs.Prelude.{◌≡◌, ◌<◌, OnErr, OnOk, true};
 ghost use Rattle.std.specs.Io.KnownBytes.{Appends};
 ghost use Rattle.std.specs.Char.{digit_char};
 ghost use Rattle.lf_task_designs.specs.Faults.{bytes_words, complaint_line, complaint_words, earlier_words, export_words, fence_words, file_words, first_words};
-ghost use Rattle.lf_task_designs.specs.Faults.{hint_words, is_memory, lines_words, conflict_words, number_words, overlapped_fence_words, port_words, reason_words, refusal_words};
-ghost use Rattle.lf_task_designs.specs.Faults.{second_line, shown, shown_byte, shown_line, fence_line_words, state_line, state_words, subject_words, team_words};
+ghost use Rattle.lf_task_designs.specs.Faults.{hint_words, is_memory, lines_words, conflict_words, number_words, overlapped_fence_words, port_text, reason_words, text_refusal_words};
+ghost use Rattle.lf_task_designs.specs.Faults.{second_line, shown_bytes, shown_byte, shown_line, fence_line_words, state_line, state_words, subject_words, team_words};
 ghost use Rattle.lf_task_designs.specs.Faults.{claiming_fences_words, unbound_words, unreadable_words, unwritable_words};
 
 use crate::faults::{BindFailure, Fault, TextFile, TextKind};
@@ -47,7 +47,7 @@ fn put_byte<W: Sink>(sink: &mut W, byte: u8) -> Result<(), DeviceFault>
 
 /// Writes bytes of any kind in readable form.
 fn put_shown<W: Sink>(sink: &mut W, bytes: &[u8]) -> Result<(), DeviceFault>
-    ensures ok { OnOk result (Appends (W.contents sink.old) (W.contents sink.new) (shown bytes.now)) }
+    ensures ok { OnOk result (Appends (W.contents sink.old) (W.contents sink.new) (shown_bytes bytes.now)) }
     ensures failed { OnErr result (W.has_failed sink.new ≡ true) }
     ensures held { W.holds sink.new ≡ W.holds sink.old }
 {
@@ -147,7 +147,7 @@ fn write_claiming_fences<W: Sink>(
 }
 
 /// Writes the fences in conflict, if there are any.
-fn put_met<W: Sink>(
+fn put_overlapped<W: Sink>(
     sink: &mut W,
     first: &Option<FenceLine>,
     second: &Option<FenceLine>,
@@ -196,7 +196,7 @@ fn put_shown_line<W: Sink>(sink: &mut W, refusal: &TextRefusal) -> Result<(), De
     };
     put_number(sink, number)?;
     put_earlier(sink, refusal.earlier)?;
-    put_met(sink, &refusal.first_met, &refusal.second_met)?;
+    put_overlapped(sink, &refusal.first_overlapped, &refusal.second_overlapped)?;
     put_line(sink, refusal.shown.as_slice())
 }
 
@@ -226,7 +226,7 @@ fn put_refused<W: Sink>(
     file: &TextFile<'_>,
     refusal: &TextRefusal,
 ) -> Result<(), DeviceFault>
-    ensures ok { OnOk result (Appends (W.contents sink.old) (W.contents sink.new) (refusal_words file.now refusal.now)) }
+    ensures ok { OnOk result (Appends (W.contents sink.old) (W.contents sink.new) (text_refusal_words file.now refusal.now)) }
     ensures failed { OnErr result (W.has_failed sink.new ≡ true) }
     ensures held { W.holds sink.new ≡ W.holds sink.old }
 {
@@ -299,7 +299,7 @@ fn put_no_state<W: Sink>(
 
 /// Writes a port of this machine.
 fn put_port<W: Sink>(sink: &mut W, port: u16) -> Result<(), DeviceFault>
-    ensures ok { OnOk result (Appends (W.contents sink.old) (W.contents sink.new) (port_words port)) }
+    ensures ok { OnOk result (Appends (W.contents sink.old) (W.contents sink.new) (port_text port)) }
     ensures failed { OnErr result (W.has_failed sink.new ≡ true) }
     ensures held { W.holds sink.new ≡ W.holds sink.old }
 {
@@ -413,7 +413,7 @@ pub(crate) fn write_detail_line<W: Sink>(sink: &mut W, fault: &Fault<'_>) -> Res
     match fault {
         Fault::Refused { file, refusal } => put_refused(sink, file, refusal),
         Fault::File(_, _) => put_complaint(sink, fault),
-        Fault::NoState(path, refusal) => put_no_state(sink, path, refusal),
+        Fault::RefusedState(path, refusal) => put_no_state(sink, path, refusal),
         Fault::Unwritten(_, _) => put_complaint(sink, fault),
         Fault::Unsaved(_, _) => put_complaint(sink, fault),
         Fault::Unlisted(_, _) => put_complaint(sink, fault),

@@ -2,9 +2,9 @@
 
 ghost use Rattle.std.specs.Prelude.{◌≡◌, true, IsTrue, OnErr, OnOk, option_map};
 ghost use Rattle.std.specs.Io.KnownBytes.{Appends};
-ghost use Rattle.lf_task_designs.specs.Faults.{EndsWith, fault_line, fault_text, line_words, name_words, numbered, refusal_text, state_numbered};
+ghost use Rattle.lf_task_designs.specs.Faults.{EndsWith, fault_line, fault_text, line_words, name_words, numbered_refusal, refusal_text, state_numbered};
 ghost use Rattle.lf_task_designs.specs.Faults.{state_refusal_text, status_of, fault_lines_text, unread_fault};
-ghost use Rattle.lf_task_designs.specs.declared.faults.Fault.TheVariants.{NoMemory};
+ghost use Rattle.lf_task_designs.specs.declared.faults.Fault.TheVariants.{SetupOutOfMemory};
 
 use crate::fault_detail::write_detail_line;
 use crate::input_files::{ReadFailure, ReadFailureKind};
@@ -13,7 +13,7 @@ use itoa::Buffer;
 use lf_io::{DeviceFault, Sink, send};
 use lf_io_files::WriteFailureKind;
 use lf_lex::FaultNumber;
-use lf_state_text::FaultNumber as StateNumber;
+use lf_state_text::StateFaultNumber;
 use std::alloc::AllocError;
 
 /// The kind of text that a file is read as.
@@ -58,7 +58,7 @@ pub enum Fault<'a> {
     /// A file could not be read.
     File(TextFile<'a>, ReadFailureKind),
     /// The text of the state file of this path was refused: it has no state of the design.
-    NoState(&'a str, StateRefusal),
+    RefusedState(&'a str, StateRefusal),
     /// No team of the design has this name.
     NoTeam(&'a str),
     /// The reader of lines failed, or the limit on reads was reached.
@@ -82,17 +82,17 @@ pub enum Fault<'a> {
     /// The file for the commands of a repair, of this path, could not be written.
     Unlisted(&'a str, WriteFailureKind),
     /// An allocation failed before the first line, for a report, or for a repair.
-    NoMemory,
+    SetupOutOfMemory,
     /// An allocation failed for the exported text, the state, a line of a description, or the
     /// commands of a repair.
-    NoRoom,
+    OutputOutOfMemory,
 }
 
 impl<'a> From<AllocError> for Fault<'a> {
-    ghost from_gives = { λ _ fault. fault ≡ NoMemory };
+    ghost from_gives = { λ _ fault. fault ≡ SetupOutOfMemory };
 
     fn from(_error: AllocError) -> Fault<'a> {
-        Fault::NoMemory
+        Fault::SetupOutOfMemory
     }
 }
 
@@ -102,12 +102,12 @@ pub struct TaskExit {
     /// The exit status.
     pub status: u8,
     /// Whether everything printed about the fault was written. True if there was no fault.
-    pub is_told: bool,
+    pub is_printed: bool,
 }
 
 /// Returns the number and the name of a refusal of reading or loading.
 fn numbered(number: FaultNumber) -> &'static [u8]
-    ensures { result.now ≡ numbered number }
+    ensures { result.now ≡ numbered_refusal number }
 {
     match number {
         FaultNumber::BadToken => b"1 BadToken",
@@ -138,16 +138,16 @@ fn numbered(number: FaultNumber) -> &'static [u8]
 }
 
 /// Returns the number and the name of a refusal of a state text.
-fn state_numbered(number: StateNumber) -> &'static [u8]
+fn state_numbered(number: StateFaultNumber) -> &'static [u8]
     ensures { result.now ≡ state_numbered number }
 {
     match number {
-        StateNumber::UnexpectedEnd => b"2 UnexpectedEnd",
-        StateNumber::Unexpected => b"3 Unexpected",
-        StateNumber::BadNumber => b"4 BadNumber",
-        StateNumber::OtherVersion => b"25 OtherVersion",
-        StateNumber::OtherDesign => b"26 OtherDesign",
-        StateNumber::OutOfRange => b"27 OutOfRange",
+        StateFaultNumber::UnexpectedEnd => b"2 UnexpectedEnd",
+        StateFaultNumber::Unexpected => b"3 Unexpected",
+        StateFaultNumber::BadNumber => b"4 BadNumber",
+        StateFaultNumber::OtherVersion => b"25 OtherVersion",
+        StateFaultNumber::OtherDesign => b"26 OtherDesign",
+        StateFaultNumber::OutOfRange => b"27 OutOfRange",
     }
 }
 
@@ -207,7 +207,7 @@ fn put_fault<W: Sink>(sink: &mut W, fault: &Fault<'_>) -> Result<(), DeviceFault
     match fault {
         Fault::Refused { refusal, .. } => put_refusal(sink, refusal),
         Fault::File(_, _) => send(sink, b"File"),
-        Fault::NoState(_, refusal) => put_state_refusal(sink, refusal),
+        Fault::RefusedState(_, refusal) => put_state_refusal(sink, refusal),
         Fault::NoTeam(_) => send(sink, b"NoTeam"),
         Fault::ReadFault => send(sink, b"ReadFault"),
         Fault::WriteFault => send(sink, b"WriteFault"),
@@ -219,8 +219,8 @@ fn put_fault<W: Sink>(sink: &mut W, fault: &Fault<'_>) -> Result<(), DeviceFault
         Fault::Unwritten(_, _) => send(sink, b"File"),
         Fault::Unsaved(_, _) => send(sink, b"File"),
         Fault::Unlisted(_, _) => send(sink, b"File"),
-        Fault::NoMemory => send(sink, b"24 OutOfMemory"),
-        Fault::NoRoom => send(sink, b"24 OutOfMemory"),
+        Fault::SetupOutOfMemory => send(sink, b"24 OutOfMemory"),
+        Fault::OutputOutOfMemory => send(sink, b"24 OutOfMemory"),
     }
 }
 
@@ -235,17 +235,17 @@ pub fn write_fault<W: Sink>(sink: &mut W, fault: &Fault<'_>) -> Result<(), Devic
     send(sink, b"\n")
 }
 
-/// Returns the exit status of a fault: 1 for `Refused`, `NoState`, `NoTeam`, `NoMemory` and
-/// `NoRoom`, otherwise 3.
+/// Returns the exit status of a fault: 1 for `Refused`, `RefusedState`, `NoTeam`, `SetupOutOfMemory` and
+/// `OutputOutOfMemory`, otherwise 3.
 pub fn status_of(fault: &Fault<'_>) -> u8
     ensures { result ≡ status_of fault.now }
 {
     match fault {
         Fault::Refused { .. } => 1,
-        Fault::NoState(_, _) => 1,
+        Fault::RefusedState(_, _) => 1,
         Fault::NoTeam(_) => 1,
-        Fault::NoMemory => 1,
-        Fault::NoRoom => 1,
+        Fault::SetupOutOfMemory => 1,
+        Fault::OutputOutOfMemory => 1,
         _ => 3,
     }
 }
@@ -253,11 +253,11 @@ pub fn status_of(fault: &Fault<'_>) -> u8
 /// Returns the exit of a task that succeeded with this status.
 pub fn exit_with(status: u8) -> TaskExit
     ensures status { result.status ≡ status }
-    ensures told { IsTrue result.is_told }
+    ensures reported { IsTrue result.is_printed }
 {
     TaskExit {
         status,
-        is_told: true,
+        is_printed: true,
     }
 }
 
@@ -277,10 +277,10 @@ pub fn report_fault<F: Sink>(faults: &mut F, fault: &Fault<'_>) -> TaskExit
     ensures ends { EndsWith fault.now (F.contents faults.old) (F.contents faults.new) (F.has_failed faults.new) result }
     ensures faults_held { F.holds faults.new ≡ F.holds faults.old }
 {
-    let told = write_fault_lines(faults, fault);
+    let reported = write_fault_lines(faults, fault);
     TaskExit {
         status: status_of(fault),
-        is_told: told.is_ok(),
+        is_printed: reported.is_ok(),
     }
 }
 
@@ -290,6 +290,6 @@ pub(crate) fn unread_fault<'a>(file: TextFile<'a>, unread: ReadFailure) -> Fault
 {
     match unread {
         ReadFailure::File(why) => Fault::File(file, why),
-        ReadFailure::OutOfMemory => Fault::NoMemory,
+        ReadFailure::OutOfMemory => Fault::SetupOutOfMemory,
     }
 }

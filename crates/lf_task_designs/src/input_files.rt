@@ -2,7 +2,7 @@
 
 ghost use Rattle.std.specs.Prelude.{◌≡◌, ℕ, List, Option, Some, None, ⊤, IfOk, IfErr};
 ghost use Rattle.std.specs.IoError.{error_kind};
-ghost use Rattle.lf_state_text.specs.Pieces.{joined};
+ghost use Rattle.lf_state_text.specs.Pieces.{text_of_chunks};
 ghost use Rattle.lf_task_designs.specs.Texts.{unread_of};
 
 use std::alloc::Global;
@@ -39,7 +39,7 @@ pub enum ReadFailure {
 
 /// Reads texts, by the paths of their files.
 pub trait InputFiles {
-    ghost use Rattle.lf_state_text.specs.Pieces.{joined};
+    ghost use Rattle.lf_state_text.specs.Pieces.{text_of_chunks};
     ghost use Rattle.lf_task_designs.specs.Texts.{IsOfFile};
 
     // What reading the file of a path may return: its text, or `None` if it cannot be read.
@@ -54,13 +54,13 @@ pub trait InputFiles {
     /// Reads the text of the file of this path in chunks, which can be dropped separately. `Err` if
     /// the file cannot be read, or an allocation fails.
     fn pieces(&self, alloc: Global, path: &str) -> Result<VecDeque<Vec<u8>>, ReadFailure>
-        ensures ok { IfOk result (λ pieces. gives self.now path.now (Some (joined pieces.items))) }
+        ensures ok { IfOk result (λ pieces. gives self.now path.now (Some (text_of_chunks pieces.items))) }
         ensures err { IfErr result (λ unread. IsOfFile unread → gives self.now path.now None) };
 }
 
 /// Makes one chunk of a text that is in memory. `Err` if an allocation fails.
 pub fn single_chunk(alloc: Global, text: Vec<u8>) -> Result<VecDeque<Vec<u8>>, ReadFailure>
-    ensures { IfOk result (λ pieces. joined pieces.items ≡ text.items) }
+    ensures { IfOk result (λ pieces. text_of_chunks pieces.items ≡ text.items) }
 {
     let mut pieces = VecDeque::new(alloc);
     match pieces.push_back(text) {
@@ -100,7 +100,7 @@ fn unread_of(error: &io::Error) -> ReadFailure
 fn whole_text<T: Files>(files: &T, alloc: Global, path: &str) -> io::Result<Vec<u8>> {
     let mut file = File::open(files, path)?;
     let length = match file.metadata() {
-        Ok(told) => told.len() as usize,
+        Ok(reported) => reported.len() as usize,
         Err(_) => 0,
     };
     let mut text = Vec::with_capacity(alloc, length)?;

@@ -50,8 +50,8 @@ pub use faults::{
 pub use hints::Hint;
 pub use input_files::{FsInputFiles, InputFiles, ReadFailure, ReadFailureKind, single_chunk};
 pub use loading::{
-    def_file, library_of, limits_for, load_document, load_files, load_texts, read_chunks,
-    read_document, read_text,
+    def_file, library_of, limits_for, load_document, load_files, load_texts, read_document,
+    read_file_chunks, read_text,
 };
 pub use opening::{OpenedDesign, SourceText, open_design};
 pub use text_refusal::{FenceLine, StateRefusal, TextRefusal};

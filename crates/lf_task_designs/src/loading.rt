@@ -4,15 +4,15 @@
 //! every drop at every return separately.
 
 ghost use Rattle.std.specs.Prelude.{◌≡◌, Ok, Some, map, IfErr, IfOk, OnOk};
-ghost use Rattle.lf_state_text.specs.Pieces.{joined};
+ghost use Rattle.lf_state_text.specs.Pieces.{text_of_chunks};
 ghost use Rattle.lf_task_designs.specs.declared.faults.TextKind.TheVariants.{Lef, Def};
 ghost use Rattle.lf_lef.specs.Library.{library_after};
 ghost use Rattle.lf_def.specs.Contents.{contents};
 ghost use Rattle.lf_def.specs.Document.{document_of};
-ghost use Rattle.lf_frame_checks.specs.Meetings.{ConflictsWith, Conflict, no_fence};
+ghost use Rattle.lf_frame_checks.specs.Conflicts.{ConflictsWith, Conflict, no_fence};
 ghost use Rattle.lf_task_designs.specs.Refusals.{IsReportedConflict};
 ghost use Rattle.lf_task_designs.specs.Designs.{AddsFile, AreWithSlots, IsDefRefusal, IsDesignFault, IsDesignIn, IsDesignOf, IsFileDesign, IsFileFault};
-ghost use Rattle.lf_task_designs.specs.Designs.{IsLefRefusal, IsLibraryFault, IsLibraryOf, IsLoadRefusal, IsLoadedIn, IsReadRefusal, IsRefused};
+ghost use Rattle.lf_task_designs.specs.Designs.{IsLefRefusal, IsLibraryFault, IsLibraryOf, IsLoadRefusal, IsLoadedIn, IsReadRefusal, IsRefusedText};
 ghost use Rattle.lf_task_designs.specs.Designs.{IsTextDesign, IsTextFault, IsUnread, no_library};
 
 use crate::faults::{Fault, TextFile, TextKind, unread_fault};
@@ -58,12 +58,12 @@ pub fn read_text<'a, T: InputFiles>(texts: &T, file: TextFile<'a>) -> Result<Vec
 }
 
 /// Reads the text of a file in chunks. Errors are those of `read_text`.
-pub fn read_chunks<'a, T: InputFiles>(
+pub fn read_file_chunks<'a, T: InputFiles>(
     alloc: Global,
     texts: &T,
     file: TextFile<'a>,
 ) -> Result<VecDeque<Vec<u8>>, Fault<'a>>
-    ensures ok { IfOk result (λ pieces. T.gives texts.now file.entry.path.now (Some (joined pieces.items))) }
+    ensures ok { IfOk result (λ pieces. T.gives texts.now file.entry.path.now (Some (text_of_chunks pieces.items))) }
     ensures err { IfErr result (IsUnread (T.gives texts.now) file.entry.kind file.entry.path.now) }
 {
     match texts.pieces(alloc, file.path) {
@@ -102,7 +102,7 @@ pub(crate) fn refused<'a>(
     text: &[u8],
     fault: &LoadFault<'_>,
 ) -> Fault<'a>
-    ensures { IsRefused file.entry.kind file.entry.path.now text.now (IsReportedConflict fault.now no_fence) result }
+    ensures { IsRefusedText file.entry.kind file.entry.path.now text.now (IsReportedConflict fault.now no_fence) result }
 {
     Fault::Refused {
         file,
@@ -118,13 +118,13 @@ fn load_fault<'a>(
     document: &DefDoc,
     fault: &LoadFault<'_>,
 ) -> Fault<'a>
-    ensures { (met : Conflict) × ConflictsWith document.now.regions document.now.groups fault.now met × IsRefused Def path.now text.now (IsReportedConflict fault.now met) result }
+    ensures { (overlapping_one : Conflict) × ConflictsWith document.now.regions document.now.groups fault.now overlapping_one × IsRefusedText Def path.now text.now (IsReportedConflict fault.now overlapping_one) result }
 {
     let file = def_file(path);
-    let met = conflicting_fences(document, fault);
+    let overlapping_one = conflicting_fences(document, fault);
     Fault::Refused {
         file,
-        refusal: TextRefusal::with_conflict(alloc, file.kind, text, fault, &met),
+        refusal: TextRefusal::with_conflict(alloc, file.kind, text, fault, &overlapping_one),
     }
 }
 
@@ -136,7 +136,7 @@ fn add_text<'a>(
     text: &[u8],
 ) -> Result<(), Fault<'a>>
     ensures ok { OnOk result (library_after library.old text.now ≡ Ok library.new) }
-    ensures err { IfErr result (IsRefused Lef path.now text.now (IsLefRefusal library.old text.now)) }
+    ensures err { IfErr result (IsRefusedText Lef path.now text.now (IsLefRefusal library.old text.now)) }
 {
     match read_lef(library, text) {
         Ok(()) => Ok(()),
@@ -197,7 +197,7 @@ pub fn read_document<'t, 'a>(
 ) -> Result<DefDoc<'t>, Fault<'a>>
     ensures text { IfOk result (λ document. document.text.now ≡ text.now) }
     ensures ok { IfOk result (λ document. document_of text.now ≡ Ok (contents document)) }
-    ensures err { IfErr result (IsRefused Def path.now text.now (IsReadRefusal text.now)) }
+    ensures err { IfErr result (IsRefusedText Def path.now text.now (IsReadRefusal text.now)) }
 {
     match read_def(alloc, text) {
         Ok(document) => Ok(document),
@@ -216,7 +216,7 @@ pub fn load_document<'a>(
     document: &DefDoc,
 ) -> Result<Loaded, Fault<'a>>
     ensures ok { IfOk result (IsLoadedIn limits library.now (contents document.now)) }
-    ensures err { IfErr result (IsRefused Def path.now text.now (IsLoadRefusal limits library.now (contents document.now))) }
+    ensures err { IfErr result (IsRefusedText Def path.now text.now (IsLoadRefusal limits library.now (contents document.now))) }
 {
     match load(alloc, library, document, limits) {
         Ok(loaded) => Ok(loaded),
@@ -233,7 +233,7 @@ fn load_text<'a>(
     text: &[u8],
 ) -> Result<Loaded, Fault<'a>>
     ensures ok { IfOk result (IsDesignIn limits library.now text.now) }
-    ensures err { IfErr result (IsRefused Def path.now text.now (IsDefRefusal limits library.now text.now)) }
+    ensures err { IfErr result (IsRefusedText Def path.now text.now (IsDefRefusal limits library.now text.now)) }
 {
     let document = read_document(alloc, path, text)?;
     load_document(alloc, limits, library, path, text, &document)

@@ -8,7 +8,7 @@ ghost use Rattle.lf_task_designs.specs.declared.faults.TextKind.TheVariants.{Def
 ghost use Rattle.lf_def.specs.Contents.{contents};
 ghost use Rattle.lf_def.specs.Document.{Document};
 ghost use Rattle.lf_write.specs.Export.{clause_of};
-ghost use Rattle.lf_task_designs.specs.Designs.{IsDefRefusal, IsDesignFault, IsFileFault, IsKept, IsLoadRefusal, IsLoadedIn, IsOpenedOf, IsRefused};
+ghost use Rattle.lf_task_designs.specs.Designs.{IsDefRefusal, IsDesignFault, IsFileFault, IsLoadedText, IsLoadRefusal, IsLoadedIn, IsOpenedOf, IsRefusedText};
 
 use crate::faults::Fault;
 use crate::input_files::InputFiles;
@@ -39,7 +39,7 @@ fn open_document<'a>(
 ) -> Result<LoadedDocument, Fault<'a>>
     ensures design { IfOk result (λ kept. IsLoadedIn limits library.now (contents document.now) kept.loaded) }
     ensures clauses { IfOk result (λ kept. kept.clauses ≡ map (clause_of document.now.text.now) document.now.components) }
-    ensures err { IfErr result (IsRefused Def path.now text.now (IsLoadRefusal limits library.now (contents document.now))) }
+    ensures err { IfErr result (IsRefusedText Def path.now text.now (IsLoadRefusal limits library.now (contents document.now))) }
 {
     let loaded = load_document(alloc, limits, library, path, text, document)?;
     match clauses_of(alloc, document) {
@@ -59,8 +59,8 @@ fn open_text<'a>(
     path: &'a str,
     text: &[u8],
 ) -> Result<LoadedDocument, Fault<'a>>
-    ensures ok { IfOk result (λ kept. (document : Document) × IsKept limits text.now library.now document kept.clauses kept.loaded) }
-    ensures err { IfErr result (IsRefused Def path.now text.now (IsDefRefusal limits library.now text.now)) }
+    ensures ok { IfOk result (λ kept. (document : Document) × IsLoadedText limits text.now library.now document kept.clauses kept.loaded) }
+    ensures err { IfErr result (IsRefusedText Def path.now text.now (IsDefRefusal limits library.now text.now)) }
 {
     let document = read_document(alloc, path, text)?;
     open_document(alloc, limits, library, path, text, &document)
@@ -93,8 +93,8 @@ fn open_kept<'a>(
     text: Vec<u8>,
 ) -> Result<OpenedDesign, Fault<'a>>
     ensures text { IfOk result (λ opened. opened.original.text.items ≡ text.items) }
-    ensures ok { IfOk result (λ opened. (document : Document) × IsKept limits text.items library.now document opened.original.clauses opened.loaded) }
-    ensures err { IfErr result (IsRefused Def path.now text.items (IsDefRefusal limits library.now text.items)) }
+    ensures ok { IfOk result (λ opened. (document : Document) × IsLoadedText limits text.items library.now document opened.original.clauses opened.loaded) }
+    ensures err { IfErr result (IsRefusedText Def path.now text.items (IsDefRefusal limits library.now text.items)) }
 {
     let LoadedDocument { loaded, clauses } = open_text(alloc, limits, library, path, &text)?;
     let original = SourceText { text, clauses };
@@ -111,7 +111,7 @@ fn open_file<'a, T: InputFiles>(
 ) -> Result<OpenedDesign, Fault<'a>>
     ensures given { IfOk result (λ opened. T.gives texts.now path.now (Some opened.original.text.items)) }
     ensures ok { IfOk result (λ opened. (document : Document)
-        × IsKept limits opened.original.text.items library.now document opened.original.clauses opened.loaded) }
+        × IsLoadedText limits opened.original.text.items library.now document opened.original.clauses opened.loaded) }
     ensures err { IfErr result (IsFileFault (T.gives texts.now) Def path.now (IsDefRefusal limits library.now)) }
 {
     let text = read_text(texts, def_file(path))?;

@@ -6,15 +6,15 @@ ghost use Rattle.lf_lex.specs.Tokens.{is_line_feed};
 ghost use Rattle.lf_lex.specs.declared.fault.LoadFault.{LoadFault};
 ghost use Rattle.lf_lex.specs.declared.fault.ReadError.TheVariants.{Memory};
 ghost use Rattle.lf_lex.specs.Faults.{load_fault_of};
-ghost use Rattle.lf_frame_checks.specs.Meetings.{Conflict, conflict_in, no_fence};
+ghost use Rattle.lf_frame_checks.specs.Conflicts.{Conflict, conflict_in, no_fence};
 ghost use Rattle.lf_state_text.specs.Refused.{HasEnd};
-ghost use Rattle.lf_task_designs.specs.Refusals.{IsReportedConflict, ReportsFault, ReportsStateFault, behind_line, behind_lines, first_line, line_at, line_front, fence_line_in, fence_line_of};
+ghost use Rattle.lf_task_designs.specs.Refusals.{IsReportedConflict, ReportsFault, ReportsStateFault, after_line, after_lines, first_line, text_line, line_front, fence_line_in, fence_line_of};
 
 use crate::faults::TextKind;
 use crate::hints::{Hint, earlier_line, fault_line, hint_of, nth_line};
 use lf_frame_checks::FenceConflict;
 use lf_lex::{FaultNumber, LoadFault};
-use lf_state_text::{FaultNumber as StateNumber, StateRefused};
+use lf_state_text::{StateFaultNumber, StateRefused};
 use std::alloc::{AllocError, Global};
 
 /// The number of bytes of a line that are shown.
@@ -43,9 +43,9 @@ pub struct TextRefusal {
     pub earlier: Option<usize>,
     /// The fence that overlaps the refused one, or the first fence that claims the refused
     /// component.
-    pub first_met: Option<FenceLine>,
+    pub first_overlapped: Option<FenceLine>,
     /// The other fence that claims the component.
-    pub second_met: Option<FenceLine>,
+    pub second_overlapped: Option<FenceLine>,
     /// What the text may be instead.
     pub hint: Option<Hint>,
 }
@@ -59,8 +59,8 @@ fn feed_in(bytes: &[u8]) -> Option<usize>
 }
 
 /// Returns what follows the first line. Empty if there is only one line.
-fn behind_line(bytes: &[u8]) -> &[u8]
-    ensures { result.now ≡ behind_line bytes.now }
+fn after_line(bytes: &[u8]) -> &[u8]
+    ensures { result.now ≡ after_line bytes.now }
 {
     match feed_in(bytes) {
         Some(at) => &bytes[at + 1..],
@@ -69,12 +69,12 @@ fn behind_line(bytes: &[u8]) -> &[u8]
 }
 
 /// Returns what follows the first `lines` lines.
-fn behind_lines(text: &[u8], lines: usize) -> &[u8]
-    ensures { result.now ≡ behind_lines lines text.now }
+fn after_lines(text: &[u8], lines: usize) -> &[u8]
+    ensures { result.now ≡ after_lines lines text.now }
 {
     let mut rest = text;
     for _passed in 0..lines {
-        rest = behind_line(rest);
+        rest = after_line(rest);
     }
     rest
 }
@@ -91,9 +91,9 @@ fn first_line(bytes: &[u8]) -> &[u8]
 
 /// Returns the line of this number of a text, counted from 1. Empty if there is no such line.
 fn line_at(text: &[u8], number: usize) -> &[u8]
-    ensures { result.now ≡ line_at text.now number }
+    ensures { result.now ≡ text_line text.now number }
 {
-    first_line(behind_lines(text, number.saturating_sub(1)))
+    first_line(after_lines(text, number.saturating_sub(1)))
 }
 
 /// Returns the first bytes of a line, at most 80.
@@ -150,15 +150,15 @@ fn refusal_of(
     kind: TextKind,
     text: &[u8],
     fault: &LoadFault<'_>,
-    met: &FenceConflict<'_>,
+    overlapping_one: &FenceConflict<'_>,
 ) -> Result<TextRefusal, AllocError>
-    ensures { IfOk result (ReportsFault kind text.now fault.now (conflict_in met.now)) }
+    ensures { IfOk result (ReportsFault kind text.now fault.now (conflict_in overlapping_one.now)) }
 {
     let name = copied(alloc, fault.name)?;
     let at = fault_line(text, fault);
     let shown = Vec::from_slice(alloc, line_front(text, at))?;
-    let first_met = fence_line(alloc, text, met.first)?;
-    let second_met = fence_line(alloc, text, met.second)?;
+    let first_overlapped = fence_line(alloc, text, overlapping_one.first)?;
+    let second_overlapped = fence_line(alloc, text, overlapping_one.second)?;
     Ok(TextRefusal {
         number: fault.number,
         line: fault.line,
@@ -166,8 +166,8 @@ fn refusal_of(
         at,
         shown,
         earlier: earlier_line(text, fault),
-        first_met,
-        second_met,
+        first_overlapped,
+        second_overlapped,
         hint: hint_of(kind, text),
     })
 }
@@ -183,8 +183,8 @@ fn refusal_of_memory(alloc: Global, kind: TextKind, text: &[u8]) -> TextRefusal
         at: None,
         shown: Vec::new(alloc),
         earlier: None,
-        first_met: None,
-        second_met: None,
+        first_overlapped: None,
+        second_overlapped: None,
         hint: hint_of(kind, text),
     }
 }
@@ -192,7 +192,7 @@ fn refusal_of_memory(alloc: Global, kind: TextKind, text: &[u8]) -> TextRefusal
 /// What is printed about a refused state text.
 #[derive(Drop)]
 pub struct StateRefusal {
-    pub number: StateNumber,
+    pub number: StateFaultNumber,
     /// The line of the fault, counted from 1.
     pub line: usize,
     /// The first bytes of that line.
@@ -221,7 +221,7 @@ impl TextRefusal {
     /// Collects what is printed about the refused text, which was read as this kind. If memory runs
     /// out, it describes a failed allocation.
     pub fn new(alloc: Global, kind: TextKind, text: &[u8], fault: &LoadFault<'_>) -> TextRefusal
-        ensures { (told : LoadFault) × (met : Conflict) × IsReportedConflict fault.now no_fence told met × ReportsFault kind text.now told met result }
+        ensures { (reported : LoadFault) × (overlapping_one : Conflict) × IsReportedConflict fault.now no_fence reported overlapping_one × ReportsFault kind text.now reported overlapping_one result }
     {
         let none = FenceConflict {
             first: None,
@@ -236,11 +236,11 @@ impl TextRefusal {
         kind: TextKind,
         text: &[u8],
         fault: &LoadFault<'_>,
-        met: &FenceConflict<'_>,
+        overlapping_one: &FenceConflict<'_>,
     ) -> TextRefusal
-        ensures { (told : LoadFault) × (fences : Conflict) × IsReportedConflict fault.now (conflict_in met.now) told fences × ReportsFault kind text.now told fences result }
+        ensures { (reported : LoadFault) × (fences : Conflict) × IsReportedConflict fault.now (conflict_in overlapping_one.now) reported fences × ReportsFault kind text.now reported fences result }
     {
-        match refusal_of(alloc, kind, text, fault, met) {
+        match refusal_of(alloc, kind, text, fault, overlapping_one) {
             Ok(refusal) => refusal,
             Err(_) => refusal_of_memory(alloc, kind, text),
         }

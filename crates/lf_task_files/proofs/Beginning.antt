@@ -1,7 +1,7 @@
 -- A state of a floor in a text is a state of each floor of the design.
 use Rattle.std.proofs.Common.{◌∙◌, inl, inr, ℕ, List, ap, sym}
 use Rattle.lf_state_text.specs.Designs.{NamedDesign}
-use Rattle.lf_state_text.specs.Reading.{state_of}
+use Rattle.lf_state_text.specs.Reading.{saved_state_of}
 use Rattle.lf_floor_model.specs.States.{FloorState}
 use Rattle.lf_state_restore.specs.Saved.{ShareDesign}
 use Rattle.lf_floor.proofs.Alike.{named_alike, restored_alike}
@@ -14,7 +14,7 @@ pub state_of_design : (gives : ReadsFile) (path : List ℕ) (opened bare begin :
 state_of_design gives path opened bare begin one (text, given, (saved, read, is)) = (
   text,
   given,
-  (saved, ap (λ (n : NamedDesign). state_of n text) (sym (named_alike opened bare one)) ∙ read, is ∙ restored_alike opened bare saved one),
+  (saved, ap (λ (n : NamedDesign). saved_state_of n text) (sym (named_alike opened bare one)) ∙ read, is ∙ restored_alike opened bare saved one),
 )
 
 pub fault_of_design : (gives : ReadsFile) (path : List ℕ) (opened bare : FloorState) (fault : Fault) → ShareDesign opened bare
@@ -22,4 +22,4 @@ pub fault_of_design : (gives : ReadsFile) (path : List ℕ) (opened bare : Floor
 fault_of_design gives path opened bare fault one (inl unread) = inl unread
 fault_of_design gives path opened bare fault one (inr (text, given, inl memory)) = inr (text, given, inl memory)
 fault_of_design gives path opened bare fault one (inr (text, given, inr (why, read, refused))) =
-    inr (text, given, inr (why, ap (λ (n : NamedDesign). state_of n text) (sym (named_alike opened bare one)) ∙ read, refused))
+    inr (text, given, inr (why, ap (λ (n : NamedDesign). saved_state_of n text) (sym (named_alike opened bare one)) ∙ read, refused))

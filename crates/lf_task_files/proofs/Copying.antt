@@ -1,16 +1,16 @@
 -- Copies of designs, with the cells at their places in a table.
 use Rattle.std.proofs.Common.{◌≡◌, List, [], ◌∷◌, map, Option, None, Some, refl, ap}
 use Rattle.std.specs.Borrow.{Bor}
-use Rattle.lf_floorplan.specs.declared.loaded.Cell.{Cell}
+use Rattle.lf_floorplan.specs.declared.loaded.LoadedCell.{LoadedCell}
 use Rattle.lf_cells.specs.Cells.{Cells}
 use Rattle.lf_repair_bounds.proofs.Copying.{AreOneCell}
-use Rattle.lf_task_files.specs.Twins.{placed_by_table}
+use Rattle.lf_task_files.specs.Copies.{placed_by_table}
 
 -- A table changes the places of cells; without a table they are unchanged.
-pub moved_one : (table : Option (Bor Cells)) (c : Cell) → AreOneCell c (placed_by_table table c)
+pub moved_one : (table : Option (Bor Cells)) (c : LoadedCell) → AreOneCell c (placed_by_table table c)
 moved_one None c = record { name = refl; team = refl; mac = refl; component = refl }
 moved_one (Some table) c = record { name = refl; team = refl; mac = refl; component = refl }
 
-pub moved_none : (cells : List Cell) → map (placed_by_table None) cells ≡ cells
+pub moved_none : (cells : List LoadedCell) → map (placed_by_table None) cells ≡ cells
 moved_none [] = refl
-moved_none (c ∷ cells) = ap (λ (cs : List Cell). c ∷ cs) (moved_none cells)
+moved_none (c ∷ cells) = ap (λ (cs : List LoadedCell). c ∷ cs) (moved_none cells)

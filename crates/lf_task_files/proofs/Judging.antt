@@ -6,7 +6,7 @@ use Rattle.std.specs.Borrow.{Bor}
 use Rattle.std.proofs.lemmas.Result.{IfOk-weaker}
 use Rattle.std.proofs.lemmas.List.Elements.{All-cons, All-nil, All-head, All-tail}
 use Rattle.lf_floorplan.specs.declared.frame.Frame.{Frame}
-use Rattle.lf_floorplan.specs.Bounds.{IsName}
+use Rattle.lf_floorplan.specs.Bounds.{IsDesignName}
 use Rattle.lf_rules.specs.declared.report_types.Listed.{Listed}
 use Rattle.lf_rules.specs.declared.report_types.Violation.{Violation}
 use Rattle.lf_rules.specs.declared.rule.Broken.{Broken}
@@ -14,7 +14,7 @@ use Rattle.lf_rules.specs.FullyLegal.{IsFullyLegal, DesignCell, design_cells_fro
 use Rattle.lf_rules.specs.Legalizer.{Legalizer}
 use Rattle.lf_rules.specs.Team.{Member, IsLegalCell}
 use Rattle.lf_rules.proofs.DesignLemmas.{teams_legal}
-use Rattle.lf_reports.specs.Reports.{AreVerdicts, IsListed, named, design_cell_of, violations_in}
+use Rattle.lf_reports.specs.Reports.{AreVerdicts, IsListed, with_byte_name, design_cell_of, violations_in}
 use Rattle.lf_reports.proofs.CleanLemmas.{all_named, clean_is_legal}
 use Rattle.lf_reports.proofs.LegalVerdicts.{illegal_are}
 use Rattle.lf_cells.specs.declared.cell.Cell.{Cell}
@@ -23,7 +23,7 @@ use Rattle.lf_floor_model.specs.Committed.{AreCommittedLegal, committed_member, 
 use Rattle.lf_floor_model.specs.States.{TeamState}
 use Rattle.lf_floor_model.proofs.Parts.{legal_teams}
 use Rattle.lf_floor_model.proofs.Standing.{some_one}
-use Rattle.lf_task_files.specs.Judged.{committed_listed}
+use Rattle.lf_task_files.specs.CommittedLegality.{committed_listed}
 
 -- ---- the cells of a list
 
@@ -34,10 +34,10 @@ length_none (y ∷ ys) e = absurd cc
 -- The listed cells make a fully legal design if and only if no cell is unplaced and no verdict
 -- names a broken rule.
 pub legal_list : (l : Legalizer) (f : Frame) (cells : List (Listed (Bor (List ℕ)))) (verdicts : List (Option Broken))
-    → All (λ c. IsListed f (named c)) cells → AreVerdicts l f 0 (map named cells) verdicts
-    → ((count_by (λ c. is_none c.place) (map named cells) ≡ 0) × (count_by is_some verdicts ≡ 0)) ↔ IsFullyLegal f (map design_cell_of (map named cells))
+    → All (λ c. IsListed f (with_byte_name c)) cells → AreVerdicts l f 0 (map with_byte_name cells) verdicts
+    → ((count_by (λ c. is_none c.place) (map with_byte_name cells) ≡ 0) × (count_by is_some verdicts ≡ 0)) ↔ IsFullyLegal f (map design_cell_of (map with_byte_name cells))
 legal_list l f cells verdicts known are =
-    let listed = map named cells in
+    let listed = map with_byte_name cells in
     let illegal = illegal_are l f listed verdicts are in
     let law = clean_is_legal l f listed (all_named f cells known) in (
       λ none. law.0 (record { all_placed = none.0; none_broken = length_none (violations_in l f 0 listed) (sym illegal ∙ none.1) }),
@@ -75,8 +75,8 @@ is_padded (suc before) members (suc k) cells e = elim (is_padded before members 
   | inr same ↦ inr (ap suc same.0, same.1)
 ]
 
-none_stands : (f : Frame) (team own : ℕ) → IsLegalCell f team 0 [] own
-none_stands f team own m there = absurd cc
+none_is_placed : (f : Frame) (team own : ℕ) → IsLegalCell f team 0 [] own
+none_is_placed f team own m there = absurd cc
 
 -- A team's cells make a fully legal design by themselves if and only if each is legal at its place.
 team_alone : (f : Frame) (number : ℕ) (members : List Member)
@@ -86,14 +86,14 @@ team_alone f number members =
     ap (λ (n : ℕ). with_team n members []) (omega arith) in
     let is : design_cells_from 0 (padded number members) ≡ with_team number members [] = standing_padded number 0 members ∙ same in (
       λ legal. legal_teams f (padded number members) (subst (λ (cs : List DesignCell). IsFullyLegal f cs) (sym is) legal) number members (there_padded number members),
-      λ stand. subst (λ (cs : List DesignCell). IsFullyLegal f cs) is (teams_legal f (padded number members) (λ team cells there own.
-          by stand team cells own (is_padded number members team cells there))),
+      λ are_placed. subst (λ (cs : List DesignCell). IsFullyLegal f cs) is (teams_legal f (padded number members) (λ team cells there own.
+          by are_placed team cells own (is_padded number members team cells there))),
     ) where
       by : ((own : ℕ) → IsLegalCell f number 0 members own) → (team : ℕ) (cells : List Member) (own : ℕ) → (cells ≡ []) ⊎ ((team ≡ number) × (cells ≡ members))
           → IsLegalCell f team 0 cells own
-      by stand team cells own (inl none) = subst (λ (ms : List Member). IsLegalCell f team 0 ms own) (sym none) (none_stands f team own)
-      by stand team cells own (inr here) =
-          subst (λ (n : ℕ). IsLegalCell f n 0 cells own) (sym here.0) (subst (λ (ms : List Member). IsLegalCell f number 0 ms own) (sym here.1) (stand own))
+      by are_placed team cells own (inl none) = subst (λ (ms : List Member). IsLegalCell f team 0 ms own) (sym none) (none_is_placed f team own)
+      by are_placed team cells own (inr here) =
+          subst (λ (n : ℕ). IsLegalCell f n 0 cells own) (sym here.0) (subst (λ (ms : List Member). IsLegalCell f number 0 ms own) (sym here.1) (are_placed own))
 
 standing_committed : (number : ℕ) (cells : List Cell) → map design_cell_of (map (committed_listed number) cells) ≡ with_team number (map committed_member cells) []
 standing_committed number [] = refl
@@ -101,38 +101,38 @@ standing_committed number (c ∷ cells) = ap (λ (rest : List DesignCell). desig
 
 -- A team's cells, listed at their committed places, make a fully legal design if and only if these
 -- places are legal.
-pub team_judged : (f : Frame) (number : ℕ) (s : TeamState)
+pub team_checked : (f : Frame) (number : ℕ) (s : TeamState)
     → IsFullyLegal f (map design_cell_of (map (committed_listed number) s.cells)) ↔ AreCommittedLegal f number s
-team_judged f number s =
+team_checked f number s =
     let is = standing_committed number s.cells in
     let alone = team_alone f number (committed_members s) in (
       λ legal. alone.0 (subst (λ (cs : List DesignCell). IsFullyLegal f cs) is legal),
-      λ stand. subst (λ (cs : List DesignCell). IsFullyLegal f cs) (sym is) (alone.1 stand),
+      λ are_placed. subst (λ (cs : List DesignCell). IsFullyLegal f cs) (sym is) (alone.1 are_placed),
     )
 
 -- ---- cells that are listed
 
 -- The cells of a team of the frame are listed as reports need them.
-pub committed_known : (f : Frame) (number : ℕ) (cells : List Cell) → All (λ c. IsSizedCell f c) cells → All (λ c. IsName c.name) cells
+pub committed_known : (f : Frame) (number : ℕ) (cells : List Cell) → All (λ c. IsSizedCell f c) cells → All (λ c. IsDesignName c.name) cells
     → All (IsListed f) (map (committed_listed number) cells)
 committed_known f number [] sized printed = All-nil (IsListed f)
 committed_known f number (c ∷ cells) sized printed =
     let size = All-head (λ (x : Cell). IsSizedCell f x) c cells sized in
-    let name = All-head (λ (x : Cell). IsName x.name) c cells printed in
+    let name = All-head (λ (x : Cell). IsDesignName x.name) c cells printed in
     All-cons (IsListed f) (committed_listed number c) (map (committed_listed number) cells)
     (record { known = size.known; sized = size.sized; printed = name })
-    (committed_known f number cells (All-tail (λ (x : Cell). IsSizedCell f x) c cells sized) (All-tail (λ (x : Cell). IsName x.name) c cells printed))
+    (committed_known f number cells (All-tail (λ (x : Cell). IsSizedCell f x) c cells sized) (All-tail (λ (x : Cell). IsDesignName x.name) c cells printed))
 
 -- The result for the listed cells of a team holds for its committed places.
-pub judged_as : (f g : Frame) (number : ℕ) (s : TeamState) (cells : List (Listed (List ℕ))) (r : Result Bool AllocError) → g ≡ f
+pub checked_as : (f g : Frame) (number : ℕ) (s : TeamState) (cells : List (Listed (List ℕ))) (r : Result Bool AllocError) → g ≡ f
     → cells ≡ map (committed_listed number) s.cells → IfOk r (λ legal. IsTrue legal ↔ IsFullyLegal g (map design_cell_of cells))
     → IfOk r (λ legal. IsTrue legal ↔ AreCommittedLegal f number s)
-judged_as f g number s cells r frame are found =
+checked_as f g number s cells r frame are found =
     IfOk-weaker r (λ legal. IsTrue legal ↔ IsFullyLegal g (map design_cell_of cells)) (λ legal. IsTrue legal ↔ AreCommittedLegal f number s) (λ legal is.
     let same : IsTrue legal ↔ IsFullyLegal f (map design_cell_of (map (committed_listed number) s.cells)) =
     subst (λ (h : Frame). IsTrue legal ↔ IsFullyLegal h (map design_cell_of (map (committed_listed number) s.cells))) frame
     (subst (λ (cs : List (Listed (List ℕ))). IsTrue legal ↔ IsFullyLegal g (map design_cell_of cs)) are is) in
-    let judged = team_judged f number s in (λ yes. judged.0 (same.0 yes), λ legal_there. same.1 (judged.1 legal_there)))
+    let committed_checked = team_checked f number s in (λ yes. committed_checked.0 (same.0 yes), λ legal_there. same.1 (committed_checked.1 legal_there)))
     found
 
 pub there_is : {X : Type 0} (xs : List X) (k : ℕ) → k < length xs → (x : X) × (slice_get xs k ≡ Some x)

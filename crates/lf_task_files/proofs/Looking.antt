@@ -8,7 +8,7 @@ use Rattle.std.proofs.lemmas.List.{length-map}
 use Rattle.std.proofs.lemmas.List.Elements.{All-head, All-tail}
 use Rattle.lf_floorplan.specs.declared.frame.Frame.{Frame}
 use Rattle.lf_floorplan.specs.declared.limits.Limits.{Limits}
-use Rattle.lf_floorplan.specs.declared.loaded.Cell.{Cell as LoadedCell}
+use Rattle.lf_floorplan.specs.declared.loaded.LoadedCell.{LoadedCell}
 use Rattle.lf_floorplan.specs.declared.loaded.Loaded.{Loaded}
 use Rattle.lf_floorplan.specs.declared.parts.Team.{Team}
 use Rattle.lf_floorplan.specs.declared.place.Place.{Place}
@@ -16,19 +16,19 @@ use Rattle.lf_floorplan.specs.Design.{IsCell, MakeDesign}
 use Rattle.lf_floorplan.specs.Fences.{ground_name}
 use Rattle.lf_cells.specs.declared.cell.Cell.{Cell}
 use Rattle.lf_cells.specs.Cells.{Cells, cells_of}
-use Rattle.lf_cells.specs.Openings.{own_cells}
+use Rattle.lf_cells.specs.Initial.{own_cells}
 use Rattle.lf_state_text.specs.Designs.{NamedDesign}
-use Rattle.lf_state_text.specs.Reading.{state_of}
+use Rattle.lf_state_text.specs.Reading.{saved_state_of}
 use Rattle.lf_floor_model.specs.Designs.{initial_floor, initial_teams}
 use Rattle.lf_floor_model.specs.States.{FloorState, TeamState}
 use Rattle.lf_floor_model.proofs.Openings.{opening_whole}
-use Rattle.lf_state_restore.specs.Saved.{ShareDesign, fixed_cells, map_two, named, named_team, restored, restored_team}
+use Rattle.lf_state_restore.specs.Saved.{ShareDesign, fixed_cells, map_two, design_names, named_team, restored_floor, restored_team}
 use Rattle.lf_task_designs.specs.declared.faults.Fault.{Fault}
-use Rattle.lf_task_designs.specs.declared.faults.Fault.TheVariants.{NoMemory}
+use Rattle.lf_task_designs.specs.declared.faults.Fault.TheVariants.{SetupOutOfMemory}
 use Rattle.lf_task_designs.specs.Designs.{ReadsFile}
-use Rattle.lf_task_files.specs.Standing.{place_named, place_on, placed_on_floor}
+use Rattle.lf_task_files.specs.PlacedDesigns.{place_named, place_on_floor, placed_on_floor}
 use Rattle.lf_task_files.specs.States.{IsFileState, IsStateFileFault}
-use Rattle.lf_task_files.specs.Twins.{IsCopyWithCells, placed_by_table}
+use Rattle.lf_task_files.specs.Copies.{IsCopyWithCells, placed_by_table}
 use Rattle.lf_repair_bounds.proofs.Copying.{AreOneCell, design_moved}
 
 -- ---- a design and its copy
@@ -52,7 +52,7 @@ teams_alike design twin is =
 by_parts : List Team → List TeamState → Limits → NamedDesign
 by_parts fences teams limits = record { teams = map_two named_team (map (λ t. t.name) fences ++ ground_name ∷ []) teams; limits = limits }
 
-named_alike : (design twin : Loaded) → IsCopyWithCells design.frame design.cells twin → named (initial_floor twin) ≡ named (initial_floor design)
+named_alike : (design twin : Loaded) → IsCopyWithCells design.frame design.cells twin → design_names (initial_floor twin) ≡ design_names (initial_floor design)
 unfolding by_parts
 named_alike design twin is =
     ap (λ (ts : List Team). by_parts ts (initial_floor twin).teams twin.frame.limits) is.frame.teams
@@ -63,8 +63,8 @@ pub state_alike : (gives : ReadsFile) (path : List ℕ) (design twin : Loaded) (
     → IsFileState gives path (initial_floor twin) floor
     → (other : FloorState) × IsFileState gives path (initial_floor design) other × (other.teams ≡ floor.teams)
 state_alike gives path design twin floor is (text, given, (saved, read, same)) = (
-  restored (initial_floor design) saved,
-  (text, given, (saved, ap (λ (n : NamedDesign). state_of n text) (sym (named_alike design twin is)) ∙ read, refl)),
+  restored_floor (initial_floor design) saved,
+  (text, given, (saved, ap (λ (n : NamedDesign). saved_state_of n text) (sym (named_alike design twin is)) ∙ read, refl)),
   ap (λ (ts : List TeamState). map_two restored_team ts saved) (sym (teams_alike design twin is)) ∙ sym (ap (λ (f : FloorState). f.teams) same),
 )
 
@@ -74,11 +74,11 @@ fault_alike : (gives : ReadsFile) (path : List ℕ) (design twin : Loaded) (faul
 fault_alike gives path design twin fault is (inl unread) = inl unread
 fault_alike gives path design twin fault is (inr (text, given, inl memory)) = inr (text, given, inl memory)
 fault_alike gives path design twin fault is (inr (text, given, inr (why, read, refused))) =
-    inr (text, given, inr (why, ap (λ (n : NamedDesign). state_of n text) (sym (named_alike design twin is)) ∙ read, refused))
+    inr (text, given, inr (why, ap (λ (n : NamedDesign). saved_state_of n text) (sym (named_alike design twin is)) ∙ read, refused))
 
 -- The same for why there is no floor.
 pub floor_fails : (gives : ReadsFile) (path : List ℕ) (design twin : Loaded) (fault : Fault) → IsCopyWithCells design.frame design.cells twin
-    → (fault ≡ NoMemory) ⊎ IsStateFileFault gives path (initial_floor twin) fault → (fault ≡ NoMemory) ⊎ IsStateFileFault gives path (initial_floor design) fault
+    → (fault ≡ SetupOutOfMemory) ⊎ IsStateFileFault gives path (initial_floor twin) fault → (fault ≡ SetupOutOfMemory) ⊎ IsStateFileFault gives path (initial_floor design) fault
 floor_fails gives path design twin fault is (inl memory) = inl memory
 floor_fails gives path design twin fault is (inr state) = inr (fault_alike gives path design twin fault is state)
 
@@ -100,7 +100,7 @@ abbrev pub AreTabled : Cells → FloorState → Type 0
 AreTabled table floor = (number : ℕ) (s : TeamState) → slice_get floor.teams number ≡ Some s → cells_of table number ≡ s.cells
 
 place_alike : (f : Frame) (table : Cells) (floor other : FloorState) (c : LoadedCell) → AreTabled table floor → length floor.teams ≡ length f.teams + 1
-    → other.teams ≡ floor.teams → IsCell f c → place_named c.name (cells_of table c.team) ≡ place_on other c
+    → other.teams ≡ floor.teams → IsCell f c → place_named c.name (cells_of table c.team) ≡ place_on_floor other c
 place_alike f table floor other c tabled many same is =
     let team = some_at floor.teams c.team (omega (arith, many, is.team_known)) in
     let found = λ (s : TeamState). place_named c.name s.cells in
@@ -116,9 +116,9 @@ places_alike f table floor other (c ∷ cells) tabled many same known =
     (place_alike f table.now floor other c tabled many same (All-head (IsCell f) c cells known))
     (places_alike f table floor other cells tabled many same (All-tail (IsCell f) c cells known))
 
-stood_one : (floor : FloorState) (c : LoadedCell) → AreOneCell c (placed_on_floor floor c)
-stood_one floor c = record { name = refl; team = refl; mac = refl; component = refl }
+original_one : (floor : FloorState) (c : LoadedCell) → AreOneCell c (placed_on_floor floor c)
+original_one floor c = record { name = refl; team = refl; mac = refl; component = refl }
 
 -- Cells that make a design also make one at their working places.
-pub design_stood : (f : Frame) (floor : FloorState) (cells : List LoadedCell) → MakeDesign f cells → MakeDesign f (map (placed_on_floor floor) cells)
-design_stood f floor cells is = design_moved f (placed_on_floor floor) (stood_one floor) cells is
+pub design_placed : (f : Frame) (floor : FloorState) (cells : List LoadedCell) → MakeDesign f cells → MakeDesign f (map (placed_on_floor floor) cells)
+design_placed f floor cells is = design_moved f (placed_on_floor floor) (original_one floor) cells is

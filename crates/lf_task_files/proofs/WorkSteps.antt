@@ -7,11 +7,11 @@ use Rattle.lf_def.specs.Document.{Document, document_of}
 use Rattle.lf_floorplan.specs.declared.limits.Limits.{Limits}
 use Rattle.lf_floorplan.specs.declared.loaded.Loaded.{Loaded}
 use Rattle.lf_task_designs.specs.declared.faults.Fault.{Fault}
-use Rattle.lf_task_designs.specs.declared.faults.Fault.TheVariants.{Refused, File, NoState, NoTeam, ReadFault, WriteFault, TooManyLines, OutOfMemory, Output, Bind, Accept, Unwritten, Unsaved, Unlisted, NoMemory, NoRoom}
+use Rattle.lf_task_designs.specs.declared.faults.Fault.TheVariants.{Refused, File, RefusedState, NoTeam, ReadFault, WriteFault, TooManyLines, OutOfMemory, Output, Bind, Accept, Unwritten, Unsaved, Unlisted, SetupOutOfMemory, OutputOutOfMemory}
 use Rattle.lf_task_designs.specs.declared.faults.TextKind.{TextKind}
 use Rattle.lf_task_designs.specs.declared.faults.TextKind.TheVariants.{Lef, Def, State}
 use Rattle.lf_task_designs.specs.Designs.{RefusalCause, ReadsFile, IsDefRefusal, IsDesignFault, IsDesignOf, IsFileFault, IsLefRefusal, IsLibraryFault, IsLibraryOf}
-use Rattle.lf_task_designs.specs.Designs.{IsLoadRefusal, IsLoadedIn, IsOpened, IsRefused, IsUnread, no_library}
+use Rattle.lf_task_designs.specs.Designs.{IsLoadRefusal, IsLoadedIn, IsOpened, IsRefusedText, IsUnread, no_library}
 use Rattle.lf_task_designs.proofs.DesignSteps.{text_refused}
 use Rattle.lf_task_designs.specs.Faults.{BlamesDevices, BlamesWriter, IsEarly}
 use Rattle.lf_task_files.specs.Exits.{IsOpenUndescribed, IsViewNotDescribed}
@@ -32,7 +32,7 @@ step_fails r why all also is gives =
     IfErr-weaker r (λ fault. why fault × also fault) (λ fault. all fault × also fault) (λ fault both. (gives fault both.0, both.1)) is
 
 abbrev IsRoom : Fault → Type 0
-IsRoom NoRoom = Unit {0}
+IsRoom OutputOutOfMemory = Unit {0}
 IsRoom _ = ⊥
 
 abbrev IsPath : Fault → Type 0
@@ -74,7 +74,7 @@ early_blames kept reader writer export service sound (Refused file its) keeps so
     record { early = λ _. keeps; reading = λ same. absurd (subst IsEarly same tt); writing = λ of. absurd of; exporting = λ of. absurd of; serving = λ of. absurd of; sparing = λ _. sounds }
 early_blames kept reader writer export service sound (File file why) keeps sounds early =
     record { early = λ _. keeps; reading = λ same. absurd (subst IsEarly same tt); writing = λ of. absurd of; exporting = λ of. absurd of; serving = λ of. absurd of; sparing = λ _. sounds }
-early_blames kept reader writer export service sound (NoState path its) keeps sounds early =
+early_blames kept reader writer export service sound (RefusedState path its) keeps sounds early =
     record { early = λ _. keeps; reading = λ same. absurd (subst IsEarly same tt); writing = λ of. absurd of; exporting = λ of. absurd of; serving = λ of. absurd of; sparing = λ _. sounds }
 early_blames kept reader writer export service sound (NoTeam name) keeps sounds early =
     record { early = λ _. keeps; reading = λ same. absurd (subst IsEarly same tt); writing = λ of. absurd of; exporting = λ of. absurd of; serving = λ of. absurd of; sparing = λ _. sounds }
@@ -88,16 +88,16 @@ early_blames kept reader writer export service sound Accept keeps sounds early =
 early_blames kept reader writer export service sound (Unwritten path why) keeps sounds early = absurd early
 early_blames kept reader writer export service sound (Unsaved path why) keeps sounds early = absurd early
 early_blames kept reader writer export service sound (Unlisted path why) keeps sounds early = absurd early
-early_blames kept reader writer export service sound NoMemory keeps sounds early =
+early_blames kept reader writer export service sound SetupOutOfMemory keeps sounds early =
     record { early = λ _. keeps; reading = λ same. absurd (subst IsEarly same tt); writing = λ of. absurd of; exporting = λ of. absurd of; serving = λ of. absurd of; sparing = λ _. sounds }
-early_blames kept reader writer export service sound NoRoom keeps sounds early = absurd early
+early_blames kept reader writer export service sound OutputOutOfMemory keeps sounds early = absurd early
 
 -- A fault of the export blames its file, or no device.
 pub export_blames : (kept reader writer export service sound : Type 0) (fault : Fault) (before now : Bool) → ExportFails fault before now
     → (now ≡ true → export) → (now ≡ before → sound) → BlamesDevices fault kept reader writer export service sound
 export_blames kept reader writer export service sound (Refused file its) before now is fails sounds = absurd is
 export_blames kept reader writer export service sound (File file why) before now is fails sounds = absurd is
-export_blames kept reader writer export service sound (NoState path its) before now is fails sounds = absurd is
+export_blames kept reader writer export service sound (RefusedState path its) before now is fails sounds = absurd is
 export_blames kept reader writer export service sound (NoTeam name) before now is fails sounds = absurd is
 export_blames kept reader writer export service sound ReadFault before now is fails sounds = absurd is
 export_blames kept reader writer export service sound WriteFault before now is fails sounds = absurd is
@@ -112,15 +112,15 @@ export_blames kept reader writer export service sound (Unsaved path why) before 
     record { early = λ of. absurd of; reading = λ same. absurd (subst IsPath same tt); writing = λ of. absurd of; exporting = λ _. fails is; serving = λ of. absurd of; sparing = λ of. absurd of }
 export_blames kept reader writer export service sound (Unlisted path why) before now is fails sounds =
     record { early = λ of. absurd of; reading = λ same. absurd (subst IsPath same tt); writing = λ of. absurd of; exporting = λ _. fails is; serving = λ of. absurd of; sparing = λ of. absurd of }
-export_blames kept reader writer export service sound NoMemory before now is fails sounds = absurd is
-export_blames kept reader writer export service sound NoRoom before now is fails sounds =
+export_blames kept reader writer export service sound SetupOutOfMemory before now is fails sounds = absurd is
+export_blames kept reader writer export service sound OutputOutOfMemory before now is fails sounds =
     record { early = λ of. absurd of; reading = λ same. absurd (subst IsRoom same tt); writing = λ of. absurd of; exporting = λ of. absurd of; serving = λ of. absurd of; sparing = λ _. sounds is }
 
 -- A refusal of a text is early.
-pub refused_early : (kind : TextKind) (path text : List ℕ) (why : RefusalCause) (fault : Fault) → IsRefused kind path text why fault → IsEarly fault
+pub refused_early : (kind : TextKind) (path text : List ℕ) (why : RefusalCause) (fault : Fault) → IsRefusedText kind path text why fault → IsEarly fault
 refused_early kind path text why (Refused file its) is = tt
 refused_early kind path text why (File file cause) is = absurd is
-refused_early kind path text why (NoState its_path its) is = absurd is
+refused_early kind path text why (RefusedState its_path its) is = absurd is
 refused_early kind path text why (NoTeam name) is = absurd is
 refused_early kind path text why ReadFault is = absurd is
 refused_early kind path text why WriteFault is = absurd is
@@ -132,14 +132,14 @@ refused_early kind path text why Accept is = absurd is
 refused_early kind path text why (Unwritten its_path its_why) is = absurd is
 refused_early kind path text why (Unsaved its_path its_why) is = absurd is
 refused_early kind path text why (Unlisted its_path its_why) is = absurd is
-refused_early kind path text why NoMemory is = absurd is
-refused_early kind path text why NoRoom is = absurd is
+refused_early kind path text why SetupOutOfMemory is = absurd is
+refused_early kind path text why OutputOutOfMemory is = absurd is
 
 -- A text that was not read is early too.
 pub unread_early : (gives : ReadsFile) (kind : TextKind) (path : List ℕ) (fault : Fault) → IsUnread gives kind path fault → IsEarly fault
 unread_early gives kind path (Refused file its) is = absurd is
 unread_early gives kind path (File file why) is = tt
-unread_early gives kind path (NoState its_path its) is = absurd is
+unread_early gives kind path (RefusedState its_path its) is = absurd is
 unread_early gives kind path (NoTeam name) is = absurd is
 unread_early gives kind path ReadFault is = absurd is
 unread_early gives kind path WriteFault is = absurd is
@@ -151,8 +151,8 @@ unread_early gives kind path Accept is = absurd is
 unread_early gives kind path (Unwritten its_path its_why) is = absurd is
 unread_early gives kind path (Unsaved its_path its_why) is = absurd is
 unread_early gives kind path (Unlisted its_path its_why) is = absurd is
-unread_early gives kind path NoMemory is = tt
-unread_early gives kind path NoRoom is = absurd is
+unread_early gives kind path SetupOutOfMemory is = tt
+unread_early gives kind path OutputOutOfMemory is = absurd is
 
 -- Each fault of a file is early too.
 pub file_early : (gives : ReadsFile) (kind : TextKind) (path : List ℕ) (why : List ℕ → RefusalCause) (fault : Fault) → IsFileFault gives kind path why fault
@@ -180,7 +180,7 @@ first_fails why all kept reader writer export service sound fault keeps sounds i
 
 -- Why the design of a text is not described is why that of a file with this text is not.
 pub file_fails : (limits : Limits) (gives : ReadsFile) (path : List ℕ) (library : Contents) (text : List ℕ) (why : Document → Loaded → Type 0) (fault : Fault) → gives path (Some text)
-    → IsRefused Def path text (IsDefRefusal limits library text) fault
+    → IsRefusedText Def path text (IsDefRefusal limits library text) fault
     ⊎ ((d : Document) × (document_of text ≡ Ok d) × ((loaded : Loaded) × IsLoadedIn limits library d loaded × why d loaded))
     → IsFileFault gives Def path (IsDefRefusal limits library) fault
     ⊎ ((t : List ℕ) × gives path (Some t) × ((d : Document) × (document_of t ≡ Ok d) × ((loaded : Loaded) × IsLoadedIn limits library d loaded × why d loaded)))
@@ -218,7 +218,7 @@ never_fails (Err fault) P Q is none = absurd (none fault is)
 refused_state_early : (path text : List ℕ) (why : StateFault) (fault : Fault) → IsStateRefused path text why fault → IsEarly fault
 refused_state_early path text why (Refused file its) is = absurd is
 refused_state_early path text why (File file cause) is = absurd is
-refused_state_early path text why (NoState its_path its) is = tt
+refused_state_early path text why (RefusedState its_path its) is = tt
 refused_state_early path text why (NoTeam name) is = absurd is
 refused_state_early path text why ReadFault is = absurd is
 refused_state_early path text why WriteFault is = absurd is
@@ -230,8 +230,8 @@ refused_state_early path text why Accept is = absurd is
 refused_state_early path text why (Unwritten its_path its_why) is = absurd is
 refused_state_early path text why (Unsaved its_path its_why) is = absurd is
 refused_state_early path text why (Unlisted its_path its_why) is = absurd is
-refused_state_early path text why NoMemory is = tt
-refused_state_early path text why NoRoom is = absurd is
+refused_state_early path text why SetupOutOfMemory is = tt
+refused_state_early path text why OutputOutOfMemory is = absurd is
 
 -- The same for each fault of its text.
 state_text_early : (opened : FloorState) (path text : List ℕ) (fault : Fault) → IsStateTextFault opened path text fault → IsEarly fault
@@ -257,7 +257,7 @@ design_opened limits gives def lefs text document loaded is =
 
 -- A design that cannot be brought into the requested state is reported before anything is written.
 pub unseen_early : (limits : Limits) (gives : ReadsFile) (path : List ℕ) (library : Contents) (text : List ℕ) (document : Document) (state : Option (List ℕ)) (fault : Fault)
-    → IsRefused Def path text (IsLoadRefusal limits library document) fault
+    → IsRefusedText Def path text (IsLoadRefusal limits library document) fault
     ⊎ ((loaded : Loaded) × IsLoadedIn limits library document loaded × IsNotOpened gives state loaded fault) → IsEarly fault
 unseen_early limits gives path library text document state fault (inl refused) = refused_early Def path text (IsLoadRefusal limits library document) fault refused
 unseen_early limits gives path library text document state fault (inr (loaded, loads, unbegun)) = unbegun_early gives state loaded fault unbegun
@@ -265,9 +265,9 @@ unseen_early limits gives path library text document state fault (inr (loaded, l
 -- It is also why its document is not described.
 pub unseen_fails : (limits : Limits) (gives : ReadsFile) (path : List ℕ) (library : Contents) (text : List ℕ) (document : Document) (state before after : Option (List ℕ))
     (fault : Fault) → document_of text ≡ Ok document
-    → IsRefused Def path text (IsLoadRefusal limits library document) fault
+    → IsRefusedText Def path text (IsLoadRefusal limits library document) fault
     ⊎ ((loaded : Loaded) × IsLoadedIn limits library document loaded × IsNotOpened gives state loaded fault)
-    → IsRefused Def path text (IsDefRefusal limits library text) fault
+    → IsRefusedText Def path text (IsDefRefusal limits library text) fault
     ⊎ ((d : Document) × (document_of text ≡ Ok d) × ((loaded : Loaded) × IsLoadedIn limits library d loaded × IsViewNotDescribed gives state d loaded before after fault))
 unseen_fails limits gives path library text document state before after fault is (inl refused) = inl (text_refused limits library path text document fault is refused)
 unseen_fails limits gives path library text document state before after fault is (inr (loaded, loads, unbegun)) = inr (document, is, (loaded, loads, inl unbegun))

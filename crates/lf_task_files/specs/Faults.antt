@@ -4,7 +4,7 @@ use Rattle.std.specs.Borrow.{Bor}
 use Rattle.lf_io_files.specs.declared.output_files.WriteFailure.{WriteFailure as NotWritten}
 use Rattle.lf_io_files.specs.declared.output_files.WriteFailure.TheVariants as not_written
 use Rattle.lf_task_designs.specs.declared.faults.Fault.{Fault}
-use Rattle.lf_task_designs.specs.declared.faults.Fault.TheVariants.{Unwritten, Unsaved, Unlisted, NoRoom}
+use Rattle.lf_task_designs.specs.declared.faults.Fault.TheVariants.{Unwritten, Unsaved, Unlisted, OutputOutOfMemory}
 use Rattle.lf_task_designs.specs.Faults.{IsReportFault}
 
 -- ---- the exit statuses
@@ -23,16 +23,16 @@ IsDone status = (status ≡ 0) ⊎ (status ≡ 4)
 -- A description was not written: an allocation failed, for its first or a later line, or the writer
 -- failed.
 abbrev pub IsDescriptionFault : Fault → Type 0
-IsDescriptionFault fault = IsReportFault fault ⊎ (fault ≡ NoRoom)
+IsDescriptionFault fault = IsReportFault fault ⊎ (fault ≡ OutputOutOfMemory)
 
 -- The fault of the exported text or the state that is not written to the file of this path.
 abbrev pub export_fault : Bor (List ℕ) → NotWritten → Fault
 export_fault path (not_written.File why) = Unwritten path why
-export_fault path not_written.OutOfMemory = NoRoom
+export_fault path not_written.OutOfMemory = OutputOutOfMemory
 
 abbrev pub save_fault : Bor (List ℕ) → NotWritten → Fault
 save_fault path (not_written.File why) = Unsaved path why
-save_fault path not_written.OutOfMemory = NoRoom
+save_fault path not_written.OutOfMemory = OutputOutOfMemory
 
 -- The exported text of this path is not written.
 abbrev pub IsUnwritten : List ℕ → Fault → Type 0
@@ -43,7 +43,7 @@ IsUnwritten path _ = ⊥
 -- file cannot be written.
 abbrev pub IsExportFault : Option (List ℕ) → Fault → Type 0
 IsExportFault None fault = ⊥
-IsExportFault (Some path) fault = (fault ≡ NoRoom) ⊎ IsUnwritten path fault
+IsExportFault (Some path) fault = (fault ≡ OutputOutOfMemory) ⊎ IsUnwritten path fault
 
 -- The state is not written to this path.
 abbrev pub IsNotSaved : List ℕ → Fault → Type 0
@@ -54,7 +54,7 @@ IsNotSaved path _ = ⊥
 -- cannot be written.
 abbrev pub IsSaveFault : Option (List ℕ) → Fault → Type 0
 IsSaveFault None fault = ⊥
-IsSaveFault (Some path) fault = (fault ≡ NoRoom) ⊎ IsNotSaved path fault
+IsSaveFault (Some path) fault = (fault ≡ OutputOutOfMemory) ⊎ IsNotSaved path fault
 
 -- ---- which device is to blame
 
@@ -64,5 +64,5 @@ abbrev pub ExportFails : Fault → Bool → Bool → Type 0
 ExportFails (Unwritten path why) before now = now ≡ true
 ExportFails (Unsaved path why) before now = now ≡ true
 ExportFails (Unlisted path why) before now = now ≡ true
-ExportFails NoRoom before now = now ≡ before
+ExportFails OutputOutOfMemory before now = now ≡ before
 ExportFails _ before now = ⊥

@@ -1,7 +1,7 @@
 pub mod Exits
 pub mod Faults
 pub mod Inputs
-pub mod Judged
-pub mod Standing
+pub mod CommittedLegality
+pub mod PlacedDesigns
 pub mod States
-pub mod Twins
+pub mod Copies

@@ -2,25 +2,25 @@
 use Rattle.std.specs.Prelude.{◌≡◌, ◌⊎◌, ℕ, List, Option, Some, None, Ok, Err}
 use Rattle.lf_io_files.specs.Shelf.{Put, PutsFile}
 use Rattle.lf_state_text.specs.declared.fault.StateFault.{StateFault}
-use Rattle.lf_state_text.specs.Reading.{state_of}
+use Rattle.lf_state_text.specs.Reading.{saved_state_of}
 use Rattle.lf_state_text.specs.Saved.{SavedTeam}
 use Rattle.lf_floorplan.specs.declared.limits.Limits.{Limits}
 use Rattle.lf_floorplan.specs.declared.loaded.Loaded.{Loaded}
 use Rattle.lf_floor_model.specs.States.{FloorState}
 use Rattle.lf_floor_model.specs.Designs.{initial_floor}
-use Rattle.lf_state_restore.specs.Saved.{IsRestoredFrom, IsStateText, named}
+use Rattle.lf_state_restore.specs.Saved.{IsRestoredFrom, IsStateText, design_names}
 use Rattle.lf_task_designs.specs.declared.faults.Fault.{Fault}
-use Rattle.lf_task_designs.specs.declared.faults.Fault.TheVariants.{NoMemory, NoState}
+use Rattle.lf_task_designs.specs.declared.faults.Fault.TheVariants.{SetupOutOfMemory, RefusedState}
 use Rattle.lf_task_designs.specs.declared.faults.TextKind.TheVariants.{State}
 use Rattle.lf_task_designs.specs.Designs.{ReadsFile, IsDesignFault, IsDesignOf, IsUnread}
 use Rattle.lf_task_designs.specs.Refusals.{ReportsStateFault}
-use Rattle.lf_task_files.specs.Standing.{IsPlacedOnFloor}
+use Rattle.lf_task_files.specs.PlacedDesigns.{IsPlacedOnFloor}
 
 -- ---- the state with which work begins
 
 -- The file of the path is read, and its text has these teams of the design of the opened floor.
 abbrev pub FileHasState : ReadsFile → List ℕ → FloorState → List SavedTeam → Type 0
-FileHasState gives path opened saved = (text : List ℕ) × gives path (Some text) × (state_of (named opened) text ≡ Ok saved)
+FileHasState gives path opened saved = (text : List ℕ) × gives path (Some text) × (saved_state_of (design_names opened) text ≡ Ok saved)
 
 -- The file of the path is read, and the floor is in the state that its text has of the design of
 -- the opened floor.
@@ -34,15 +34,15 @@ IsOpenedFloor gives (Some path) opened begin = IsFileState gives path opened beg
 
 -- What is reported about a refused text: its fault, or a failed allocation.
 abbrev pub IsStateRefused : List ℕ → List ℕ → StateFault → Fault → Type 0
-IsStateRefused path text why (NoState its refusal) = (its.now ≡ path) × ReportsStateFault text why refusal
-IsStateRefused path text why NoMemory = Unit {0}
+IsStateRefused path text why (RefusedState its refusal) = (its.now ≡ path) × ReportsStateFault text why refusal
+IsStateRefused path text why SetupOutOfMemory = Unit {0}
 IsStateRefused path text why _ = ⊥
 
 -- Why the text has no state of the floor's design: its first fault, with its line; or a failed
 -- allocation.
 abbrev pub IsStateTextFault : FloorState → List ℕ → List ℕ → Fault → Type 0
 IsStateTextFault opened path text fault =
-    (fault ≡ NoMemory) ⊎ ((why : StateFault) × (state_of (named opened) text ≡ Err why) × IsStateRefused path text why fault)
+    (fault ≡ SetupOutOfMemory) ⊎ ((why : StateFault) × (saved_state_of (design_names opened) text ≡ Err why) × IsStateRefused path text why fault)
 
 -- Why the file of the path has no state of the design: its text was not read, or has no such state.
 abbrev pub IsStateFileFault : ReadsFile → List ℕ → FloorState → Fault → Type 0
@@ -56,7 +56,7 @@ IsStateFault gives (Some path) opened fault = IsStateFileFault gives path opened
 
 -- Why the design has no floor with which work begins.
 abbrev pub IsNotOpened : ReadsFile → Option (List ℕ) → Loaded → Fault → Type 0
-IsNotOpened gives state loaded fault = (fault ≡ NoMemory) ⊎ IsStateFault gives state (initial_floor loaded) fault
+IsNotOpened gives state loaded fault = (fault ≡ SetupOutOfMemory) ⊎ IsStateFault gives state (initial_floor loaded) fault
 
 -- Why there is no floor with which work begins: there is no design; or an allocation for its floor
 -- failed; or the floor could not be brought into the requested state.

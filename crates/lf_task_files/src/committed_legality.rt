@@ -4,10 +4,10 @@ ghost use Rattle.std.specs.Prelude.{◌≡◌, ◌↔◌, ◌+◌, ◌++◌, ◌
 ghost use Rattle.lf_cells.specs.declared.cell.Cell.{Cell};
 ghost use Rattle.lf_cells.specs.Cells.{cell_at, cells_of};
 ghost use Rattle.lf_rules.specs.FullyLegal.{IsFullyLegal};
-ghost use Rattle.lf_reports.specs.Reports.{IsListed, named, design_cell_of};
+ghost use Rattle.lf_reports.specs.Reports.{IsListed, with_byte_name, design_cell_of};
 ghost use Rattle.lf_floor_model.specs.Committed.{AreCommittedLegal, IsCommittedLegal};
 ghost use Rattle.lf_floor_model.specs.States.{TeamState};
-ghost use Rattle.lf_task_files.specs.Judged.{committed_listed};
+ghost use Rattle.lf_task_files.specs.CommittedLegality.{committed_listed};
 
 use lf_cells::{CellId, CellTable};
 use lf_floor::Floor;
@@ -20,7 +20,7 @@ use std::alloc::{AllocError, Global};
 
 /// Returns the cell at its committed place, or `None` if there is no such cell.
 fn listed_cell<'a>(cells: &'a CellTable, id: CellId) -> Option<Listed<&'a [u8]>>
-    ensures { option_map named result ≡ option_map (committed_listed id.team) (cell_at cells.now id) }
+    ensures { option_map with_byte_name result ≡ option_map (committed_listed id.team) (cell_at cells.now id) }
 {
     let facts = cells.cell(id)?;
     Some(Listed {
@@ -38,7 +38,7 @@ fn push_cell<'a>(
     listed: &mut Vec<Listed<&'a [u8]>>,
 ) -> Result<(), AllocError>
     ensures { (c : Cell) → cell_at cells.now id ≡ Some c
-        → OnOk result (map named listed.new.items ≡ map named listed.old.items ++ committed_listed id.team c ∷ []) }
+        → OnOk result (map with_byte_name listed.new.items ≡ map with_byte_name listed.old.items ++ committed_listed id.team c ∷ []) }
 {
     if let Some(cell) = listed_cell(cells, id) {
         listed.push(cell)?;
@@ -52,7 +52,7 @@ fn listed_team(
     cells: &CellTable,
     team: usize,
 ) -> Result<Vec<Listed<&[u8]>>, AllocError>
-    ensures { IfOk result (λ listed. map named listed.items ≡ map (committed_listed team) (cells_of cells.now team)) }
+    ensures { IfOk result (λ listed. map with_byte_name listed.items ≡ map (committed_listed team) (cells_of cells.now team)) }
 {
     let ids = cells.cells_of(team);
     let mut listed = Vec::with_capacity(alloc, ids.len())?;
@@ -64,7 +64,7 @@ fn listed_team(
 
 /// Counts the unplaced cells.
 fn unplaced_in(cells: &[Listed<&[u8]>]) -> usize
-    ensures { result ≡ count_by (λ c. is_none c.place) (map named cells.now) }
+    ensures { result ≡ count_by (λ c. is_none c.place) (map with_byte_name cells.now) }
 {
     cells.iter().filter(|cell| cell.place.is_none()).count()
 }
@@ -83,9 +83,9 @@ fn are_legal(
     plan: &IndexedFrame<'_>,
     cells: &[Listed<&[u8]>],
 ) -> Result<bool, AllocError>
-    requires listed { All (λ c. IsListed plan.now (named c)) cells.now }
+    requires listed { All (λ c. IsListed plan.now (with_byte_name c)) cells.now }
     requires few { length cells.now ≤ 4000000 }
-    ensures { IfOk result (λ legal. IsTrue legal ↔ IsFullyLegal plan.now (map design_cell_of (map named cells.now))) }
+    ensures { IfOk result (λ legal. IsTrue legal ↔ IsFullyLegal plan.now (map design_cell_of (map with_byte_name cells.now))) }
 {
     legalizer_exists();
     let verdicts = verdicts_with_plan(alloc, plan, cells, Padding::none())?;

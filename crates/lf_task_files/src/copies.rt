@@ -5,8 +5,8 @@ ghost use Rattle.std.specs.Prelude.{◌≡◌, IfOk, length, map, slice_get};
 ghost use Rattle.lf_cells.specs.Cells.{cells_of};
 ghost use Rattle.lf_floorplan.specs.Design.{CellsNamed, MakeDesign};
 ghost use Rattle.lf_floorplan.specs.LoadedCells.{with_name};
-ghost use Rattle.lf_task_files.specs.Standing.{place_named};
-ghost use Rattle.lf_task_files.specs.Twins.{IsCopyWithCells, cells_in, placed_by_table};
+ghost use Rattle.lf_task_files.specs.PlacedDesigns.{place_named};
+ghost use Rattle.lf_task_files.specs.Copies.{IsCopyWithCells, cells_of_parts, placed_by_table};
 
 use lf_cells::CellTable;
 use lf_floorplan::{CellParts, Frame, Loaded, LoadedCells, PackedPlace, Place, UnnamedCell};
@@ -53,8 +53,8 @@ pub(crate) fn copy_cells(
     table: Option<&CellTable>,
 ) -> Result<LoadedCells, AllocError>
     requires whole { length parts.now.names ≡ length parts.now.cells.items }
-    requires named { CellsNamed (cells_in parts.now) }
-    ensures { IfOk result (λ copies. copies ≡ map (placed_by_table table.entry) (cells_in parts.now)) }
+    requires named { CellsNamed (cells_of_parts parts.now) }
+    ensures { IfOk result (λ copies. copies ≡ map (placed_by_table table.entry) (cells_of_parts parts.now)) }
 {
     let mut copies = LoadedCells::new(alloc);
     for at in 0..parts.cells.len() {
@@ -81,8 +81,8 @@ pub(crate) fn copy_of_design(
     parts: &CellParts,
 ) -> Result<Loaded, AllocError>
     requires whole { length parts.now.names ≡ length parts.now.cells.items }
-    requires design { MakeDesign frame.now (cells_in parts.now) }
-    ensures { IfOk result (IsCopyWithCells frame.now (cells_in parts.now)) }
+    requires design { MakeDesign frame.now (cells_of_parts parts.now) }
+    ensures { IfOk result (IsCopyWithCells frame.now (cells_of_parts parts.now)) }
 {
     let copy = clone_frame(alloc, frame)?;
     let cells = copy_cells(alloc, parts, None)?;

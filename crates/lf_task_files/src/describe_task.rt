@@ -5,7 +5,7 @@ ghost use Rattle.lf_def.specs.Contents.{contents};
 ghost use Rattle.lf_def.specs.Document.{Document, document_of};
 ghost use Rattle.lf_floorplan.specs.declared.loaded.Loaded.{Loaded};
 ghost use Rattle.lf_task_designs.specs.declared.faults.TextKind.TheVariants.{Def};
-ghost use Rattle.lf_task_designs.specs.Designs.{IsDefRefusal, IsDesignFault, IsFileFault, IsLoadRefusal, IsLoadedIn, IsRefused};
+ghost use Rattle.lf_task_designs.specs.Designs.{IsDefRefusal, IsDesignFault, IsFileFault, IsLoadRefusal, IsLoadedIn, IsRefusedText};
 ghost use Rattle.lf_task_designs.specs.Faults.{BlamesWriter};
 ghost use Rattle.lf_task_files.specs.Exits.{IsDescribed, IsOpenDescribed, IsOpenUndescribed, IsViewDescribed, IsUndescribed, IsViewNotDescribed};
 ghost use Rattle.lf_task_files.specs.States.{IsViewedDesign, IsNotOpened};
@@ -39,8 +39,8 @@ fn describe_loaded<'a, W: Sink>(
     match describe(alloc, loaded, document, writer) {
         Ok(true) => Ok(LEGAL_STATUS),
         Ok(false) => Ok(ILLEGAL_STATUS),
-        Err(DescribeFailure::OutOfMemory) => Err(Fault::NoMemory),
-        Err(DescribeFailure::LineOutOfMemory) => Err(Fault::NoRoom),
+        Err(DescribeFailure::OutOfMemory) => Err(Fault::SetupOutOfMemory),
+        Err(DescribeFailure::LineOutOfMemory) => Err(Fault::OutputOutOfMemory),
         Err(DescribeFailure::Output) => Err(Fault::Output),
     }
 }
@@ -57,7 +57,7 @@ fn seen_of_document<'a, T: InputFiles>(
     ensures ok { IfOk result (λ seen. (loaded : Loaded) × IsLoadedIn inputs.entry.limits library.now (contents document.now) loaded
         × IsViewedDesign (T.gives texts.now) (path_of inputs.entry.state) loaded seen) }
     ensures err { IfErr result (λ fault.
-        IsRefused Def inputs.entry.def.now text.now (IsLoadRefusal inputs.entry.limits library.now (contents document.now)) fault
+        IsRefusedText Def inputs.entry.def.now text.now (IsLoadRefusal inputs.entry.limits library.now (contents document.now)) fault
         ⊎ ((loaded : Loaded) × IsLoadedIn inputs.entry.limits library.now (contents document.now) loaded
         × IsNotOpened (T.gives texts.now) (path_of inputs.entry.state) loaded fault)) }
 {
@@ -77,7 +77,7 @@ fn describe_text<'a, T: InputFiles, W: Sink>(
     ensures ok { IfOk result (λ status. (document : Document) × (document_of text.now ≡ Ok document) × ((loaded : Loaded)
         × IsLoadedIn inputs.entry.limits library.now document loaded
         × IsViewDescribed (T.gives texts.now) (path_of inputs.entry.state) document loaded (W.contents writer.old) (W.contents writer.new) status)) }
-    ensures err { IfErr result (λ fault. (IsRefused Def inputs.entry.def.now text.now (IsDefRefusal inputs.entry.limits library.now text.now) fault
+    ensures err { IfErr result (λ fault. (IsRefusedText Def inputs.entry.def.now text.now (IsDefRefusal inputs.entry.limits library.now text.now) fault
         ⊎ ((document : Document) × (document_of text.now ≡ Ok document) × ((loaded : Loaded) × IsLoadedIn inputs.entry.limits library.now document loaded
         × IsViewNotDescribed (T.gives texts.now) (path_of inputs.entry.state) document loaded (W.contents writer.old) (W.contents writer.new) fault)))
         × BlamesWriter fault (writer.new ≡ writer.old) (W.has_failed writer.old) (W.has_failed writer.new)) }

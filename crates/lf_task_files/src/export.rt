@@ -81,13 +81,13 @@ fn exported_text<'a>(
 
 /// Makes the fault of an exported text that is not written to its file.
 fn export_fault<'f>(path: &'f str, unwritten: WriteFailure) -> Fault<'f>
-    ensures told { result ≡ export_fault path.entry unwritten }
+    ensures reported { result ≡ export_fault path.entry unwritten }
     ensures fault { IsExportFault (Some path.now) result }
     ensures fails { (before now : Bool) → now ≡ (is_file unwritten || before) → ExportFails result before now }
 {
     match unwritten {
         WriteFailure::File(why) => Fault::Unwritten(path, why),
-        WriteFailure::OutOfMemory => Fault::NoRoom,
+        WriteFailure::OutOfMemory => Fault::OutputOutOfMemory,
     }
 }
 

@@ -1,13 +1,13 @@
 //! Restores a floor to the state of a file, before work on it begins.
 
 ghost use Rattle.std.specs.Prelude.{◌≡◌, ◌⊎◌, ◌+◌, IfErr, IfOk, List, Ok, ℕ, length};
-ghost use Rattle.lf_state_text.specs.Pieces.{joined};
+ghost use Rattle.lf_state_text.specs.Pieces.{text_of_chunks};
 ghost use Rattle.lf_state_text.specs.Refused.{HasEnd};
 ghost use Rattle.lf_floor_model.specs.Designs.{initial_floor};
-ghost use Rattle.lf_state_restore.specs.Saved.{MatchDesign, ShareDesign, named};
-ghost use Rattle.lf_state_text.specs.Reading.{state_of};
+ghost use Rattle.lf_state_restore.specs.Saved.{MatchDesign, ShareDesign, design_names};
+ghost use Rattle.lf_state_text.specs.Reading.{saved_state_of};
 ghost use Rattle.lf_state_text.specs.Saved.{team_views};
-ghost use Rattle.lf_task_designs.specs.declared.faults.Fault.TheVariants.{NoMemory};
+ghost use Rattle.lf_task_designs.specs.declared.faults.Fault.TheVariants.{SetupOutOfMemory};
 ghost use Rattle.lf_task_designs.specs.declared.faults.TextKind.TheVariants.{State};
 ghost use Rattle.lf_task_files.specs.States.{FileHasState, IsFileState, IsStateFileFault, IsStateRefused, IsStateTextFault};
 
@@ -15,7 +15,7 @@ use lf_floor::Floor;
 use lf_floorplan::Loaded;
 use lf_legalize::IndexSeeker;
 use lf_state_text::{ChunkError, StateRefused, TeamRow};
-use lf_task_designs::{Fault, InputFiles, StateRefusal, TextFile, TextKind, read_chunks};
+use lf_task_designs::{Fault, InputFiles, StateRefusal, TextFile, TextKind, read_file_chunks};
 use std::alloc::{AllocError, Global};
 use std::collections::VecDeque;
 
@@ -36,8 +36,8 @@ fn refused_state<'a>(alloc: Global, path: &'a str, refused: &StateRefused) -> Fa
     ensures { (text : List ℕ) → HasEnd text refused.now → IsStateRefused path.now text refused.now.fault result }
 {
     match StateRefusal::new(alloc, refused) {
-        Ok(refusal) => Fault::NoState(path, refusal),
-        Err(_) => Fault::NoMemory,
+        Ok(refusal) => Fault::RefusedState(path, refusal),
+        Err(_) => Fault::SetupOutOfMemory,
     }
 }
 
@@ -48,13 +48,13 @@ fn read_rows<'a>(
     path: &'a str,
     pieces: VecDeque<Vec<u8>>,
 ) -> Result<Vec<TeamRow>, Fault<'a>>
-    ensures ok { IfOk result (λ rows. state_of (named floor.now) (joined pieces.items) ≡ Ok (team_views rows.items)) }
+    ensures ok { IfOk result (λ rows. saved_state_of (design_names floor.now) (text_of_chunks pieces.items) ≡ Ok (team_views rows.items)) }
     ensures due { IfOk result (λ rows. MatchDesign floor.now.frame.limits floor.now.teams (team_views rows.items)) }
-    ensures err { IfErr result (IsStateTextFault floor.now path.now (joined pieces.items)) }
+    ensures err { IfErr result (IsStateTextFault floor.now path.now (text_of_chunks pieces.items)) }
 {
     match floor.read_state_chunks(pieces) {
         Ok(rows) => Ok(rows),
-        Err(ChunkError::Memory) => Err(Fault::NoMemory),
+        Err(ChunkError::Memory) => Err(Fault::SetupOutOfMemory),
         Err(ChunkError::Refused(refused)) => Err(refused_state(alloc, path, &refused)),
     }
 }
@@ -71,7 +71,7 @@ fn rows_of_file<'a, T: InputFiles>(
     ensures due { IfOk result (λ rows. MatchDesign floor.now.frame.limits floor.now.teams (team_views rows.items)) }
     ensures err { IfErr result (IsStateFileFault (T.gives texts.now) path.now floor.now) }
 {
-    let pieces = read_chunks(alloc, texts, state_file(path))?;
+    let pieces = read_file_chunks(alloc, texts, state_file(path))?;
     read_rows(alloc, floor, path, pieces)
 }
 
@@ -90,7 +90,7 @@ fn restore_file<'a, T: InputFiles>(
     let rows = rows_of_file(alloc, texts, &floor, path)?;
     match floor.restore_saved(rows) {
         Ok(restored) => Ok(restored),
-        Err(_) => Err(Fault::NoMemory),
+        Err(_) => Err(Fault::SetupOutOfMemory),
     }
 }
 
@@ -113,7 +113,7 @@ pub(crate) fn floor_in_state<'a, T: InputFiles>(
 ) -> Result<Floor<IndexSeeker>, Fault<'a>>
     ensures ok { IfOk result (IsFileState (T.gives texts.now) path.now (initial_floor design)) }
     ensures many { IfOk result (λ floor. length floor.teams ≡ length design.frame.teams + 1) }
-    ensures err { IfErr result (λ fault. (fault ≡ NoMemory) ⊎ IsStateFileFault (T.gives texts.now) path.now (initial_floor design) fault) }
+    ensures err { IfErr result (λ fault. (fault ≡ SetupOutOfMemory) ⊎ IsStateFileFault (T.gives texts.now) path.now (initial_floor design) fault) }
 {
     let floor = start_unplaced(alloc, design)?;
     restore_file(alloc, texts, floor, path)

@@ -3,7 +3,7 @@
 ghost use Rattle.std.specs.Prelude.{◌≡◌, ◌||◌, Bool, None, Some, IfErr, OnErr, OnOk};
 ghost use Rattle.std.specs.Io.KnownBytes.{Appends};
 ghost use Rattle.lf_io_files.specs.Shelf.{is_file};
-ghost use Rattle.lf_floor.specs.Saving.{state_text_of};
+ghost use Rattle.lf_floor.specs.SavedStates.{state_text_of};
 ghost use Rattle.lf_task_files.specs.Faults.{ExportFails, IsSaveFault, save_fault};
 ghost use Rattle.lf_task_files.specs.States.{IsSaved};
 ghost use Rattle.lf_task_files.specs.Inputs.{path_of};
@@ -80,13 +80,13 @@ impl<'a> TextSource for StateText<'a> {
 
 /// Makes the fault of a state that is not written to its file.
 fn save_fault<'f>(path: &'f str, unwritten: WriteFailure) -> Fault<'f>
-    ensures told { result ≡ save_fault path.entry unwritten }
+    ensures reported { result ≡ save_fault path.entry unwritten }
     ensures fault { IsSaveFault (Some path.now) result }
     ensures fails { (before now : Bool) → now ≡ (is_file unwritten || before) → ExportFails result before now }
 {
     match unwritten {
         WriteFailure::File(why) => Fault::Unsaved(path, why),
-        WriteFailure::OutOfMemory => Fault::NoRoom,
+        WriteFailure::OutOfMemory => Fault::OutputOutOfMemory,
     }
 }
 

@@ -9,10 +9,10 @@ ghost use Rattle.lf_floorplan.specs.declared.loaded.Loaded.{Loaded};
 ghost use Rattle.lf_floorplan.specs.Design.{MakeDesign};
 ghost use Rattle.lf_floor_model.specs.Designs.{initial_floor};
 ghost use Rattle.lf_floor_model.specs.States.{FloorState};
-ghost use Rattle.lf_task_designs.specs.declared.faults.Fault.TheVariants.{NoMemory};
-ghost use Rattle.lf_task_files.specs.Standing.{placed_on_floor};
+ghost use Rattle.lf_task_designs.specs.declared.faults.Fault.TheVariants.{SetupOutOfMemory};
+ghost use Rattle.lf_task_files.specs.PlacedDesigns.{placed_on_floor};
 ghost use Rattle.lf_task_files.specs.States.{IsFileState, IsViewedDesign, IsStateFileFault, IsDesignInState, IsNotOpened};
-ghost use Rattle.lf_task_files.specs.Twins.{cells_in};
+ghost use Rattle.lf_task_files.specs.Copies.{cells_of_parts};
 ghost use Rattle.lf_task_files.specs.Inputs.{path_of};
 
 use crate::copies::{copy_cells, copy_of_design, design_of};
@@ -31,10 +31,10 @@ fn cells_in_state<'a, T: InputFiles>(
     path: &'a str,
 ) -> Result<LoadedCells, Fault<'a>>
     requires whole { length parts.now.names ≡ length parts.now.cells.items }
-    requires design { MakeDesign frame.now (cells_in parts.now) }
-    ensures ok { (design : Loaded) → design.frame ≡ frame.now → design.cells ≡ cells_in parts.now → IfOk result (λ cells. (floor : FloorState)
+    requires design { MakeDesign frame.now (cells_of_parts parts.now) }
+    ensures ok { (design : Loaded) → design.frame ≡ frame.now → design.cells ≡ cells_of_parts parts.now → IfOk result (λ cells. (floor : FloorState)
         × IsFileState (T.gives texts.now) path.now (initial_floor design) floor × (cells ≡ map (placed_on_floor floor) design.cells)) }
-    ensures err { (design : Loaded) → design.frame ≡ frame.now → design.cells ≡ cells_in parts.now → IfErr result (λ fault. (fault ≡ NoMemory)
+    ensures err { (design : Loaded) → design.frame ≡ frame.now → design.cells ≡ cells_of_parts parts.now → IfErr result (λ fault. (fault ≡ SetupOutOfMemory)
         ⊎ IsStateFileFault (T.gives texts.now) path.now (initial_floor design) fault) }
 {
     let twin = copy_of_design(alloc, frame, parts)?;
@@ -51,12 +51,12 @@ fn design_in_state<'a, T: InputFiles>(
     path: &'a str,
 ) -> Result<Loaded, Fault<'a>>
     ensures ok { IfOk result (IsDesignInState (T.gives texts.now) path.now design) }
-    ensures err { IfErr result (λ fault. (fault ≡ NoMemory) ⊎ IsStateFileFault (T.gives texts.now) path.now (initial_floor design) fault) }
+    ensures err { IfErr result (λ fault. (fault ≡ SetupOutOfMemory) ⊎ IsStateFileFault (T.gives texts.now) path.now (initial_floor design) fault) }
 {
     let Loaded { frame, cells } = design;
     let parts = cells.into_parts();
-    let stood = cells_in_state(alloc, texts, &frame, &parts, path)?;
-    Ok(design_of(frame, stood))
+    let original_place = cells_in_state(alloc, texts, &frame, &parts, path)?;
+    Ok(design_of(frame, original_place))
 }
 
 /// Returns the design to show: as loaded, or with the working places in the state of the file of

@@ -25,11 +25,11 @@ use Rattle.lf_floor_model.specs.Outcomes.{is_short}
 use Rattle.lf_floor_model.specs.Steps.{IsAnswerOf, MayRunOutOfMemory, answer_at, answer_by, answer_of}
 use Rattle.lf_floor_model.specs.Runs.{Run}
 use Rattle.lf_floor_model.specs.VerbLaws.{is_ok}
-use Rattle.lf_repair_team.specs.Mending.{IsLegalIn, KeepsLegalPlaces, place_in}
-use Rattle.lf_repair_team.specs.Runs.{IsWrittenRun, line_of, lines_of}
+use Rattle.lf_repair_team.specs.TeamRepairs.{IsLegalIn, KeepsLegalPlaces, place_of_cell_in}
+use Rattle.lf_repair_team.specs.Runs.{IsWrittenRun, request_line, request_lines}
 use Rattle.lf_floorplan.specs.declared.frame.Frame.{Frame}
 use Rattle.lf_task_designs.specs.declared.faults.Fault.{Fault}
-use Rattle.lf_task_designs.specs.declared.faults.Fault.TheVariants.{Refused, File, NoState, NoTeam, ReadFault, WriteFault, TooManyLines, OutOfMemory, Output, Bind, Accept, Unwritten, Unsaved, Unlisted, NoMemory, NoRoom}
+use Rattle.lf_task_designs.specs.declared.faults.Fault.TheVariants.{Refused, File, RefusedState, NoTeam, ReadFault, WriteFault, TooManyLines, OutOfMemory, Output, Bind, Accept, Unwritten, Unsaved, Unlisted, SetupOutOfMemory, OutputOutOfMemory}
 use Rattle.lf_task_designs.specs.Faults.{BlamesDevices, IsEarly, IsOfWriter}
 use Rattle.lf_task_repair.specs.Repairs.{IsLinesFileFault, KeepsAllLegalPlaces, IsKeptRun, IsUnknown, OnlySelectedChange, is_selected}
 
@@ -47,8 +47,8 @@ kept_bytes_stay None = tt
 kept_bytes_stay (Some xs) = sym (append-nil xs)
 
 -- no command was sent
-pub nothing_asked : (l : Legalizer) (floor : FloorState) (bytes : Option (List ℕ)) → IsKeptRun l floor bytes bytes floor
-nothing_asked l floor bytes =
+pub nothing_requested : (l : Legalizer) (floor : FloorState) (bytes : Option (List ℕ)) → IsKeptRun l floor bytes bytes floor
+nothing_requested l floor bytes =
     ([], record { replies = []; run = refl; granted = All-nil (λ (r : Reply). is_ok r ≡ true) }, kept_bytes_stay bytes)
 
 -- one run after the other
@@ -60,8 +60,8 @@ then_kept l a b c x y z first second = (
     run = run_append l a b c first.0 second.0 first.1.replies second.1.replies first.1.run second.1.run;
     granted = All-append (λ (r : Reply). is_ok r ≡ true) first.1.replies second.1.replies first.1.granted second.1.granted;
   },
-  Appends-same x z (lines_of first.0 ++ lines_of second.0) (lines_of (first.0 ++ second.0)) (sym (flat_map-append line_of first.0 second.0))
-      (Appends-more x y z (lines_of first.0) (lines_of second.0) first.2 second.2),
+  Appends-same x z (request_lines first.0 ++ request_lines second.0) (request_lines (first.0 ++ second.0)) (sym (flat_map-append request_line first.0 second.0))
+      (Appends-more x y z (request_lines first.0) (request_lines second.0) first.2 second.2),
 )
 
 -- a run of one team is a run
@@ -73,11 +73,11 @@ of_team l team old new before after run =
 -- ---- which teams change
 
 pub none_changes : (teams : List (List ℕ)) (floor : FloorState) → OnlySelectedChange teams floor floor
-none_changes teams floor = record { others = λ team asked. refl; frame = refl; components = refl; legal = λ legal. legal }
+none_changes teams floor = record { others = λ team requested. refl; frame = refl; components = refl; legal = λ legal. legal }
 
-pub then_asked : (teams : List (List ℕ)) (a b c : FloorState) → OnlySelectedChange teams a b → OnlySelectedChange teams b c → OnlySelectedChange teams a c
-then_asked teams a b c first second = record {
-  others = λ team asked. second.others team asked ∙ first.others team asked;
+pub then_requested : (teams : List (List ℕ)) (a b c : FloorState) → OnlySelectedChange teams a b → OnlySelectedChange teams b c → OnlySelectedChange teams a c
+then_requested teams a b c first second = record {
+  others = λ team requested. second.others team requested ∙ first.others team requested;
   frame = second.frame ∙ first.frame;
   components = second.components ∙ first.components;
   legal = λ legal. second.legal (first.legal legal);
@@ -86,7 +86,7 @@ then_asked teams a b c first second = record {
 -- ---- legal cells
 
 -- names with the same number name the same team
-place_alike : (floor : FloorState) (a b : List ℕ) (own : ℕ) → team_number floor.frame a ≡ team_number floor.frame b → place_in floor a own ≡ place_in floor b own
+place_alike : (floor : FloorState) (a b : List ℕ) (own : ℕ) → team_number floor.frame a ≡ team_number floor.frame b → place_of_cell_in floor a own ≡ place_of_cell_in floor b own
 place_alike floor a b own same = ap (λ (o : Option ℕ). option_and_then (λ (s : TeamState). working_at s.cells own) (state_at floor.teams o)) same
 
 legal_alike : (floor : FloorState) (a b : List ℕ) (own : ℕ) → team_number floor.frame a ≡ team_number floor.frame b → IsLegalIn floor a own → IsLegalIn floor b own
@@ -106,7 +106,7 @@ stay_alike a b old new frame same stay own legal =
     place_alike new a b own (subst (λ (f : Frame). team_number f a ≡ team_number f b) (sym frame) same)
     ∙ stay own (legal_alike old a b own same legal) ∙ sym (place_alike old a b own same)
 
-place_same : (old new : FloorState) (team : List ℕ) (own : ℕ) → state_of new team ≡ state_of old team → place_in new team own ≡ place_in old team own
+place_same : (old new : FloorState) (team : List ℕ) (own : ℕ) → state_of new team ≡ state_of old team → place_of_cell_in new team own ≡ place_of_cell_in old team own
 place_same old new team own same = ap (λ (o : Option TeamState). option_and_then (λ (s : TeamState). working_at s.cells own) o) same
 
 pub legal_same : (old new : FloorState) (team : List ℕ) (own : ℕ) → new.frame ≡ old.frame → state_of new team ≡ state_of old team → IsLegalIn old team own → IsLegalIn new team own
@@ -176,9 +176,9 @@ position_named name teams =
     ∙ sym (position_from-zero (λ (t : List ℕ). bytes_eq t name) (map (λ (t : Bor (List ℕ)). t.now) teams))
 
 -- a team that is found among the names is selected
-pub asked_named : (name : List ℕ) (teams : List (Bor (List ℕ))) (found : Bool) → (length teams == 0) ≡ false
+pub requested_named : (name : List ℕ) (teams : List (Bor (List ℕ))) (found : Bool) → (length teams == 0) ≡ false
     → found ≡ is_some (position (λ (t : Bor (List ℕ)). bytes_eq t.now name) teams) → found ≡ is_selected (map (λ (t : Bor (List ℕ)). t.now) teams) name
-asked_named name teams found some is =
+requested_named name teams found some is =
     let names = map (λ (t : Bor (List ℕ)). t.now) teams in
     let here = is_some (position (λ (t : List ℕ). bytes_eq t name) names) in
     let many : (length names == 0) ≡ false = ap (λ (n : ℕ). n == 0) (length-map teams (λ (t : Bor (List ℕ)). t.now)) ∙ some in
@@ -234,7 +234,7 @@ none_unlisted lines fault none is = subst (λ (l : Option (List ℕ)). IsLinesFi
 pub unknown_early : (f : Frame) (teams : List (List ℕ)) (fault : Fault) → IsUnknown f teams fault → IsEarly fault
 unknown_early f teams (Refused file its) is = absurd is
 unknown_early f teams (File file why) is = absurd is
-unknown_early f teams (NoState path its) is = absurd is
+unknown_early f teams (RefusedState path its) is = absurd is
 unknown_early f teams (NoTeam name) is = tt
 unknown_early f teams ReadFault is = absurd is
 unknown_early f teams WriteFault is = absurd is
@@ -246,11 +246,11 @@ unknown_early f teams Accept is = absurd is
 unknown_early f teams (Unwritten path why) is = absurd is
 unknown_early f teams (Unsaved path why) is = absurd is
 unknown_early f teams (Unlisted path why) is = absurd is
-unknown_early f teams NoMemory is = absurd is
-unknown_early f teams NoRoom is = absurd is
+unknown_early f teams SetupOutOfMemory is = absurd is
+unknown_early f teams OutputOutOfMemory is = absurd is
 
 -- a failed allocation in the repair is reported when nothing is written yet
-pub memory_early : (fault : Fault) → fault ≡ NoMemory → IsEarly fault
+pub memory_early : (fault : Fault) → fault ≡ SetupOutOfMemory → IsEarly fault
 memory_early fault is = subst IsEarly (sym is) tt
 
 -- a report that is not written blames the writer

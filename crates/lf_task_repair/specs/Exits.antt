@@ -16,16 +16,16 @@ use Rattle.lf_task_designs.specs.Designs.{ReadsFile, IsOpened}
 use Rattle.lf_task_files.specs.Exits.{IsExported}
 use Rattle.lf_task_files.specs.Faults.{IsExportFault}
 use Rattle.lf_task_files.specs.States.{IsFloorFault}
-use Rattle.lf_task_repair.specs.Repairs.{KeepsAllLegalPlaces, AreKnown, IsStatusOf, IsKeptRun, IsLinesFileFault, IsListed, IsRepairFault, OnlySelectedChange, initial_lines}
-use Rattle.lf_task_repair.specs.Telling.{AreBounds, IsReport}
+use Rattle.lf_task_repair.specs.Repairs.{KeepsAllLegalPlaces, AreKnown, IsStatusOf, IsKeptRun, IsLinesFileFault, WritesLines, IsRepairFault, OnlySelectedChange, initial_lines}
+use Rattle.lf_task_repair.specs.Reports.{AreBounds, IsReport}
 
 -- the report is written; then the exported text is written if requested, and then the command lines
 pub record IsPut (export lines : Option (List ℕ)) (text : List ℕ) (document : Document) (floor : FloorState) (kept : Option (List ℕ)) (report : List ℕ)
     (before after : Option (List ℕ)) (old_puts new_puts : Option (List Put)) : Type 0 where
-  pub told : Appends before after report
+  pub reported : Appends before after report
   pub between : Option (List Put)
   pub exports : IsExported export text document floor old_puts between
-  pub lists : IsListed lines kept between new_puts
+  pub lists : WritesLines lines kept between new_puts
 
 -- the first floor is repaired and becomes this one: each requested name is a team's; accepted
 -- commands lead from the first floor to this one, and they are the lines that are kept; only
@@ -38,7 +38,7 @@ pub record IsRepair (teams : List (List ℕ)) (legal : LegalCells) (lines : Opti
   pub run : (l : Legalizer) → IsKeptRun l begin (initial_lines lines) kept floor
   pub only : OnlySelectedChange teams begin floor
   pub stay : legal ≡ Stay → KeepsAllLegalPlaces begin floor
-  pub tells : IsReport teams bounds floor report
+  pub decides : IsReport teams bounds floor report
 
 -- the first floor is repaired; the report is written; then the exported text is written if
 -- requested, and then the command lines; the status says whether the committed design is fully
@@ -50,7 +50,7 @@ pub record IsRepaired (teams : List (List ℕ)) (legal : LegalCells) (export lin
   pub report : List ℕ
   pub repair : IsRepair teams legal lines bounds begin floor kept report
   pub put : IsPut export lines text document floor kept report before after old_puts new_puts
-  pub judged : IsStatusOf floor status
+  pub committed_checked : IsStatusOf floor status
 
 -- the design is opened, and its teams are repaired and reported with the largest of the least
 -- displacements of their cells

@@ -1,3 +1,3 @@
 pub mod Exits
 pub mod Repairs
-pub mod Telling
+pub mod Reports

@@ -19,10 +19,10 @@ use Rattle.lf_floor_model.specs.Teams.{state_of, team_number}
 use Rattle.lf_floor_model.specs.Runs.{Run}
 use Rattle.lf_floor_model.specs.VerbLaws.{is_ok}
 use Rattle.lf_floor_model.specs.Committed.{IsCommittedLegal}
-use Rattle.lf_repair_team.specs.Runs.{lines_of}
-use Rattle.lf_repair_team.specs.Mending.{KeepsLegalPlaces}
+use Rattle.lf_repair_team.specs.Runs.{request_lines}
+use Rattle.lf_repair_team.specs.TeamRepairs.{KeepsLegalPlaces}
 use Rattle.lf_task_designs.specs.declared.faults.Fault.{Fault}
-use Rattle.lf_task_designs.specs.declared.faults.Fault.TheVariants.{NoMemory, NoRoom, NoTeam, Unlisted}
+use Rattle.lf_task_designs.specs.declared.faults.Fault.TheVariants.{SetupOutOfMemory, OutputOutOfMemory, NoTeam, Unlisted}
 use Rattle.lf_task_designs.specs.Faults.{BlamesDevices}
 use Rattle.lf_task_files.specs.Faults.{IsDone, IsExportFault}
 use Rattle.lf_task_repair.specs.declared.command_log.CommandLog.{CommandLog}
@@ -60,7 +60,7 @@ pub record IsAcceptedRun (l : Legalizer) (old : FloorState) (commands : List (Co
 -- kept ones, if lines are kept
 abbrev pub IsKeptRun : Legalizer → FloorState → Option (List ℕ) → Option (List ℕ) → FloorState → Type 0
 IsKeptRun l old before after new =
-    (commands : List (Command (List ℕ) Place)) × IsAcceptedRun l old commands new × Appends before after (lines_of commands)
+    (commands : List (Command (List ℕ) Place)) × IsAcceptedRun l old commands new × Appends before after (request_lines commands)
 
 -- only selected teams may differ, and a fully legal committed design stays fully legal
 pub record OnlySelectedChange (teams : List (List ℕ)) (old new : FloorState) : Type 0 where
@@ -94,16 +94,16 @@ abbrev pub initial_lines : Option (List ℕ) → Option (List ℕ)
 initial_lines path = option_map (λ _. []) path
 
 -- the lines are written to the file at this path; without a path no file is written
-abbrev pub IsListed : Option (List ℕ) → Option (List ℕ) → Option (List Put) → Option (List Put) → Type 0
-IsListed None kept old new = new ≡ old
-IsListed (Some path) kept old new = PutsFile old new path (kept_bytes kept)
+abbrev pub WritesLines : Option (List ℕ) → Option (List ℕ) → Option (List Put) → Option (List Put) → Type 0
+WritesLines None kept old new = new ≡ old
+WritesLines (Some path) kept old new = PutsFile old new path (kept_bytes kept)
 
 -- ---- faults
 
 -- the fault of lines that are not written to the file at this path
 abbrev pub lines_fault : Bor (List ℕ) → NotWritten → Fault
 lines_fault path (not_written.File why) = Unlisted path why
-lines_fault path not_written.OutOfMemory = NoRoom
+lines_fault path not_written.OutOfMemory = OutputOutOfMemory
 
 -- the lines of a repair cannot be written to this path
 abbrev pub IsNotListed : List ℕ → Fault → Type 0
@@ -114,13 +114,13 @@ IsNotListed path _ = ⊥
 -- cannot be written
 abbrev pub IsLinesFileFault : Option (List ℕ) → Fault → Type 0
 IsLinesFileFault None fault = ⊥
-IsLinesFileFault (Some path) fault = (fault ≡ NoRoom) ⊎ IsNotListed path fault
+IsLinesFileFault (Some path) fault = (fault ≡ OutputOutOfMemory) ⊎ IsNotListed path fault
 
 -- why no repair is made on this frame: a requested name is not a team's; a requested file cannot be
 -- written; or an allocation fails
 abbrev pub IsRepairFault : Frame → List (List ℕ) → Option (List ℕ) → Option (List ℕ) → Fault → Type 0
 IsRepairFault f teams export lines fault =
-    IsUnknown f teams fault ⊎ (IsExportFault export fault ⊎ (IsLinesFileFault lines fault ⊎ (fault ≡ NoMemory)))
+    IsUnknown f teams fault ⊎ (IsExportFault export fault ⊎ (IsLinesFileFault lines fault ⊎ (fault ≡ SetupOutOfMemory)))
 
 -- what a fault means if the task uses only a writer and files, given whether each had failed
 -- earlier and has failed now

@@ -6,7 +6,7 @@ ghost use Rattle.std.specs.Io.KnownBytes.{Appends, Keeps};
 ghost use Rattle.lf_io_files.specs.Shelf.{is_file};
 ghost use Rattle.lf_task_files.specs.Faults.{ExportFails};
 ghost use Rattle.lf_task_files.specs.Inputs.{path_of};
-ghost use Rattle.lf_task_repair.specs.Repairs.{IsLinesFileFault, IsListed, initial_lines, kept_bytes, kept_text, lines_fault};
+ghost use Rattle.lf_task_repair.specs.Repairs.{IsLinesFileFault, WritesLines, initial_lines, kept_bytes, kept_text, lines_fault};
 
 use lf_io::{DeviceFault, Sink};
 use lf_io_files::{OutputFiles, TextSource, WriteFailure};
@@ -102,13 +102,13 @@ impl<'a> TextSource for WholeText<'a> {
 
 /// The fault of lines that are not written to their file.
 fn lines_fault<'f>(path: &'f str, unwritten: WriteFailure) -> Fault<'f>
-    ensures told { result ≡ lines_fault path.entry unwritten }
+    ensures reported { result ≡ lines_fault path.entry unwritten }
     ensures fault { IsLinesFileFault (Some path.now) result }
     ensures fails { (before now : Bool) → now ≡ (is_file unwritten || before) → ExportFails result before now }
 {
     match unwritten {
         WriteFailure::File(why) => Fault::Unlisted(path, why),
-        WriteFailure::OutOfMemory => Fault::NoRoom,
+        WriteFailure::OutOfMemory => Fault::OutputOutOfMemory,
     }
 }
 
@@ -139,7 +139,7 @@ pub(crate) fn save_lines<'a, E: OutputFiles>(
     path: Option<&'a str>,
     exports: &mut E,
 ) -> Result<(), Fault<'a>>
-    ensures ok { OnOk result (IsListed (path_of path.entry) (kept_text lines.now) (E.puts exports.old) (E.puts exports.new)) }
+    ensures ok { OnOk result (WritesLines (path_of path.entry) (kept_text lines.now) (E.puts exports.old) (E.puts exports.new)) }
     ensures err { IfErr result (IsLinesFileFault (path_of path.entry)) }
     ensures fails { IfErr result (λ fault. ExportFails fault (E.has_failed exports.old) (E.has_failed exports.new)) }
     ensures sound { OnOk result (E.has_failed exports.new ≡ E.has_failed exports.old) }

@@ -69,19 +69,19 @@ impl<'a, T: Clock, W: Write> TimedProgress<'a, T, W> {
     }
 
     /// Writes a line, if it is time for one.
-    fn tell_in_time(&mut self) {
+    fn report_in_time(&mut self) {
         let Some(since) = self.since else {
             return;
         };
         self.since = match Instant::now(self.clock) {
             Ok(now) if now.duration_since(since) < self.pause => Some(since),
-            Ok(now) if self.tell() => Some(now),
+            Ok(now) if self.report_it() => Some(now),
             _ => None,
         };
     }
 
     /// Writes a line. Returns false if that fails.
-    fn tell(&mut self) -> bool {
+    fn report_it(&mut self) -> bool {
         let team = str::from_utf8(&self.team).unwrap_or("?");
         let (number, teams, commands) = (self.number, self.teams, self.commands);
         writeln!(
@@ -99,13 +99,13 @@ impl<'a, T: Clock, W: Write> Progress for TimedProgress<'a, T, W> {
         let _ = self.team.extend_from_slice(team);
         self.number = number;
         self.teams = teams;
-        self.tell_in_time();
+        self.report_in_time();
     }
 
     fn step(&mut self) {
         self.commands = self.commands.saturating_add(1);
         if self.commands % COMMANDS == 0 {
-            self.tell_in_time();
+            self.report_in_time();
         }
     }
 }

@@ -16,18 +16,18 @@ ghost use Rattle.lf_floor_model.specs.States.{FloorState};
 ghost use Rattle.lf_floor_model.specs.Teams.{state_of, team_number};
 ghost use Rattle.lf_write.specs.Export.{CanBeRenewed, clause_of};
 ghost use Rattle.lf_repair_strategy.specs.declared.pass.MovePolicy.TheVariants.{Keep};
-ghost use Rattle.lf_repair_team.specs.Mending.{AreLegalExcept, ChangesOnly, IsIllegalIn, KeepsLegalPlaces};
+ghost use Rattle.lf_repair_team.specs.TeamRepairs.{AreLegalExcept, ChangesOnly, IsIllegalIn, KeepsLegalPlaces};
 ghost use Rattle.lf_repair_strategy.specs.declared.stats.RepairStats.{RepairStats};
-ghost use Rattle.lf_repair_report.specs.Told.{IsOneMore};
-ghost use Rattle.lf_task_designs.specs.declared.faults.Fault.TheVariants.{NoMemory, Output};
-ghost use Rattle.lf_task_designs.specs.Designs.{IsKept};
+ghost use Rattle.lf_repair_report.specs.RepairReports.{IsOneMore};
+ghost use Rattle.lf_task_designs.specs.declared.faults.Fault.TheVariants.{SetupOutOfMemory, Output};
+ghost use Rattle.lf_task_designs.specs.Designs.{IsLoadedText};
 ghost use Rattle.lf_task_files.specs.Exits.{IsExported};
 ghost use Rattle.lf_task_files.specs.Faults.{ExportFails, IsDone, IsExportFault};
 ghost use Rattle.lf_task_files.specs.Inputs.{path_of};
 ghost use Rattle.lf_task_repair.specs.Exits.{AreNotPut, IsNotPut, IsNotRepaired, IsOpenRepaired, IsPut, IsRepaired, IsUnrepaired};
-ghost use Rattle.lf_task_repair.specs.Repairs.{KeepsAllLegalPlaces, AreKnown, BlamesOutputs, IsStatusOf, IsKeptRun, IsLinesFileFault, IsListed, IsUnknown, OnlySelectedChange};
+ghost use Rattle.lf_task_repair.specs.Repairs.{KeepsAllLegalPlaces, AreKnown, BlamesOutputs, IsStatusOf, IsKeptRun, IsLinesFileFault, WritesLines, IsUnknown, OnlySelectedChange};
 ghost use Rattle.lf_task_repair.specs.Repairs.{initial_lines, how_of, is_selected, kept_text};
-ghost use Rattle.lf_task_repair.specs.Telling.{AreBounds, AddsTeamLines, IsReport, AddsTotalLine, selected_at, selected_names};
+ghost use Rattle.lf_task_repair.specs.Reports.{AreBounds, AddsTeamLines, IsReport, AddsTotalLine, selected_at, selected_names};
 
 use crate::command_log::{CommandLog, check_lines_path, save_lines};
 use crate::progress::{Progress, ProgressSink};
@@ -128,16 +128,16 @@ fn repair_named<'f, P: Progress>(
     ensures run { (l : Legalizer) → OnOk result (IsKeptRun l floor.old (kept_text lines.old.lines) (kept_text lines.new.lines) floor.new) }
     ensures only { ChangesOnly name.now floor.old floor.new }
     ensures kept { how ≡ Keep → KeepsLegalPlaces name.now floor.old floor.new }
-    ensures told { OnOk result ((repaired : RepairStats) × IsOneMore floor.new name.now repaired report.old report.new
+    ensures reported { OnOk result ((repaired : RepairStats) × IsOneMore floor.new name.now repaired report.old report.new
         × AreLegalExcept name.now floor.new repaired.left.items × All (IsIllegalIn floor.new name.now) repaired.left.items) }
-    ensures err { IfErr result (λ fault. fault ≡ NoMemory) }
+    ensures err { IfErr result (λ fault. fault ≡ SetupOutOfMemory) }
 {
     match repair_team(alloc, floor, name, how, lines) {
         Ok(repaired) => {
             report.add(alloc, floor, name, &repaired)?;
             Ok(())
         }
-        Err(_) => Err(Fault::NoMemory),
+        Err(_) => Err(Fault::SetupOutOfMemory),
     }
 }
 
@@ -147,20 +147,20 @@ fn announce_team<P: Progress>(progress: &mut P, frame: &Frame, name: &[u8], numb
 }
 
 /// Repairs the team with this number, if it is selected.
-#[tactic(auto, using(crate::proofs::Repairing::nothing_asked, crate::proofs::Repairing::none_changes))]
+#[tactic(auto, using(crate::proofs::Repairing::nothing_requested, crate::proofs::Repairing::none_changes))]
 fn repair_numbered<'a, P: Progress>(
     alloc: Global,
     floor: &mut Floor<IndexSeeker>,
     number: usize,
-    asked: &RepairJob<'a>,
+    requested: &RepairJob<'a>,
     lines: &mut ProgressSink<'_, P>,
     report: &mut RepairReport,
 ) -> Result<(), Fault<'a>>
     ensures run { (l : Legalizer) → OnOk result (IsKeptRun l floor.old (kept_text lines.old.lines) (kept_text lines.new.lines) floor.new) }
-    ensures only { OnOk result (OnlySelectedChange (map (λ team. team.now) asked.now.teams.now) floor.old floor.new) }
-    ensures told { OnOk result (AddsTeamLines (selected_at floor.old.frame (map (λ team. team.now) asked.now.teams.now) number) floor.new report.old report.new) }
-    ensures err { IfErr result (λ fault. fault ≡ NoMemory) }
-    ensures kept { asked.now.legal ≡ Stay → (team : List ℕ) → team_number floor.old.frame team ≡ Some number → KeepsLegalPlaces team floor.old floor.new }
+    ensures only { OnOk result (OnlySelectedChange (map (λ team. team.now) requested.now.teams.now) floor.old floor.new) }
+    ensures reported { OnOk result (AddsTeamLines (selected_at floor.old.frame (map (λ team. team.now) requested.now.teams.now) number) floor.new report.old report.new) }
+    ensures err { IfErr result (λ fault. fault ≡ SetupOutOfMemory) }
+    ensures kept { requested.now.legal ≡ Stay → (team : List ℕ) → team_number floor.old.frame team ≡ Some number → KeepsLegalPlaces team floor.old floor.new }
     ensures others { (team : List ℕ) → team_number floor.old.frame team ≢ Some number → state_of floor.new team ≡ state_of floor.old team }
 {
     let Some(name) = team_name(floor.placement().frame(), number) else {
@@ -168,30 +168,30 @@ fn repair_numbered<'a, P: Progress>(
     };
     let copy = Vec::from_slice(alloc, name)?;
     let name = copy.as_slice();
-    if !is_selected(asked.teams, name) {
+    if !is_selected(requested.teams, name) {
         return Ok(());
     }
     announce_team(lines.progress, floor.placement().frame(), name, number);
-    repair_named(alloc, floor, name, how_of(asked.legal), lines, report)
+    repair_named(alloc, floor, name, how_of(requested.legal), lines, report)
 }
 
 /// Repairs the selected teams in their order.
 fn repair_teams<'a, P: Progress>(
     alloc: Global,
     floor: &mut Floor<IndexSeeker>,
-    asked: &RepairJob<'a>,
+    requested: &RepairJob<'a>,
     lines: &mut ProgressSink<'_, P>,
     report: &mut RepairReport,
 ) -> Result<(), Fault<'a>>
     ensures run { (l : Legalizer) → OnOk result (IsKeptRun l floor.old (kept_text lines.old.lines) (kept_text lines.new.lines) floor.new) }
-    ensures only { OnOk result (OnlySelectedChange (map (λ team. team.now) asked.now.teams.now) floor.old floor.new) }
-    ensures kept { asked.now.legal ≡ Stay → OnOk result (KeepsAllLegalPlaces floor.old floor.new) }
-    ensures told { OnOk result (AddsTeamLines (selected_names floor.old.frame (map (λ team. team.now) asked.now.teams.now)) floor.new report.old report.new) }
-    ensures err { IfErr result (λ fault. fault ≡ NoMemory) }
+    ensures only { OnOk result (OnlySelectedChange (map (λ team. team.now) requested.now.teams.now) floor.old floor.new) }
+    ensures kept { requested.now.legal ≡ Stay → OnOk result (KeepsAllLegalPlaces floor.old floor.new) }
+    ensures reported { OnOk result (AddsTeamLines (selected_names floor.old.frame (map (λ team. team.now) requested.now.teams.now)) floor.new report.old report.new) }
+    ensures err { IfErr result (λ fault. fault ≡ SetupOutOfMemory) }
 {
     let teams = floor.placement().frame().teams.len() + 1;
     for number in 0..teams {
-        repair_numbered(alloc, floor, number, asked, lines, report)?;
+        repair_numbered(alloc, floor, number, requested, lines, report)?;
     }
     Ok(())
 }
@@ -213,8 +213,8 @@ fn close_report<'f>(
 ) -> Result<u8, Fault<'f>>
     requires { length floor.now.teams ≡ length floor.now.frame.teams + 1 }
     ensures ok { IfOk result (IsStatusOf floor.now) }
-    ensures told { OnOk result (AddsTotalLine floor.now report.old report.new) }
-    ensures err { IfErr result (λ fault. fault ≡ NoMemory) }
+    ensures reported { OnOk result (AddsTotalLine floor.now report.old report.new) }
+    ensures err { IfErr result (λ fault. fault ≡ SetupOutOfMemory) }
 {
     let legal = is_committed_legal(alloc, floor)?;
     report.close(alloc, legal)?;
@@ -235,23 +235,23 @@ struct FinishedRepair {
 fn repair_selected<'a, P: Progress>(
     alloc: Global,
     floor: &mut Floor<IndexSeeker>,
-    asked: &RepairJob<'a>,
+    requested: &RepairJob<'a>,
     least: &[u64],
     progress: &mut P,
 ) -> Result<FinishedRepair, Fault<'a>>
     requires { length floor.old.teams ≡ length floor.old.frame.teams + 1 }
-    ensures run { (l : Legalizer) → IfOk result (λ done. IsKeptRun l floor.old (initial_lines (path_of asked.now.lines)) (kept_text done.lines) floor.new) }
-    ensures only { OnOk result (OnlySelectedChange (map (λ team. team.now) asked.now.teams.now) floor.old floor.new) }
-    ensures kept { asked.now.legal ≡ Stay → OnOk result (KeepsAllLegalPlaces floor.old floor.new) }
-    ensures judged { IfOk result (λ done. IsStatusOf floor.new done.status) }
-    ensures told { IfOk result (λ done. IsReport (map (λ team. team.now) asked.now.teams.now) least.now floor.new done.report.text.items) }
-    ensures err { IfErr result (λ fault. fault ≡ NoMemory) }
+    ensures run { (l : Legalizer) → IfOk result (λ done. IsKeptRun l floor.old (initial_lines (path_of requested.now.lines)) (kept_text done.lines) floor.new) }
+    ensures only { OnOk result (OnlySelectedChange (map (λ team. team.now) requested.now.teams.now) floor.old floor.new) }
+    ensures kept { requested.now.legal ≡ Stay → OnOk result (KeepsAllLegalPlaces floor.old floor.new) }
+    ensures committed_checked { IfOk result (λ done. IsStatusOf floor.new done.status) }
+    ensures reported { IfOk result (λ done. IsReport (map (λ team. team.now) requested.now.teams.now) least.now floor.new done.report.text.items) }
+    ensures err { IfErr result (λ fault. fault ≡ SetupOutOfMemory) }
 {
     legalizer_exists();
-    let lines = CommandLog::new(alloc, asked.lines);
+    let lines = CommandLog::new(alloc, requested.lines);
     let mut lines = ProgressSink { lines, progress };
     let mut report = RepairReport::new(alloc, least)?;
-    repair_teams(alloc, floor, asked, &mut lines, &mut report)?;
+    repair_teams(alloc, floor, requested, &mut lines, &mut report)?;
     let status = close_report(alloc, floor, &mut report)?;
     let ProgressSink { lines, .. } = lines;
     Ok(FinishedRepair {
@@ -277,15 +277,18 @@ fn put_report<'f, W: Sink>(writer: &mut W, report: &RepairReport) -> Result<(), 
 }
 
 /// Tests whether the requested files can be written, as far as this can be known in advance.
-fn try_files<'a, E: OutputFiles>(asked: &RepairJob<'a>, exports: &mut E) -> Result<(), Fault<'a>>
-    ensures err { IfErr result (λ fault. IsExportFault (path_of asked.now.export) fault ⊎ IsLinesFileFault (path_of asked.now.lines) fault) }
+fn try_files<'a, E: OutputFiles>(
+    requested: &RepairJob<'a>,
+    exports: &mut E,
+) -> Result<(), Fault<'a>>
+    ensures err { IfErr result (λ fault. IsExportFault (path_of requested.now.export) fault ⊎ IsLinesFileFault (path_of requested.now.lines) fault) }
     ensures fails { IfErr result (λ fault. ExportFails fault (E.has_failed exports.old) (E.has_failed exports.new)) }
     ensures sound { OnOk result (E.has_failed exports.new ≡ E.has_failed exports.old) }
     ensures unput { E.puts exports.new ≡ E.puts exports.old }
-    ensures unasked { path_of asked.now.lines ≡ None → path_of asked.now.export ≡ None → exports.new ≡ exports.old }
+    ensures unasked { path_of requested.now.lines ≡ None → path_of requested.now.export ≡ None → exports.new ≡ exports.old }
 {
-    check_export_path(asked.export, exports)?;
-    check_lines_path(asked.lines, exports)
+    check_export_path(requested.export, exports)?;
+    check_lines_path(requested.lines, exports)
 }
 
 /// Writes the requested files: the exported text and then the command lines.
@@ -293,25 +296,25 @@ fn put_files<'a, E: OutputFiles>(
     floor: &Floor<IndexSeeker>,
     original: &SourceText,
     lines: &CommandLog,
-    asked: &RepairJob<'a>,
+    requested: &RepairJob<'a>,
     exports: &mut E,
 ) -> Result<(), Fault<'a>>
     requires fits { (places : List (ℕ × Option Place)) → AreCommittedPlaces floor.now places
         → CanBeRenewed original.now.text.items original.now.clauses places }
     ensures ok { (document : Document) → original.now.clauses ≡ map (clause_of original.now.text.items) document.components
         → OnOk result ((between : Option (List Put))
-        × IsExported (path_of asked.now.export) original.now.text.items document floor.now (E.puts exports.old) between
-        × IsListed (path_of asked.now.lines) (kept_text lines.now) between (E.puts exports.new)) }
+        × IsExported (path_of requested.now.export) original.now.text.items document floor.now (E.puts exports.old) between
+        × WritesLines (path_of requested.now.lines) (kept_text lines.now) between (E.puts exports.new)) }
     ensures err { (document : Document) → original.now.clauses ≡ map (clause_of original.now.text.items) document.components
-        → IfErr result (AreNotPut (path_of asked.now.export) (path_of asked.now.lines) original.now.text.items document floor.now
+        → IfErr result (AreNotPut (path_of requested.now.export) (path_of requested.now.lines) original.now.text.items document floor.now
         (E.puts exports.old) (E.puts exports.new)) }
     ensures fails { IfErr result (λ fault. ExportFails fault (E.has_failed exports.old) (E.has_failed exports.new)) }
     ensures sound { OnOk result (E.has_failed exports.new ≡ E.has_failed exports.old) }
-    ensures unput { path_of asked.now.lines ≡ None → OnErr result (E.puts exports.new ≡ E.puts exports.old) }
-    ensures unasked { path_of asked.now.lines ≡ None → path_of asked.now.export ≡ None → exports.new ≡ exports.old }
+    ensures unput { path_of requested.now.lines ≡ None → OnErr result (E.puts exports.new ≡ E.puts exports.old) }
+    ensures unasked { path_of requested.now.lines ≡ None → path_of requested.now.export ≡ None → exports.new ≡ exports.old }
 {
-    save_export(floor, original, asked.export, exports)?;
-    save_lines(lines, asked.lines, exports)
+    save_export(floor, original, requested.export, exports)?;
+    save_lines(lines, requested.lines, exports)
 }
 
 /// Writes the report, and then the requested files.
@@ -319,7 +322,7 @@ fn put_all<'a, E: OutputFiles, W: Sink>(
     floor: &Floor<IndexSeeker>,
     original: &SourceText,
     done: &FinishedRepair,
-    asked: &RepairJob<'a>,
+    requested: &RepairJob<'a>,
     exports: &mut E,
     writer: &mut W,
 ) -> Result<u8, Fault<'a>>
@@ -327,19 +330,19 @@ fn put_all<'a, E: OutputFiles, W: Sink>(
         → CanBeRenewed original.now.text.items original.now.clauses places }
     ensures status { IfOk result (λ status. status ≡ done.now.status) }
     ensures ok { (document : Document) → original.now.clauses ≡ map (clause_of original.now.text.items) document.components
-        → OnOk result (IsPut (path_of asked.now.export) (path_of asked.now.lines) original.now.text.items document floor.now (kept_text done.now.lines)
+        → OnOk result (IsPut (path_of requested.now.export) (path_of requested.now.lines) original.now.text.items document floor.now (kept_text done.now.lines)
         done.now.report.text.items (W.contents writer.old) (W.contents writer.new) (E.puts exports.old) (E.puts exports.new)) }
     ensures err { (document : Document) → original.now.clauses ≡ map (clause_of original.now.text.items) document.components
-        → IfErr result (IsNotPut (path_of asked.now.export) (path_of asked.now.lines) original.now.text.items document floor.now
+        → IfErr result (IsNotPut (path_of requested.now.export) (path_of requested.now.lines) original.now.text.items document floor.now
         done.now.report.text.items (W.contents writer.old) (W.contents writer.new) (E.puts exports.old) (E.puts exports.new)) }
     ensures blames { IfErr result (λ fault. BlamesOutputs fault (writer.new ≡ writer.old) (W.has_failed writer.old) (W.has_failed writer.new)
         (E.has_failed exports.old) (E.has_failed exports.new)) }
-    ensures unput { path_of asked.now.lines ≡ None → OnErr result (E.puts exports.new ≡ E.puts exports.old) }
-    ensures unasked { path_of asked.now.lines ≡ None → path_of asked.now.export ≡ None → exports.new ≡ exports.old }
+    ensures unput { path_of requested.now.lines ≡ None → OnErr result (E.puts exports.new ≡ E.puts exports.old) }
+    ensures unasked { path_of requested.now.lines ≡ None → path_of requested.now.export ≡ None → exports.new ≡ exports.old }
     ensures held { W.holds writer.new ≡ W.holds writer.old }
 {
     put_report(writer, &done.report)?;
-    put_files(floor, original, &done.lines, asked, exports)?;
+    put_files(floor, original, &done.lines, requested, exports)?;
     Ok(done.status)
 }
 
@@ -359,7 +362,7 @@ fn repair_on_floor<'a, E: OutputFiles, W: Sink, P: Progress>(
     alloc: Global,
     floor: &mut Floor<IndexSeeker>,
     before: &mut RepairContext<'_, P>,
-    asked: &RepairJob<'a>,
+    requested: &RepairJob<'a>,
     exports: &mut E,
     writer: &mut W,
 ) -> Result<u8, Fault<'a>>
@@ -367,52 +370,52 @@ fn repair_on_floor<'a, E: OutputFiles, W: Sink, P: Progress>(
     requires fits { (s : FloorState) (places : List (ℕ × Option Place)) → s.components ≡ floor.old.components → AreCommittedPlaces s places
         → CanBeRenewed before.old.original.text.items before.old.original.clauses places }
     ensures ok { (document : Document) → before.old.original.clauses ≡ map (clause_of before.old.original.text.items) document.components
-        → IfOk result (IsRepaired (map (λ team. team.now) asked.now.teams.now) asked.now.legal (path_of asked.now.export) (path_of asked.now.lines)
+        → IfOk result (IsRepaired (map (λ team. team.now) requested.now.teams.now) requested.now.legal (path_of requested.now.export) (path_of requested.now.lines)
         before.old.original.text.items document before.old.least.items floor.old
         (W.contents writer.old) (W.contents writer.new) (E.puts exports.old) (E.puts exports.new)) }
     ensures err { (document : Document) → before.old.original.clauses ≡ map (clause_of before.old.original.text.items) document.components
-        → IfErr result (IsUnrepaired (map (λ team. team.now) asked.now.teams.now) asked.now.legal (path_of asked.now.export) (path_of asked.now.lines)
+        → IfErr result (IsUnrepaired (map (λ team. team.now) requested.now.teams.now) requested.now.legal (path_of requested.now.export) (path_of requested.now.lines)
         before.old.original.text.items document before.old.least.items floor.old
         (W.contents writer.old) (W.contents writer.new) (E.puts exports.old) (E.puts exports.new)) }
     ensures blames { IfErr result (λ fault. BlamesOutputs fault (writer.new ≡ writer.old) (W.has_failed writer.old) (W.has_failed writer.new)
         (E.has_failed exports.old) (E.has_failed exports.new)) }
-    ensures unput { path_of asked.now.lines ≡ None → OnErr result (E.puts exports.new ≡ E.puts exports.old) }
-    ensures unasked { path_of asked.now.lines ≡ None → path_of asked.now.export ≡ None → exports.new ≡ exports.old }
+    ensures unput { path_of requested.now.lines ≡ None → OnErr result (E.puts exports.new ≡ E.puts exports.old) }
+    ensures unasked { path_of requested.now.lines ≡ None → path_of requested.now.export ≡ None → exports.new ≡ exports.old }
     ensures held { W.holds writer.new ≡ W.holds writer.old }
 {
-    all_known(floor, asked.teams)?;
-    try_files(asked, exports)?;
-    let done = repair_selected(alloc, floor, asked, &before.least, before.progress)?;
-    put_all(floor, &before.original, &done, asked, exports, writer)
+    all_known(floor, requested.teams)?;
+    try_files(requested, exports)?;
+    let done = repair_selected(alloc, floor, requested, &before.least, before.progress)?;
+    put_all(floor, &before.original, &done, requested, exports, writer)
 }
 
 /// Repairs the teams of the design of an opened text.
 fn repair_opened<'a, E: OutputFiles, W: Sink, P: Progress>(
     alloc: Global,
     opened: OpenedDesign,
-    asked: &RepairJob<'a>,
+    requested: &RepairJob<'a>,
     exports: &mut E,
     writer: &mut W,
     progress: &mut P,
 ) -> Result<u8, Fault<'a>>
     requires loads { (limits : TheLimits) × (library : Contents) × (document : Document)
-        × IsKept limits opened.original.text.items library document opened.original.clauses opened.loaded }
+        × IsLoadedText limits opened.original.text.items library document opened.original.clauses opened.loaded }
     ensures ok { (document : Document) → opened.original.clauses ≡ map (clause_of opened.original.text.items) document.components
         → IfOk result (λ status. (bounds : List ℕ) × AreBounds opened.loaded bounds
-        × IsRepaired (map (λ team. team.now) asked.now.teams.now) asked.now.legal (path_of asked.now.export) (path_of asked.now.lines)
+        × IsRepaired (map (λ team. team.now) requested.now.teams.now) requested.now.legal (path_of requested.now.export) (path_of requested.now.lines)
         opened.original.text.items document bounds (initial_floor opened.loaded)
         (W.contents writer.old) (W.contents writer.new) (E.puts exports.old) (E.puts exports.new) status) }
     ensures err { (document : Document) → opened.original.clauses ≡ map (clause_of opened.original.text.items) document.components
         → IfErr result (λ fault.
-        ((fault ≡ NoMemory) × (W.contents writer.new ≡ W.contents writer.old) × (E.puts exports.new ≡ E.puts exports.old))
+        ((fault ≡ SetupOutOfMemory) × (W.contents writer.new ≡ W.contents writer.old) × (E.puts exports.new ≡ E.puts exports.old))
         ⊎ ((bounds : List ℕ) × AreBounds opened.loaded bounds
-        × IsUnrepaired (map (λ team. team.now) asked.now.teams.now) asked.now.legal (path_of asked.now.export) (path_of asked.now.lines)
+        × IsUnrepaired (map (λ team. team.now) requested.now.teams.now) requested.now.legal (path_of requested.now.export) (path_of requested.now.lines)
         opened.original.text.items document bounds (initial_floor opened.loaded)
         (W.contents writer.old) (W.contents writer.new) (E.puts exports.old) (E.puts exports.new) fault)) }
     ensures blames { IfErr result (λ fault. BlamesOutputs fault (writer.new ≡ writer.old) (W.has_failed writer.old) (W.has_failed writer.new)
         (E.has_failed exports.old) (E.has_failed exports.new)) }
-    ensures unput { path_of asked.now.lines ≡ None → OnErr result (E.puts exports.new ≡ E.puts exports.old) }
-    ensures unasked { path_of asked.now.lines ≡ None → path_of asked.now.export ≡ None → exports.new ≡ exports.old }
+    ensures unput { path_of requested.now.lines ≡ None → OnErr result (E.puts exports.new ≡ E.puts exports.old) }
+    ensures unasked { path_of requested.now.lines ≡ None → path_of requested.now.export ≡ None → exports.new ≡ exports.old }
     ensures held { W.holds writer.new ≡ W.holds writer.old }
 {
     kept_clauses_suffice();
@@ -426,7 +429,7 @@ fn repair_opened<'a, E: OutputFiles, W: Sink, P: Progress>(
         least,
         progress,
     };
-    repair_on_floor(alloc, &mut floor, &mut before, asked, exports, writer)
+    repair_on_floor(alloc, &mut floor, &mut before, requested, exports, writer)
 }
 
 /// Repairs the teams of the design of a DEF file and LEF files by the floor's own commands.
@@ -451,20 +454,26 @@ pub fn repair<'a, T: InputFiles, E: OutputFiles, W: Sink, P: Progress>(
     exports: &mut E,
     writer: &mut W,
     progress: &mut P,
-    asked: &RepairJob<'a>,
+    requested: &RepairJob<'a>,
 ) -> Result<u8, Fault<'a>>
-    ensures ok { IfOk result (IsOpenRepaired asked.now.limits (T.gives texts.now) asked.now.def.now (map (λ lef. lef.now) asked.now.lefs.now)
-        (map (λ team. team.now) asked.now.teams.now) asked.now.legal (path_of asked.now.export) (path_of asked.now.lines)
+    ensures ok { IfOk result (IsOpenRepaired requested.now.limits (T.gives texts.now) requested.now.def.now (map (λ lef. lef.now) requested.now.lefs.now)
+        (map (λ team. team.now) requested.now.teams.now) requested.now.legal (path_of requested.now.export) (path_of requested.now.lines)
         (W.contents writer.old) (W.contents writer.new) (E.puts exports.old) (E.puts exports.new)) }
-    ensures err { IfErr result (λ fault. IsNotRepaired asked.now.limits (T.gives texts.now) asked.now.def.now (map (λ lef. lef.now) asked.now.lefs.now)
-        (map (λ team. team.now) asked.now.teams.now) asked.now.legal (path_of asked.now.export) (path_of asked.now.lines)
+    ensures err { IfErr result (λ fault. IsNotRepaired requested.now.limits (T.gives texts.now) requested.now.def.now (map (λ lef. lef.now) requested.now.lefs.now)
+        (map (λ team. team.now) requested.now.teams.now) requested.now.legal (path_of requested.now.export) (path_of requested.now.lines)
         (W.contents writer.old) (W.contents writer.new) (E.puts exports.old) (E.puts exports.new) fault
         × BlamesOutputs fault (writer.new ≡ writer.old) (W.has_failed writer.old) (W.has_failed writer.new)
         (E.has_failed exports.old) (E.has_failed exports.new)) }
-    ensures unput { path_of asked.now.lines ≡ None → OnErr result (E.puts exports.new ≡ E.puts exports.old) }
-    ensures unasked { path_of asked.now.lines ≡ None → path_of asked.now.export ≡ None → exports.new ≡ exports.old }
+    ensures unput { path_of requested.now.lines ≡ None → OnErr result (E.puts exports.new ≡ E.puts exports.old) }
+    ensures unasked { path_of requested.now.lines ≡ None → path_of requested.now.export ≡ None → exports.new ≡ exports.old }
     ensures held { W.holds writer.new ≡ W.holds writer.old }
 {
-    let opened = open_design(alloc, asked.limits, texts, asked.def, asked.lefs)?;
-    repair_opened(alloc, opened, asked, exports, writer, progress)
+    let opened = open_design(
+        alloc,
+        requested.limits,
+        texts,
+        requested.def,
+        requested.lefs,
+    )?;
+    repair_opened(alloc, opened, requested, exports, writer, progress)
 }

@@ -18,7 +18,7 @@ use Rattle.lf_task_files.specs.States.{IsOpenedFloor}
 use Rattle.lf_task_files.proofs.WorkSteps.{design_opened}
 use Rattle.lf_task_serve.specs.Exits.{IsUndone, Streams, streams}
 use Rattle.lf_task_serve.specs.Surroundings.{IsSound}
-use Rattle.lf_task_serve.specs.Work.{AreAnswered, IsFault, IsOfOriginal, IsUnfinished, IsNotServedDesign}
+use Rattle.lf_task_serve.specs.Work.{AreAnswered, IsServingFault, IsOfOriginal, IsUnfinished, IsNotServedDesign}
 use Rattle.lf_task_serve.specs.declared.environment.Environment.{Environment}
 use Rattle.lf_task_serve.specs.declared.line_source.LineSource.{LineSource}
 use Rattle.lf_task_serve.specs.declared.line_source.LineSource.TheVariants.{Stream, Port}
@@ -34,8 +34,8 @@ done_beside (Port port connections) begin floor input left before after old_puts
 -- The same for a fault of the lines.
 pub fault_beside : (lines : LineSource) (begin : FloorState) (fault : Fault) (input left before after : Option (List ℕ))
     (old_puts new_puts other_old other_new : Option (List Put)) (old_accepted new_accepted : Option Accepted)
-    → IsFault lines begin fault (streams input left before after old_puts new_puts old_accepted new_accepted)
-    → IsFault lines begin fault (streams input left before after other_old other_new old_accepted new_accepted)
+    → IsServingFault lines begin fault (streams input left before after old_puts new_puts old_accepted new_accepted)
+    → IsServingFault lines begin fault (streams input left before after other_old other_new old_accepted new_accepted)
 fault_beside (Stream limit) begin fault input left before after old_puts new_puts other_old other_new old_accepted new_accepted is = is
 fault_beside (Port port connections) begin fault input left before after old_puts new_puts other_old other_new old_accepted new_accepted is = is
 
@@ -43,7 +43,7 @@ fault_beside (Port port connections) begin fault input left before after old_put
 pub undone : (limits : Limits) (gives : ReadsFile) (def : List ℕ) (lefs : List (List ℕ)) (state save export : Option (List ℕ)) (lines : LineSource) (text : List ℕ)
     (document : Document) (loaded : Loaded) (fault : Fault) (io : Streams) → IsOpened limits gives def lefs text document loaded
     → IsNotServedDesign gives state save export lines loaded text document fault io
-    → IsUndone limits gives def lefs state save export (IsFault lines) (AreAnswered lines) fault io
+    → IsUndone limits gives def lefs state save export (IsServingFault lines) (AreAnswered lines) fault io
 undone limits gives def lefs state save export lines text document loaded fault io is (inl unbegun) =
     inl (inl (inr (loaded, design_opened limits gives def lefs text document loaded is, unbegun.0)), unbegun.1)
 undone limits gives def lefs state save export lines text document loaded fault io is (inr (begin, begins, inl stopped)) =

@@ -11,13 +11,13 @@ use Rattle.lf_floor_model.specs.Designs.{initial_floor}
 use Rattle.lf_server.specs.Connections.{Accepted, AreServed}
 use Rattle.lf_server.specs.declared.serve_loop.Ending.{Ending}
 use Rattle.lf_task_designs.specs.declared.faults.Fault.{Fault}
-use Rattle.lf_task_designs.specs.declared.faults.Fault.TheVariants.{Accept, Bind, NoMemory, Output}
+use Rattle.lf_task_designs.specs.declared.faults.Fault.TheVariants.{Accept, Bind, SetupOutOfMemory, Output}
 use Rattle.lf_task_designs.specs.Designs.{ReadsFile, IsOpened}
 use Rattle.lf_task_files.specs.Faults.{IsExportFault, IsSaveFault}
 use Rattle.lf_task_files.specs.States.{IsOpenedFloor, IsFloorFault, IsFloorOf, IsSaved}
 use Rattle.lf_task_files.specs.Exits.{IsExported}
 use Rattle.lf_task_serve.specs.Faults.{ending_fault}
-use Rattle.lf_task_serve.specs.Lines.{IsServed, most_lines, reads_for}
+use Rattle.lf_task_serve.specs.Lines.{IsServed, default_most_lines, reads_for}
 
 -- ---- inputs and outputs of a task
 
@@ -48,11 +48,11 @@ streams input left before after old_puts new_puts old_accepted new_accepted =
     }
 
 -- The input and the output alone, if nothing is known of files and connections.
-abbrev pub alone : Option (List ℕ) → Option (List ℕ) → Option (List ℕ) → Option (List ℕ) → Streams
-alone input left before after = streams input left before after None None None None
+abbrev pub streams_alone : Option (List ℕ) → Option (List ℕ) → Option (List ℕ) → Option (List ℕ) → Streams
+streams_alone input left before after = streams input left before after None None None None
 
 -- The lines of the input, at most `limit`, were served on the floor, up to their end or to a bye.
-pub record IsAnswered (limit : ℕ) (begin floor : FloorState) (input left before after : Option (List ℕ)) : Type 0 where
+pub record AnswersInput (limit : ℕ) (begin floor : FloorState) (input left before after : Option (List ℕ)) : Type 0 where
   pub ending : Ending
   pub well : ending_fault ending ≡ None
   pub served : (l : Legalizer) → IsServed l limit begin floor input left before after ending
@@ -64,8 +64,8 @@ listening = codes "listening" ++ 10 ∷ []
 -- `connections` connections were accepted and served on the floor, after `listening` was written.
 pub record IsOffered (begin floor : FloorState) (connections : ℕ) (before after : Option (List ℕ))
     (old_accepted new_accepted : Option Accepted) : Type 0 where
-  pub told : Appends before after listening
-  pub served : AreServed most_lines (reads_for most_lines) connections old_accepted new_accepted begin floor
+  pub reported : Appends before after listening
+  pub served : AreServed default_most_lines (reads_for default_most_lines) connections old_accepted new_accepted begin floor
 
 -- This work led to the state of the floor. Then the exported text of the document was written if
 -- requested, and then the state.
@@ -100,7 +100,7 @@ pub record EndsWithFault (limit : ℕ) (begin : FloorState) (fault : Fault) (inp
 -- Why the lines of a demo are not answered up to their end: an allocation for the floor failed, or
 -- serving them ended with a fault.
 abbrev pub IsLinesFault : ℕ → FloorState → Fault → Option (List ℕ) → Option (List ℕ) → Option (List ℕ) → Option (List ℕ) → Type 0
-IsLinesFault limit begin fault input left before after = (fault ≡ NoMemory) ⊎ EndsWithFault limit begin fault input left before after
+IsLinesFault limit begin fault input left before after = (fault ≡ SetupOutOfMemory) ⊎ EndsWithFault limit begin fault input left before after
 
 -- Why a service ends early. If it cannot listen on the port, nothing is written. If the line
 -- `listening` is not written, a front of it may be. If a connection is not accepted, the earlier

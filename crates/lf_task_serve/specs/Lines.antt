@@ -17,8 +17,8 @@ pub record IsServed (l : Legalizer) (limit : ℕ) (old new : FloorState) (input 
   pub serves : ServesLines l limit old input left (writer before begun false) (writer after flushed failed) served new
 
 -- The limit on the lines of a connection, and of a session if no other limit is given.
-abbrev pub most_lines : ℕ
-most_lines = 1000000
+abbrev pub default_most_lines : ℕ
+default_most_lines = 1000000
 
 -- The limit on reads for this number of lines.
 abbrev pub reads_for : ℕ → ℕ

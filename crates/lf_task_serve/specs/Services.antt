@@ -2,7 +2,7 @@
 use Rattle.std.specs.Prelude.{◌≡◌, ℕ, List, [], ◌∷◌, Option, Some, None}
 use Rattle.std.specs.Net.Addr.{ipv4_octets}
 use Rattle.lf_server.specs.declared.acceptor.ServiceConfig.{ServiceConfig}
-use Rattle.lf_task_serve.specs.Lines.{most_lines, reads_for}
+use Rattle.lf_task_serve.specs.Lines.{default_most_lines, reads_for}
 
 -- This service was offered and no other, if what is offered is known.
 abbrev pub Offers : Option (List ServiceConfig) → Option (List ServiceConfig) → ServiceConfig → Type 0
@@ -15,8 +15,8 @@ pub record IsLocal (port connections : ℕ) (offer : ServiceConfig) : Type 0 whe
   pub ip : ipv4_octets offer.ip ≡ 127 ∷ 0 ∷ 0 ∷ 1 ∷ []
   pub at : offer.port ≡ port
   pub count : offer.connections ≡ connections
-  pub lines : offer.limits.lines ≡ most_lines
-  pub reads : offer.limits.reads ≡ reads_for most_lines
+  pub lines : offer.limits.lines ≡ default_most_lines
+  pub reads : offer.limits.reads ≡ reads_for default_most_lines
 
 -- A service at this port was offered, and no other.
 abbrev pub OffersLocal : ℕ → ℕ → Option (List ServiceConfig) → Option (List ServiceConfig) → Type 0

@@ -10,7 +10,7 @@ use Rattle.lf_floor_model.specs.States.{FloorState}
 use Rattle.lf_floor_model.specs.Designs.{initial_floor}
 use Rattle.lf_task_designs.specs.declared.faults.Fault.{Fault}
 use Rattle.lf_task_designs.specs.declared.opening.SourceText.{SourceText}
-use Rattle.lf_task_designs.specs.Designs.{ReadsFile, IsKept, IsOpened}
+use Rattle.lf_task_designs.specs.Designs.{ReadsFile, IsLoadedText, IsOpened}
 use Rattle.lf_task_designs.specs.Faults.{BlamesDevices}
 use Rattle.lf_task_files.specs.Exits.{AreKept}
 use Rattle.lf_task_files.specs.Faults.{IsSaveFault}
@@ -19,25 +19,25 @@ use Rattle.lf_task_serve.specs.declared.environment.Environment.{Environment}
 use Rattle.lf_task_serve.specs.declared.line_source.LineSource.{LineSource}
 use Rattle.lf_task_serve.specs.declared.serve_task.OpenDesign.{OpenDesign}
 use Rattle.lf_task_serve.specs.declared.line_source.LineSource.TheVariants.{Stream, Port}
-use Rattle.lf_task_serve.specs.Exits.{IsAnswered, EndsWithFault, IsFinished, IsOffered, IsServiceFault, IsServeFault, Streams}
+use Rattle.lf_task_serve.specs.Exits.{AnswersInput, EndsWithFault, IsFinished, IsOffered, IsServiceFault, IsServeFault, Streams}
 use Rattle.lf_task_serve.specs.Lines.{ReadsFail}
 use Rattle.lf_task_serve.specs.Services.{OffersLocal}
 use Rattle.lf_task_serve.specs.Surroundings.{IsSound}
 
 -- The lines were answered to their end, on the floor with which they began.
 abbrev pub AreAnswered : LineSource → FloorState → FloorState → Streams → Type 0
-AreAnswered (Stream limit) begin floor io = IsAnswered limit begin floor io.input io.left io.before io.after
+AreAnswered (Stream limit) begin floor io = AnswersInput limit begin floor io.input io.left io.before io.after
 AreAnswered (Port port connections) begin floor io = IsOffered begin floor connections io.before io.after io.old_accepted io.new_accepted
 
 -- Why the lines were not answered to their end.
-abbrev pub IsFault : LineSource → FloorState → Fault → Streams → Type 0
-IsFault (Stream limit) begin fault io = EndsWithFault limit begin fault io.input io.left io.before io.after
-IsFault (Port port connections) begin fault io = IsServiceFault port connections begin fault io.before io.after io.old_accepted io.new_accepted
+abbrev pub IsServingFault : LineSource → FloorState → Fault → Streams → Type 0
+IsServingFault (Stream limit) begin fault io = EndsWithFault limit begin fault io.input io.left io.before io.after
+IsServingFault (Port port connections) begin fault io = IsServiceFault port connections begin fault io.before io.after io.old_accepted io.new_accepted
 
 -- If a DEF text is kept, the design was loaded from it.
 abbrev pub IsOfOriginal : Option SourceText → Loaded → Type 0
 IsOfOriginal original loaded = IfSome original (λ original. (limits : Limits) × (library : Contents) × (document : Document)
-    × IsKept limits original.text.items library document original.clauses loaded)
+    × IsLoadedText limits original.text.items library document original.clauses loaded)
 
 -- The design to work on is that of the files, with its DEF text if an export is requested.
 pub record IsDesignFor (limits : Limits) (gives : ReadsFile) (def : List ℕ) (lefs : List (List ℕ)) (export : Option (List ℕ)) (design : OpenDesign) : Type 0 where
@@ -52,7 +52,7 @@ pub record IsDesignFor (limits : Limits) (gives : ReadsFile) (def : List ℕ) (l
 -- done except that the state is not saved.
 abbrev pub IsUnfinished : Option (List ℕ) → Option (List ℕ) → LineSource → FloorState → List ℕ → Document → Fault → Streams → Type 0
 IsUnfinished save export lines begin text document fault io =
-    (IsServeFault save export (IsFault lines begin) (AreAnswered lines begin) fault io × (io.new_puts ≡ io.old_puts))
+    (IsServeFault save export (IsServingFault lines begin) (AreAnswered lines begin) fault io × (io.new_puts ≡ io.old_puts))
     ⊎ (IsSaveFault save fault × IsFinished (AreAnswered lines begin) None export text document io)
 
 -- Why the work on the design of a text is not finished: there is no floor with which to begin, and

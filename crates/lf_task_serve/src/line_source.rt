@@ -3,12 +3,12 @@
 
 ghost use Rattle.std.specs.Prelude.{◌≡◌, IfErr, OnOk, false, true};
 ghost use Rattle.lf_task_designs.specs.Faults.{BlamesDevices};
-ghost use Rattle.lf_task_serve.specs.Exits.{IsAnswered, EndsWithFault, IsOffered, IsServiceFault};
+ghost use Rattle.lf_task_serve.specs.Exits.{AnswersInput, EndsWithFault, IsOffered, IsServiceFault};
 ghost use Rattle.lf_task_serve.specs.Faults.{BlamesStreams};
-ghost use Rattle.lf_task_serve.specs.Lines.{most_lines, reads_for};
+ghost use Rattle.lf_task_serve.specs.Lines.{default_most_lines, reads_for};
 ghost use Rattle.lf_task_serve.specs.Services.{Offers};
 ghost use Rattle.lf_task_serve.specs.Surroundings.{IsReady, IsSound, KeepsDevices, io_of};
-ghost use Rattle.lf_task_serve.specs.Work.{AreAnswered, BlamesIn, IsFault, LeavesReader, IsOfferFor};
+ghost use Rattle.lf_task_serve.specs.Work.{AreAnswered, BlamesIn, IsServingFault, LeavesReader, IsOfferFor};
 
 use crate::environment::Environment;
 use crate::listener::{PortListener, local_service};
@@ -40,7 +40,7 @@ pub(crate) fn serve_reader<'a, R: Source, W: Sink>(
     writer: &mut W,
 ) -> Result<(), Fault<'a>>
     requires ready { IsReady R.has_failed R.reads W.has_failed reader.old writer.old }
-    ensures ok { OnOk result (IsAnswered lines floor.old floor.new (R.remaining reader.old) (R.remaining reader.new)
+    ensures ok { OnOk result (AnswersInput lines floor.old floor.new (R.remaining reader.old) (R.remaining reader.new)
         (W.contents writer.old) (W.contents writer.new)) }
     ensures components { floor.new.components ≡ floor.old.components }
     ensures err { IfErr result (λ fault. EndsWithFault lines floor.old fault
@@ -66,8 +66,8 @@ fn serve_port<'a, V: PortListener, W: Sink>(
     offer: &ServiceConfig,
     writer: &mut W,
 ) -> Result<(), Fault<'a>>
-    requires lines { offer.now.limits.lines ≡ most_lines }
-    requires reads { offer.now.limits.reads ≡ reads_for most_lines }
+    requires lines { offer.now.limits.lines ≡ default_most_lines }
+    requires reads { offer.now.limits.reads ≡ reads_for default_most_lines }
     ensures ok { OnOk result (IsOffered floor.old floor.new offer.now.connections (W.contents writer.old) (W.contents writer.new)
         (V.accepted services.old) (V.accepted services.new)) }
     ensures components { floor.new.components ≡ floor.old.components }
@@ -103,7 +103,7 @@ pub(crate) fn serve_source<'a, T, E: OutputFiles, V: PortListener, R: Source, W:
     ensures ok { OnOk result (AreAnswered lines floor.old floor.new (io_of R.remaining W.contents E.puts V.accepted around.old around.new)) }
     ensures components { floor.new.components ≡ floor.old.components }
     ensures err { IfErr result (λ fault.
-        IsFault lines floor.old fault (io_of R.remaining W.contents E.puts V.accepted around.old around.new)
+        IsServingFault lines floor.old fault (io_of R.remaining W.contents E.puts V.accepted around.old around.new)
         × BlamesIn E.has_failed V.has_failed R.has_failed R.reads W.has_failed lines around.old around.new fault) }
     ensures sound { OnOk result (IsSound E.has_failed V.has_failed R.has_failed W.has_failed around.old around.new) }
     ensures exports { around.new.exports ≡ around.old.exports }

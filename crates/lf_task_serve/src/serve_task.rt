@@ -11,11 +11,11 @@ ghost use Rattle.lf_task_designs.specs.Designs.{IsDesignFault};
 ghost use Rattle.lf_task_files.specs.Exits.{AreKept, CanBePut};
 ghost use Rattle.lf_task_files.specs.States.{IsOpenedFloor};
 ghost use Rattle.lf_task_files.specs.Inputs.{path_of};
-ghost use Rattle.lf_task_serve.specs.Exits.{IsAnswered, IsFinished, IsLinesFault, IsUndone, IsServedDesign};
+ghost use Rattle.lf_task_serve.specs.Exits.{AnswersInput, IsFinished, IsLinesFault, IsUndone, IsServedDesign};
 ghost use Rattle.lf_task_serve.specs.Faults.{BlamesStreams};
-ghost use Rattle.lf_task_serve.specs.Lines.{most_lines};
+ghost use Rattle.lf_task_serve.specs.Lines.{default_most_lines};
 ghost use Rattle.lf_task_serve.specs.Surroundings.{IsReady, KeepsDevices, io_of};
-ghost use Rattle.lf_task_serve.specs.Work.{AreAnswered, BlamesIn, IsDesignFor, IsFault, IsOfOriginal, IsUnfinished, IsNotServedDesign, LeavesDevices};
+ghost use Rattle.lf_task_serve.specs.Work.{AreAnswered, BlamesIn, IsDesignFor, IsServingFault, IsOfOriginal, IsUnfinished, IsNotServedDesign, LeavesDevices};
 
 use crate::environment::Environment;
 use crate::line_source::{LineSource, serve_reader, serve_source};
@@ -160,7 +160,7 @@ pub fn serve_files<'a, T: InputFiles, E: OutputFiles, V: PortListener, R: Source
         (io_of R.remaining W.contents E.puts V.accepted around.old around.new) × (status ≡ 0)) }
     ensures err { IfErr result (λ fault. IsUndone inputs.entry.limits (T.gives around.old.texts)
         inputs.entry.def.now (map (λ lef. lef.now) inputs.entry.lefs.now)
-        (path_of inputs.entry.state) (path_of outputs.entry.save) (path_of outputs.entry.export) (IsFault lines) (AreAnswered lines) fault
+        (path_of inputs.entry.state) (path_of outputs.entry.save) (path_of outputs.entry.export) (IsServingFault lines) (AreAnswered lines) fault
         (io_of R.remaining W.contents E.puts V.accepted around.old around.new)
         × BlamesIn E.has_failed V.has_failed R.has_failed R.reads W.has_failed lines around.old around.new fault) }
     ensures leaves { LeavesDevices E.puts V.offers lines (path_of outputs.entry.save) (path_of outputs.entry.export) result around.old around.new }
@@ -182,11 +182,11 @@ pub fn serve_loaded<'a, R: Source, W: Sink>(
 ) -> Result<u8, Fault<'a>>
     requires ready { IsReady R.has_failed R.reads W.has_failed reader.old writer.old }
     ensures ok { IfOk result (λ status. ((floor : FloorState)
-        × IsAnswered most_lines (initial_floor loaded) floor (R.remaining reader.old) (R.remaining reader.new) (W.contents writer.old) (W.contents writer.new))
+        × AnswersInput default_most_lines (initial_floor loaded) floor (R.remaining reader.old) (R.remaining reader.new) (W.contents writer.old) (W.contents writer.new))
         × (status ≡ 0)) }
-    ensures err { IfErr result (λ fault. IsLinesFault most_lines (initial_floor loaded) fault
+    ensures err { IfErr result (λ fault. IsLinesFault default_most_lines (initial_floor loaded) fault
         (R.remaining reader.old) (R.remaining reader.new) (W.contents writer.old) (W.contents writer.new)
-        × BlamesStreams most_lines fault (writer.new ≡ writer.old) (R.has_failed reader.new) (R.reads reader.old) (R.reads reader.new)
+        × BlamesStreams default_most_lines fault (writer.new ≡ writer.old) (R.has_failed reader.new) (R.reads reader.old) (R.reads reader.new)
         (W.has_failed writer.new)) }
     ensures reader_held { R.holds reader.new ≡ R.holds reader.old }
     ensures writer_held { W.holds writer.new ≡ W.holds writer.old }

@@ -11,7 +11,7 @@ use Rattle.lf_cells.specs.declared.cell.Cell.{Cell}
 use Rattle.lf_cells.specs.declared.cell.CellId.{CellId}
 use Rattle.lf_cells.specs.Cells.{Cells, cell_at, cells_of, id_of, ids_of}
 use Rattle.lf_team_def.specs.Entries.{component_line, spaced_name}
-use Rattle.lf_team_def.specs.TeamText.{line_of, component_words}
+use Rattle.lf_team_def.specs.TeamText.{words_line, team_component_words}
 use Rattle.lf_team_def.proofs.Lines.{spaced_map}
 
 seam : (pre rest : List Cell) (c : Cell) → slice_get (pre ++ c ∷ rest) (length pre) ≡ Some c
@@ -39,10 +39,10 @@ by_ids g h same table team =
 
 pub lines_by_ids : (f : Frame) (table : Cells) (team : ℕ)
     → flat_map (λ id. component_line f (cell_at table id)) (ids_of team (cells_of table team))
-    ≡ flat_map line_of (map (component_words f) (cells_of table team))
+    ≡ flat_map words_line (map (team_component_words f) (cells_of table team))
 lines_by_ids f table team =
-    by_ids (component_line f) (λ (c : Cell). line_of (component_words f c)) (λ c. refl) table team
-    ∙ sym (flat_map-map line_of (component_words f) (cells_of table team))
+    by_ids (component_line f) (λ (c : Cell). words_line (team_component_words f c)) (λ c. refl) table team
+    ∙ sym (flat_map-map words_line (team_component_words f) (cells_of table team))
 
 pub names_by_ids : (table : Cells) (team : ℕ)
     → flat_map (λ id. spaced_name (cell_at table id)) (ids_of team (cells_of table team)) ≡ spaced (map (λ c. c.name) (cells_of table team))

@@ -4,7 +4,7 @@ use Rattle.std.specs.List.{flat_map}
 use Rattle.std.proofs.lemmas.List.{take_all, flat_map_more}
 use Rattle.std.proofs.lemmas.List.Concat.{flat_map-append}
 use Rattle.lf_lex.specs.Splices.{spaced}
-use Rattle.lf_team_def.specs.TeamText.{line_of}
+use Rattle.lf_team_def.specs.TeamText.{words_line}
 
 pub spaced_append : (a b : List (List ℕ)) → spaced (a ++ b) ≡ spaced a ++ spaced b
 spaced_append [] b = refl
@@ -26,46 +26,46 @@ pub put_all : {X : Type 0} (g : X → List ℕ) (old a : List ℕ) (xs : List X)
 put_all g old a xs i past so_far = so_far ∙ ap (λ ys. old ++ flat_map g ys) (take_all i xs past)
 
 -- Lines after lines.
-pub put_lines : (old a new : List ℕ) (xs : List (List (List ℕ))) (l : List (List ℕ)) → a ≡ old ++ flat_map line_of xs → new ≡ a ++ line_of l
-    → new ≡ old ++ flat_map line_of (xs ++ l ∷ [])
-put_lines old a new xs l so_far line = line ∙ ap (λ (b : List ℕ). b ++ line_of l) so_far ∙ flat_map_more line_of old xs l
+pub put_lines : (old a new : List ℕ) (xs : List (List (List ℕ))) (l : List (List ℕ)) → a ≡ old ++ flat_map words_line xs → new ≡ a ++ words_line l
+    → new ≡ old ++ flat_map words_line (xs ++ l ∷ [])
+put_lines old a new xs l so_far line = line ∙ ap (λ (b : List ℕ). b ++ words_line l) so_far ∙ flat_map_more words_line old xs l
 
-pub put_one : (old new : List ℕ) (l : List (List ℕ)) → new ≡ old ++ line_of l → new ≡ old ++ flat_map line_of (l ∷ [])
-put_one old new l line = line ∙ ap (λ (b : List ℕ). old ++ b) (sym (append-nil (line_of l)))
+pub put_one : (old new : List ℕ) (l : List (List ℕ)) → new ≡ old ++ words_line l → new ≡ old ++ flat_map words_line (l ∷ [])
+put_one old new l line = line ∙ ap (λ (b : List ℕ). old ++ b) (sym (append-nil (words_line l)))
 
-pub put_others : (old a new : List ℕ) (xs ys : List (List (List ℕ))) → a ≡ old ++ flat_map line_of xs → new ≡ a ++ flat_map line_of ys
-    → new ≡ old ++ flat_map line_of (xs ++ ys)
+pub put_others : (old a new : List ℕ) (xs ys : List (List (List ℕ))) → a ≡ old ++ flat_map words_line xs → new ≡ a ++ flat_map words_line ys
+    → new ≡ old ++ flat_map words_line (xs ++ ys)
 put_others old a new xs ys so_far others =
-    others ∙ ap (λ (b : List ℕ). b ++ flat_map line_of ys) so_far ∙ append_assoc old (flat_map line_of xs) (flat_map line_of ys)
-    ∙ ap (λ (b : List ℕ). old ++ b) (sym (flat_map-append line_of xs ys))
+    others ∙ ap (λ (b : List ℕ). b ++ flat_map words_line ys) so_far ∙ append_assoc old (flat_map words_line xs) (flat_map words_line ys)
+    ∙ ap (λ (b : List ℕ). old ++ b) (sym (flat_map-append words_line xs ys))
 
 -- Five lines, and three.
-pub put_five : (old a b c d new : List ℕ) (l1 l2 l3 l4 l5 : List (List ℕ)) → a ≡ old ++ line_of l1 → b ≡ a ++ line_of l2 → c ≡ b ++ line_of l3
-    → d ≡ c ++ line_of l4
-    → new ≡ d ++ line_of l5 → new ≡ old ++ flat_map line_of (l1 ∷ l2 ∷ l3 ∷ l4 ∷ l5 ∷ [])
+pub put_five : (old a b c d new : List ℕ) (l1 l2 l3 l4 l5 : List (List ℕ)) → a ≡ old ++ words_line l1 → b ≡ a ++ words_line l2 → c ≡ b ++ words_line l3
+    → d ≡ c ++ words_line l4
+    → new ≡ d ++ words_line l5 → new ≡ old ++ flat_map words_line (l1 ∷ l2 ∷ l3 ∷ l4 ∷ l5 ∷ [])
 put_five old a b c d new l1 l2 l3 l4 l5 e1 e2 e3 e4 e5 =
     put_lines old d new (l1 ∷ l2 ∷ l3 ∷ l4 ∷ []) l5
     (put_lines old c d (l1 ∷ l2 ∷ l3 ∷ []) l4 (put_lines old b c (l1 ∷ l2 ∷ []) l3 (put_lines old a b (l1 ∷ []) l2 (put_one old a l1 e1) e2) e3) e4) e5
 
-pub put_three : (old a b new : List ℕ) (l1 l2 l3 : List (List ℕ)) → a ≡ old ++ line_of l1 → b ≡ a ++ line_of l2 → new ≡ b ++ line_of l3
-    → new ≡ old ++ flat_map line_of (l1 ∷ l2 ∷ l3 ∷ [])
+pub put_three : (old a b new : List ℕ) (l1 l2 l3 : List (List ℕ)) → a ≡ old ++ words_line l1 → b ≡ a ++ words_line l2 → new ≡ b ++ words_line l3
+    → new ≡ old ++ flat_map words_line (l1 ∷ l2 ∷ l3 ∷ [])
 put_three old a b new l1 l2 l3 e1 e2 e3 = put_lines old b new (l1 ∷ l2 ∷ []) l3 (put_lines old a b (l1 ∷ []) l2 (put_one old a l1 e1) e2) e3
 
 -- The lines of a section: the first, those of the entries, and the last.
-pub put_section : (old a b new : List ℕ) (first last : List (List ℕ)) (entries : List (List (List ℕ))) → a ≡ old ++ line_of first
-    → b ≡ a ++ flat_map line_of entries
-    → new ≡ b ++ line_of last → new ≡ old ++ flat_map line_of (first ∷ (entries ++ last ∷ []))
+pub put_section : (old a b new : List ℕ) (first last : List (List ℕ)) (entries : List (List (List ℕ))) → a ≡ old ++ words_line first
+    → b ≡ a ++ flat_map words_line entries
+    → new ≡ b ++ words_line last → new ≡ old ++ flat_map words_line (first ∷ (entries ++ last ∷ []))
 put_section old a b new first last entries e1 e2 e3 =
     put_lines old b new (first ∷ entries) last (put_others old a b (first ∷ []) entries (put_one old a first e1) e2) e3
 
 -- A whole text: lines in four parts, and a last line.
-pub put_whole : (old a b c d new : List ℕ) (l1 l2 l3 l4 : List (List (List ℕ))) (last : List (List ℕ)) → a ≡ old ++ flat_map line_of l1
-    → b ≡ a ++ flat_map line_of l2 → c ≡ b ++ flat_map line_of l3 → d ≡ c ++ flat_map line_of l4 → new ≡ d ++ line_of last
-    → new ≡ old ++ flat_map line_of (l1 ++ (l2 ++ (l3 ++ (l4 ++ last ∷ []))))
+pub put_whole : (old a b c d new : List ℕ) (l1 l2 l3 l4 : List (List (List ℕ))) (last : List (List ℕ)) → a ≡ old ++ flat_map words_line l1
+    → b ≡ a ++ flat_map words_line l2 → c ≡ b ++ flat_map words_line l3 → d ≡ c ++ flat_map words_line l4 → new ≡ d ++ words_line last
+    → new ≡ old ++ flat_map words_line (l1 ++ (l2 ++ (l3 ++ (l4 ++ last ∷ []))))
 put_whole old a b c d new l1 l2 l3 l4 last e1 e2 e3 e4 e5 =
     put_lines old d new (((l1 ++ l2) ++ l3) ++ l4) last
     (put_others old c d ((l1 ++ l2) ++ l3) l4 (put_others old b c (l1 ++ l2) l3 (put_others old a b l1 l2 e1 e2) e3) e4) e5
-    ∙ ap (λ (ls : List (List (List ℕ))). old ++ flat_map line_of ls) (regroup l1 l2 l3 l4 (last ∷ []))
+    ∙ ap (λ (ls : List (List (List ℕ))). old ++ flat_map words_line ls) (regroup l1 l2 l3 l4 (last ∷ []))
   where
     regroup : (a b c d e : List (List (List ℕ))) → (((a ++ b) ++ c) ++ d) ++ e ≡ a ++ (b ++ (c ++ (d ++ e)))
     regroup a b c d e = simp append_assoc
@@ -74,7 +74,7 @@ put_whole old a b c d new l1 l2 l3 l4 last e1 e2 e3 e4 e5 =
 -- line feed.
 pub put_in_parts : (old a b c d new first second : List ℕ) (between last : List (List ℕ)) → a ≡ old ++ first → b ≡ a ++ spaced (second ∷ [])
     → c ≡ b ++ spaced between
-    → d ≡ c ++ spaced last → new ≡ d ++ 10 ∷ [] → new ≡ old ++ line_of (first ∷ second ∷ (between ++ last))
+    → d ≡ c ++ spaced last → new ≡ d ++ 10 ∷ [] → new ≡ old ++ words_line (first ∷ second ∷ (between ++ last))
 put_in_parts old a b c d new first second between last e1 e2 e3 e4 e5 =
     let words : spaced (second ∷ (between ++ last)) ≡ spaced (second ∷ []) ++ (spaced between ++ spaced last) =
     spaced_append (second ∷ []) (between ++ last) ∙ ap (λ (l : List ℕ). spaced (second ∷ []) ++ l) (spaced_append between last) in

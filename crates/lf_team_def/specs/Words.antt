@@ -5,7 +5,7 @@ use Rattle.lf_team_def.specs.declared.words.Word.{Word}
 use Rattle.lf_team_def.specs.declared.words.Word.TheVariants.{Text, Count, Length}
 
 -- The text of a word.
-abbrev pub word_text : Word → List ℕ
-word_text (Text text) = text.now
-word_text (Count n) = decimal n
-word_text (Length z) = signed_decimal z
+abbrev pub def_word_text : Word → List ℕ
+def_word_text (Text text) = text.now
+def_word_text (Count n) = decimal n
+def_word_text (Length z) = signed_decimal z

@@ -7,7 +7,7 @@ ghost use Rattle.lf_lex.specs.Splices.{spaced};
 ghost use Rattle.lf_cells.specs.Cells.{cell_at, cells_of};
 ghost use Rattle.lf_team_def.specs.Entries.{component_line, placed_words, spaced_name};
 ghost use Rattle.lf_team_def.specs.Output.{PutsText};
-ghost use Rattle.lf_team_def.specs.TeamText.{component_words, group_words, line_of, rect_words, region_words};
+ghost use Rattle.lf_team_def.specs.TeamText.{team_component_words, team_group_words, words_line, team_rect_words, team_region_words};
 
 use crate::output::Output;
 use crate::words::{Word, put_line, put_spaced};
@@ -18,7 +18,7 @@ use lf_units::Rect;
 
 /// Writes the points of a rectangle: its lower left corner, then its upper right one.
 fn put_rect<O: Output>(out: &mut O, rect: &Rect)
-    ensures { PutsText O.took out.old out.new (spaced (rect_words rect.now)) }
+    ensures { PutsText O.took out.old out.new (spaced (team_rect_words rect.now)) }
 {
     put_spaced(
         out,
@@ -37,7 +37,7 @@ fn put_rect<O: Output>(out: &mut O, rect: &Rect)
 
 /// Writes the points of the rectangles.
 fn put_rects<O: Output>(out: &mut O, rects: &[Rect])
-    ensures { PutsText O.took out.old out.new (spaced (flat_map rect_words rects.now)) }
+    ensures { PutsText O.took out.old out.new (spaced (flat_map team_rect_words rects.now)) }
 {
     for rect in rects {
         put_rect(out, rect);
@@ -46,7 +46,7 @@ fn put_rects<O: Output>(out: &mut O, rects: &[Rect])
 
 /// Writes the line of a fence.
 pub(crate) fn put_region<O: Output>(out: &mut O, fence: &Team)
-    ensures { PutsText O.took out.old out.new (line_of (region_words fence.now)) }
+    ensures { PutsText O.took out.old out.new (words_line (team_region_words fence.now)) }
 {
     out.put(b"-");
     put_spaced(out, &[Word::Text(fence.name.as_bytes())]);
@@ -80,7 +80,7 @@ fn put_component_at<'x, O: Output>(
     macro_name: &'x [u8],
     place: Option<Place>,
 )
-    ensures { PutsText O.took out.old out.new (line_of (placed_words name.now macro_name.now place)) }
+    ensures { PutsText O.took out.old out.new (words_line (placed_words name.now macro_name.now place)) }
 {
     match place {
         None => put_line(
@@ -130,7 +130,7 @@ fn put_component<O: Output>(out: &mut O, frame: &Frame, cells: &CellTable, id: C
 
 /// Writes the lines of the components of the team's cells, in loading order.
 pub(crate) fn put_components<O: Output>(out: &mut O, frame: &Frame, cells: &CellTable, team: usize)
-    ensures { PutsText O.took out.old out.new (flat_map line_of (map (component_words frame.now) (cells_of cells.now team))) }
+    ensures { PutsText O.took out.old out.new (flat_map words_line (map (team_component_words frame.now) (cells_of cells.now team))) }
 {
     for id in cells.cells_of(team) {
         put_component(out, frame, cells, *id);
@@ -158,7 +158,7 @@ fn put_names<O: Output>(out: &mut O, cells: &CellTable, team: usize)
 
 /// Writes the line of the group that binds the team's cells to the fence.
 pub(crate) fn put_group<O: Output>(out: &mut O, fence: &Team, cells: &CellTable, team: usize)
-    ensures { PutsText O.took out.old out.new (line_of (group_words fence.now (cells_of cells.now team))) }
+    ensures { PutsText O.took out.old out.new (words_line (team_group_words fence.now (cells_of cells.now team))) }
 {
     out.put(b"-");
     put_spaced(out, &[Word::Text(fence.name.as_bytes())]);

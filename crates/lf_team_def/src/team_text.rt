@@ -4,7 +4,7 @@ ghost use Rattle.std.specs.Prelude.{◌≡◌, ◌∷◌, [], IfOk, codes, decim
 ghost use Rattle.std.specs.List.{flat_map};
 ghost use Rattle.lf_cells.specs.Cells.{cells_of};
 ghost use Rattle.lf_team_def.specs.Output.{IsLengthOf, PutsText};
-ghost use Rattle.lf_team_def.specs.TeamText.{component_words, group_lines, header_lines, line_of, region_lines, section_lines, team_text};
+ghost use Rattle.lf_team_def.specs.TeamText.{team_component_words, group_lines, header_lines, words_line, region_lines, section_lines, team_text};
 
 use crate::def_entries::{put_components, put_group, put_region};
 use crate::output::{Kept, Length, Output};
@@ -15,7 +15,7 @@ use std::alloc::{AllocError, Global};
 
 /// Writes the lines of the header.
 fn put_header<O: Output>(out: &mut O, header: &Header)
-    ensures { PutsText O.took out.old out.new (flat_map line_of (header_lines header.now)) }
+    ensures { PutsText O.took out.old out.new (flat_map words_line (header_lines header.now)) }
 {
     put_statement(out, b"VERSION", header.version.as_bytes());
     put_statement(out, b"DIVIDERCHAR", header.divider.as_bytes());
@@ -35,28 +35,28 @@ fn put_header<O: Output>(out: &mut O, header: &Header)
 
 /// Writes the line of a statement of one word.
 fn put_statement<O: Output>(out: &mut O, keyword: &[u8], word: &[u8])
-    ensures { PutsText O.took out.old out.new (line_of (keyword.now ∷ word.now ∷ codes ";" ∷ [])) }
+    ensures { PutsText O.took out.old out.new (words_line (keyword.now ∷ word.now ∷ codes ";" ∷ [])) }
 {
     put_line(out, keyword, &[Word::Text(word), Word::Text(b";")]);
 }
 
 /// Writes the line that begins a section with this number of entries.
 fn put_begin<O: Output>(out: &mut O, keyword: &[u8], count: usize)
-    ensures { PutsText O.took out.old out.new (line_of (keyword.now ∷ decimal count ∷ codes ";" ∷ [])) }
+    ensures { PutsText O.took out.old out.new (words_line (keyword.now ∷ decimal count ∷ codes ";" ∷ [])) }
 {
     put_line(out, keyword, &[Word::Count(count), Word::Text(b";")]);
 }
 
 /// Writes the line that ends a section, or the text.
 fn put_end<O: Output>(out: &mut O, keyword: &[u8])
-    ensures { PutsText O.took out.old out.new (line_of (codes "END" ∷ keyword.now ∷ [])) }
+    ensures { PutsText O.took out.old out.new (words_line (codes "END" ∷ keyword.now ∷ [])) }
 {
     put_line(out, b"END", &[Word::Text(keyword)]);
 }
 
 /// Writes the REGIONS section of the team with this number.
 fn put_regions<O: Output>(out: &mut O, frame: &Frame, team: usize)
-    ensures { PutsText O.took out.old out.new (flat_map line_of (region_lines (slice_get frame.now.teams team))) }
+    ensures { PutsText O.took out.old out.new (flat_map words_line (region_lines (slice_get frame.now.teams team))) }
 {
     let Some(fence) = frame.teams.as_slice().get(team) else {
         return;
@@ -68,7 +68,7 @@ fn put_regions<O: Output>(out: &mut O, frame: &Frame, team: usize)
 
 /// Writes the COMPONENTS section of the team with this number.
 fn put_cells<O: Output>(out: &mut O, frame: &Frame, cells: &CellTable, team: usize)
-    ensures { PutsText O.took out.old out.new (flat_map line_of (section_lines (codes "COMPONENTS") (map (component_words frame.now) (cells_of cells.now team)))) }
+    ensures { PutsText O.took out.old out.new (flat_map words_line (section_lines (codes "COMPONENTS") (map (team_component_words frame.now) (cells_of cells.now team)))) }
 {
     put_begin(out, b"COMPONENTS", cells.cells_of(team).len());
     put_components(out, frame, cells, team);
@@ -77,7 +77,7 @@ fn put_cells<O: Output>(out: &mut O, frame: &Frame, cells: &CellTable, team: usi
 
 /// Writes the GROUPS section of the team with this number.
 fn put_groups<O: Output>(out: &mut O, frame: &Frame, cells: &CellTable, team: usize)
-    ensures { PutsText O.took out.old out.new (flat_map line_of (group_lines (slice_get frame.now.teams team) (cells_of cells.now team))) }
+    ensures { PutsText O.took out.old out.new (flat_map words_line (group_lines (slice_get frame.now.teams team) (cells_of cells.now team))) }
 {
     match frame.teams.as_slice().get(team) {
         None => {}

@@ -3,8 +3,8 @@
 ghost use Rattle.std.specs.Prelude.{◌∷◌, map};
 ghost use Rattle.lf_lex.specs.Splices.{spaced};
 ghost use Rattle.lf_team_def.specs.Output.{PutsText};
-ghost use Rattle.lf_team_def.specs.TeamText.{line_of};
-ghost use Rattle.lf_team_def.specs.Words.{word_text};
+ghost use Rattle.lf_team_def.specs.TeamText.{words_line};
+ghost use Rattle.lf_team_def.specs.Words.{def_word_text};
 
 use crate::output::Output;
 use itoa::Buffer;
@@ -19,7 +19,7 @@ pub(crate) enum Word<'a> {
 
 /// Writes the word.
 fn put_word<O: Output>(out: &mut O, word: &Word<'_>)
-    ensures { PutsText O.took out.old out.new (word_text word.now) }
+    ensures { PutsText O.took out.old out.new (def_word_text word.now) }
 {
     match word {
         Word::Text(text) => out.put(text),
@@ -30,7 +30,7 @@ fn put_word<O: Output>(out: &mut O, word: &Word<'_>)
 
 /// Writes the words, with a space in front of each.
 pub(crate) fn put_spaced<O: Output>(out: &mut O, words: &[Word<'_>])
-    ensures { PutsText O.took out.old out.new (spaced (map word_text words.now)) }
+    ensures { PutsText O.took out.old out.new (spaced (map def_word_text words.now)) }
 {
     for word in words {
         out.put(b" ");
@@ -40,7 +40,7 @@ pub(crate) fn put_spaced<O: Output>(out: &mut O, words: &[Word<'_>])
 
 /// Writes a line of words. The first word is given separately.
 pub(crate) fn put_line<O: Output>(out: &mut O, first: &[u8], words: &[Word<'_>])
-    ensures { PutsText O.took out.old out.new (line_of (first.now ∷ map word_text words.now)) }
+    ensures { PutsText O.took out.old out.new (words_line (first.now ∷ map def_word_text words.now)) }
 {
     out.put(first);
     put_spaced(out, words);

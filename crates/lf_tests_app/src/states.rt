@@ -14,7 +14,7 @@ const STATE: &str = "w.state";
 const BEFORE: &str = "open A\nplace A 0 a1 0 0 N\ncommit A 0\nplace A 0 a1 400 0 N\nopen B\n\
     place B 0 b1 6000 0 N\npad B 0 2\n";
 
-const BEHIND: &str =
+const AfterEnd: &str =
     "where A 0 a1\nundo A 0\nwhere A 0 a1\nundo A 0\nwhere A 0 a1\nrevert A 0\nopen A\n\
     undo A 0\nplace A 1 a2 400 0 N\nsync A 1\nplace A 1 a2 400 0 N\nwhere B 0 b1\ncommit B 0\ncheck B 0\n";
 
@@ -56,7 +56,7 @@ fn files_with<'a>(state: &'a [u8]) -> [(&'a str, Option<&'a [u8]>); 3] {
 }
 
 /// Returns the saved state of the floor after these lines.
-fn saved_behind(rt: &HostRuntime, lines: &str) -> Result<Vec<u8>, AllocError> {
+fn saved_after(rt: &HostRuntime, lines: &str) -> Result<Vec<u8>, AllocError> {
     let task = replay_of(rt.alloc(), None, Some(STATE))?;
     let mut exports = Kept::at(rt.alloc(), Some(STATE));
     let files = files_of(DEMO_DEF);
@@ -83,26 +83,26 @@ fn begun(rt: &HostRuntime, lines: &str) -> Result<Run, AllocError> {
 }
 
 #[test]
-fn a_state_and_the_lines_behind_it_answer_as_all_lines(rt: HostRuntime) -> Result<(), Fail> {
-    let state = saved_behind(&rt, BEFORE)?;
+fn a_state_and_the_lines_after_it_answer_as_all_lines(rt: HostRuntime) -> Result<(), Fail> {
+    let state = saved_after(&rt, BEFORE)?;
     let before = begun(&rt, BEFORE)?;
-    let behind = gone_on(&rt, &state, BEHIND)?;
+    let after_it = gone_on(&rt, &state, AfterEnd)?;
     let mut lines = Vec::from_slice(rt.alloc(), BEFORE.as_bytes())?;
-    lines.extend_from_slice(BEHIND.as_bytes())?;
+    lines.extend_from_slice(AfterEnd.as_bytes())?;
     let mut exports = Kept::at(rt.alloc(), None);
     let task = replay_of(rt.alloc(), None, None)?;
     let files = files_of(DEMO_DEF);
     let mut reader = lines.as_slice();
     let all = exporting(&rt, files.as_slice(), &mut exports, &task, &mut reader);
     let mut replies = before.written;
-    replies.extend_from_slice(&behind.written)?;
+    replies.extend_from_slice(&after_it.written)?;
     assert!(rt; replies.as_slice() == all.written.as_slice());
     Ok(())
 }
 
 #[test]
 fn what_is_restored_is_saved_as_it_was(rt: HostRuntime) -> Result<(), Fail> {
-    let state = saved_behind(&rt, BEFORE)?;
+    let state = saved_after(&rt, BEFORE)?;
     let task = replay_of(rt.alloc(), Some(STATE), Some(STATE))?;
     let mut exports = Kept::at(rt.alloc(), Some(STATE));
     let files = files_with(&state);
@@ -158,7 +158,7 @@ fn checked(rt: &HostRuntime, state: &[u8]) -> Result<Run, AllocError> {
 
 #[test]
 fn a_check_sees_the_working_places_of_a_state(rt: HostRuntime) -> Result<(), Fail> {
-    let state = saved_behind(&rt, BEFORE)?;
+    let state = saved_after(&rt, BEFORE)?;
     let report = "{\"cells\":5,\"unplaced\":3,\"violations\":[]}\n";
     assert!(rt; checked(&rt, &state)?.is(4, report, ""));
     let design = "lefence: 26 OtherDesign line 2\nlefence: state file w.state, line 2: teams 9\n";
@@ -178,7 +178,7 @@ fn describe_of<'a>(alloc: Global, state: Option<&'a str>) -> Result<Task<'a>, Al
 
 #[test]
 fn a_description_sees_the_working_places_of_a_state(rt: HostRuntime) -> Result<(), Fail> {
-    let state = saved_behind(&rt, BEFORE)?;
+    let state = saved_after(&rt, BEFORE)?;
     let task = describe_of(rt.alloc(), Some(STATE))?;
     let seen = done(&rt, &files_with(&state), &task, "");
     let entries: [&[u8]; 4] = [
@@ -200,7 +200,7 @@ fn is_refused(rt: &HostRuntime, state: &[u8], faults: &str) -> Result<bool, Allo
 }
 
 #[test]
-fn a_text_that_tells_no_state_is_refused(rt: HostRuntime) -> Result<(), Fail> {
+fn a_text_that_reports_no_state_is_refused(rt: HostRuntime) -> Result<(), Fail> {
     let version = "lefence: 25 OtherVersion line 1\n\
         lefence: state file w.state, line 1: lefence-state 2\n";
     assert!(rt; is_refused(&rt, b"lefence-state 2\nteams 3\n", version)?);
@@ -223,7 +223,9 @@ fn a_state_whose_file_is_not_there_is_refused(rt: HostRuntime) -> Result<(), Fai
 }
 
 #[test]
-fn a_path_that_takes_no_state_is_told_before_the_first_line(rt: HostRuntime) -> Result<(), Fail> {
+fn a_path_that_takes_no_state_is_reported_before_the_first_line(
+    rt: HostRuntime,
+) -> Result<(), Fail> {
     let task = replay_of(rt.alloc(), None, Some(STATE))?;
     let files = files_of(DEMO_DEF);
     let run = done(&rt, files.as_slice(), &task, "open A\n");

@@ -29,7 +29,7 @@ pub(crate) struct Kept<'a> {
     path: Option<&'a str>,
     pub(crate) text: Option<Vec<u8>>,
     /// The number of texts that were to be written, to any path, accepted or not.
-    asked: u32,
+    requested: u32,
     /// Whether texts are refused, though the path is accepted.
     is_full: bool,
     /// Whether a text or its path was refused.
@@ -43,7 +43,7 @@ impl<'a> Kept<'a> {
         Kept {
             path,
             text: None,
-            asked: 0,
+            requested: 0,
             is_full: false,
             failed: false,
             alloc,
@@ -71,7 +71,7 @@ impl<'a> OutputFiles for Kept<'a> {
     }
 
     fn put<P: TextSource>(&mut self, path: &str, text: &P) -> Result<(), WriteFailure> {
-        self.asked = self.asked.saturating_add(1);
+        self.requested = self.requested.saturating_add(1);
         if self.is_full || self.path != Some(path) {
             self.failed = true;
             return Err(WriteFailure::File(WriteFailureKind::Denied));
@@ -194,7 +194,7 @@ impl<'a, V: PortListener> PortListener for OfferedThere<'a, V> {
 #[derive(Clone, Copy, Debug, PartialEq, Eq)]
 struct End {
     exit: TaskExit,
-    asked: u32,
+    requested: u32,
 }
 
 /// Does the demo over a reader and a writer.
@@ -220,13 +220,13 @@ fn demo<R: Read, W: Write, F: Write>(
 
 /// The end of a task with this status, whose faults were all reported and that was to write no
 /// file.
-fn told(status: u8) -> End {
+fn reported(status: u8) -> End {
     End {
         exit: TaskExit {
             status,
-            is_told: true,
+            is_printed: true,
         },
-        asked: 0,
+        requested: 0,
     }
 }
 
@@ -249,14 +249,14 @@ impl Run {
     /// Returns whether the run has this status, output and fault lines, reported all its faults,
     /// and was to write no file.
     pub(crate) fn is(&self, status: u8, written: &str, faults: &str) -> bool {
-        self.ends(told(status), written, faults)
+        self.ends(reported(status), written, faults)
     }
 
     /// The same for a task that was to write one file.
     pub(crate) fn is_put(&self, status: u8, written: &str, faults: &str) -> bool {
         let end = End {
-            asked: 1,
-            ..told(status)
+            requested: 1,
+            ..reported(status)
         };
         self.ends(end, written, faults)
     }
@@ -326,7 +326,7 @@ impl Write for Failing {
 fn fails<R: Read, W: Write>(rt: &HostRuntime, reader: &mut R, writer: &mut W, fault: &str) -> bool {
     let mut faults = Vec::new(rt.alloc());
     let end = demo(rt, reader, writer, &mut faults);
-    end == told(3) && faults.as_slice() == fault.as_bytes()
+    end == reported(3) && faults.as_slice() == fault.as_bytes()
 }
 
 #[test]
@@ -338,15 +338,15 @@ fn a_device_that_fails_ends_the_demo(rt: HostRuntime) {
 }
 
 #[test]
-fn a_fault_that_cannot_be_told_is_no_further_fault(rt: HostRuntime) {
+fn a_fault_that_cannot_be_reported_is_no_further_fault(rt: HostRuntime) {
     let mut written = Vec::new(rt.alloc());
     let end = demo(&rt, &mut Failing, &mut written, &mut Failing);
     let untold = End {
         exit: TaskExit {
             status: 3,
-            is_told: false,
+            is_printed: false,
         },
-        asked: 0,
+        requested: 0,
     };
     assert_eq!(rt; end, untold);
 }
@@ -379,7 +379,7 @@ fn with_devices<V: PortListener, R: Read, W: Write, F: Write>(
     let exit = perform_over(rt.alloc(), &mut around, task);
     End {
         exit,
-        asked: around.exports.kept.asked,
+        requested: around.exports.kept.requested,
     }
 }
 
@@ -736,7 +736,7 @@ fn logs<R: Read>(rt: &HostRuntime, reader: &mut R, status: u8, taken: &str) -> b
         taken: Vec::new(rt.alloc()),
     };
     let end = demo(rt, reader, &mut log, &mut faults);
-    end == told(status) && log.taken.as_slice() == taken.as_bytes()
+    end == reported(status) && log.taken.as_slice() == taken.as_bytes()
 }
 
 #[test]
@@ -766,7 +766,7 @@ fn is_output_fault<W: Write>(rt: &HostRuntime, task: &Task<'_>, writer: &mut W) 
         writer,
         &mut faults,
     );
-    end == told(3) && faults.as_slice() == b"lefence: Output\n".as_slice()
+    end == reported(3) && faults.as_slice() == b"lefence: Output\n".as_slice()
 }
 
 #[test]
@@ -862,7 +862,7 @@ fn exports_nothing(rt: &HostRuntime, task: &Task<'_>) -> bool {
         bytes: COMMITTED.as_bytes(),
     };
     let run = exporting(rt, &files_of(DEMO_DEF), &mut exports, task, &mut reader);
-    run.end == told(3)
+    run.end == reported(3)
         && run.faults.as_slice() == b"lefence: ReadFault\n".as_slice()
         && exports.text.is_none()
 }
@@ -906,7 +906,7 @@ fn is_taken(rt: &HostRuntime, port: u16) -> Result<bool, AllocError> {
         &task,
         &mut reader,
     );
-    Ok(run.end == told(3) && run.written.is_empty() && run.faults.as_slice().starts_with(BIND))
+    Ok(run.end == reported(3) && run.written.is_empty() && run.faults.as_slice().starts_with(BIND))
 }
 
 /// Returns the service that is offered for the sample at port 5800, though no service can be
@@ -962,5 +962,5 @@ fn a_task_is_done_over_the_files_of_a_runtime(rt: HostRuntime) {
     let mut faults = Vec::new(rt.alloc());
     let exit = perform(&rt, &Task::Demo, &mut reader, &mut written, &mut faults);
     let is_done = written.as_slice() == b"ok 0 0\nok\n".as_slice() && faults.is_empty();
-    assert!(rt; exit.status == 0 && exit.is_told && is_done);
+    assert!(rt; exit.status == 0 && exit.is_printed && is_done);
 }

@@ -29,7 +29,7 @@ fn row(alloc: Global) -> Result<RTree, AllocError> {
 }
 
 #[test]
-fn neighbours_are_met(rt: HostRuntime) -> Result<(), Fail> {
+fn neighbours_are_found(rt: HostRuntime) -> Result<(), Fail> {
     let tree = row(rt.alloc())?;
     let rows = [
         (40, 40, Some(39)),
@@ -37,8 +37,11 @@ fn neighbours_are_met(rt: HostRuntime) -> Result<(), Fail> {
         (0, 0, Some(1)),
         (200, 200, None),
     ];
-    for (own, but, met) in rows {
-        assert_eq!(rt; tree.least_overlapping(&box_of(own).rect, but), met);
+    for (own, but, overlapping_one) in rows {
+        assert_eq!(rt;
+            tree.least_overlapping(&box_of(own).rect, but),
+            overlapping_one
+        );
     }
     Ok(())
 }

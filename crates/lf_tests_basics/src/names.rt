@@ -31,10 +31,10 @@ fn gives_names_their_positions(rt: HostRuntime) -> Result<(), Fail> {
 }
 
 /// True if one of the matches has these labels.
-fn has_match(matches: &[Match], own: usize, asked: usize) -> bool {
+fn has_match(matches: &[Match], own: usize, requested: usize) -> bool {
     matches
         .iter()
-        .any(|found| found.own == own && found.asked == asked)
+        .any(|found| found.own == own && found.requested == requested)
 }
 
 /// Adds 200 names of two bytes, with labels from this one on.
@@ -46,7 +46,7 @@ fn push_names(parts: &mut PartitionedNames, first: usize) -> Result<(), AllocErr
 }
 
 /// Adds these names, one of them twice, and a name that is not among them.
-fn push_asked(parts: &mut PartitionedNames) -> Result<(), AllocError> {
+fn push_requested(parts: &mut PartitionedNames) -> Result<(), AllocError> {
     parts.push(999, b"")?;
     push_names(parts, 1000)?;
     parts.push(1200, &[7, 0])
@@ -66,9 +66,9 @@ fn are_of_all(matches: &[Match]) -> bool {
 fn are_found(
     alloc: Global,
     names: &PartitionedNames,
-    asked: &PartitionedNames,
+    requested: &PartitionedNames,
 ) -> Result<bool, AllocError> {
-    match names.matches(alloc, asked)? {
+    match names.matches(alloc, requested)? {
         Some(matches) => Ok(are_of_all(&matches)),
         None => Ok(false),
     }
@@ -78,22 +78,22 @@ fn are_found(
 fn answer(
     alloc: Global,
     names: &mut PartitionedNames,
-    asked: &mut PartitionedNames,
+    requested: &mut PartitionedNames,
 ) -> Result<bool, AllocError> {
     push_names(names, 0)?;
-    push_asked(asked)?;
-    if !are_found(alloc, names, asked)? {
+    push_requested(requested)?;
+    if !are_found(alloc, names, requested)? {
         return Ok(false);
     }
     names.push(200, &[7, 0])?;
-    Ok(names.matches(alloc, asked)?.is_none())
+    Ok(names.matches(alloc, requested)?.is_none())
 }
 
 /// The same for empty parts.
 fn parts_answer(alloc: Global) -> Result<bool, AllocError> {
     let mut names = PartitionedNames::new(alloc)?;
-    let mut asked = PartitionedNames::new(alloc)?;
-    answer(alloc, &mut names, &mut asked)
+    let mut requested = PartitionedNames::new(alloc)?;
+    answer(alloc, &mut names, &mut requested)
 }
 
 /// Names of many parts are matched with their labels. A name that is requested twice has two
@@ -175,7 +175,7 @@ fn keeps_its_names_at_every_refusal(rt: HostRuntime) -> Result<(), Fail> {
 }
 
 /// True if the pattern matches the name.
-fn stands_for(pattern: &[u8], name: &[u8]) -> bool {
+fn denotes(pattern: &[u8], name: &[u8]) -> bool {
     Pattern::new(pattern).matches(name)
 }
 
@@ -205,10 +205,10 @@ const PATTERNS: &[(&[u8], &[u8], bool)] = &[
 ];
 
 #[test]
-fn patterns_stand_for_their_names(rt: HostRuntime) {
-    for (pattern, name, stands) in PATTERNS {
+fn patterns_match_their_names(rt: HostRuntime) {
+    for (pattern, name, is_in_place) in PATTERNS {
         assert!(rt;
-            stands_for(pattern, name) == *stands,
+            denotes(pattern, name) == *is_in_place,
             "{pattern:?} {name:?}"
         );
     }

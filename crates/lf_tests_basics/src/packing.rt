@@ -1,6 +1,6 @@
 //! Cells packed into a span: candidates, and cells that are pushed apart.
 
-use lf_repair_packing::{Cell, CostCurve, PackedSpan, SearchEffort};
+use lf_repair_packing::{CostCurve, PackedCell, PackedSpan, SearchEffort};
 use std::alloc::{AllocError, Global};
 use std::test::Fail;
 
@@ -9,7 +9,7 @@ fn three(alloc: Global) -> Result<PackedSpan, AllocError> {
     let mut segment = PackedSpan::new(alloc, 40);
     for (number, wanted) in [(0u32, 10u32), (1, 14), (2, 30)] {
         let gap = segment.len();
-        let cell = Cell {
+        let cell = PackedCell {
             number,
             width: 4,
             wanted,
@@ -23,8 +23,8 @@ fn three(alloc: Global) -> Result<PackedSpan, AllocError> {
 }
 
 /// Returns a cell whose target is between the first two, across both.
-fn one_more() -> Cell {
-    Cell {
+fn one_more() -> PackedCell {
+    PackedCell {
         number: 3,
         width: 4,
         wanted: 12,
@@ -54,7 +54,7 @@ fn neighbours_are_pushed_apart(rt: HostRuntime) -> Result<(), Fail> {
 /// A candidate has the first place of least cost in a gap. For the second gap, the cost is the one
 /// that `insert` returns.
 #[test]
-fn trials_tell_what_gaps_cost(rt: HostRuntime) -> Result<(), Fail> {
+fn candidates_have_the_cost_of_gaps(rt: HostRuntime) -> Result<(), Fail> {
     let segment = three(rt.alloc())?;
     let mut curve = CostCurve::new(rt.alloc());
     let effort = SearchEffort {
@@ -66,8 +66,13 @@ fn trials_tell_what_gaps_cost(rt: HostRuntime) -> Result<(), Fail> {
     let mut costs = Vec::new(rt.alloc());
     assert!(rt; segment.len() == 3);
     for gap in 0..4usize {
-        if let Some(trial) = segment.try_insertion(gap, &one_more(), &effort, &mut curve)? {
-            costs.push((trial.at, trial.cost))?;
+        if let Some(candidate_cell) = segment.try_insertion(
+            gap,
+            &one_more(),
+            &effort,
+            &mut curve,
+        )? {
+            costs.push((candidate_cell.at, candidate_cell.cost))?;
         }
     }
     let wanted = [(6u32, 6i64), (12, 4), (18, 6), (22, 22)];
@@ -87,7 +92,7 @@ fn cells_are_found_and_changed(rt: HostRuntime) -> Result<(), Fail> {
     assert!(rt; out.number == 1);
     assert!(rt; segment.find(1, 14).is_none());
     assert!(rt; segment.as_slice()[0].width == 4);
-    let other = Cell {
+    let other = PackedCell {
         number: 4,
         width: 4,
         wanted: 12,

@@ -22,7 +22,7 @@ fn takes_the_least_free_slot(rt: HostRuntime) -> Result<(), Fail> {
 /// A session's last seen number is returned until its slot is freed. It is not visible to sessions
 /// of other teams.
 #[test]
-fn tells_what_a_session_has_seen(rt: HostRuntime) -> Result<(), Fail> {
+fn shows_what_a_session_has_seen(rt: HostRuntime) -> Result<(), Fail> {
     let mut table = SessionTable::build(rt.alloc(), 2, 8)?;
     assert!(rt; table.take_slot(0, 5) == Some(0));
     assert!(rt; table.seen(0, 0) == Some(5));

@@ -25,9 +25,9 @@ fn a_blockage_parts_a_row(rt: HostRuntime) -> Result<(), Fail> {
 fn lists_meet_where_both_are(rt: HostRuntime) -> Result<(), Fail> {
     let first = [Span { lo: 0, hi: 4000 }];
     let second = [Span { lo: 200, hi: 600 }, Span { lo: 600, hi: 5000 }];
-    let met = spans_meet(rt.alloc(), &first, &second)?;
+    let overlapping_one = spans_meet(rt.alloc(), &first, &second)?;
     let both = [Span { lo: 200, hi: 600 }, Span { lo: 600, hi: 4000 }];
-    assert!(rt; met.as_slice() == both.as_slice());
+    assert!(rt; overlapping_one.as_slice() == both.as_slice());
     Ok(())
 }
 

@@ -50,7 +50,7 @@ pub const SOUND: Plan = Plan {
 
 /// The result of a connection, and the bytes written, with a bar for each flush.
 #[derive(Drop)]
-pub struct Told {
+pub struct Reported {
     pub served: Served,
     pub log: Vec<u8>,
 }
@@ -105,7 +105,7 @@ pub fn serve_bytes(
     floor: &mut Floor<PlainSeeker>,
     bytes: &[u8],
     plan: &Plan,
-) -> Told {
+) -> Reported {
     let mut reader = Pieces {
         bytes,
         most: plan.piece,
@@ -118,7 +118,7 @@ pub fn serve_bytes(
         good_flushes: plan.good_flushes,
     };
     let served = served(alloc, floor, &mut reader, &mut writer, plan.limits);
-    Told {
+    Reported {
         served,
         log: writer.taken,
     }
@@ -134,7 +134,7 @@ pub fn counted(lines: u64, answered: u64, ending: Ending) -> Served {
 }
 
 /// Returns true if a connection with these bytes to the floor has this result and this log.
-pub fn tells_on(
+pub fn reports_on(
     alloc: Global,
     floor: &mut Floor<PlainSeeker>,
     bytes: &[u8],
@@ -142,12 +142,12 @@ pub fn tells_on(
     served: Served,
     log: &[u8],
 ) -> bool {
-    let told = serve_bytes(alloc, floor, bytes, plan);
-    told.served == served && told.log.as_slice() == log
+    let reported = serve_bytes(alloc, floor, bytes, plan);
+    reported.served == served && reported.log.as_slice() == log
 }
 
 /// The same for the floor of the built-in design.
-pub fn tells(
+pub fn decides(
     alloc: Global,
     bytes: &[u8],
     plan: &Plan,
@@ -155,7 +155,7 @@ pub fn tells(
     log: &[u8],
 ) -> Result<bool, Fail> {
     match floor(alloc) {
-        Ok(mut floor) => Ok(tells_on(alloc, &mut floor, bytes, plan, served, log)),
+        Ok(mut floor) => Ok(reports_on(alloc, &mut floor, bytes, plan, served, log)),
         Err(fail) => Err(fail),
     }
 }
@@ -165,7 +165,7 @@ fn a_last_line_needs_no_line_feed(rt: HostRuntime) -> Result<(), Fail> {
     let plan = Plan { piece: 1, ..SOUND };
     let served = counted(2, 2, Ending::Done);
     let log = b"ok 0 0\n|no 6 Unplaced a1\n|";
-    assert!(rt; tells(rt.alloc(), b"open A\nwhere A 0 a1", &plan, served, log)?);
+    assert!(rt; decides(rt.alloc(), b"open A\nwhere A 0 a1", &plan, served, log)?);
     Ok(())
 }
 
@@ -177,7 +177,7 @@ fn a_reply_that_breaks_off_is_not_answered(rt: HostRuntime) -> Result<(), Fail> 
         ..SOUND
     };
     let served = counted(1, 0, Ending::WriteFault);
-    assert!(rt; tells(rt.alloc(), b"open A\nopen A\n", &plan, served, b"ok ")?);
+    assert!(rt; decides(rt.alloc(), b"open A\nopen A\n", &plan, served, b"ok ")?);
     Ok(())
 }
 
@@ -188,14 +188,14 @@ fn a_reader_that_fails_ends_it(rt: HostRuntime) -> Result<(), Fail> {
         ..SOUND
     };
     let served = counted(1, 1, Ending::ReadFault);
-    assert!(rt; tells(rt.alloc(), b"open A\n", &plan, served, b"ok 0 0\n|")?);
+    assert!(rt; decides(rt.alloc(), b"open A\n", &plan, served, b"ok 0 0\n|")?);
     Ok(())
 }
 
 #[test]
-fn no_line_behind_bye_is_acted_on(rt: HostRuntime) -> Result<(), Fail> {
+fn no_line_after_bye_is_acted_on(rt: HostRuntime) -> Result<(), Fail> {
     let served = counted(1, 1, Ending::Bye);
-    assert!(rt; tells(rt.alloc(), b"bye\nopen A\n", &SOUND, served, b"ok\n|")?);
+    assert!(rt; decides(rt.alloc(), b"bye\nopen A\n", &SOUND, served, b"ok\n|")?);
     Ok(())
 }
 
@@ -203,14 +203,14 @@ fn no_line_behind_bye_is_acted_on(rt: HostRuntime) -> Result<(), Fail> {
 fn keeps_sessions(alloc: Global, floor: &mut Floor<PlainSeeker>) -> bool {
     let first = counted(2, 2, Ending::Bye);
     let next = counted(1, 1, Ending::Done);
-    tells_on(
+    reports_on(
         alloc,
         floor,
         b"open A\n bye\t\r\n",
         &SOUND,
         first,
         b"ok 0 0\n|ok\n|",
-    ) && tells_on(alloc, floor, b"open A\n", &SOUND, next, b"ok 1 0\n|")
+    ) && reports_on(alloc, floor, b"open A\n", &SOUND, next, b"ok 1 0\n|")
 }
 
 /// The same for the floor of the built-in design.
@@ -249,7 +249,7 @@ fn lines_are_limited(rt: HostRuntime) -> Result<(), Fail> {
         };
         let plan = Plan { limits, ..SOUND };
         assert!(rt;
-            tells(rt.alloc(), b"open A\nopen A\n", &plan, served, log)?,
+            decides(rt.alloc(), b"open A\nopen A\n", &plan, served, log)?,
             "{lines} lines"
         );
     }
@@ -274,7 +274,7 @@ fn reads_are_limited(rt: HostRuntime) -> Result<(), Fail> {
             ..SOUND
         };
         assert!(rt;
-            tells(rt.alloc(), b"open A\n", &plan, served, log)?,
+            decides(rt.alloc(), b"open A\n", &plan, served, log)?,
             "{reads} reads"
         );
     }
@@ -285,7 +285,7 @@ fn reads_are_limited(rt: HostRuntime) -> Result<(), Fail> {
 fn a_writer_that_takes_no_byte_has_failed(rt: HostRuntime) -> Result<(), Fail> {
     let plan = Plan { most: 0, ..SOUND };
     let served = counted(1, 0, Ending::WriteFault);
-    assert!(rt; tells(rt.alloc(), b"open A\n", &plan, served, b"")?);
+    assert!(rt; decides(rt.alloc(), b"open A\n", &plan, served, b"")?);
     Ok(())
 }
 
@@ -319,6 +319,6 @@ fn lines_that_are_no_requests_are_refused(rt: HostRuntime) -> Result<(), Fail> {
     let mut lines = Vec::new(rt.alloc());
     push_odd_lines(&mut lines)?;
     let served = counted(6, 6, Ending::Done);
-    assert!(rt; tells(rt.alloc(), &lines, &SOUND, served, REFUSED)?);
+    assert!(rt; decides(rt.alloc(), &lines, &SOUND, served, REFUSED)?);
     Ok(())
 }

@@ -1,6 +1,6 @@
 //! One script, in reads of each size and with each call failing in turn.
 
-use crate::connections::{Plan, SOUND, counted, serve_bytes, tells_on};
+use crate::connections::{Plan, SOUND, counted, reports_on, serve_bytes};
 use crate::starts::floor_of_two_undos;
 use lf_floor::Floor;
 use lf_legalize::PlainSeeker;
@@ -37,13 +37,13 @@ fn is_answered(alloc: Global, piece: usize) -> Result<bool, Fail> {
     let plan = Plan { piece, ..SOUND };
     let served = counted(9, 9, Ending::Done);
     match floor_of_two_undos(alloc) {
-        Ok(mut floor) => Ok(tells_on(alloc, &mut floor, SCRIPT, &plan, served, LOG)),
+        Ok(mut floor) => Ok(reports_on(alloc, &mut floor, SCRIPT, &plan, served, LOG)),
         Err(fail) => Err(fail),
     }
 }
 
 #[test]
-fn a_script_in_pieces_of_each_size_is_told_the_same(rt: HostRuntime) -> Result<(), Fail> {
+fn a_script_in_pieces_of_each_size_is_reported_the_same(rt: HostRuntime) -> Result<(), Fail> {
     for piece in 1..=SCRIPT.len() {
         assert!(rt; is_answered(rt.alloc(), piece)?, "{piece} bytes a read");
     }
@@ -147,8 +147,8 @@ fn breaks_off_on(
     ending: Ending,
     log: &[u8],
 ) -> bool {
-    let told = serve_bytes(alloc, floor, SCRIPT, plan);
-    told.log.as_slice() == log && told.served == broken_off(bars(log), ending)
+    let reported = serve_bytes(alloc, floor, SCRIPT, plan);
+    reported.log.as_slice() == log && reported.served == broken_off(bars(log), ending)
 }
 
 /// The same for the floor of the built-in design, on which two changes can be undone.

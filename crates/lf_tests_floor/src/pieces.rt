@@ -5,7 +5,7 @@ ghost use Rattle.std.specs.Prelude.{◌<◌};
 use crate::floors::{Kept, floor};
 use lf_floor::Floor;
 use lf_legalize::PlainSeeker;
-use lf_state_text::{ChunkError, FaultNumber, StateFault};
+use lf_state_text::{ChunkError, StateFault, StateFaultNumber};
 use std::alloc::{AllocError, Global};
 use std::collections::VecDeque;
 use std::test::Fail;
@@ -73,14 +73,14 @@ fn is_refused(alloc: Global, floor: &Floor<PlainSeeker>, size: usize) -> Result<
         return Ok(false);
     };
     let fault = StateFault {
-        number: FaultNumber::BadNumber,
+        number: StateFaultNumber::BadNumber,
         line: 3,
     };
     Ok(refused.fault == fault && refused.lines < 3 && FAULTY.ends_with(&refused.end))
 }
 
 #[test]
-fn a_fault_in_pieces_of_each_size_is_told_the_same(rt: HostRuntime) -> Result<(), Fail> {
+fn a_fault_in_pieces_of_each_size_is_reported_the_same(rt: HostRuntime) -> Result<(), Fail> {
     let floor = floor(rt.alloc())?;
     for size in 1..=FAULTY.len() {
         assert!(rt;

@@ -35,7 +35,7 @@ fn client<T: Net>(rt: &T, listener: &T::Listener, bytes: &[u8]) -> io::Result<T:
 }
 
 /// Returns true if the client receives exactly these bytes.
-fn is_told<S: Read>(alloc: Global, client: &mut S, replies: &[u8]) -> io::Result<bool> {
+fn is_printed<S: Read>(alloc: Global, client: &mut S, replies: &[u8]) -> io::Result<bool> {
     let mut all = Vec::new(alloc);
     client.read_to_end(&mut all)?;
     Ok(all.as_slice() == replies)
@@ -53,7 +53,7 @@ fn is_answered<T: Net + AllocGlobal>(
     if served(rt, listener, connections)? != all(connections) {
         return Ok(false);
     }
-    Ok(is_told(rt.alloc(), &mut client, replies)?)
+    Ok(is_printed(rt.alloc(), &mut client, replies)?)
 }
 
 #[test]

@@ -5,13 +5,13 @@ use Rattle.std.proofs.lemmas.List.Elements.{All-filter, All-map}
 use Rattle.std.proofs.lemmas.Option.{slice_get-get_or}
 use Rattle.lf_floorplan.specs.declared.frame.Frame.{Frame}
 use Rattle.lf_floorplan.specs.declared.loaded.Loaded.{Loaded}
-use Rattle.lf_floorplan.specs.declared.loaded.Cell.{Cell as LoadedCell}
+use Rattle.lf_floorplan.specs.declared.loaded.LoadedCell.{LoadedCell}
 use Rattle.lf_floorplan.specs.declared.macros.Macro.{Macro}
 use Rattle.lf_floorplan.specs.Boxes.{macro_of, no_macro}
 use Rattle.lf_floorplan.specs.Design.{IsCell}
 use Rattle.lf_cells.specs.declared.cell.Cell.{Cell}
 use Rattle.lf_cells.specs.Cells.{Cells, cells_of}
-use Rattle.lf_cells.specs.Openings.{initial_cell, initial_cells, own_cells, team_numbers}
+use Rattle.lf_cells.specs.Initial.{initial_cell, initial_cells, own_cells, team_numbers}
 use Rattle.lf_occupancy.specs.Floorplans.{HasSize}
 
 sized_cell : (f : Frame) (c : LoadedCell) → IsCell f c → HasSize f (initial_cell c)

@@ -1,6 +1,6 @@
 //! The table of the built-in design's cells. Best places are tested by the rows of lefence_rows.
 
-use crate::designs::{Asked, holds};
+use crate::designs::{Requested, holds};
 use lf_cells::CellTable;
 use lf_def::DEMO_DEF;
 use lf_frame::{Frame, Loaded, Place, is_sized};
@@ -97,7 +97,7 @@ enum Case {
     Text,
 }
 
-impl Asked for Case {
+impl Requested for Case {
     fn holds(&self, alloc: Global, design: Loaded) -> Result<bool, Fail> {
         match self {
             Case::Table => serves(alloc, design),

@@ -21,15 +21,15 @@ pub fn placement_of(alloc: Global, def: &[u8]) -> Result<Placement, Fail> {
 }
 
 /// A condition on a design.
-pub trait Asked {
+pub trait Requested {
     /// Whether the condition holds.
     fn holds(&self, alloc: Global, design: Loaded) -> Result<bool, Fail>;
 }
 
 /// Whether the condition holds for the design of the built-in LEF text and this DEF text.
-pub fn holds<A: Asked>(alloc: Global, def: &[u8], asked: &A) -> Result<bool, Fail> {
+pub fn holds<A: Requested>(alloc: Global, def: &[u8], requested: &A) -> Result<bool, Fail> {
     let design = design_of(alloc, def, Limits::standard())?;
-    asked.holds(alloc, design)
+    requested.holds(alloc, design)
 }
 
 /// The conditions on the built-in design, or on one with soft blockages.
@@ -40,7 +40,7 @@ enum Case {
     Searches,
 }
 
-impl Asked for Case {
+impl Requested for Case {
     fn holds(&self, alloc: Global, design: Loaded) -> Result<bool, Fail> {
         match self {
             Case::Counts => Ok(is_built_in(&design.frame) && are_built_in(&design.cells)),
@@ -205,18 +205,18 @@ fn is_of(design: &Loaded, own: usize, violation: &Violation) -> bool {
 
 /// Whether the report has the broken rule of the cell with this number, or no violation of it if it
 /// breaks no rule.
-fn tells_of(design: &Loaded, report: &Report, own: usize, broken: &Option<Broken>) -> bool {
+fn team_stats_of(design: &Loaded, report: &Report, own: usize, broken: &Option<Broken>) -> bool {
     let violations = report.violations.as_slice();
-    let told = violations.iter().find(|it| is_of(design, own, it));
-    match (told, broken) {
-        (Some(violation), Some(broken)) => tells(design, violation, broken),
+    let reported = violations.iter().find(|it| is_of(design, own, it));
+    match (reported, broken) {
+        (Some(violation), Some(broken)) => decides(design, violation, broken),
         (None, None) => true,
         _ => false,
     }
 }
 
 /// Whether the violation has this broken rule.
-fn tells(design: &Loaded, violation: &Violation, broken: &Broken) -> bool {
+fn decides(design: &Loaded, violation: &Violation, broken: &Broken) -> bool {
     if violation.rule.number() != broken.rule.number() {
         return false;
     }
@@ -251,7 +251,7 @@ fn search_alike(alloc: Global, design: &Loaded, places: &[Option<Place>; 5]) -> 
     let report = check_all(alloc, design, places)?;
     for own in 0..places.len() {
         let broken = broken_by_all(alloc, design, places, own)?;
-        if !tells_of(design, &report, own, &broken) {
+        if !team_stats_of(design, &report, own, &broken) {
             return Ok(false);
         }
     }
@@ -269,7 +269,7 @@ fn search_alike_everywhere(alloc: Global, design: &Loaded) -> Result<bool, Fail>
 }
 
 #[test]
-fn reports_tell_what_a_look_at_all_tells(rt: HostRuntime) -> Result<(), Fail> {
+fn reports_agree_with_a_scan_of_all_cells(rt: HostRuntime) -> Result<(), Fail> {
     assert!(rt; holds(rt.alloc(), DEMO_DEF, &Case::Searches)?);
     Ok(())
 }

@@ -1,6 +1,6 @@
 //! Segments of the built-in design, and its rows in order of their y.
 
-use crate::designs::{Asked, holds};
+use crate::designs::{Requested, holds};
 use lf_def::DEMO_DEF;
 use lf_frame::{Frame, Loaded};
 use lf_segments::{RowEntry, RowsByY, Segment, Segments};
@@ -90,7 +90,7 @@ enum Case {
     Rows,
 }
 
-impl Asked for Case {
+impl Requested for Case {
     fn holds(&self, alloc: Global, design: Loaded) -> Result<bool, Fail> {
         let frame = &design.frame;
         Ok(match self {

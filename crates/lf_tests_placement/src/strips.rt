@@ -2,9 +2,9 @@
 
 ghost use Rattle.std.specs.Prelude.{◌≤ℤ◌, pos, IfOk};
 ghost use Rattle.lf_occupancy.specs.Floorplans.{HaveSize, IsMarkedBy};
-ghost use Rattle.lf_occupancy.specs.Occupied.{IsPaddingOf};
+ghost use Rattle.lf_occupancy.specs.Views.{IsPaddingOf};
 
-use crate::designs::{Asked, holds, placement_of};
+use crate::designs::{Requested, holds, placement_of};
 use lf_cells::{CellId, CellTable};
 use lf_def::DEMO_DEF;
 use lf_frame::{Frame, Loaded, Place};
@@ -136,7 +136,7 @@ fn shows_what_is_near(
 }
 
 /// Whether the occupancy returns the same free spans of a strip as its view with boxes.
-fn tells_what_is_free(
+fn lists_what_is_free(
     alloc: Global,
     occupancy: &Occupancy,
     frame: &Frame,
@@ -163,7 +163,7 @@ fn answer(alloc: Global, design: Loaded) -> Result<bool, Fail> {
     let Some(a2) = cell_of(&cells, b"a2") else {
         return Ok(false);
     };
-    if !tells_what_is_free(alloc, &occupancy, &frame, &cells, &a2)? {
+    if !lists_what_is_free(alloc, &occupancy, &frame, &cells, &a2)? {
         return Ok(false);
     }
     let strips = occupancy.with_boxes(&frame, &cells);
@@ -177,7 +177,7 @@ fn answer(alloc: Global, design: Loaded) -> Result<bool, Fail> {
 #[derive(Clone, Copy)]
 struct AreShown;
 
-impl Asked for AreShown {
+impl Requested for AreShown {
     fn holds(&self, alloc: Global, design: Loaded) -> Result<bool, Fail> {
         answer(alloc, design)
     }
@@ -199,7 +199,7 @@ fn place(x: i32, above: bool) -> Place
 }
 
 /// The cell of A that a2 overlaps at the place. `None` if it overlaps no cell.
-fn met_at(placement: &Placement, a2: CellId, at: &Place) -> Option<u32> {
+fn overlapped_at(placement: &Placement, a2: CellId, at: &Place) -> Option<u32> {
     placement.first_broken(a2, at, Padding::none())?.other
 }
 
@@ -228,15 +228,20 @@ fn follows_a_cell(alloc: Global, placement: &mut Placement) -> Result<bool, Fail
     };
     let before = place(600, false);
     let after = place(200, true);
-    if met_at(placement, a2, &before) != Some(a1.own) || met_at(placement, a2, &after).is_some() {
+    if overlapped_at(placement, a2, &before) != Some(a1.own)
+        || overlapped_at(placement, a2, &after).is_some()
+    {
         return Ok(false);
     }
     let moves = moved(alloc, placement, a1, Some(place(0, true)))?;
-    if met_at(placement, a2, &before).is_some() || met_at(placement, a2, &after) != Some(a1.own) {
+    if overlapped_at(placement, a2, &before).is_some()
+        || overlapped_at(placement, a2, &after) != Some(a1.own)
+    {
         return Ok(false);
     }
     let away = moved(alloc, placement, a1, None)?;
-    let none = met_at(placement, a2, &before).is_some() || met_at(placement, a2, &after).is_some();
+    let none = overlapped_at(placement, a2, &before).is_some()
+        || overlapped_at(placement, a2, &after).is_some();
     Ok(!none && moves.as_slice().len() == 1 && away.as_slice().len() == 1)
 }
 

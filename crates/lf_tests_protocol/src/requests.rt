@@ -1,7 +1,7 @@
 //! Requests, replies and reports.
 
 ghost use Rattle.std.specs.Prelude.{◌≡◌, ℕ, ◌∷◌, ◌++◌, List, None, Some, MatchResult};
-ghost use Rattle.lf_proto.specs.Commands.{command_of};
+ghost use Rattle.lf_proto.specs.Commands.{command_with_names};
 ghost use Rattle.lf_proto.specs.Printed.{printed};
 ghost use Rattle.lf_proto.specs.Requests.{IsPlain, command_on};
 
@@ -19,7 +19,7 @@ use std::test::Fail;
 
 /// Reads the request of a line. A line that prints a request gives that request.
 fn read_back<'a>(line: &'a [u8]) -> Result<Request<'a>, BadRequest>
-    ensures { (command : Command (List ℕ) Place) → IsPlain command → line.now ≡ printed command → MatchResult result (λ request. command_of request ≡ command) (λ _. ⊥) }
+    ensures { (command : Command (List ℕ) Place) → IsPlain command → line.now ≡ printed command → MatchResult result (λ request. command_with_names request ≡ command) (λ _. ⊥) }
 {
     printed_reads_back();
     parse_line(line)
@@ -27,7 +27,7 @@ fn read_back<'a>(line: &'a [u8]) -> Result<Request<'a>, BadRequest>
 
 /// Reads a line, with the result for the line with one more space in front.
 fn read_indented<'a>(line: &'a [u8]) -> Result<Request<'a>, BadRequest>
-    ensures { MatchResult result (λ request. command_on (32 ∷ line.now) ≡ Some (command_of request)) (λ _. command_on (32 ∷ line.now) ≡ None) }
+    ensures { MatchResult result (λ request. command_on (32 ∷ line.now) ≡ Some (command_with_names request)) (λ _. command_on (32 ∷ line.now) ≡ None) }
 {
     blanks_around_pass();
     parse_line(line)
@@ -36,14 +36,14 @@ fn read_indented<'a>(line: &'a [u8]) -> Result<Request<'a>, BadRequest>
 /// Reads a line of two parts with a tab between them, with the result for two spaces between them.
 fn read_tabbed<'a>(line: &'a [u8], front: &[u8], rest: &[u8]) -> Result<Request<'a>, BadRequest>
     requires { line.now ≡ front.now ++ 9 ∷ rest.now }
-    ensures { MatchResult result (λ request. command_on (front.now ++ 32 ∷ 32 ∷ rest.now) ≡ Some (command_of request)) (λ _. command_on (front.now ++ 32 ∷ 32 ∷ rest.now) ≡ None) }
+    ensures { MatchResult result (λ request. command_on (front.now ++ 32 ∷ 32 ∷ rest.now) ≡ Some (command_with_names request)) (λ _. command_on (front.now ++ 32 ∷ 32 ∷ rest.now) ≡ None) }
 {
     blanks_between_pass();
     parse_line(line)
 }
 
 /// Returns the place in the request of a line.
-fn asked_place(line: &[u8]) -> Option<Place> {
+fn requested_place(line: &[u8]) -> Option<Place> {
     let Ok(Command::To { order, .. }) = read_back(line) else {
         return None;
     };
@@ -69,7 +69,7 @@ fn reads_orientations(rt: HostRuntime) {
         (b"place A 0 a1 1 2 FE", Orient::FE),
     ];
     for (line, orient) in names {
-        assert_eq!(rt; asked_place(line), Some(Place::new(1, 2, orient)));
+        assert_eq!(rt; requested_place(line), Some(Place::new(1, 2, orient)));
     }
 }
 
@@ -83,8 +83,8 @@ fn reads_with_other_blanks(rt: HostRuntime) {
 fn takes_visible_bytes_and_blanks(rt: HostRuntime) {
     for byte in 0..=255u8 {
         let line = [b'o', b'p', b'e', b'n', b' ', b'A', byte];
-        let may_stand = byte == 9 || (32 <= byte && byte <= 126);
-        assert_eq!(rt; parse_line(&line).is_ok(), may_stand, "byte {byte}");
+        let may_be_placed = byte == 9 || (32 <= byte && byte <= 126);
+        assert_eq!(rt; parse_line(&line).is_ok(), may_be_placed, "byte {byte}");
     }
 }
 

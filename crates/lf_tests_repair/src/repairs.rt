@@ -60,7 +60,7 @@ fn narrow_def_of(alloc: Global, cells: &Cells) -> Result<Vec<u8>, AllocError> {
 }
 
 /// A condition on a floor.
-trait Asked {
+trait Requested {
     /// Whether the condition holds.
     fn holds(&self, alloc: Global, floor: &mut Floor<PlainSeeker>) -> bool;
 }
@@ -75,16 +75,16 @@ fn floor_of(alloc: Global, def: &[u8]) -> Result<Floor<PlainSeeker>, Fail> {
 }
 
 /// Whether the condition holds for the floor of a DEF text.
-fn holds<A: Asked>(alloc: Global, def: &[u8], asked: &A) -> Result<bool, Fail> {
+fn holds<A: Requested>(alloc: Global, def: &[u8], requested: &A) -> Result<bool, Fail> {
     match floor_of(alloc, def) {
-        Ok(mut floor) => Ok(asked.holds(alloc, &mut floor)),
+        Ok(mut floor) => Ok(requested.holds(alloc, &mut floor)),
         Err(fail) => Err(fail),
     }
 }
 
 /// The result of a repair, and its lines.
 #[derive(Drop)]
-struct Told {
+struct Reported {
     repaired: Result<RepairStats, RepairFault>,
     lines: Vec<u8>,
 }
@@ -106,23 +106,23 @@ fn repair_within(
     floor: &mut Floor<PlainSeeker>,
     how: MovePolicy,
     left: usize,
-) -> Told {
+) -> Reported {
     let mut writer = Room {
         taken: Vec::new(alloc),
         left,
     };
     let repaired = repair_to(alloc, floor, how, &mut writer);
-    Told {
+    Reported {
         repaired,
         lines: writer.taken,
     }
 }
 
 /// Whether a repair stopped with this fault and these lines.
-fn is_fault(told: &Told, fault: RepairFault, lines: &[u8]) -> bool {
-    match &told.repaired {
+fn is_fault(reported: &Reported, fault: RepairFault, lines: &[u8]) -> bool {
+    match &reported.repaired {
         Ok(_) => false,
-        Err(it) => *it == fault && told.lines.as_slice() == lines,
+        Err(it) => *it == fault && reported.lines.as_slice() == lines,
     }
 }
 
@@ -139,7 +139,7 @@ struct Comes {
 }
 
 /// Whether the result is the expected one.
-fn is_told(repaired: &RepairStats, comes: &Comes) -> bool {
+fn is_printed(repaired: &RepairStats, comes: &Comes) -> bool {
     let counts = [
         repaired.cells,
         repaired.kept,
@@ -153,12 +153,12 @@ fn is_told(repaired: &RepairStats, comes: &Comes) -> bool {
         && repaired.left.as_slice() == comes.left
 }
 
-impl Asked for Comes {
+impl Requested for Comes {
     fn holds(&self, alloc: Global, floor: &mut Floor<PlainSeeker>) -> bool {
-        let told = repair_within(alloc, floor, self.how, usize::MAX);
-        match &told.repaired {
+        let reported = repair_within(alloc, floor, self.how, usize::MAX);
+        match &reported.repaired {
             Ok(repaired) => {
-                is_told(repaired, self) && is_team_legal(floor, b"A") == self.left.is_empty()
+                is_printed(repaired, self) && is_team_legal(floor, b"A") == self.left.is_empty()
             }
             Err(_) => false,
         }
@@ -226,7 +226,7 @@ fn cells_without_room_are_left(rt: HostRuntime) -> Result<(), Fail> {
 }
 
 #[test]
-fn cells_that_stand_legally_stay(rt: HostRuntime) -> Result<(), Fail> {
+fn legal_cells_stay(rt: HostRuntime) -> Result<(), Fail> {
     let def = def_of(rt.alloc(), &LEGAL)?;
     let comes = Comes {
         how: MovePolicy::Keep,
@@ -241,18 +241,18 @@ fn cells_that_stand_legally_stay(rt: HostRuntime) -> Result<(), Fail> {
 
 /// Whether A is wholly legal, and B, which has an unplaced cell, and a missing team are not.
 #[derive(Clone, Copy)]
-struct OnlyAStands;
+struct OnlyAIsPlaced;
 
-impl Asked for OnlyAStands {
+impl Requested for OnlyAIsPlaced {
     fn holds(&self, _alloc: Global, floor: &mut Floor<PlainSeeker>) -> bool {
         is_team_legal(floor, b"A") && !is_team_legal(floor, b"B") && !is_team_legal(floor, b"C")
     }
 }
 
 #[test]
-fn a_team_stands_whole(rt: HostRuntime) -> Result<(), Fail> {
+fn a_team_is_whole_and_legal(rt: HostRuntime) -> Result<(), Fail> {
     let def = def_of(rt.alloc(), &LEGAL)?;
-    assert!(rt; holds(rt.alloc(), &def, &OnlyAStands)?);
+    assert!(rt; holds(rt.alloc(), &def, &OnlyAIsPlaced)?);
     Ok(())
 }
 
@@ -263,10 +263,10 @@ struct Writes {
     lines: &'static [u8],
 }
 
-impl Asked for Writes {
+impl Requested for Writes {
     fn holds(&self, alloc: Global, floor: &mut Floor<PlainSeeker>) -> bool {
-        let told = repair_within(alloc, floor, self.how, usize::MAX);
-        told.repaired.is_ok() && told.lines.as_slice() == self.lines
+        let reported = repair_within(alloc, floor, self.how, usize::MAX);
+        reported.repaired.is_ok() && reported.lines.as_slice() == self.lines
     }
 }
 
@@ -316,12 +316,12 @@ struct BreaksOff {
     left: usize,
 }
 
-impl Asked for BreaksOff {
+impl Requested for BreaksOff {
     fn holds(&self, alloc: Global, floor: &mut Floor<PlainSeeker>) -> bool {
-        let told = repair_within(alloc, floor, MovePolicy::Keep, self.left);
+        let reported = repair_within(alloc, floor, MovePolicy::Keep, self.left);
         let x = if self.left < COMMIT { 200 } else { 400 };
         let written = LINES.get(..self.left).unwrap_or(LINES);
-        is_fault(&told, RepairFault::Lines, written)
+        is_fault(&reported, RepairFault::Lines, written)
             && committed(floor) == Some(Place::new(x, 0, Orient::N))
     }
 }
@@ -345,14 +345,14 @@ fn each_byte_of_the_lines_may_find_no_room(rt: HostRuntime) -> Result<(), Fail> 
 #[derive(Clone, Copy)]
 struct IsRefused;
 
-impl Asked for IsRefused {
+impl Requested for IsRefused {
     fn holds(&self, alloc: Global, floor: &mut Floor<PlainSeeker>) -> bool {
         let _ = floor.step(&Command::To {
             team: b"A",
             order: TeamCommand::Open,
         });
-        let told = repair_within(alloc, floor, MovePolicy::Keep, usize::MAX);
-        is_fault(&told, RepairFault::Refused(Refusal::SessionsFull), b"")
+        let reported = repair_within(alloc, floor, MovePolicy::Keep, usize::MAX);
+        is_fault(&reported, RepairFault::Refused(Refusal::SessionsFull), b"")
     }
 }
 

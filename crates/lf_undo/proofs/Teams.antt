@@ -113,11 +113,11 @@ module _ {T A : Type 0} where
   none_newer {inside} {now} {team} {c} t newer past = sym (slice_get_past (stack_of now team) newer (omega (arith, past, t.depth)))
 
   -- A change of a team's chain, in terms of the value that contracts see prior to it.
-  told : {inside : Inside T A} {now : Stacks T} {team : ℕ} {c : Chain} → IsTeam inside now team c
+  reported : {inside : Inside T A} {now : Stacks T} {team : ℕ} {c : Chain} → IsTeam inside now team c
       → (later : Slab (Link T)) (after : List Chain) (f : List T → List T) →
       Become later after inside.limit (set (map (chain_values inside.links) inside.chains.items) team (f (chain_values inside.links c))) →
       Become later after inside.limit (set now.lists team (f (stack_of now team)))
-  told {inside} {now} {team} {c} t later after f become =
+  reported {inside} {now} {team} {c} t later after f become =
       subst (Become later after inside.limit)
       (ap (λ (ls : List (List T)). set ls team (f (chain_values inside.links c))) t.shown ∙ ap (λ (xs : List T). set now.lists team (f xs)) (sym t.stack))
       become
@@ -128,7 +128,7 @@ module _ {T A : Type 0} where
       Become later (set inside.chains.items team (record { newest = link.older; depth = c.depth - 1 })) inside.limit
       (set now.lists team (drop 1 (stack_of now team)))
   newest_gone {inside} {now} {team} {c} t later link some found updates =
-      told t later (set inside.chains.items team (record { newest = link.older; depth = c.depth - 1 })) (drop 1)
+      reported t later (set inside.chains.items team (record { newest = link.older; depth = c.depth - 1 })) (drop 1)
       (popped inside.links later inside.chains.items inside.limit team c link t.linked t.at some found updates)
 
   pub oldest_gone : {inside : Inside T A} {now : Stacks T} {team : ℕ} {c : Chain} → IsTeam inside now team c → (later : Slab (Link T)) (key : ℕ) → 0 < c.depth →
@@ -138,7 +138,7 @@ module _ {T A : Type 0} where
   oldest_gone {inside} {now} {team} {c} t later key some is updates =
       let after = set inside.chains.items team (record { newest = c.newest; depth = c.depth - 1 }) in
       subst (λ (n : ℕ). Become later after inside.limit (set now.lists team (take (n - 1) (stack_of now team)))) (sym t.depth)
-      (told t later after (take (c.depth - 1))
+      (reported t later after (take (c.depth - 1))
       (shortened inside.links later inside.chains.items inside.limit team c t.linked t.at some
       (subst (λ (k : ℕ). Updates inside.links later k None) is updates)))
 
@@ -148,5 +148,5 @@ module _ {T A : Type 0} where
       (set now.lists team (link.value ∷ stack_of now team))
   one_more {inside} {now} {team} {c} t later key link room next vacant updates =
       let below : c.depth < inside.limit = omega (arith, t.depth, t.limit, room) in
-      told t later (set inside.chains.items team (record { newest = key; depth = c.depth + 1 })) (λ xs. link.value ∷ xs)
+      reported t later (set inside.chains.items team (record { newest = key; depth = c.depth + 1 })) (λ xs. link.value ∷ xs)
       (pushed inside.links later inside.chains.items inside.limit team key c link t.linked t.at below next vacant updates)

@@ -9,11 +9,11 @@ use Rattle.lf_def.specs.declared.components.Component.{Component}
 use Rattle.lf_def.specs.declared.components.PlacementClause.{PlacementClause}
 use Rattle.lf_def.specs.Laws.{ClauseWithin}
 use Rattle.lf_def.specs.Laws as def
-use Rattle.lf_write.specs.Export.{Rise, clause_splice, splice_of}
+use Rattle.lf_write.specs.Export.{PositionsRise, clause_splice, splice_of}
 use Rattle.lf_write.proofs.Idle.{Found}
 
 -- The component lies within these offsets.
-pub record Stands (at len : ℕ) (c : Component) : Type 0 where
+pub record IsInPlace (at len : ℕ) (c : Component) : Type 0 where
   pub from : at ≤ c.semicolon
   pub clause : ClauseWithin at c.semicolon c.placement
   pub below : c.semicolon ≤ len
@@ -22,11 +22,11 @@ clause_on : (from more to : ℕ) (p : Option PlacementClause) → more ≤ from 
 clause_on from more to None le h = tt
 clause_on from more to (Some p) le h = (omega (arith, le, h.0), h.1, h.2)
 
-stands_on : (from more len : ℕ) (c : Component) → more ≤ from → Stands from len c → Stands more len c
-stands_on from more len c le h =
+is_placed_on : (from more len : ℕ) (c : Component) → more ≤ from → IsInPlace from len c → IsInPlace more len c
+is_placed_on from more len c le h =
     record { from = omega (arith, le, h.from); clause = clause_on from more c.semicolon c.placement le h.clause; below = h.below }
 
-pub ends_within : (from len : ℕ) (cs : List Component) → def.Rising from len cs → from ≤ len
+pub ends_within : (from len : ℕ) (cs : List Component) → def.AreInTextOrder from len cs → from ≤ len
 ends_within from len [] h = h
 ends_within from len (c ∷ cs) h = omega (arith, h.0, ends_within (c.semicolon + 1) len cs h.2)
 
@@ -34,26 +34,26 @@ some_same : (c d : Component) → ◌≡◌ {A = Option Component} (Some c) (Som
 some_same c d e = cc
 
 -- Each of the components.
-pub each_stands : (from len : ℕ) (cs : List Component) → def.Rising from len cs → (n : ℕ) (d : Component) → slice_get cs n ≡ Some d → Stands from len d
-each_stands from len [] h n d e = absurd cc
-each_stands from len (c ∷ cs) h zero d e =
-    subst (Stands from len) (some_same c d e)
+pub each_is_placed : (from len : ℕ) (cs : List Component) → def.AreInTextOrder from len cs → (n : ℕ) (d : Component) → slice_get cs n ≡ Some d → IsInPlace from len d
+each_is_placed from len [] h n d e = absurd cc
+each_is_placed from len (c ∷ cs) h zero d e =
+    subst (IsInPlace from len) (some_same c d e)
     (record { from = h.0; clause = h.1; below = omega (arith, ends_within (c.semicolon + 1) len cs h.2) })
-each_stands from len (c ∷ cs) h (suc n) d e =
-    stands_on (c.semicolon + 1) from len d (omega (arith, h.0)) (each_stands (c.semicolon + 1) len cs h.2 n d e)
+each_is_placed from len (c ∷ cs) h (suc n) d e =
+    is_placed_on (c.semicolon + 1) from len d (omega (arith, h.0)) (each_is_placed (c.semicolon + 1) len cs h.2 n d e)
 
 -- A later component lies after an earlier one.
-stands_behind : (from len : ℕ) (cs : List Component) → def.Rising from len cs → (n m : ℕ) (c d : Component) → n < m → slice_get cs n ≡ Some c
-    → slice_get cs m ≡ Some d → Stands (c.semicolon + 1) len d
-stands_behind from len [] h n m c d lt e f = absurd cc
-stands_behind from len (x ∷ xs) h n zero c d lt e f = absurd (omega (arith, lt))
-stands_behind from len (x ∷ xs) h zero (suc m) c d lt e f =
-    subst (λ (y : Component). Stands (y.semicolon + 1) len d) (some_same x c e) (each_stands (x.semicolon + 1) len xs h.2 m d f)
-stands_behind from len (x ∷ xs) h (suc n) (suc m) c d lt e f = stands_behind (x.semicolon + 1) len xs h.2 n m c d (omega (arith, lt)) e f
+is_after : (from len : ℕ) (cs : List Component) → def.AreInTextOrder from len cs → (n m : ℕ) (c d : Component) → n < m → slice_get cs n ≡ Some c
+    → slice_get cs m ≡ Some d → IsInPlace (c.semicolon + 1) len d
+is_after from len [] h n m c d lt e f = absurd cc
+is_after from len (x ∷ xs) h n zero c d lt e f = absurd (omega (arith, lt))
+is_after from len (x ∷ xs) h zero (suc m) c d lt e f =
+    subst (λ (y : Component). IsInPlace (y.semicolon + 1) len d) (some_same x c e) (each_is_placed (x.semicolon + 1) len xs h.2 m d f)
+is_after from len (x ∷ xs) h (suc n) (suc m) c d lt e f = is_after (x.semicolon + 1) len xs h.2 n m c d (omega (arith, lt)) e f
 
 -- The components from a position on lie after an offset.
-abbrev AllBehind : List Component → ℕ → ℕ → ℕ → Type 0
-AllBehind cs len position from = (n : ℕ) (d : Component) → position ≤ n → slice_get cs n ≡ Some d → Stands from len d
+abbrev AllAfter : List Component → ℕ → ℕ → ℕ → Type 0
+AllAfter cs len position from = (n : ℕ) (d : Component) → position ≤ n → slice_get cs n ≡ Some d → IsInPlace from len d
 
 -- Holds for `None`, or the clause of the component at this position.
 abbrev pub IsOf : List Component → ℕ × Option Place → Option Splice → Type 0
@@ -70,31 +70,31 @@ splice_within : (from semicolon : ℕ) (p : Option PlacementClause) (given : Opt
 splice_within from semicolon None given le h = record { start = le; order = omega arith; stop = omega arith }
 splice_within from semicolon (Some p) given le h = record { start = h.0; order = omega (arith, h.1); stop = h.2 }
 
-first : (len : ℕ) (cs : List Component) → def.Rising 0 len cs → (g : ℕ × Option Place) (o : Option Splice) → IsOf cs g o → (position from : ℕ)
-    → position ≤ g.0 → from ≤ len → AllBehind cs len position from → (ss : List Splice)
-    → ((more : ℕ) → more ≤ len → AllBehind cs len (g.0 + 1) more → Rising more len ss) → Rising from len (cons_option o ss)
-first len cs h g None is position from le below behind ss next = next from below (λ n d le' e. behind n d (omega (arith, le, le')) e)
-first len cs h g (Some s) is position from le below behind ss next =
+first : (len : ℕ) (cs : List Component) → def.AreInTextOrder 0 len cs → (g : ℕ × Option Place) (o : Option Splice) → IsOf cs g o → (position from : ℕ)
+    → position ≤ g.0 → from ≤ len → AllAfter cs len position from → (ss : List Splice)
+    → ((more : ℕ) → more ≤ len → AllAfter cs len (g.0 + 1) more → Rising more len ss) → Rising from len (cons_option o ss)
+first len cs h g None is position from le below after_it ss next = next from below (λ n d le' e. after_it n d (omega (arith, le, le')) e)
+first len cs h g (Some s) is position from le below after_it ss next =
     let c = is.0 in
-    let stands = behind g.0 c le is.1 in
+    let is_in_place = after_it g.0 c le is.1 in
     let within : Within from c.semicolon s =
-    subst (Within from c.semicolon) (sym is.2) (splice_within from c.semicolon c.placement g.1 stands.from stands.clause) in (
+    subst (Within from c.semicolon) (sym is.2) (splice_within from c.semicolon c.placement g.1 is_in_place.from is_in_place.clause) in (
       within.start,
       within.order,
-      next s.stop (omega (arith, within.stop, stands.below))
+      next s.stop (omega (arith, within.stop, is_in_place.below))
           (λ n d le' e.
-          stands_on (c.semicolon + 1) s.stop len d (omega (arith, within.stop)) (stands_behind 0 len cs h g.0 n c d (omega (arith, le')) is.1 e)),
+          is_placed_on (c.semicolon + 1) s.stop len d (omega (arith, within.stop)) (is_after 0 len cs h g.0 n c d (omega (arith, le')) is.1 e)),
     )
 
-from_position : (len : ℕ) (cs : List Component) → def.Rising 0 len cs → (f : Found) → ((g : ℕ × Option Place) → IsOf cs g (f g))
-    → (places : List (ℕ × Option Place)) (position to from : ℕ) → Rise position to places → from ≤ len → AllBehind cs len position from
+from_position : (len : ℕ) (cs : List Component) → def.AreInTextOrder 0 len cs → (f : Found) → ((g : ℕ × Option Place) → IsOf cs g (f g))
+    → (places : List (ℕ × Option Place)) (position to from : ℕ) → PositionsRise position to places → from ≤ len → AllAfter cs len position from
     → Rising from len (filter_map f places)
-from_position len cs h f is [] position to from rise below behind = below
-from_position len cs h f is (g ∷ places) position to from rise below behind =
-    first len cs h g (f g) (is g) position from rise.0 below behind (filter_map f places)
+from_position len cs h f is [] position to from rise below after_it = below
+from_position len cs h f is (g ∷ places) position to from rise below after_it =
+    first len cs h g (f g) (is g) position from rise.0 below after_it (filter_map f places)
     (λ more le all. from_position len cs h f is places (g.0 + 1) to more rise.2 le all)
 
-pub clauses_rise : (len : ℕ) (cs : List Component) (f : Found) (places : List (ℕ × Option Place)) (to : ℕ) → def.Rising 0 len cs
-    → ((g : ℕ × Option Place) → IsOf cs g (f g)) → Rise 0 to places → Rising 0 len (filter_map f places)
+pub clauses_rise : (len : ℕ) (cs : List Component) (f : Found) (places : List (ℕ × Option Place)) (to : ℕ) → def.AreInTextOrder 0 len cs
+    → ((g : ℕ × Option Place) → IsOf cs g (f g)) → PositionsRise 0 to places → Rising 0 len (filter_map f places)
 clauses_rise len cs f places to h is rise =
-    from_position len cs h f is places 0 to 0 rise (omega arith) (λ n d le e. each_stands 0 len cs h n d e)
+    from_position len cs h f is places 0 to 0 rise (omega arith) (λ n d le e. each_is_placed 0 len cs h n d e)

@@ -22,13 +22,13 @@ use Rattle.lf_def.specs.declared.components.PlacementClause.{PlacementClause}
 use Rattle.lf_def.specs.declared.components.PlacementKind.{PlacementKind}
 use Rattle.lf_def.specs.declared.components.PlacementKind.TheVariants.{Fixed, Cover, Placed}
 use Rattle.lf_def.specs.Coordinates.{orient_of}
-use Rattle.lf_def.specs.Components.{located_rest, placed, unplaced, is_placement_word, placement, only_placement, clause, up_to_stop, component_part}
+use Rattle.lf_def.specs.Components.{located_rest, placed_clause, unplaced_clause, is_placement_word, placement, only_placement, clause, up_to_stop, component_part}
 use Rattle.lf_def.specs.Components.{component_from}
 use Rattle.lf_def.specs.Components.{component_token, no_component}
 use Rattle.lf_def.specs.Laws.{IsPlace, LastEnds}
 use Rattle.lf_def.proofs.Clauses.{bind_ok, token_ok, if_ok, located_ok, MoreRun}
 use Rattle.lf_def.proofs.Places.{bare_parts, component_token_follows, component_token_goes}
-use Rattle.lf_write.proofs.Behind.{placed_state, swap, behind_clause}
+use Rattle.lf_write.proofs.FollowsBytes.{placed_state, swap, after_clause}
 
 -- The placement clause that was read.
 
@@ -40,9 +40,9 @@ keyword_ok w l m u e =
     let c = ok_is tt a.1 u m b.1 in
     (a.0, a.2 ∙ ap (λ (z : Lexed). with_token a.0 z) c.1, b.0)
 
-placed_ok : (kind : PlacementKind) (plus : ℕ) (t : Lexeme) (l m : Lexed) (p : PlacementClause) → (is (codes "UNPLACED") t ≡ true → ⊥) → placed kind plus l ≡ taken p m
+placed_ok : (kind : PlacementKind) (plus : ℕ) (t : Lexeme) (l m : Lexed) (p : PlacementClause) → (is (codes "UNPLACED") t ≡ true → ⊥) → placed_clause kind plus l ≡ taken p m
     → MoreRun plus t l m p
-unfolding placed
+unfolding placed_clause
 placed_ok kind plus t l m p u e =
     let a = bind_ok (keyword (codes "(") l) _ _ e in
     let a1 = keyword_ok (codes "(") l a.0.rest a.0.value a.1 in
@@ -59,9 +59,9 @@ placed_ok kind plus t l m p u e =
     }
 
 unplaced_ok : (plus : ℕ) (t : Lexeme) (l m : Lexed) (p : PlacementClause) → is (codes "UNPLACED") t ≡ true
-    → ◌≡◌ {A = Result (ReadValue PlacementClause) ReadFault} (taken (unplaced plus t) l) (taken p m) → MoreRun plus t l m p
+    → ◌≡◌ {A = Result (ReadValue PlacementClause) ReadFault} (taken (unplaced_clause plus t) l) (taken p m) → MoreRun plus t l m p
 unplaced_ok plus t l m p u e =
-    let d = ok_is (unplaced plus t) l p m e in
+    let d = ok_is (unplaced_clause plus t) l p m e in
     record {
       more = [];
       whole = d.1;
@@ -85,7 +85,7 @@ not_two v w t other h k = let e : bytes_eq v w ≡ true = rw (text_is v t h) at 
 
 kind_ok : (a b c d : Bool) (plus : ℕ) (t : Lexeme) (l m : Lexed) (p : PlacementClause) → is (codes "FIXED") t ≡ a → is (codes "COVER") t ≡ b
     → is (codes "PLACED") t ≡ c → is (codes "UNPLACED") t ≡ d → (a || b || c || d) ≡ true
-    → cond a (placed Fixed plus l) (cond b (placed Cover plus l) (cond c (placed Placed plus l) (taken (unplaced plus t) l))) ≡ taken p m → MoreRun plus t l m p
+    → cond a (placed_clause Fixed plus l) (cond b (placed_clause Cover plus l) (cond c (placed_clause Placed plus l) (taken (unplaced_clause plus t) l))) ≡ taken p m → MoreRun plus t l m p
 kind_ok true b c d plus t l m p x y z u w e = placed_ok Fixed plus t l m p (not_two (codes "FIXED") (codes "UNPLACED") t refl x) e
 kind_ok false true c d plus t l m p x y z u w e = placed_ok Cover plus t l m p (not_two (codes "COVER") (codes "UNPLACED") t refl y) e
 kind_ok false false true d plus t l m p x y z u w e = placed_ok Placed plus t l m p (not_two (codes "PLACED") (codes "UNPLACED") t refl z) e
@@ -342,14 +342,14 @@ pub record Found (r : List Lexeme) (l m : Lexed) (y : ComponentParts) (p : Place
   pub reached : Reaches front old
   pub state : ComponentParts
   pub due : state.due ≡ Separator
-  pub behind : (q : PlacementClause) (b : Bool) (s' : ComponentParts) → bare_parts s' ≡ bare_parts (swap q b state)
+  pub after_it : (q : PlacementClause) (b : Bool) (s' : ComponentParts) → bare_parts s' ≡ bare_parts (swap q b state)
       → TurnsAt bare_parts component_token s' (map plain after) (swap q b y)
 
 abbrev pub Outcome : List Lexeme → Lexed → Lexed → ComponentParts → Type 0
 Outcome r l m y = ((y.placement ≡ None) × Bare r l m y) ⊎ ((p : PlacementClause) × (y.placement ≡ Some p) × Found r l m y p)
 
-outcome_behind : (r run : List Lexeme) (l n m : Lexed) (y : ComponentParts) → l ≡ with_tokens run n → Outcome (r ++ run) n m y → Outcome r l m y
-outcome_behind r run l n m y w (inl o) =
+outcome_after : (r run : List Lexeme) (l n m : Lexed) (y : ComponentParts) → l ≡ with_tokens run n → Outcome (r ++ run) n m y → Outcome r l m y
+outcome_after r run l n m y w (inl o) =
     let f = o.1 in
     inl (
       o.0,
@@ -365,7 +365,7 @@ outcome_behind r run l n m y w (inl o) =
         reached = let e = append_assoc r run f.front in rw e at f.reached;
       },
     )
-outcome_behind r run l n m y w (inr o) =
+outcome_after r run l n m y w (inr o) =
     let f = o.2 in
     inr (
       o.0,
@@ -386,31 +386,31 @@ outcome_behind r run l n m y w (inr o) =
         reached = f.reached;
         state = f.state;
         due = f.due;
-        behind = f.behind;
+        after_it = f.after_it;
       },
     )
 
-nil_behind : (more point : List Lexeme) → point ≡ [] → more ++ point ≡ more
-nil_behind more point e = rw e (append-nil more)
+nil_after : (more point : List Lexeme) → point ≡ [] → more ++ point ≡ more
+nil_after more point e = rw e (append-nil more)
 
 nil_before : (more point : List Lexeme) → more ≡ [] → more ++ point ≡ point
 nil_before more point e = rw e refl
 
-all_ends : (word : Lexeme) (more point : List Lexeme) (p placed : PlacementClause) (unplaced_word : Bool)
+all_ends : (word : Lexeme) (more point : List Lexeme) (p placed_clause : PlacementClause) (unplaced_word : Bool)
     → ((is (codes "UNPLACED") word ≡ true) × (more ≡ [])) ⊎ IsPlace more
     → LastEnds p.stop word more → (unplaced_word ≡ true → more ≡ [])
-    → ((point ≡ []) × (placed ≡ p)) ⊎ ((unplaced_word ≡ true) × IsPlace point × (placed ≡ up_to_stop placed.stop p)
-    × ((u : Lexeme) → LastEnds placed.stop u point))
-    → (LastIs placed.stop word (more ++ point)) × (placed.start ≡ p.start)
-all_ends word more point p placed unplaced_word is_more ends bare (inl h) =
-    (rw (h.1, nil_behind more point h.0) (clause_ends p.stop word more is_more ends), ap (λ (z : PlacementClause). z.start) h.1)
-all_ends word more point p placed unplaced_word is_more ends bare (inr h) =
-    (rw (nil_before more point (bare h.0)) (place_ends placed.stop word point h.1 (h.3 word)), ap (λ (z : PlacementClause). z.start) h.2)
+    → ((point ≡ []) × (placed_clause ≡ p)) ⊎ ((unplaced_word ≡ true) × IsPlace point × (placed_clause ≡ up_to_stop placed_clause.stop p)
+    × ((u : Lexeme) → LastEnds placed_clause.stop u point))
+    → (LastIs placed_clause.stop word (more ++ point)) × (placed_clause.start ≡ p.start)
+all_ends word more point p placed_clause unplaced_word is_more ends bare (inl h) =
+    (rw (h.1, nil_after more point h.0) (clause_ends p.stop word more is_more ends), ap (λ (z : PlacementClause). z.start) h.1)
+all_ends word more point p placed_clause unplaced_word is_more ends bare (inr h) =
+    (rw (nil_before more point (bare h.0)) (place_ends placed_clause.stop word point h.1 (h.3 word)), ap (λ (z : PlacementClause). z.start) h.2)
 
 found : (n : ℕ) (r : List Lexeme) (l rest m : Lexed) (s y : ComponentParts) (t : Turn ComponentParts) → PlacesAt r l rest s t
     → statements component_token n t.state rest ≡ taken y m → Outcome r l m y
 found n r l rest m s y t f e =
-    let b = behind_clause n rest m t.state y f.p f.placement f.due e in
+    let b = after_clause n rest m t.state y f.p f.placement f.due e in
     let g = turns_follow bare_parts component_token component_token_follows component_token_goes b.turns (swap f.p false t.state) (swap f.p false t.state)
     (swap f.p false y) b.rest m refl (b.same f.p false) in
     let more = f.read.more in
@@ -440,7 +440,7 @@ found n r l rest m s y t f e =
         reached = f.plus.reached;
         state = t.state;
         due = f.due;
-        behind = λ q c s' a p x.
+        after_it = λ q c s' a p x.
             let h = turns_follow bare_parts component_token component_token_follows component_token_goes b.turns (swap q c t.state) s' (swap q c y) b.rest m a
             (b.same q c) in
             h.again p (x ∙ ap (λ (z : List Lexeme). map plain z) (same_run g.run h.run b.rest m g.whole h.whole));
@@ -475,7 +475,7 @@ taken_more n t rest m y h e = rw h at e
 by_turn : (n : ℕ) (r : List Lexeme) (l rest m : Lexed) (s y : ComponentParts) (t : Turn ComponentParts) → Before r s
     → ((r' : List Lexeme) → Before r' t.state → statements component_token n t.state rest ≡ taken y m → Outcome r' rest m y)
     → TurnBefore r l rest s t → cond t.more (statements component_token n t.state rest) (taken t.state rest) ≡ taken y m → Outcome r l m y
-by_turn n r l rest m s y t b next (inl f) e = outcome_behind r f.run l rest m y f.whole (next (r ++ f.run) f.before (taken_more n t rest m y f.more e))
+by_turn n r l rest m s y t b next (inl f) e = outcome_after r f.run l rest m y f.whole (next (r ++ f.run) f.before (taken_more n t rest m y f.more e))
 by_turn n r l rest m s y t b next (inr (inl f)) e = let d = taken_end n t rest m y f.more e in stopped_at r l rest m s y t b f d.0 d.1
 by_turn n r l rest m s y t b next (inr (inr f)) e = found n r l rest m s y t f (taken_more n t rest m y f.more e)
 

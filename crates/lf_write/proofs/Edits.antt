@@ -2,7 +2,7 @@
 use Rattle.std.proofs.Common.{◌≡◌, ℕ, zero, suc, ◌<◌, Bool, true, false, cond, List, [], ◌∷◌, ◌++◌, map, length, refl, sym, ap, ◌∙◌}
 use Rattle.std.proofs.lemmas.List.{append_assoc, map-append}
 use Rattle.lf_lex.specs.Tokens.{Lexed, Lexeme, PlainToken, plain, with_tokens}
-use Rattle.lf_lex.specs.Splices.{Splice, ReplacesTokens, AreEdited, word_of}
+use Rattle.lf_lex.specs.Splices.{Splice, ReplacesTokens, AreEdited, plain_word}
 use Rattle.lf_lex.specs.Reading.{Reader, Statement, Turn, taken, turn, statements}
 use Rattle.lf_lex.proofs.Runs.{turn_bare, ok_is, with_both}
 use Rattle.lf_lex.proofs.Back.{BackAt, TurnsAt, at_last, at_more}
@@ -15,9 +15,9 @@ makes_more s words [] [] more m = absurd m
 makes_more s words [] (t ∷ after) more m = m
 makes_more s words (t ∷ middle) after more m = m
 
-pub edited_behind : (ss : List Splice) (a b : List Lexeme) (q : List PlainToken) → AreEdited ss b q → AreEdited ss (a ++ b) (map plain a ++ q)
-edited_behind [] a b q e = map-append plain a b ∙ ap (λ (z : List PlainToken). map plain a ++ z) e
-edited_behind (s ∷ ss) a b q e = record {
+pub edited_after : (ss : List Splice) (a b : List Lexeme) (q : List PlainToken) → AreEdited ss b q → AreEdited ss (a ++ b) (map plain a ++ q)
+edited_after [] a b q e = map-append plain a b ∙ ap (λ (z : List PlainToken). map plain a ++ z) e
+edited_after (s ∷ ss) a b q e = record {
   before = a ++ e.before;
   middle = e.middle;
   after = e.after;
@@ -26,13 +26,13 @@ edited_behind (s ∷ ss) a b q e = record {
   tokens = ap (λ (z : List Lexeme). a ++ z) e.tokens ∙ sym (append_assoc a e.before (e.middle ++ e.after));
   makes = e.makes;
   spelled = e.spelled;
-  new = ap (λ (z : List PlainToken). map plain a ++ z) e.new ∙ sym (append_assoc (map plain a) (map plain e.before) (map word_of e.words ++ e.later))
-      ∙ ap (λ (z : List PlainToken). z ++ (map word_of e.words ++ e.later)) (sym (map-append plain a e.before));
+  new = ap (λ (z : List PlainToken). map plain a ++ z) e.new ∙ sym (append_assoc (map plain a) (map plain e.before) (map plain_word e.words ++ e.later))
+      ∙ ap (λ (z : List PlainToken). z ++ (map plain_word e.words ++ e.later)) (sym (map-append plain a e.before));
   next = e.next;
 }
 
 pub edited_both : (ss ts : List Splice) (a b : List Lexeme) (p q : List PlainToken) → AreEdited ss a p → AreEdited ts b q → AreEdited (ss ++ ts) (a ++ b) (p ++ q)
-edited_both [] ts a b p q e f = rw (sym e) (edited_behind ts a b q f)
+edited_both [] ts a b p q e f = rw (sym e) (edited_after ts a b q f)
 edited_both (s ∷ ss) ts a b p q e f = record {
   before = e.before;
   middle = e.middle;
@@ -43,8 +43,8 @@ edited_both (s ∷ ss) ts a b p q e f = record {
       ∙ ap (λ (z : List Lexeme). e.before ++ z) (append_assoc e.middle e.after b);
   makes = makes_more s e.words e.middle e.after b e.makes;
   spelled = e.spelled;
-  new = ap (λ (z : List PlainToken). z ++ q) e.new ∙ append_assoc (map plain e.before) (map word_of e.words ++ e.later) q
-      ∙ ap (λ (z : List PlainToken). map plain e.before ++ z) (append_assoc (map word_of e.words) e.later q);
+  new = ap (λ (z : List PlainToken). z ++ q) e.new ∙ append_assoc (map plain e.before) (map plain_word e.words ++ e.later) q
+      ∙ ap (λ (z : List PlainToken). map plain e.before ++ z) (append_assoc (map plain_word e.words) e.later q);
   next = edited_both ss ts e.after b e.later q e.next f;
 }
 

@@ -20,7 +20,7 @@ use Rattle.lf_def.proofs.Places.{bare_list, components_grow}
 use Rattle.lf_write.specs.Export.{given_to, perhaps_with_place, with_places}
 use Rattle.lf_write.proofs.Positions.{Given, change_of, changes_from}
 use Rattle.lf_write.proofs.Renewed.{HasPlace, changed}
-use Rattle.lf_write.proofs.Edits.{MadeTurn, edited_behind, all_made, same_turn}
+use Rattle.lf_write.proofs.Edits.{MadeTurn, edited_after, all_made, same_turn}
 
 -- Holds if a text can hold the coordinates of every given place.
 abbrev pub HavePlaces : Given → Type 0
@@ -68,7 +68,7 @@ one_entry places h l n m s c u w minus e =
       run = u ∷ f.run;
       whole = w ∙ ap (λ (z : Lexed). with_token u z) f.whole;
       tokens = plain u ∷ f.tokens;
-      edited = edited_behind (cons_option (change_of (given_to places (length s)) c) []) (u ∷ []) f.run f.tokens f.edited;
+      edited = edited_after (cons_option (change_of (given_to places (length s)) c) []) (u ∷ []) f.run f.tokens f.edited;
       some = λ x. omega arith;
       again = λ s' a.
           at_first (turn_bare bare_list) _ (plain u) f.tokens (turn (with_places places (s ++ c ∷ [])) true) (λ t' e'.
@@ -150,7 +150,7 @@ section_made places h l m s y e =
       run = f.run ++ g.run;
       whole = f.whole ∙ ap (λ (z : Lexed). with_tokens f.run z) g.whole ∙ sym (with_both f.run g.run m);
       tokens = map plain f.run ++ g.tokens;
-      edited = edited_behind g.made f.run g.run g.tokens g.edited;
+      edited = edited_after g.made f.run g.run g.tokens g.edited;
       again = λ s' b.
           at_bind same bare_list to_semicolon _ (map plain f.run) g.tokens a.0.value (with_places places y) f.again (λ x ex.
           at_block bare_list (entry_or_end keyword component) s' (with_places places y) g.tokens (g.again s' b));

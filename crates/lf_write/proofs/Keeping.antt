@@ -10,30 +10,30 @@ use Rattle.lf_def.specs.declared.components.PlacementClause.{PlacementClause}
 use Rattle.lf_write.specs.declared.kept_clauses.Entry.{Entry}
 use Rattle.lf_write.specs.declared.kept_clauses.Entry.TheVariants.{Plain, Other}
 use Rattle.lf_write.specs.Export.{ClauseFacts, no_clause}
-use Rattle.lf_write.specs.Keeping.{IsInText, IsKept, IsNext, IsWithin, all_in, clause_in}
+use Rattle.lf_write.specs.Keeping.{IsInText, KeepsClause, IsNext, IsEntryWithin, all_in, clause_in}
 use Rattle.lf_write.proofs.Apart.{ends_within}
 
 -- These clauses are stored.
 pub record AreKept (others : List ClauseFacts) (entries : List Entry) (far clauses : List ClauseFacts) : Type 0 where
   pub are : all_in others entries far ≡ clauses
-  pub within : All (IsWithin (length others)) entries
+  pub within : All (IsEntryWithin (length others)) entries
 
-one_stays : (others more : List ClauseFacts) (entry : Entry) → IsWithin (length others) entry → clause_in (others ++ more) entry ≡ clause_in others entry
+one_stays : (others more : List ClauseFacts) (entry : Entry) → IsEntryWithin (length others) entry → clause_in (others ++ more) entry ≡ clause_in others entry
 one_stays others more (Plain bytes start) h = refl
 one_stays others more (Other at) h = get_or_append_left others more (no_clause 0) at h
 
 -- Clauses that are appended to the others do not affect the entries.
-all_stay : (others more : List ClauseFacts) (entries : List Entry) → All (IsWithin (length others)) entries
+all_stay : (others more : List ClauseFacts) (entries : List Entry) → All (IsEntryWithin (length others)) entries
     → map (clause_in (others ++ more)) entries ≡ map (clause_in others) entries
 all_stay others more [] h = refl
 all_stay others more (e ∷ entries) h =
-    ap (λ (z : ClauseFacts). z ∷ map (clause_in (others ++ more)) entries) (one_stays others more e (All-head (IsWithin (length others)) e entries h))
-    ∙ ap (λ (z : List ClauseFacts). clause_in others e ∷ z) (all_stay others more entries (All-tail (IsWithin (length others)) e entries h))
+    ap (λ (z : ClauseFacts). z ∷ map (clause_in (others ++ more)) entries) (one_stays others more e (All-head (IsEntryWithin (length others)) e entries h))
+    ∙ ap (λ (z : List ClauseFacts). clause_in others e ∷ z) (all_stay others more entries (All-tail (IsEntryWithin (length others)) e entries h))
 
 -- One more entry.
 
-near_is : (old new : List ClauseFacts) (entries : List Entry) (entry : Entry) (clause : ClauseFacts) → IsKept old new entry clause
-    → All (IsWithin (length old)) entries → map (clause_in new) (entries ++ entry ∷ []) ≡ map (clause_in old) entries ++ clause ∷ []
+near_is : (old new : List ClauseFacts) (entries : List Entry) (entry : Entry) (clause : ClauseFacts) → KeepsClause old new entry clause
+    → All (IsEntryWithin (length old)) entries → map (clause_in new) (entries ++ entry ∷ []) ≡ map (clause_in old) entries ++ clause ∷ []
 near_is old new entries entry clause k h =
     map-append (clause_in new) entries (entry ∷ [])
     ∙ ap (λ (z : List ClauseFacts). map (clause_in z) entries ++ clause_in new entry ∷ []) k.grown
@@ -42,7 +42,7 @@ near_is old new entries entry clause k h =
 
 -- No clause comes after those of the entries.
 pub near_more : (old new far : List ClauseFacts) (entries : List Entry) (entry : Entry) (clause : ClauseFacts) → IsNext old new far entry clause
-    → All (IsWithin (length old)) entries → all_in new (entries ++ entry ∷ []) far ≡ all_in old entries far ++ clause ∷ []
+    → All (IsEntryWithin (length old)) entries → all_in new (entries ++ entry ∷ []) far ≡ all_in old entries far ++ clause ∷ []
 near_more old new far entries entry clause k h =
     let alone : map (clause_in new) (entries ++ entry ∷ []) ++ [] ≡ (map (clause_in old) entries ++ []) ++ clause ∷ [] =
     append-nil (map (clause_in new) (entries ++ entry ∷ [])) ∙ near_is old new entries entry clause k.kept h
@@ -57,7 +57,7 @@ in_text : (from semicolon len : ℕ) (c : Component) (p : Option PlacementClause
 in_text from semicolon len c None le h = tt
 in_text from semicolon len c (Some p) le h = (omega (arith, h.1), omega (arith, le, h.2))
 
-pub all_in_text : (from len : ℕ) (cs : List Component) → def.Rising from len cs → All (IsInText len) cs
+pub all_in_text : (from len : ℕ) (cs : List Component) → def.AreInTextOrder from len cs → All (IsInText len) cs
 all_in_text from len [] h = All-nil (IsInText len)
 all_in_text from len (c ∷ cs) h =
     All-cons (IsInText len) c cs

@@ -5,32 +5,32 @@ use Rattle.std.specs.Option.{option_and_then}
 use Rattle.std.proofs.lemmas.List.{length-map}
 use Rattle.std.proofs.lemmas.Option.{slice_get-map}
 use Rattle.std.proofs.lemmas.Slice.Eq.{bytes_eq-Decides}
-use Rattle.lf_lex.specs.Splices.{joined}
+use Rattle.lf_lex.specs.Splices.{joined_words}
 use Rattle.lf_team_def.specs.Clauses.{clause_words}
 use Rattle.lf_floorplan.specs.declared.place.Place.{Place}
 use Rattle.lf_def.specs.Laws as def
 use Rattle.lf_def.specs.declared.components.Component.{Component}
 use Rattle.lf_def.specs.declared.components.Location.{Location}
 use Rattle.lf_def.specs.declared.components.PlacementClause.{PlacementClause}
-use Rattle.lf_write.specs.Export.{AreExportable, CanBeRenewed, as_location, change, change_at, clause_from, clause_of, clause_splice, clause_with}
-use Rattle.lf_write.specs.Export.{exported, is_at, is_unchanged, is_plain, location_words, renewal, renewal_at, renewed, splice_at}
+use Rattle.lf_write.specs.Export.{AreExportable, CanBeRenewed, place_location, change, change_at, clause_from, clause_of, clause_splice, clause_with}
+use Rattle.lf_write.specs.Export.{exported, is_at, is_unchanged, is_plain, location_clause_words, renewal, renewal_at, renewed, splice_at}
 use Rattle.lf_write.proofs.Apart.{IsOf, clauses_rise}
 use Rattle.lf_write.proofs.Idle.{Agree, agree_same, same_spliced}
 use Rattle.lf_write.proofs.Positions.{Given, listed}
-use Rattle.lf_write.proofs.Standing.{stands_by}
+use Rattle.lf_write.proofs.Standing.{is_placed_by}
 
 -- A plain clause, written again for the component's own place, is unchanged.
 
-same_words : (given : Option Place) → location_words (option_map as_location given) ≡ clause_words given
+same_words : (given : Option Place) → location_clause_words (option_map place_location given) ≡ clause_words given
 same_words None = refl
 same_words (Some p) = refl
 
 written_again : (text : List ℕ) (p : PlacementClause) (given : Option Place) → is_plain text p ≡ true → is_at p.place given ≡ true
-    → joined (clause_words given) ≡ take (p.stop - p.start) (drop p.start text)
-written_again text p given plain stands =
-    let bytes = (bytes_eq-Decides (take (p.stop - p.start) (drop p.start text)) (joined (location_words p.place))).0 plain in
-    let place : p.place ≡ option_map as_location given = (stands_by p.place given).0 stands in
-    ap (λ (w : List (List ℕ)). joined w) (sym (same_words given)) ∙ ap (λ (l : Option Location). joined (location_words l)) (sym place) ∙ sym bytes
+    → joined_words (clause_words given) ≡ take (p.stop - p.start) (drop p.start text)
+written_again text p given plain is_in_place =
+    let bytes = (bytes_eq-Decides (take (p.stop - p.start) (drop p.start text)) (joined_words (location_clause_words p.place))).0 plain in
+    let place : p.place ≡ option_map place_location given = (is_placed_by p.place given).0 is_in_place in
+    ap (λ (w : List (List ℕ)). joined_words w) (sym (same_words given)) ∙ ap (λ (l : Option Location). joined_words (location_clause_words l)) (sym place) ∙ sym bytes
 
 -- The clause of one component.
 
@@ -88,7 +88,7 @@ renewal_of text cs g (Some c) e = renewal_is text cs g c e (is_unchanged (clause
 renewals_are : (text : List ℕ) (cs : List Component) (g : ℕ × Option Place) → IsOf cs g (renewal_at (map (clause_of text) cs) g)
 renewals_are text cs g = rw (slice_get-map (clause_of text) cs g.0) (renewal_of text cs g (slice_get cs g.0) refl)
 
-pub ready_for : (text : List ℕ) (cs : List Component) (places : Given) → def.Rising 0 (length text) cs → AreExportable cs places
+pub ready_for : (text : List ℕ) (cs : List Component) (places : Given) → def.AreInTextOrder 0 (length text) cs → AreExportable cs places
     → CanBeRenewed text (map (clause_of text) cs) places
 ready_for text cs places rise can = record {
   listed = rw (length-map cs (clause_of text)) (listed 0 (length cs) places can.rise);

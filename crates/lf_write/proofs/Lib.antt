@@ -1,6 +1,6 @@
 pub mod Apart
 pub mod Before
-pub mod Behind
+pub mod FollowsBytes
 pub mod Digits
 pub mod Edits
 pub mod Entries

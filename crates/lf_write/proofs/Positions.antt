@@ -8,7 +8,7 @@ use Rattle.std.proofs.lemmas.List.Elements.{All-nil, All-cons}
 use Rattle.lf_lex.specs.Splices.{Splice}
 use Rattle.lf_floorplan.specs.declared.place.Place.{Place}
 use Rattle.lf_def.specs.declared.components.Component.{Component}
-use Rattle.lf_write.specs.Export.{Rise, change, change_at, changes, given_to}
+use Rattle.lf_write.specs.Export.{PositionsRise, change, change_at, changes, given_to}
 
 -- Components by their positions, and the places that they are given.
 abbrev pub Given : Type 0
@@ -31,15 +31,15 @@ there : (n : ℕ) → (n == n) ≡ true
 there n = grind (arith, nat_tests)
 
 -- No place is given in front of the first position.
-none_before : (from to n : ℕ) (places : Given) → Rise from to places → n < from → given_to places n ≡ None
+none_before : (from to n : ℕ) (places : Given) → PositionsRise from to places → n < from → given_to places n ≡ None
 none_before from to n [] h lt = refl
 none_before from to n (g ∷ places) h lt = rw (not_there n g.0 (omega (arith, h.0, lt))) (none_before (g.0 + 1) to n places h.2 (omega (arith, h.0, lt)))
 
 -- A given place has no effect on later components.
-same_behind : (n : ℕ) (g : ℕ × Option Place) (places : Given) (cs : List Component) → g.0 < n → changes_from n (g ∷ places) cs ≡ changes_from n places cs
+same_after : (n : ℕ) (g : ℕ × Option Place) (places : Given) (cs : List Component) → g.0 < n → changes_from n (g ∷ places) cs ≡ changes_from n places cs
 unfolding changes_from
-same_behind n g places [] lt = refl
-same_behind n g places (c ∷ cs) lt = rw (not_it n g.0 lt, same_behind (n + 1) g places cs (omega (arith, lt))) refl
+same_after n g places [] lt = refl
+same_after n g places (c ∷ cs) lt = rw (not_it n g.0 lt, same_after (n + 1) g places cs (omega (arith, lt))) refl
   where
     not_it : (n i : ℕ) → i < n → (i == n) ≡ false
     not_it n i h = grind (arith, nat_tests)
@@ -51,7 +51,7 @@ at_from n cs g = option_and_then (λ c. change c g.1) (slice_get cs (g.0 - n))
 one_on : (n : ℕ) (c : Component) (cs : List Component) (g : ℕ × Option Place) → n + 1 ≤ g.0 → at_from n (c ∷ cs) g ≡ at_from (n + 1) cs g
 one_on n c cs g h = let e : g.0 - n ≡ suc (g.0 - (n + 1)) = omega (arith, h) in rw e refl
 
-all_on : (n from to : ℕ) (c : Component) (cs : List Component) (places : Given) → n + 1 ≤ from → Rise from to places
+all_on : (n from to : ℕ) (c : Component) (cs : List Component) (places : Given) → n + 1 ≤ from → PositionsRise from to places
     → filter_map (at_from n (c ∷ cs)) places ≡ filter_map (at_from (n + 1) cs) places
 all_on n from to c cs [] le h = refl
 all_on n from to c cs (g ∷ places) le h =
@@ -63,7 +63,7 @@ unfolding changes_from
 nothing_given n [] = refl
 nothing_given n (c ∷ cs) = nothing_given (n + 1) cs
 
-later : (from more to : ℕ) (places : Given) → more ≤ from → Rise from to places → Rise more to places
+later : (from more to : ℕ) (places : Given) → more ≤ from → PositionsRise from to places → PositionsRise more to places
 later from more to [] le h = tt
 later from more to (g ∷ places) le h = (omega (arith, le, h.0), h.1, h.2)
 
@@ -74,22 +74,22 @@ begins_alike o o' xs xs' e f = ap (λ (z : Option Splice). cons_option z xs) e �
 first_is : (n : ℕ) (c : Component) (cs : List Component) (g : ℕ × Option Place) → g.0 ≡ n → at_from n (c ∷ cs) g ≡ change c g.1
 first_is n c cs g e = let z : g.0 - n ≡ 0 = omega (arith, e) in rw z refl
 
-one_step : (n to : ℕ) (g : ℕ × Option Place) (places : Given) (c : Component) (cs : List Component) → Rise n to (g ∷ places)
-    → ((q : Given) → Rise (n + 1) to q → filter_map (at_from (n + 1) cs) q ≡ changes_from (n + 1) q cs)
+one_step : (n to : ℕ) (g : ℕ × Option Place) (places : Given) (c : Component) (cs : List Component) → PositionsRise n to (g ∷ places)
+    → ((q : Given) → PositionsRise (n + 1) to q → filter_map (at_from (n + 1) cs) q ≡ changes_from (n + 1) q cs)
     → (test : Bool) → (g.0 == n) ≡ test → filter_map (at_from n (c ∷ cs)) (g ∷ places) ≡ changes_from n (g ∷ places) (c ∷ cs)
 unfolding changes_from
 one_step n to g places c cs h next true t =
     let e : g.0 ≡ n = grind (arith, nat_tests, t) in
-    let rise : Rise (n + 1) to places = later (g.0 + 1) (n + 1) to places (omega (arith, e)) h.2 in
+    let rise : PositionsRise (n + 1) to places = later (g.0 + 1) (n + 1) to places (omega (arith, e)) h.2 in
     rw t (begins_alike (at_from n (c ∷ cs) g) (change c g.1) (filter_map (at_from n (c ∷ cs)) places) (changes_from (n + 1) (g ∷ places) cs)
     (first_is n c cs g e)
-    (all_on n (g.0 + 1) to c cs places (omega (arith, e)) h.2 ∙ next places rise ∙ sym (same_behind (n + 1) g places cs (omega (arith, e)))))
+    (all_on n (g.0 + 1) to c cs places (omega (arith, e)) h.2 ∙ next places rise ∙ sym (same_after (n + 1) g places cs (omega (arith, e)))))
 one_step n to g places c cs h next false t =
-    let behind : n + 1 ≤ g.0 = grind (arith, nat_tests, t, h.0) in
+    let after_it : n + 1 ≤ g.0 = grind (arith, nat_tests, t, h.0) in
     let none = none_before (g.0 + 1) to n places h.2 (omega (arith, h.0)) in
-    rw (t, none) (all_on n (n + 1) to c cs (g ∷ places) (omega arith) (behind, h.1, h.2) ∙ next (g ∷ places) (behind, h.1, h.2))
+    rw (t, none) (all_on n (n + 1) to c cs (g ∷ places) (omega arith) (after_it, h.1, h.2) ∙ next (g ∷ places) (after_it, h.1, h.2))
 
-by_components : (n to : ℕ) (places : Given) (cs : List Component) → to ≡ n + length cs → Rise n to places
+by_components : (n to : ℕ) (places : Given) (cs : List Component) → to ≡ n + length cs → PositionsRise n to places
     → filter_map (at_from n cs) places ≡ changes_from n places cs
 unfolding changes_from
 by_components n to [] cs e h = sym (nothing_given n cs)
@@ -105,10 +105,10 @@ found_alike f h alike [] = refl
 found_alike f h alike (g ∷ places) = begins_alike (f g) (h g) (filter_map f places) (filter_map h places) (alike g) (found_alike f h alike places)
 
 -- The changes of a list of places are those of the components in their order.
-pub changes_are : (places : Given) (cs : List Component) → Rise 0 (length cs) places → changes cs places ≡ changes_from 0 places cs
+pub changes_are : (places : Given) (cs : List Component) → PositionsRise 0 (length cs) places → changes cs places ≡ changes_from 0 places cs
 changes_are places cs h = found_alike (change_at cs) (at_from 0 cs) (at_zero cs) places ∙ by_components 0 (length cs) places cs (omega arith) h
 
 -- Positions are below the bound.
-pub listed : (from to : ℕ) (places : Given) → Rise from to places → All (λ g. g.0 < to) places
+pub listed : (from to : ℕ) (places : Given) → PositionsRise from to places → All (λ g. g.0 < to) places
 listed from to [] h = All-nil (λ (g : ℕ × Option Place). g.0 < to)
 listed from to (g ∷ places) h = All-cons (λ (g : ℕ × Option Place). g.0 < to) g places h.1 (listed (g.0 + 1) to places h.2)

@@ -7,15 +7,15 @@ use Rattle.lf_floorplan.specs.declared.place.Place.{Place}
 use Rattle.lf_lex.specs.declared.fault.ReadFault.{ReadFault}
 use Rattle.lf_lex.specs.Tokens.{Lexed, Lexeme, PlainToken, plain, with_tokens, tokens_of}
 use Rattle.lf_lex.specs.Splices.{Splice, AreEdited, spliced}
-use Rattle.lf_lex.specs.Reading.{ReadValue, behind, block, value_of}
+use Rattle.lf_lex.specs.Reading.{ReadValue, lexed_after, block, value_of}
 use Rattle.lf_lex.proofs.Splicing.{edited_tokens}
 use Rattle.lf_lex.proofs.Back.{halves, at_block}
 use Rattle.lf_def.specs.declared.doc_parts.DocParts.{DocParts}
-use Rattle.lf_def.specs.Document.{Document, document_of, document_from, statement, no_parts}
+use Rattle.lf_def.specs.Document.{Document, document_of, document_from, def_statement, no_parts}
 use Rattle.lf_def.specs.Laws.{document_without_places}
 use Rattle.lf_def.proofs.Places.{bare_doc}
 use Rattle.lf_def.proofs.Same.{document_at, said}
-use Rattle.lf_write.specs.Export.{Rise, given_to, exported, given_places}
+use Rattle.lf_write.specs.Export.{PositionsRise, given_to, exported, given_places}
 use Rattle.lf_write.proofs.Positions.{Given, changes_from, changes_are}
 use Rattle.lf_write.proofs.Edits.{edited_both, all_made}
 use Rattle.lf_write.proofs.Entries.{HavePlaces}
@@ -45,18 +45,18 @@ whole_edits made run rest whole tokens e edited =
 changes_read : (places : Given) → HavePlaces places → (text : List ℕ) (d : Document) → document_of text ≡ Ok d
     → ReadsAs (spliced 0 (changes_from 0 places d.components) text) (given_places places d)
 changes_read places h text d e =
-    let s = said (block statement no_parts (tokens_of text)) d e in
-    let g = all_made bare_doc (placed_doc places) (all_of places) statement (λ s l m t x. statement_made places h s l m t x) _ no_parts s.parts
+    let s = said (block def_statement no_parts (tokens_of text)) d e in
+    let g = all_made bare_doc (placed_doc places) (all_of places) def_statement (λ s l m t x. statement_made places h s l m t x) _ no_parts s.parts
     (tokens_of text) s.rest s.read in
     let made_is : changes_from 0 places d.components ≡ g.made =
     ap (λ (z : Document). changes_from 0 places z.components) (sym s.gives) ∙ g.grown ∙ ap (λ (z : List Splice). z ++ g.made) (nothing_yet places) in
     let edits = whole_edits g.made g.run s.rest.tokens (tokens_of text).tokens g.tokens (ap (λ (z : Lexed). z.tokens) g.whole) g.edited in
     let spelled = edited_tokens g.made 0 1 text (tokens_of text).tokens (g.tokens ++ map plain s.rest.tokens) refl edits 0 1 in
     let c = halves (tokens_of (spliced 0 g.made text)).tokens g.tokens (map plain s.rest.tokens) spelled in
-    let a = at_block bare_doc statement no_parts (placed_doc places s.parts) g.tokens (g.again no_parts refl) c.front c.front_is in
-    let rest = behind c.back (tokens_of (spliced 0 g.made text)) in
-    let there : tokens_of (spliced 0 g.made text) ≡ with_tokens c.front rest = ap (λ (z : List Lexeme). behind z (tokens_of (spliced 0 g.made text))) c.whole in
-    let one = ap (λ (z : Lexed). document_from (value_of (block statement no_parts z))) there
+    let a = at_block bare_doc def_statement no_parts (placed_doc places s.parts) g.tokens (g.again no_parts refl) c.front c.front_is in
+    let rest = lexed_after c.back (tokens_of (spliced 0 g.made text)) in
+    let there : tokens_of (spliced 0 g.made text) ≡ with_tokens c.front rest = ap (λ (z : List Lexeme). lexed_after z (tokens_of (spliced 0 g.made text))) c.whole in
+    let one = ap (λ (z : Lexed). document_from (value_of (block def_statement no_parts z))) there
     ∙ ap (λ (z : Result (ReadValue DocParts) ReadFault). document_from (value_of z)) (a.takes rest) in
     rw made_is (
       document_at a.value,
@@ -65,7 +65,7 @@ changes_read places h text d e =
           ∙ ap (λ (z : Document). document_without_places (given_places places z)) s.gives,
     )
 
-pub reads_back : (places : Given) → HavePlaces places → (text : List ℕ) (d : Document) → document_of text ≡ Ok d → Rise 0 (length d.components) places
+pub reads_back : (places : Given) → HavePlaces places → (text : List ℕ) (d : Document) → document_of text ≡ Ok d → PositionsRise 0 (length d.components) places
     → ReadsAs (exported text d.components places) (given_places places d)
 reads_back places h text d e rise = rw (changes_are places d.components rise) (changes_read places h text d e)
 

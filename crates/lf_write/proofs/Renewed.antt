@@ -9,7 +9,7 @@ use Rattle.lf_orient.specs.declared.Orient.{Orient}
 use Rattle.lf_orient.specs.declared.Orient.TheVariants.{N, W, S, E, FN, FW, FS, FE}
 use Rattle.lf_orient.specs.Words.{orient_word}
 use Rattle.lf_lex.specs.Tokens.{Lexed, Lexeme, PlainToken, plain, with_tokens}
-use Rattle.lf_lex.specs.Splices.{ReplacesTokens, AreEdited, is_word_text, word_of}
+use Rattle.lf_lex.specs.Splices.{ReplacesTokens, AreEdited, is_word_text, plain_word}
 use Rattle.lf_lex.specs.Reading.{taken, turn, is, name, block}
 use Rattle.lf_lex.proofs.Runs.{turn_bare, ok_is, with_both}
 use Rattle.lf_lex.proofs.Back.{BackAt, TurnsAt, back_pure, at_bind, at_map, at_first, at_yes, at_no, at_last, at_more, at_block}
@@ -33,14 +33,14 @@ use Rattle.lf_def.proofs.Places.{bare_parts, parts_at, component_at, component_f
 use Rattle.lf_def.proofs.PrintedNumbers.{decimals_are_read, decimals_are_words}
 use Rattle.lf_def.proofs.PrintedPlaces.{is_unplaced, clause_at, none_is}
 use Rattle.lf_team_def.specs.Clauses.{clause_words}
-use Rattle.lf_write.specs.Export.{as_location, placement_at, stands_at, clause_splice, perhaps_with_place}
-use Rattle.lf_write.proofs.Behind.{swap}
+use Rattle.lf_write.specs.Export.{place_location, placement_at, is_placed_at, clause_splice, perhaps_with_place}
+use Rattle.lf_write.proofs.FollowsBytes.{swap}
 use Rattle.lf_write.proofs.Before.{Bare, Found, Outcome, parts_found}
 use Rattle.lf_write.proofs.Positions.{change_of}
 
 -- Holds if a text can hold the coordinates of the place.
 abbrev pub HasPlace : Option Place → Type 0
-HasPlace given = IfSome given (λ p. IsLocation (as_location p))
+HasPlace given = IfSome given (λ p. IsLocation (place_location p))
 
 -- The new clause.
 
@@ -63,18 +63,18 @@ kind_of None = Unplaced
 kind_of (Some p) = Placed
 
 -- The state after the new clause.
-abbrev behind_new : Option Place → ComponentParts
-behind_new given = parts_at (Some (placement_at given)) Separator (is_unplaced (kind_of given))
+abbrev after_new : Option Place → ComponentParts
+after_new given = parts_at (Some (placement_at given)) Separator (is_unplaced (kind_of given))
 
 abbrev Alike : ComponentParts → ComponentParts → Type 0
 Alike s s' = bare_parts s' ≡ bare_parts s
 
-plus_back : (s s' : ComponentParts) → Alike s s' → BackAt (turn_bare bare_parts) (component_token s') (word_of (codes "+") ∷ [])
+plus_back : (s s' : ComponentParts) → Alike s s' → BackAt (turn_bare bare_parts) (component_token s') (plain_word (codes "+") ∷ [])
     (turn (record s { due = Keyword }) true)
 unfolding component_token component_from
 plus_back s s' a =
     let y = turn (record s { due = Keyword }) true in
-    at_first (turn_bare bare_parts) _ (word_of (codes "+")) [] y
+    at_first (turn_bare bare_parts) _ (plain_word (codes "+")) [] y
     (λ t e. at_no (turn_bare bare_parts) (is (codes ";") t) _ _ [] y (is_at (codes ";") (codes "+") t e)
     (at_yes (turn_bare bare_parts) (is (codes "+") t) _ _ [] y (is_at (codes "+") (codes "+") t e)
     (back_pure (turn_bare bare_parts) y (turn (record s' { due = Keyword; plus = t.start }) true)
@@ -88,20 +88,20 @@ due_alike s s' due e a = ap (λ (z : ComponentParts). z.due) a ∙ e
 
 -- The tokens of the new clause, if no earlier clause was read.
 new_clause : (given : Option Place) → HasPlace given → (s y : ComponentParts) → s.placement ≡ None → (rest : List PlainToken)
-    → ((s' : ComponentParts) → Alike (behind_new given) s' → TurnsAt bare_parts component_token s' rest y)
-    → (s' : ComponentParts) → Alike s s' → TurnsAt bare_parts component_token s' (map word_of (clause_words given) ++ rest) y
+    → ((s' : ComponentParts) → Alike (after_new given) s' → TurnsAt bare_parts component_token s' rest y)
+    → (s' : ComponentParts) → Alike s s' → TurnsAt bare_parts component_token s' (map plain_word (clause_words given) ++ rest) y
 new_clause None h s y none rest next s' a =
     let due_word : ComponentParts = record s { due = Keyword } in
-    let words = map word_of (kind_word Unplaced ∷ place_words signed_decimal None) in
-    at_more bare_parts component_token s' due_word y (word_of (codes "+") ∷ []) (words ++ rest) (omega arith) (plus_back s s' a) (λ s1 a1.
-    at_more bare_parts component_token s1 (behind_new None) y words rest (omega arith)
+    let words = map plain_word (kind_word Unplaced ∷ place_words signed_decimal None) in
+    at_more bare_parts component_token s' due_word y (plain_word (codes "+") ∷ []) (words ++ rest) (omega arith) (plus_back s s' a) (λ s1 a1.
+    at_more bare_parts component_token s1 (after_new None) y words rest (omega arith)
     (clause_at signed_decimal decimals_are_read Unplaced None tt s1 (none_alike due_word s1 none a1) (due_alike due_word s1 Keyword refl a1)) next)
 new_clause (Some p) h s y none rest next s' a =
     let due_word : ComponentParts = record s { due = Keyword } in
-    let words = map word_of (kind_word Placed ∷ place_words signed_decimal (Some (as_location p))) in
-    at_more bare_parts component_token s' due_word y (word_of (codes "+") ∷ []) (words ++ rest) (omega arith) (plus_back s s' a) (λ s1 a1.
-    at_more bare_parts component_token s1 (behind_new (Some p)) y words rest (omega arith)
-    (clause_at signed_decimal decimals_are_read Placed (Some (as_location p)) h s1 (none_alike due_word s1 none a1)
+    let words = map plain_word (kind_word Placed ∷ place_words signed_decimal (Some (place_location p))) in
+    at_more bare_parts component_token s' due_word y (plain_word (codes "+") ∷ []) (words ++ rest) (omega arith) (plus_back s s' a) (λ s1 a1.
+    at_more bare_parts component_token s1 (after_new (Some p)) y words rest (omega arith)
+    (clause_at signed_decimal decimals_are_read Placed (Some (place_location p)) h s1 (none_alike due_word s1 none a1)
     (due_alike due_word s1 Keyword refl a1)) next)
 
 -- The semicolon.
@@ -141,7 +141,7 @@ pub record Renewed (l m : Lexed) (c : Component) (given : Option Place) : Type 0
   pub after : List Lexeme
   pub whole : l ≡ with_tokens (before ++ (middle ++ after)) m
   pub makes : ReplacesTokens (clause_splice c.placement c.semicolon given) (clause_words given) middle after
-  pub read : BackAt without_places component (map plain before ++ (map word_of (clause_words given) ++ map plain after))
+  pub read : BackAt without_places component (map plain before ++ (map plain_word (clause_words given) ++ map plain after))
       (record c { placement = Some (placement_at given) })
 
 makes_new : (p : Option PlacementClause) (semicolon : ℕ) (given : Option Place) (last : Lexeme) → p ≡ None → semicolon ≡ last.start
@@ -174,9 +174,9 @@ new_one : (given : Option Place) → HasPlace given → (l1 l2 l3 m : Lexed) (c 
     → l1 ≡ with_tokens a l2 → l2 ≡ with_tokens b l3 → BackAt plain name (map plain a) na → BackAt plain name (map plain b) nb
     → na.text ≡ c.name → nb.text ≡ c.mac → c.placement ≡ y.placement → c.semicolon ≡ y.semicolon → y.placement ≡ None → Bare [] l3 m y → Renewed l1 m c given
 new_one given h l1 l2 l3 m c na nb a b y wa wb fa fb ea eb placement semicolon none f =
-    let rest = map word_of (clause_words given) ++ (plain f.last ∷ []) in
-    let turns = f.reached (behind_new given) rest (new_clause given h f.old (behind_new given) f.none (plain f.last ∷ []) (λ s' e.
-    at_last bare_parts component_token s' (behind_new given) (plain f.last ∷ []) (stop_back s' (behind_new given) f.last f.last_is e))) in
+    let rest = map plain_word (clause_words given) ++ (plain f.last ∷ []) in
+    let turns = f.reached (after_new given) rest (new_clause given h f.old (after_new given) f.none (plain f.last ∷ []) (λ s' e.
+    at_last bare_parts component_token s' (after_new given) (plain f.last ∷ []) (stop_back s' (after_new given) f.last f.last_is e))) in
     record {
       before = a ++ (b ++ f.front);
       middle = [];
@@ -184,7 +184,7 @@ new_one given h l1 l2 l3 m c na nb a b y wa wb fa fb ea eb placement semicolon n
       whole = three_wholes a b f.front (f.last ∷ []) l1 l2 l3 m wa wb f.whole;
       makes = makes_new c.placement c.semicolon given f.last (placement ∙ none) (semicolon ∙ f.semicolon);
       read = rw (three_runs a b f.front rest)
-          (with_names c (placement_at given) na nb (map plain a) (map plain b) (map plain f.front ++ rest) (behind_new given) fa fb ea eb turns refl);
+          (with_names c (placement_at given) na nb (map plain a) (map plain b) (map plain f.front ++ rest) (after_new given) fa fb ea eb turns refl);
     }
 
 swap_is : (q : PlacementClause) (b : Bool) (s : ComponentParts) → s.due ≡ Separator → bare_parts (parts_at (Some q) Separator b) ≡ bare_parts (swap q b s)
@@ -198,10 +198,10 @@ other_one : (given : Option Place) → HasPlace given → (l1 l2 l3 m : Lexed) (
 other_one given h l1 l2 l3 m c na nb a b y p wa wb fa fb ea eb placement is_placed f =
     let q = placement_at given in
     let u = is_unplaced (kind_of given) in
-    let rest = map word_of (clause_words given) ++ map plain f.after in
+    let rest = map plain_word (clause_words given) ++ map plain f.after in
     let turns = f.reached (swap (placement_at given) (is_unplaced (kind_of given)) y) rest
     (new_clause given h f.old (swap (placement_at given) (is_unplaced (kind_of given)) y) f.none (map plain f.after) (λ s' e.
-    f.behind (placement_at given) (is_unplaced (kind_of given)) s' (e ∙ swap_is (placement_at given) (is_unplaced (kind_of given)) f.state f.due))) in
+    f.after_it (placement_at given) (is_unplaced (kind_of given)) s' (e ∙ swap_is (placement_at given) (is_unplaced (kind_of given)) f.state f.due))) in
     let middle = f.plus ∷ f.word ∷ f.more in
     record {
       before = a ++ (b ++ f.front);
@@ -250,18 +250,18 @@ unchanged l m c e =
     let f = component_follows l m c e in
     record { run = f.run; whole = f.whole; tokens = map plain f.run; edited = refl; read = f.again }
 
-changed_by : (given : Option Place) → HasPlace given → (l m : Lexed) (c : Component) → component l ≡ taken c m → (test : Bool) → stands_at c given ≡ test
+changed_by : (given : Option Place) → HasPlace given → (l m : Lexed) (c : Component) → component l ≡ taken c m → (test : Bool) → is_placed_at c given ≡ test
     → Changed l m c (Some given)
 changed_by given h l m c e true s =
     let f = component_follows l m c e in
     record { run = f.run; whole = f.whole; tokens = map plain f.run; edited = rw s refl; read = rw s f.again }
 changed_by given h l m c e false s =
     let f = renewed given h l m c e in
-    let tokens = map plain f.before ++ (map word_of (clause_words given) ++ map plain f.after) in
+    let tokens = map plain f.before ++ (map plain_word (clause_words given) ++ map plain f.after) in
     record {
       run = f.before ++ (f.middle ++ f.after);
       whole = f.whole;
-      tokens = map plain f.before ++ (map word_of (clause_words given) ++ map plain f.after);
+      tokens = map plain f.before ++ (map plain_word (clause_words given) ++ map plain f.after);
       edited = rw s (record {
         before = f.before;
         middle = f.middle;
@@ -279,4 +279,4 @@ changed_by given h l m c e false s =
 
 pub changed : (o : Option (Option Place)) → IfSome o (λ given. HasPlace given) → (l m : Lexed) (c : Component) → component l ≡ taken c m → Changed l m c o
 changed None h l m c e = unchanged l m c e
-changed (Some given) h l m c e = changed_by given h l m c e (stands_at c given) refl
+changed (Some given) h l m c e = changed_by given h l m c e (is_placed_at c given) refl

@@ -14,7 +14,7 @@ use Rattle.lf_floorplan.specs.declared.place.Place.{Place}
 use Rattle.lf_def.specs.declared.components.Component.{Component}
 use Rattle.lf_def.specs.declared.components.Location.{Location}
 use Rattle.lf_def.specs.Coordinates.{orient_of}
-use Rattle.lf_write.specs.Export.{location, as_location, is_at, stands_at, with_place}
+use Rattle.lf_write.specs.Export.{clause_location, place_location, is_at, is_placed_at, with_place}
 
 read_word : (o : Orient) → orient_of (token_with (orient_word o)) ≡ Ok o
 read_word N = refl
@@ -39,7 +39,7 @@ same_location : (x x' y y' : ℤ) (o o' : Orient) → x ≡ x' → y ≡ y' → 
     → ◌≡◌ {A = Location} (record { x = x; y = y; orient = o }) (record { x = x'; y = y'; orient = o' })
 same_location x x' y y' o o' e f g = rw (e, f, g) refl
 
-found_there : (l : Location) (p : Place) → is_at (Some l) (Some p) ≡ true → l ≡ as_location p
+found_there : (l : Location) (p : Place) → is_at (Some l) (Some p) ≡ true → l ≡ place_location p
 found_there l p h =
     let a = and_true (int_eq l.x p.x && int_eq l.y p.y) (bytes_eq (orient_word l.orient) (orient_word p.orient)) h in
     let b = and_true (int_eq l.x p.x) (int_eq l.y p.y) a.0 in
@@ -48,7 +48,7 @@ found_there l p h =
 all_three : (a b c : Bool) → a ≡ true → b ≡ true → c ≡ true → (a && b && c) ≡ true
 all_three a b c e f g = rw (e, f, g) refl
 
-is_there : (p : Place) → is_at (Some (as_location p)) (Some p) ≡ true
+is_there : (p : Place) → is_at (Some (place_location p)) (Some p) ≡ true
 is_there p =
     all_three (int_eq p.x p.x) (int_eq p.y p.y) (bytes_eq (orient_word p.orient) (orient_word p.orient)) ((Decides-int_eq p.x p.x).1 refl)
     ((Decides-int_eq p.y p.y).1 refl) ((bytes_eq-Decides (orient_word p.orient) (orient_word p.orient)).1 refl)
@@ -56,24 +56,24 @@ is_there p =
 some_same : (a b : Location) → ◌≡◌ {A = Option Location} (Some a) (Some b) → a ≡ b
 some_same a b e = cc
 
-pub stands_by : (at : Option Location) (given : Option Place) → (is_at at given ≡ true) ↔ (at ≡ option_map as_location given)
-stands_by None None = ((λ h. refl), (λ h. refl))
-stands_by None (Some p) = ((λ h. absurd cc), (λ h. absurd cc))
-stands_by (Some l) None = ((λ h. absurd cc), (λ h. absurd cc))
-stands_by (Some l) (Some p) = (
+pub is_placed_by : (at : Option Location) (given : Option Place) → (is_at at given ≡ true) ↔ (at ≡ option_map place_location given)
+is_placed_by None None = ((λ h. refl), (λ h. refl))
+is_placed_by None (Some p) = ((λ h. absurd cc), (λ h. absurd cc))
+is_placed_by (Some l) None = ((λ h. absurd cc), (λ h. absurd cc))
+is_placed_by (Some l) (Some p) = (
   (λ h. ap (λ (z : Location). Some z) (found_there l p h)),
-  (λ h. ap (λ (z : Location). is_at (Some z) (Some p)) (some_same l (as_location p) h) ∙ is_there p),
+  (λ h. ap (λ (z : Location). is_at (Some z) (Some p)) (some_same l (place_location p) h) ∙ is_there p),
 )
 
-pub stands_there : (c : Component) (given : Option Place) → IsTrue (stands_at c given) ↔ (location c ≡ option_map as_location given)
-stands_there c given = stands_by (location c) given
+pub is_found_there : (c : Component) (given : Option Place) → IsTrue (is_placed_at c given) ↔ (clause_location c ≡ option_map place_location given)
+is_found_there c given = is_placed_by (clause_location c) given
 
-given_by : (c : Component) (given : Option Place) (test : Bool) → stands_at c given ≡ test
-    → (location (with_place given c) ≡ option_map as_location given) × ((with_place given c).name ≡ c.name) × ((with_place given c).mac ≡ c.mac)
-given_by c given true e = rw e ((stands_there c given).0 e, refl, refl)
+given_by : (c : Component) (given : Option Place) (test : Bool) → is_placed_at c given ≡ test
+    → (clause_location (with_place given c) ≡ option_map place_location given) × ((with_place given c).name ≡ c.name) × ((with_place given c).mac ≡ c.mac)
+given_by c given true e = rw e ((is_found_there c given).0 e, refl, refl)
 given_by c None false e = rw e (refl, refl, refl)
 given_by c (Some p) false e = rw e (refl, refl, refl)
 
-pub given_stands : (c : Component) (given : Option Place)
-    → (location (with_place given c) ≡ option_map as_location given) × ((with_place given c).name ≡ c.name) × ((with_place given c).mac ≡ c.mac)
-given_stands c given = given_by c given (stands_at c given) refl
+pub given_place_is_taken : (c : Component) (given : Option Place)
+    → (clause_location (with_place given c) ≡ option_map place_location given) × ((with_place given c).name ≡ c.name) × ((with_place given c).mac ≡ c.mac)
+given_place_is_taken c given = given_by c given (is_placed_at c given) refl

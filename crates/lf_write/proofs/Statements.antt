@@ -18,12 +18,12 @@ use Rattle.lf_def.specs.Regions.{regions}
 use Rattle.lf_def.specs.Groups.{groups}
 use Rattle.lf_def.specs.Components.{components}
 use Rattle.lf_def.specs.Blockages.{blockages}
-use Rattle.lf_def.specs.Document.{passed_from, end_design, body_statement, statement_from, statement}
+use Rattle.lf_def.specs.Document.{skip_from, end_design, body_statement, def_statement_from, def_statement}
 use Rattle.lf_def.proofs.Clauses.{bind_ok, token_ok}
 use Rattle.lf_def.proofs.Places.{bare_list, bare_doc, statement_follows, statement_goes}
 use Rattle.lf_write.specs.Export.{with_places}
 use Rattle.lf_write.proofs.Positions.{Given, changes_from}
-use Rattle.lf_write.proofs.Edits.{MadeTurn, edited_behind, same_turn}
+use Rattle.lf_write.proofs.Edits.{MadeTurn, edited_after, same_turn}
 use Rattle.lf_write.proofs.Entries.{HavePlaces, section_made}
 
 -- Other statements do not depend on components.
@@ -50,19 +50,19 @@ body_by : (a b c d e : Bool) (cs : List Component) (s : DocParts) (t : Lexeme) (
     (cond c (groups s.groups l >>= λ z. taken (record s { groups = z.value }) z.rest)
     (cond d (components s.components l >>= λ z. taken (record s { components = z.value }) z.rest)
     (cond e (blockages s.blockages l >>= λ z. taken (record s { blockages = z.value }) z.rest)
-    (passed_from t l >>= λ z. taken s z.rest))))) ≡ taken x m
+    (skip_from t l >>= λ z. taken s z.rest))))) ≡ taken x m
     → Unread cs s (cond {A = Result (ReadValue DocParts) ReadFault} a (with_row s.rows l >>= λ z. taken (with_components cs (record s { rows = z.value })) z.rest)
     (cond b (regions s.regions l >>= λ z. taken (with_components cs (record s { regions = z.value })) z.rest)
     (cond c (groups s.groups l >>= λ z. taken (with_components cs (record s { groups = z.value })) z.rest)
     (cond d (components cs l >>= λ z. taken (record s { components = z.value }) z.rest)
     (cond e (blockages s.blockages l >>= λ z. taken (with_components cs (record s { blockages = z.value })) z.rest)
-    (passed_from t l >>= λ z. taken (with_components cs s) z.rest)))))) x m
+    (skip_from t l >>= λ z. taken (with_components cs s) z.rest)))))) x m
 body_by true b c d e cs s t l m x h f = unread_by cs s x m (λ z. record s { rows = z }) (with_row s.rows l) (λ z. refl) f
 body_by false true c d e cs s t l m x h f = unread_by cs s x m (λ z. record s { regions = z }) (regions s.regions l) (λ z. refl) f
 body_by false false true d e cs s t l m x h f = unread_by cs s x m (λ z. record s { groups = z }) (groups s.groups l) (λ z. refl) f
 body_by false false false true e cs s t l m x h f = absurd cc
 body_by false false false false true cs s t l m x h f = unread_by cs s x m (λ z. record s { blockages = z }) (blockages s.blockages l) (λ z. refl) f
-body_by false false false false false cs s t l m x h f = unread_by cs s x m (λ z. s) (passed_from t l) (λ z. refl) f
+body_by false false false false false cs s t l m x h f = unread_by cs s x m (λ z. s) (skip_from t l) (λ z. refl) f
 
 body_unread : (cs : List Component) (s : DocParts) (t : Lexeme) (l m : Lexed) (x : DocParts) → is (codes "COMPONENTS") t ≡ false
     → body_statement s t l ≡ taken x m → Unread cs s (body_statement (with_components cs s) t l) x m
@@ -117,14 +117,14 @@ from_by false true cs s l m u t h e = turn_unread_by cs s t m true (λ x. record
 from_by false false cs s l m u t h e = body_turn cs s l m u t h e
 
 from_unread : (cs : List Component) (s : DocParts) (l m : Lexed) (u : Lexeme) (t : Turn DocParts) → is (codes "COMPONENTS") u ≡ false
-    → statement_from s u l ≡ taken t m → TurnUnread cs s (statement_from (with_components cs s) u l) t m
-unfolding statement_from
+    → def_statement_from s u l ≡ taken t m → TurnUnread cs s (def_statement_from (with_components cs s) u l) t m
+unfolding def_statement_from
 from_unread cs s l m u t h e = from_by (is (codes "END") u) (is_header u) cs s l m u t h e
 
 statement_unread : (cs : List Component) (s : DocParts) (l n m : Lexed) (u : Lexeme) (t : Turn DocParts) → l ≡ with_token u n
     → is (codes "COMPONENTS") u ≡ false
-    → statement_from s u n ≡ taken t m → TurnUnread cs s (statement (with_components cs s) l) t m
-unfolding statement
+    → def_statement_from s u n ≡ taken t m → TurnUnread cs s (def_statement (with_components cs s) l) t m
+unfolding def_statement
 statement_unread cs s l n m u t w h e = rw w (from_unread cs s n m u t h e)
 
 -- One statement.
@@ -137,10 +137,10 @@ abbrev pub all_of : Given → DocParts → List Splice
 all_of places s = changes_from 0 places s.components
 
 abbrev OneMade : Given → Lexed → Lexed → DocParts → Turn DocParts → Type 0
-OneMade places l m s t = MadeTurn bare_doc (placed_doc places) (all_of places) statement l m s t
+OneMade places l m s t = MadeTurn bare_doc (placed_doc places) (all_of places) def_statement l m s t
 
 other_made : (places : Given) (l m : Lexed) (s : DocParts) (t : Turn DocParts) → t.state.components ≡ s.components
-    → statement (placed_doc places s) l ≡ taken (turn (placed_doc places t.state) t.more) m → OneMade places l m s t
+    → def_statement (placed_doc places s) l ≡ taken (turn (placed_doc places t.state) t.more) m → OneMade places l m s t
 other_made places l m s t kept e =
     let f = statement_follows (placed_doc places s) (placed_doc places s) refl l m (turn (placed_doc places t.state) t.more) e in
     record {
@@ -151,7 +151,7 @@ other_made places l m s t kept e =
       tokens = map plain f.run;
       edited = refl;
       some = λ more.
-          let goes : statement (placed_doc places s) l ≡ taken (turn (placed_doc places t.state) true) m = e
+          let goes : def_statement (placed_doc places s) l ≡ taken (turn (placed_doc places t.state) true) m = e
           ∙ ap (λ (b : Bool). taken (turn (placed_doc places t.state) b) m) more in
           some_run f.run l m f.whole (statement_goes (placed_doc places s) (placed_doc places t.state) l m goes);
       again = λ s' a p x.
@@ -168,17 +168,17 @@ abbrev section_read : DocParts → Lexed → Result (ReadValue DocParts) ReadFau
 section_read s l = components s.components l >>= λ x. taken (record s { components = x.value }) x.rest
 
 from_text : (s : DocParts) (u : Lexeme) (l : Lexed)
-    → statement_from s (record u { text = codes "COMPONENTS" }) l ≡ (section_read s l >>= λ x. taken (turn x.value true) x.rest)
-unfolding statement_from body_statement
+    → def_statement_from s (record u { text = codes "COMPONENTS" }) l ≡ (section_read s l >>= λ x. taken (turn x.value true) x.rest)
+unfolding def_statement_from body_statement
 from_text s u l = refl
 
 section_statement : (s : DocParts) (u : Lexeme) (l : Lexed) → u.text ≡ codes "COMPONENTS"
-    → statement_from s u l ≡ (section_read s l >>= λ x. taken (turn x.value true) x.rest)
-section_statement s u l e = ap (λ (z : List ℕ). statement_from s (record u { text = z }) l) e ∙ from_text s u l
+    → def_statement_from s u l ≡ (section_read s l >>= λ x. taken (turn x.value true) x.rest)
+section_statement s u l e = ap (λ (z : List ℕ). def_statement_from s (record u { text = z }) l) e ∙ from_text s u l
 
 section_turn : (places : Given) → HavePlaces places → (l n m : Lexed) (s : DocParts) (cs : List Component) (u : Lexeme) → l ≡ with_token u n
     → u.text ≡ codes "COMPONENTS" → components s.components n ≡ taken cs m → OneMade places l m s (turn (record s { components = cs }) true)
-unfolding statement
+unfolding def_statement
 section_turn places h l n m s cs u w text e =
     let f = section_made places h n m s.components cs e in
     let d : DocParts = record s { components = with_places places cs } in
@@ -188,11 +188,11 @@ section_turn places h l n m s cs u w text e =
       run = u ∷ f.run;
       whole = w ∙ ap (λ (z : Lexed). with_token u z) f.whole;
       tokens = plain u ∷ f.tokens;
-      edited = edited_behind f.made (u ∷ []) f.run f.tokens f.edited;
+      edited = edited_after f.made (u ∷ []) f.run f.tokens f.edited;
       some = λ x. omega arith;
       again = λ s' a.
           at_first (turn_bare bare_doc) _ (plain u) f.tokens (turn d true) (λ t' e'.
-          at_same (turn_bare bare_doc) (statement_from s' t') (λ k. section_read s' k >>= λ x. taken (turn x.value true) x.rest) f.tokens (turn d true)
+          at_same (turn_bare bare_doc) (def_statement_from s' t') (λ k. section_read s' k >>= λ x. taken (turn x.value true) x.rest) f.tokens (turn d true)
           (λ k. section_statement s' t' k (text_alike u t' e' ∙ text))
           (at_map bare_doc (turn_bare bare_doc) (section_read s') (λ (x : DocParts). turn x true) f.tokens d (turn d true)
           (at_map bare_list bare_doc (components s'.components) (λ (x : List Component). record s' { components = x }) f.tokens (with_places places cs) d
@@ -202,23 +202,23 @@ section_turn places h l n m s cs u w text e =
     }
 
 by_keyword : (places : Given) → HavePlaces places → (l n m : Lexed) (s : DocParts) (t : Turn DocParts) (u : Lexeme) → l ≡ with_token u n
-    → statement_from s u n ≡ taken t m → (test : Bool) → is (codes "COMPONENTS") u ≡ test → OneMade places l m s t
+    → def_statement_from s u n ≡ taken t m → (test : Bool) → is (codes "COMPONENTS") u ≡ test → OneMade places l m s t
 by_keyword places h l n m s t u w e true k =
     let text : u.text ≡ codes "COMPONENTS" = (bytes_eq-Decides u.text (codes "COMPONENTS")).0 k in
     let a = bind_ok (section_read s n) _ _ (sym (section_statement s u n text) ∙ e) in
     let b = bind_ok (components s.components n) _ _ a.1 in
     let f = ok_is (record s { components = b.0.value }) b.0.rest a.0.value a.0.rest b.2 in
     let g = ok_is (turn a.0.value true) a.0.rest t m a.2 in
-    same_turn bare_doc (placed_doc places) (all_of places) statement l b.0.rest m s (turn (record s { components = b.0.value }) true) t
+    same_turn bare_doc (placed_doc places) (all_of places) def_statement l b.0.rest m s (turn (record s { components = b.0.value }) true) t
     (ap (λ (z : DocParts). turn z true) f.0 ∙ g.0) (f.1 ∙ g.1) (section_turn places h l n b.0.rest s b.0.value u w text b.1)
 by_keyword places h l n m s t u w e false k =
     let f = statement_unread (with_places places s.components) s l n m u t w k e in
     other_made places l m s t f.1
     (f.0 ∙ ap (λ (z : List Component). taken (turn (with_components (with_places places z) t.state) t.more) m) (sym f.1))
 
-pub statement_made : (places : Given) → HavePlaces places → (s : DocParts) (l m : Lexed) (t : Turn DocParts) → statement s l ≡ taken t m
+pub statement_made : (places : Given) → HavePlaces places → (s : DocParts) (l m : Lexed) (t : Turn DocParts) → def_statement s l ≡ taken t m
     → OneMade places l m s t
-unfolding statement
+unfolding def_statement
 statement_made places h s l m t e =
     let a = token_ok l _ _ e in
     by_keyword places h l a.1 m s t a.0 a.2 a.3 (is (codes "COMPONENTS") a.0) refl

@@ -13,7 +13,7 @@ use Rattle.std.proofs.lemmas.Bool.Decides.{nat_tests}
 use Rattle.lf_lex.specs.Splices.{Splice, spliced, Rising}
 use Rattle.lf_floorplan.specs.declared.place.Place.{Place}
 use Rattle.lf_def.specs.declared.components.Component.{Component}
-use Rattle.lf_write.specs.Export.{ClauseFacts, change, changes, exported, is_unchanged, renewal, renewal_at, renewals, renewed, splice_at, stands_at}
+use Rattle.lf_write.specs.Export.{ClauseFacts, change, changes, exported, is_unchanged, renewal, renewal_at, renewals, renewed, splice_at, is_placed_at}
 use Rattle.lf_write.specs.Laws.{FitsText}
 use Rattle.lf_write.proofs.Positions.{Given}
 
@@ -62,8 +62,8 @@ moving k given ss e = rw e refl
 
 pub written_standing : {text : List ℕ} {ks : List ClauseFacts} {places : Given} {i at : ℕ} {before now : Option (List ℕ)} {g : ℕ × Option Place} {k : ClauseFacts}
     → Listed ks places i g k → is_unchanged k g.1 ≡ true → Written text ks places i at before now → Written text ks places (i + 1) at before now
-written_standing {ks = ks} {places = places} {i = i} {g = g} {k = k} is stands w =
-    let e = first_left ks places i g k is ∙ standing k g.1 (renewals ks (drop (i + 1) places)) stands in
+written_standing {ks = ks} {places = places} {i = i} {g = g} {k = k} is is_in_place w =
+    let e = first_left ks places i g k is ∙ standing k g.1 (renewals ks (drop (i + 1) places)) is_in_place in
     record { front = w.front; rising = rw e at w.rising; whole = rw e at w.whole; written = w.written }
 
 rising_within : (at len : ℕ) (ss : List Splice) → Rising at len ss → at ≤ len
@@ -82,11 +82,11 @@ one_made : (text : List ℕ) (at : ℕ) (out : List ℕ) (s : Splice) (ss : List
     → (out ++ (take (s.start - at) (drop at text) ++ s.new)) ++ spliced s.stop ss (drop s.stop text) ≡ out ++ spliced at (s ∷ ss) (drop at text)
 unfolding spliced
 one_made text at out s ss le le' =
-    let behind : drop (s.stop - at) (drop at text) ≡ drop s.stop text =
+    let after_it : drop (s.stop - at) (drop at text) ≡ drop s.stop text =
     let sum : at + (s.stop - at) ≡ s.stop = omega (arith, le, le') in drop-drop (s.stop - at) at text ∙ ap (λ (n : ℕ). drop n text) sum in
     append_assoc out (take (s.start - at) (drop at text) ++ s.new) (spliced s.stop ss (drop s.stop text))
     ∙ ap (λ (z : List ℕ). out ++ z) (append_assoc (take (s.start - at) (drop at text)) s.new (spliced s.stop ss (drop s.stop text)))
-    ∙ ap (λ (z : List ℕ). out ++ (take (s.start - at) (drop at text) ++ (s.new ++ spliced s.stop ss z))) (sym behind)
+    ∙ ap (λ (z : List ℕ). out ++ (take (s.start - at) (drop at text) ++ (s.new ++ spliced s.stop ss z))) (sym after_it)
 
 pub written_change : {text : List ℕ} {ks : List ClauseFacts} {places : Given} {i at stop : ℕ} {before now after : Option (List ℕ)} {g : ℕ × Option Place}
     {k : ClauseFacts}
@@ -116,19 +116,19 @@ written_last {text = text} {ks = ks} {places = places} {i = i} {at = at} {before
     let whole : w.front ++ drop at text ≡ renewed text ks places = rw none at w.whole in
     subst (Appends before after) whole (Appends-trans before now after w.front (drop at text) w.written bytes)
 
-stays : (o : Option Component) (given : Option Place) → IfSome o (λ c. stands_at c given ≡ true) → option_and_then (λ c. change c given) o ≡ None
+stays : (o : Option Component) (given : Option Place) → IfSome o (λ c. is_placed_at c given ≡ true) → option_and_then (λ c. change c given) o ≡ None
 stays None given h = refl
 stays (Some c) given h = rw h refl
 
-no_changes : (cs : List Component) (places : Given) → All (λ g. IfSome (slice_get cs g.0) (λ c. stands_at c g.1 ≡ true)) places → changes cs places ≡ []
+no_changes : (cs : List Component) (places : Given) → All (λ g. IfSome (slice_get cs g.0) (λ c. is_placed_at c g.1 ≡ true)) places → changes cs places ≡ []
 no_changes cs [] h = refl
 no_changes cs (g ∷ places) h =
     ap (λ (o : Option Splice). cons_option o (changes cs places))
-    (stays (slice_get cs g.0) g.1 (All-head (λ (g : ℕ × Option Place). IfSome (slice_get cs g.0) (λ c. stands_at c g.1 ≡ true)) g places h))
-    ∙ no_changes cs places (All-tail (λ (g : ℕ × Option Place). IfSome (slice_get cs g.0) (λ c. stands_at c g.1 ≡ true)) g places h)
+    (stays (slice_get cs g.0) g.1 (All-head (λ (g : ℕ × Option Place). IfSome (slice_get cs g.0) (λ c. is_placed_at c g.1 ≡ true)) g places h))
+    ∙ no_changes cs places (All-tail (λ (g : ℕ × Option Place). IfSome (slice_get cs g.0) (λ c. is_placed_at c g.1 ≡ true)) g places h)
 
 -- If all components are at their places already, nothing is written again.
-pub nothing_written : (text : List ℕ) (cs : List Component) (places : Given) → All (λ g. IfSome (slice_get cs g.0) (λ c. stands_at c g.1 ≡ true)) places
+pub nothing_written : (text : List ℕ) (cs : List Component) (places : Given) → All (λ g. IfSome (slice_get cs g.0) (λ c. is_placed_at c g.1 ≡ true)) places
     → exported text cs places ≡ text
 unfolding spliced
 nothing_written text cs places h = ap (λ (ss : List Splice). spliced 0 ss text) (no_changes cs places h)

@@ -7,7 +7,7 @@ use Rattle.std.specs.Option.{option_and_then}
 use Rattle.std.specs.Ordering.{int_eq}
 use Rattle.std.specs.List.{enumerate_from}
 use Rattle.lf_orient.specs.Words.{orient_word}
-use Rattle.lf_lex.specs.Splices.{Splice, Rising, spliced, joined}
+use Rattle.lf_lex.specs.Splices.{Splice, Rising, spliced, joined_words}
 use Rattle.lf_floorplan.specs.declared.place.Place.{Place}
 use Rattle.lf_def.specs.declared.components.Component.{Component}
 use Rattle.lf_def.specs.declared.components.Location.{Location}
@@ -24,21 +24,21 @@ abbrev pub IsMovable : Component → Type 0
 IsMovable c = IfSome c.placement (λ p. (p.kind ≢ Fixed) × (p.kind ≢ Cover))
 
 -- Holds if the positions rise, from one on and below another.
-abbrev pub Rise : ℕ → ℕ → List (ℕ × Option Place) → Type 0
-Rise from to [] = Unit {0}
-Rise from to (g ∷ gs) = (from ≤ g.0) × (g.0 < to) × Rise (g.0 + 1) to gs
+abbrev pub PositionsRise : ℕ → ℕ → List (ℕ × Option Place) → Type 0
+PositionsRise from to [] = Unit {0}
+PositionsRise from to (g ∷ gs) = (from ≤ g.0) × (g.0 < to) × PositionsRise (g.0 + 1) to gs
 
 -- Holds if components can be given these places: the positions rise and lie in the document, and
 -- the components are movable.
 pub record AreExportable (components : List Component) (places : List (ℕ × Option Place)) : Type 0 where
-  pub rise : Rise 0 (length components) places
+  pub rise : PositionsRise 0 (length components) places
   pub movable : All (λ g. IfSome (slice_get components g.0) (λ c. IsMovable c)) places
 
 -- Whether a component is at a place already.
 
 -- The location of a component. `None` for one without a clause, or UNPLACED.
-abbrev pub location : Component → Option Location
-location c = option_and_then (λ p. p.place) c.placement
+abbrev pub clause_location : Component → Option Location
+clause_location c = option_and_then (λ p. p.place) c.placement
 
 -- True if the location is the place.
 abbrev pub is_at : Option Location → Option Place → Bool
@@ -46,16 +46,16 @@ is_at None None = true
 is_at (Some at) (Some p) = int_eq at.x p.x && int_eq at.y p.y && bytes_eq (orient_word at.orient) (orient_word p.orient)
 is_at _ _ = false
 
-abbrev pub stands_at : Component → Option Place → Bool
-stands_at c given = is_at (location c) given
+abbrev pub is_placed_at : Component → Option Place → Bool
+is_placed_at c given = is_at (clause_location c) given
 
 -- What is written.
 
 -- The new clause in place of the old one. If there is no old one, the new clause and a space
 -- directly in front of the semicolon.
 abbrev pub clause_splice : Option PlacementClause → ℕ → Option Place → Splice
-clause_splice None semicolon given = record { start = semicolon; stop = semicolon; new = joined (clause_words given) ++ codes " " }
-clause_splice (Some old) semicolon given = record { start = old.start; stop = old.stop; new = joined (clause_words given) }
+clause_splice None semicolon given = record { start = semicolon; stop = semicolon; new = joined_words (clause_words given) ++ codes " " }
+clause_splice (Some old) semicolon given = record { start = old.start; stop = old.stop; new = joined_words (clause_words given) }
 
 -- The new clause of the component.
 abbrev pub splice_of : Component → Option Place → Splice
@@ -63,7 +63,7 @@ splice_of c given = clause_splice c.placement c.semicolon given
 
 -- The change when the component is given this place. `None` if it is there already.
 abbrev pub change : Component → Option Place → Option Splice
-change c given = if stands_at c given then None else Some (splice_of c given)
+change c given = if is_placed_at c given then None else Some (splice_of c given)
 
 -- The change when the component at this position is given this place.
 abbrev pub change_at : List Component → ℕ × Option Place → Option Splice
@@ -99,14 +99,14 @@ abbrev pub no_clause : ℕ → ClauseFacts
 no_clause semicolon = record { place = None; start = semicolon; stop = semicolon; lacks = true; plain = false }
 
 -- The words of the clause that is written for this location.
-abbrev pub location_words : Option Location → List (List ℕ)
-location_words None = codes "+" ∷ codes "UNPLACED" ∷ []
-location_words (Some at) =
+abbrev pub location_clause_words : Option Location → List (List ℕ)
+location_clause_words None = codes "+" ∷ codes "UNPLACED" ∷ []
+location_clause_words (Some at) =
     codes "+" ∷ codes "PLACED" ∷ codes "(" ∷ signed_decimal at.x ∷ signed_decimal at.y ∷ codes ")" ∷ orient_word at.orient ∷ []
 
 -- True if the clause is plain: its bytes in the text are those that are written for its place.
 abbrev pub is_plain : List ℕ → PlacementClause → Bool
-is_plain text p = bytes_eq (take (p.stop - p.start) (drop p.start text)) (joined (location_words p.place))
+is_plain text p = bytes_eq (take (p.stop - p.start) (drop p.start text)) (joined_words (location_clause_words p.place))
 
 abbrev pub clause_with : Bool → PlacementClause → ClauseFacts
 clause_with true p = plain_clause p.start p.stop
@@ -122,8 +122,8 @@ clause_of text c = clause_from text c.placement c.semicolon
 
 -- The new clause, followed by a space if there was no old one.
 abbrev pub new_clause : Bool → Option Place → List ℕ
-new_clause true given = joined (clause_words given) ++ codes " "
-new_clause false given = joined (clause_words given)
+new_clause true given = joined_words (clause_words given) ++ codes " "
+new_clause false given = joined_words (clause_words given)
 
 abbrev pub splice_at : ClauseFacts → Option Place → Splice
 splice_at k given = record { start = k.start; stop = k.stop; new = new_clause k.lacks given }
@@ -157,17 +157,17 @@ pub record CanBeRenewed (text : List ℕ) (clauses : List ClauseFacts) (places :
 -- What the exported text contains.
 
 -- A place in the form of the document.
-abbrev pub as_location : Place → Location
-as_location p = record { x = p.x; y = p.y; orient = p.orient }
+abbrev pub place_location : Place → Location
+place_location p = record { x = p.x; y = p.y; orient = p.orient }
 
 -- PLACED there, or UNPLACED.
 abbrev pub placement_at : Option Place → PlacementClause
 placement_at None = record { kind = Unplaced; place = None; start = 0; stop = 0 }
-placement_at (Some p) = record { kind = Placed; place = Some (as_location p); start = 0; stop = 0 }
+placement_at (Some p) = record { kind = Placed; place = Some (place_location p); start = 0; stop = 0 }
 
 -- The component at the given place.
 abbrev pub with_place : Option Place → Component → Component
-with_place given c = if stands_at c given then c else record c { placement = Some (placement_at given) }
+with_place given c = if is_placed_at c given then c else record c { placement = Some (placement_at given) }
 
 -- The place that is given to the component at this position, if any.
 abbrev pub given_to : List (ℕ × Option Place) → ℕ → Option (Option Place)

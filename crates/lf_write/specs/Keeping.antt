@@ -9,9 +9,9 @@ use Rattle.lf_write.specs.declared.kept_clauses.Form.TheVariants.{Plain as Plain
 use Rattle.lf_write.specs.Export.{ClauseFacts, no_clause, plain_clause}
 
 -- The place of a clause of this form with these coordinates.
-abbrev pub place_in : ℤ → ℤ → Form → Option Location
-place_in x y (Located orient) = Some (record { x = x; y = y; orient = orient })
-place_in x y _ = None
+abbrev pub clause_place : ℤ → ℤ → Form → Option Location
+clause_place x y (Located orient) = Some (record { x = x; y = y; orient = orient })
+clause_place x y _ = None
 
 abbrev pub is_lacking : Form → Bool
 is_lacking Lacking = true
@@ -23,7 +23,7 @@ is_of_plain _ = false
 
 -- The clause of this form between these offsets.
 abbrev pub clause_from_form : ℕ → ℕ → ℤ → ℤ → Form → ClauseFacts
-clause_from_form start stop x y f = record { place = place_in x y f; start = start; stop = stop; lacks = is_lacking f; plain = is_of_plain f }
+clause_from_form start stop x y f = record { place = clause_place x y f; start = start; stop = stop; lacks = is_lacking f; plain = is_of_plain f }
 
 -- The clause of an entry, given the clauses that are not plain.
 abbrev pub clause_in : List ClauseFacts → Entry → ClauseFacts
@@ -35,27 +35,27 @@ abbrev pub all_in : List ClauseFacts → List Entry → List ClauseFacts → Lis
 all_in others entries far = map (clause_in others) entries ++ far
 
 -- Holds if the entry is a plain clause, or the position of one of this number of others.
-abbrev pub IsWithin : ℕ → Entry → Type 0
-IsWithin n (Plain bytes start) = Unit {0}
-IsWithin n (Other at) = at < n
+abbrev pub IsEntryWithin : ℕ → Entry → Type 0
+IsEntryWithin n (Plain bytes start) = Unit {0}
+IsEntryWithin n (Other at) = at < n
 
 -- Holds if this is the entry of the clause, whatever the others are.
-abbrev pub StandsFor : Entry → ClauseFacts → Type 0
-StandsFor (Plain bytes start) clause = plain_clause start (start + bytes) ≡ clause
-StandsFor (Other at) clause = ⊥
+abbrev pub Denotes : Entry → ClauseFacts → Type 0
+Denotes (Plain bytes start) clause = plain_clause start (start + bytes) ≡ clause
+Denotes (Other at) clause = ⊥
 
 -- Holds if this is the entry of the clause, after more clauses may have been appended to the
 -- others.
-pub record IsKept (old new : List ClauseFacts) (entry : Entry) (clause : ClauseFacts) : Type 0 where
+pub record KeepsClause (old new : List ClauseFacts) (entry : Entry) (clause : ClauseFacts) : Type 0 where
   pub more : List ClauseFacts
   pub grown : new ≡ old ++ more
   pub is : clause_in new entry ≡ clause
-  pub within : IsWithin (length new) entry
+  pub within : IsEntryWithin (length new) entry
 
 -- The same, if no clause comes after those of the entries.
 pub record IsNext (old new far : List ClauseFacts) (entry : Entry) (clause : ClauseFacts) : Type 0 where
   pub none : far ≡ []
-  pub kept : IsKept old new entry clause
+  pub kept : KeepsClause old new entry clause
 
 -- Holds if the clause of the component, if it has one, is in a text of this length.
 abbrev pub IsInText : ℕ → Component → Type 0

@@ -3,9 +3,9 @@
 ghost use Rattle.std.specs.Prelude.{◌≡◌, ◌++◌, OnOk, Some, codes};
 ghost use Rattle.std.specs.Fmt.{signed_decimal};
 ghost use Rattle.std.specs.Io.KnownBytes.{Appends};
-ghost use Rattle.lf_lex.specs.Splices.{joined};
+ghost use Rattle.lf_lex.specs.Splices.{joined_words};
 ghost use Rattle.lf_team_def.specs.Clauses.{clause_words};
-ghost use Rattle.lf_write.specs.Export.{location_words, new_clause};
+ghost use Rattle.lf_write.specs.Export.{location_clause_words, new_clause};
 
 use itoa::Buffer;
 use lf_def::Location;
@@ -23,7 +23,7 @@ fn put_number<W: Write>(out: &mut W, number: &i32) -> io::Result<()>
 
 /// Writes `+ PLACED ( x y ) orient`.
 fn put_placed<W: Write>(out: &mut W, at: &Location) -> io::Result<()>
-    ensures { OnOk result (Appends (W.contents out.old) (W.contents out.new) (joined (location_words (Some at.now)))) }
+    ensures { OnOk result (Appends (W.contents out.old) (W.contents out.new) (joined_words (location_clause_words (Some at.now)))) }
 {
     out.write_all(b"+ PLACED ( ")?;
     put_number(out, &at.x)?;
@@ -37,7 +37,7 @@ fn put_placed<W: Write>(out: &mut W, at: &Location) -> io::Result<()>
 /// Writes the placement clause of a component at this location: `+ PLACED ( x y ) orient`, or
 /// `+ UNPLACED`.
 fn put_location<W: Write>(out: &mut W, location: &Option<Location>) -> io::Result<()>
-    ensures { OnOk result (Appends (W.contents out.old) (W.contents out.new) (joined (location_words location.now))) }
+    ensures { OnOk result (Appends (W.contents out.old) (W.contents out.new) (joined_words (location_clause_words location.now))) }
 {
     match location {
         Some(at) => put_placed(out, at),
@@ -47,7 +47,7 @@ fn put_location<W: Write>(out: &mut W, location: &Option<Location>) -> io::Resul
 
 /// Returns the place in the form of a document.
 fn location_of(place: &Option<Place>) -> Option<Location>
-    ensures { location_words result ≡ clause_words place.now }
+    ensures { location_clause_words result ≡ clause_words place.now }
 {
     match place {
         Some(place) => Some(Location {
@@ -61,14 +61,14 @@ fn location_of(place: &Option<Place>) -> Option<Location>
 
 /// Writes the placement clause of a component at this place.
 fn put_clause<W: Write>(out: &mut W, place: &Option<Place>) -> io::Result<()>
-    ensures { OnOk result (Appends (W.contents out.old) (W.contents out.new) (joined (clause_words place.now))) }
+    ensures { OnOk result (Appends (W.contents out.old) (W.contents out.new) (joined_words (clause_words place.now))) }
 {
     put_location(out, &location_of(place))
 }
 
 /// Writes the placement clause and a space.
 fn put_spaced_clause<W: Write>(out: &mut W, place: &Option<Place>) -> io::Result<()>
-    ensures { OnOk result (Appends (W.contents out.old) (W.contents out.new) (joined (clause_words place.now) ++ codes " ")) }
+    ensures { OnOk result (Appends (W.contents out.old) (W.contents out.new) (joined_words (clause_words place.now) ++ codes " ")) }
 {
     put_clause(out, place)?;
     out.write_all(b" ")?;

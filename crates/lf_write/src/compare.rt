@@ -3,16 +3,16 @@
 
 ghost use Rattle.std.specs.Prelude.{◌≡◌, ◌^◌, ◌<◌, ◌≤◌, ◌++◌, IfSome, Some, bytes_eq, decimal, length, take};
 ghost use Rattle.std.specs.Fmt.{signed_decimal};
-ghost use Rattle.lf_lex.specs.Splices.{joined};
+ghost use Rattle.lf_lex.specs.Splices.{joined_words};
 ghost use Rattle.lf_write.specs.Comparing.{IsRestOfText, before_orient};
-ghost use Rattle.lf_write.specs.Export.{location_words};
+ghost use Rattle.lf_write.specs.Export.{location_clause_words};
 
 use itoa::Buffer;
 use lf_def::Location;
 use lf_orient::orient_word;
 
 /// Returns what is left after `due`, or `None` if the bytes do not begin with it.
-fn behind<'a>(bytes: &'a [u8], due: &[u8]) -> Option<&'a [u8]>
+fn after_it<'a>(bytes: &'a [u8], due: &[u8]) -> Option<&'a [u8]>
     ensures { IsRestOfText bytes.now (λ rest. due.now ++ rest) result }
 {
     bytes.strip_prefix(due)
@@ -46,7 +46,7 @@ fn number_len(bytes: &[u8], number: u64) -> Option<usize>
 
 /// Returns what is left after the number, if the number is not 0 and the digits denote it. `None`
 /// otherwise. Faster than writing the number.
-fn behind_digits<'a>(bytes: &'a [u8], number: &i32) -> Option<&'a [u8]>
+fn after_digits<'a>(bytes: &'a [u8], number: &i32) -> Option<&'a [u8]>
     ensures { IfSome result (λ left. bytes.now ≡ signed_decimal number.now ++ left.now) }
 {
     if *number < 0 {
@@ -61,32 +61,32 @@ fn behind_digits<'a>(bytes: &'a [u8], number: &i32) -> Option<&'a [u8]>
 }
 
 /// Returns what is left after the number, or `None` if the bytes do not begin with it.
-fn behind_number<'a>(bytes: &'a [u8], number: &i32) -> Option<&'a [u8]>
+fn after_number<'a>(bytes: &'a [u8], number: &i32) -> Option<&'a [u8]>
     ensures { IsRestOfText bytes.now (λ rest. signed_decimal number.now ++ rest) result }
 {
-    if let Some(left) = behind_digits(bytes, number) {
+    if let Some(left) = after_digits(bytes, number) {
         return Some(left);
     }
-    behind(bytes, Buffer::new().format(*number).as_bytes())
+    after_it(bytes, Buffer::new().format(*number).as_bytes())
 }
 
 /// Returns what is left after `+ PLACED ( x y )` and a space, or `None` if the bytes begin with
 /// something else.
-fn behind_point<'a>(bytes: &'a [u8], at: &Location) -> Option<&'a [u8]>
+fn after_a_point<'a>(bytes: &'a [u8], at: &Location) -> Option<&'a [u8]>
     ensures { IsRestOfText bytes.now (before_orient at.now) result }
 {
-    let left = behind(bytes, b"+ PLACED ( ")?;
-    let left = behind_number(left, &at.x)?;
-    let left = behind(left, b" ")?;
-    let left = behind_number(left, &at.y)?;
-    behind(left, b" ) ")
+    let left = after_it(bytes, b"+ PLACED ( ")?;
+    let left = after_number(left, &at.x)?;
+    let left = after_it(left, b" ")?;
+    let left = after_number(left, &at.y)?;
+    after_it(left, b" ) ")
 }
 
 /// True if the bytes are the clause that is written for the location.
 fn is_placed(bytes: &[u8], at: &Location) -> bool
-    ensures { result ≡ bytes_eq bytes.now (joined (location_words (Some at.now))) }
+    ensures { result ≡ bytes_eq bytes.now (joined_words (location_clause_words (Some at.now))) }
 {
-    match behind_point(bytes, at) {
+    match after_a_point(bytes, at) {
         Some(orient) => orient == orient_word(at.orient),
         None => false,
     }
@@ -95,7 +95,7 @@ fn is_placed(bytes: &[u8], at: &Location) -> bool
 /// True if the bytes are the clause that is written for the location. Without a location that is
 /// `+ UNPLACED`.
 pub(crate) fn is_clause_of(bytes: &[u8], location: &Option<Location>) -> bool
-    ensures { result ≡ bytes_eq bytes.now (joined (location_words location.now)) }
+    ensures { result ≡ bytes_eq bytes.now (joined_words (location_clause_words location.now)) }
 {
     match location {
         Some(at) => is_placed(bytes, at),

@@ -6,7 +6,7 @@ ghost use Rattle.lf_def.specs.Contents.{contents};
 ghost use Rattle.lf_floorplan.specs.declared.place.Place.{Place};
 ghost use Rattle.lf_write.specs.Export.{AreExportable, CanBeRenewed, exported, renewed, splice_at};
 ghost use Rattle.lf_write.specs.Export as spec;
-ghost use Rattle.lf_write.specs.Laws.{FitsText, ReadsBack};
+ghost use Rattle.lf_write.specs.Laws.{FitsText, WrittenReadsBack};
 
 use crate::clause_text::put_new_clause;
 use crate::kept_clauses::{Clause, KeptClauses, clauses_of};
@@ -103,7 +103,7 @@ fn put_change<W: Write>(
     requires within { clause.now.start ≤ length text.now }
     ensures bytes { OnOk result (Appends (W.contents out.old) (W.contents out.new)
         (take (clause.now.start - at) (drop at text.now) ++ (splice_at clause.now place.now).new)) }
-    ensures behind { IfOk result (λ stop. stop ≡ clause.now.stop) }
+    ensures after_it { IfOk result (λ stop. stop ≡ clause.now.stop) }
 {
     put_part(out, text, at, clause.start())?;
     put_new_clause(out, clause.lacks(), place)?;
@@ -171,7 +171,7 @@ pub fn export(
 ) -> Result<Vec<u8>, AllocError>
     requires places { AreExportable document.now.components places.now }
     ensures bytes { IfOk result (λ text. text.items ≡ exported document.now.text.now document.now.components places.now) }
-    ensures again { IfOk result (λ text. ReadsBack text.items places.now (contents document.now)) }
+    ensures again { IfOk result (λ text. WrittenReadsBack text.items places.now (contents document.now)) }
 {
     kept_clauses_suffice();
     exports_read_back();

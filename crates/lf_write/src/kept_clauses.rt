@@ -1,7 +1,7 @@
 //! What an export needs of the components of a document.
 
 ghost use Rattle.std.specs.Prelude.{◌≡◌, ◌≤◌, ◌<◌, ◌++◌, ◌∷◌, [], All, IfOk, IfSome, MatchOption, OnOk, get_or, length, map};
-ghost use Rattle.lf_write.specs.Keeping.{IsInText, IsKept, IsNext, IsWithin, StandsFor, all_in, clause_in};
+ghost use Rattle.lf_write.specs.Keeping.{IsInText, KeepsClause, IsNext, IsEntryWithin, Denotes, all_in, clause_in};
 ghost use Rattle.lf_write.specs.Export.{clause_at, clause_of, clause_with, no_clause, plain_clause};
 ghost use Rattle.lf_write.specs.Export as spec;
 
@@ -98,14 +98,14 @@ pub struct KeptClauses {
 
 impl Model for KeptClauses {
     ghost use Rattle.std.specs.Prelude.{List, All, length};
-    ghost use Rattle.lf_write.specs.Keeping.{IsWithin, all_in};
+    ghost use Rattle.lf_write.specs.Keeping.{IsEntryWithin, all_in};
     ghost use Rattle.lf_write.specs.Export.{ClauseFacts};
 
     ghost Value = { List ClauseFacts };
 
     ghost view = { λ k. all_in k.others.items k.entries.items k.far.items };
 
-    ghost invariant = { λ k. All (IsWithin (length k.others.items)) k.entries.items };
+    ghost invariant = { λ k. All (IsEntryWithin (length k.others.items)) k.entries.items };
 }
 
 /// Returns the plain clause between these offsets.
@@ -217,7 +217,7 @@ fn short_clause(clause: &Clause) -> Option<ShortClause>
 /// Returns the entry of the plain clause between these offsets. `None` if its length does not fit
 /// into 16 bits.
 fn entry_between(start: u32, stop: u32) -> Option<Entry>
-    ensures { IfSome result (λ entry. StandsFor entry (plain_clause start stop)) }
+    ensures { IfSome result (λ entry. Denotes entry (plain_clause start stop)) }
 {
     let bytes = stop.checked_sub(start)?;
     match u16::try_from(bytes) {
@@ -229,7 +229,7 @@ fn entry_between(start: u32, stop: u32) -> Option<Entry>
 /// Returns the entry of a plain clause. `None` if the clause is not plain, or if its length does
 /// not fit into 16 bits.
 fn plain_entry(clause: &ShortClause) -> Option<Entry>
-    ensures { IfSome result (λ entry. StandsFor entry clause.now) }
+    ensures { IfSome result (λ entry. Denotes entry clause.now) }
 {
     match clause.form {
         Form::Plain => entry_between(clause.start, clause.stop),
@@ -241,7 +241,7 @@ fn plain_entry(clause: &ShortClause) -> Option<Entry>
 /// to the others. `None` if that needs more than 32 bits; the others are then unchanged. `Err` if
 /// an allocation fails.
 fn entry_of(clause: &Clause, others: &mut Vec<ShortClause>) -> Result<Option<Entry>, AllocError>
-    ensures { IfOk result (λ entry. MatchOption entry (others.new.items ≡ others.old.items) (λ entry. IsKept others.old.items others.new.items entry clause.now)) }
+    ensures { IfOk result (λ entry. MatchOption entry (others.new.items ≡ others.old.items) (λ entry. KeepsClause others.old.items others.new.items entry clause.now)) }
 {
     let Some(short) = short_clause(clause) else {
         return Ok(None);
@@ -279,9 +279,9 @@ fn keep(
     others: &mut Vec<ShortClause>,
     far: &mut Vec<Clause>,
 ) -> Result<(), AllocError>
-    requires { All (IsWithin (length others.old.items)) entries.old.items }
+    requires { All (IsEntryWithin (length others.old.items)) entries.old.items }
     ensures more { OnOk result (all_in others.new.items entries.new.items far.new.items ≡ all_in others.old.items entries.old.items far.old.items ++ clause ∷ []) }
-    ensures within { OnOk result (All (IsWithin (length others.new.items)) entries.new.items) }
+    ensures within { OnOk result (All (IsEntryWithin (length others.new.items)) entries.new.items) }
 {
     match next_entry(&clause, others, far.as_slice())? {
         Some(entry) => entries.push(entry)?,
@@ -326,7 +326,7 @@ pub fn clauses_of(alloc: Global, document: &DefDoc<'_>) -> Result<KeptClauses, A
 
 /// Returns the clause of an entry.
 fn clause_of_entry(entry: &Entry, others: &[ShortClause]) -> Clause
-    requires { IsWithin (length others.now) entry.now }
+    requires { IsEntryWithin (length others.now) entry.now }
     ensures { result ≡ clause_in others.now entry.now }
 {
     match *entry {
@@ -340,7 +340,7 @@ fn clause_of_entry(entry: &Entry, others: &[ShortClause]) -> Clause
 /// Returns the clause in these lists of the component at this position.
 fn clause_kept(entries: &[Entry], others: &[ShortClause], far: &[Clause], position: usize) -> Clause
     requires listed { position < length (all_in others.now entries.now far.now) }
-    requires within { All (IsWithin (length others.now)) entries.now }
+    requires within { All (IsEntryWithin (length others.now)) entries.now }
     ensures { result ≡ get_or (all_in others.now entries.now far.now) position result }
 {
     let near = entries.len();

@@ -20,7 +20,7 @@ pub fn nothing_changes()
 /// Whether a component is at a place depends only on its location. A component that is given a
 /// place is there, with its name and its macro unchanged.
 pub fn places_decide_locations()
-    ensures stands { LocationIsPlace }
+    ensures is_in_place { LocationIsPlace }
     ensures given { GivenPlaceIsTaken }
 {}
 

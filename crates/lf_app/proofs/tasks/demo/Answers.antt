@@ -3,7 +3,7 @@ use Rattle.lf_floor_model.specs.Designs.{initial_floor}
 use Rattle.lf_lef.specs.declared.built_in.TheConstants.{DEMO_LEF}
 use Rattle.lf_task_designs.specs.Designs.{IsTextDesign, IsTextFault}
 use Rattle.lf_task_serve.specs.Exits.{IsLinesFault}
-use Rattle.lf_task_serve.specs.Lines.{most_lines}
+use Rattle.lf_task_serve.specs.Lines.{default_most_lines}
 use Rattle.lf_task_files.proofs.DesignSteps.{fails}
 use Rattle.lf_task_files.proofs.WorkSteps.{weaker_ok}
 use Rattle.lf_app.proofs.tasks.demo.Goals as goal
@@ -17,5 +17,5 @@ pub returns-clause-err : goal.returns-clause-err
 returns-clause-err g c =
     fails (IsTextDesign c.args.limits DEMO_DEF.now DEMO_LEF.now) c.in_ok-loaded.loaded c.in_ok-loaded.ensures.ok c.serve_loaded.result
     (IsTextFault c.args.limits DEMO_DEF.now DEMO_LEF.now) _
-    (λ loaded fault. IsLinesFault most_lines (initial_floor loaded) fault (g.R.Source.remaining c.args.reader.now) (g.R.Source.remaining c.serve_loaded.new.reader)
+    (λ loaded fault. IsLinesFault default_most_lines (initial_floor loaded) fault (g.R.Source.remaining c.args.reader.now) (g.R.Source.remaining c.serve_loaded.new.reader)
     (g.W.Sink.contents c.args.writer.now) (g.W.Sink.contents c.serve_loaded.new.writer)) c.serve_loaded.ensures.err

@@ -1,5 +1,5 @@
 use Rattle.std.proofs.Common.{◌∙◌, refl, sym}
-use Rattle.lf_task_serve.specs.Lines.{most_lines}
+use Rattle.lf_task_serve.specs.Lines.{default_most_lines}
 use Rattle.lf_task_serve.proofs.Answering.{streams_blame}
 use Rattle.lf_task_files.proofs.WorkSteps.{also_fails, blames_as, writer_blames}
 use Rattle.lf_app.proofs.tasks.outcome_within.Goals as goal
@@ -53,7 +53,7 @@ returns-in-Serve-clause-unasked g c = λ asks.
 pub returns-in-Demo-clause-err : goal.returns-in-Demo-clause-err
 returns-in-Demo-clause-err g c =
     rw c.in-Demo.is (also_fails c.demo.result _ _ _ c.demo.ensures.err
-    (λ fault blames. streams_blame most_lines fault _ _ _ _ _ _ _ _ blames
+    (λ fault blames. streams_blame default_most_lines fault _ _ _ _ _ _ _ _ blames
     (λ sound. record { exports = refl; services = refl; reader = sound.0 ∙ sym c.requires.ready.readable; writer = sound.1 ∙ sym c.requires.ready.writable })))
 
 pub returns-in-Repair-clause-ok : goal.returns-in-Repair-clause-ok

@@ -1,6 +1,6 @@
 use Rattle.std.proofs.Common.{ℕ, inl, inr, subst, sym}
 use Rattle.lf_cli.specs.Command.{as_job}
-use Rattle.lf_app.specs.Exits.{IsOutcome}
+use Rattle.lf_app.specs.Exits.{IsJobOutcome}
 use Rattle.lf_task_files.specs.Faults.{IsDone, IsFailure}
 use Rattle.lf_task_serve.specs.Surroundings.{io_of}
 use Rattle.lf_app.proofs.TaskSteps.{checked, failing, not_both, succeeds}
@@ -12,14 +12,14 @@ returns-in-Ok g c =
     let gives = g.T.InputFiles.gives c.args.around.now.texts in
     let io = io_of g.R.Source.remaining g.W.Sink.contents g.E.OutputFiles.puts g.V.Acceptor.accepted c.args.around.now c.outcome.new.around in
     let status = c.exit_with.result.status in
-    let is : IsOutcome gives (as_job c.args.task.now) io status =
-    subst (λ (n : ℕ). IsOutcome gives (as_job c.args.task.now) io n) (sym c.exit_with.ensures.status) c.in-Ok.ensures.ok in
+    let is : IsJobOutcome gives (as_job c.args.task.now) io status =
+    subst (λ (n : ℕ). IsJobOutcome gives (as_job c.args.task.now) io n) (sym c.exit_with.ensures.status) c.in-Ok.ensures.ok in
     let succeeded : IsDone status = succeeds gives (as_job c.args.task.now) io status is in
     record {
       status = inl succeeded;
       outcome = λ _. is;
       done = λ _. c.in-Ok.ensures.keeps.untold;
-      told = λ _. c.exit_with.ensures.told;
+      reported = λ _. c.exit_with.ensures.reported;
       fault = λ failed. absurd (not_both status succeeded failed);
       checked = checked gives c.args.task.now io status is;
       unread = c.in-Ok.ensures.unread;
@@ -42,7 +42,7 @@ returns-in-Err g c =
       status = inr failed;
       outcome = λ succeeded. absurd (not_both status succeeded failed);
       done = λ succeeded. absurd (not_both status succeeded failed);
-      told = λ succeeded. absurd (not_both status succeeded failed);
+      reported = λ succeeded. absurd (not_both status succeeded failed);
       fault = λ _. (
         c.in-Err.fault,
         (

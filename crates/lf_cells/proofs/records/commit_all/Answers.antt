@@ -1,7 +1,7 @@
 use Rattle.std.proofs.Common.{arith, set, ap, ◌∙◌}
 use Rattle.std.proofs.lemmas.List.Edits.{map_over_more}
 use Rattle.lf_cells.specs.declared.records.CellRecord.{CellRecord}
-use Rattle.lf_cells.specs.Slots.{committed_record}
+use Rattle.lf_cells.specs.Records.{committed_record}
 use Rattle.lf_cells.proofs.records.commit_all.Goals as goal
 
 pub loop-i-preserved : goal.loop-i-preserved

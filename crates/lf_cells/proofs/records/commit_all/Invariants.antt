@@ -1,5 +1,5 @@
 use Rattle.std.proofs.Common.{◌≡◌, ◌++◌, map, take, drop}
-use Rattle.lf_cells.specs.Slots.{committed_record}
+use Rattle.lf_cells.specs.Records.{committed_record}
 use Rattle.lf_cells.proofs.records.commit_all.Given as goal
 
 -- The cells in front of this one are committed.

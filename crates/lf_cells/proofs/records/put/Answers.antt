@@ -1,6 +1,6 @@
 use Rattle.std.proofs.Common.{Option, ap, ◌∙◌, arith}
 use Rattle.lf_floorplan.specs.declared.place.Place.{Place}
-use Rattle.lf_cells.specs.Slots.{moved_records}
+use Rattle.lf_cells.specs.Records.{moved_records}
 use Rattle.lf_cells.proofs.Changes.{moved_is, moved_past}
 use Rattle.lf_cells.proofs.records.put.Goals as goal
 

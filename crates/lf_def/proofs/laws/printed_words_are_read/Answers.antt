@@ -1,4 +1,4 @@
-use Rattle.lf_def.proofs.PrintedBehind.{words_begin}
+use Rattle.lf_def.proofs.PrintedAfter.{words_begin}
 use Rattle.lf_def.proofs.laws.printed_words_are_read.Goals as goal
 
 pub returns : goal.returns

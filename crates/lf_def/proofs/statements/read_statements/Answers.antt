@@ -4,18 +4,18 @@ use Rattle.lf_lex.specs.declared.fault.ReadFault.{ReadFault}
 use Rattle.lf_lex.specs.Reading.{ReadValue, value_of}
 use Rattle.lf_lex.proofs.Turns.{turn_on, turn_ends, turn_fails, fails_too}
 use Rattle.lf_def.specs.declared.doc_parts.DocParts.{DocParts}
-use Rattle.lf_def.specs.Document.{statement}
+use Rattle.lf_def.specs.Document.{def_statement}
 use Rattle.lf_def.proofs.statements.read_statements.Goals as goal
 
 pub returns-in_err-statement-clause-fault : goal.returns-in_err-statement-clause-fault
 returns-in_err-statement-clause-fault c =
     let p = err_from_is_err_and c.from_residual.result c.from_residual.ensures.1 in
-    rw (p.1, p.2) (fails_too c.in_err-statement.field-0.0 _ (turn_fails statement c.in_err-statement.field-0.0 c.loop-parts.parts c.loop-parts.lexer _
+    rw (p.1, p.2) (fails_too c.in_err-statement.field-0.0 _ (turn_fails def_statement c.in_err-statement.field-0.0 c.loop-parts.parts c.loop-parts.lexer _
     c.loop-parts.invariant.going c.in_err-statement.ensures.read))
 
 pub loop-parts-preserved : goal.loop-parts-preserved
 loop-parts-preserved c = record {
-  going = turn_on statement c.loop-parts.parts c.statement.new.parts c.loop-parts.lexer c.statement.new.lexer _ c.in_ok-statement.field-0
+  going = turn_on def_statement c.loop-parts.parts c.statement.new.parts c.loop-parts.lexer c.statement.new.lexer _ c.in_ok-statement.field-0
       c.loop-parts.invariant.going c.if-branch.true c.in_ok-statement.ensures.read.0 c.in_ok-statement.ensures.read.1;
   range = c.statement.ensures.range;
 }
@@ -23,5 +23,5 @@ loop-parts-preserved c = record {
 pub returns-clause-ok : goal.returns-clause-ok
 returns-clause-ok c =
     ap (λ (r : Result (ReadValue DocParts) ReadFault). value_of r)
-    (turn_ends statement c.loop-parts.parts c.statement.new.parts c.loop-parts.lexer c.statement.new.lexer _ c.in_ok-statement.field-0
+    (turn_ends def_statement c.loop-parts.parts c.statement.new.parts c.loop-parts.lexer c.statement.new.lexer _ c.in_ok-statement.field-0
     c.loop-parts.invariant.going c.if-branch.false c.in_ok-statement.ensures.read.0)

@@ -1,7 +1,7 @@
 use Rattle.std.proofs.Common.{◌∙◌, ℕ, List, ap, map, subst}
 use Rattle.std.specs.Borrow.{Bor}
 use Rattle.lf_rules.specs.declared.report_types.Listed.{Listed}
-use Rattle.lf_reports.specs.Reports.{named}
+use Rattle.lf_reports.specs.Reports.{with_byte_name}
 use Rattle.lf_describe.specs.Description.{fixed_names, lines_text}
 use Rattle.lf_describe.specs.Written.{AppendsFront}
 use Rattle.lf_describe.proofs.Designs.{are_cells, each_is_listed, few_are, legal_is}
@@ -29,5 +29,5 @@ returns-clause-cut g c = λ l.
     let names = ap (λ (ns : List (Bor (List ℕ))). map (λ n. n.now) ns) c.deref.ensures.value ∙ c.in-Ok.ensures ∙ ap fixed_names c.as_slice.ensures in
     on_err_weaker c.describe_cells.result
     (λ p. first_bytes _ _ _ (subst (AppendsFront (g.W.Sink.contents c.args.writer.now) (g.W.Sink.contents c.describe_cells.new.writer))
-    (ap (λ (ns : List (List ℕ)). lines_text l f ns (map named c.deref-2.result.now)) names ∙ ap (λ (cs : List (Listed (List ℕ))). lines_text l f (fixed_names c.args.document.now.components) cs) cells) p))
+    (ap (λ (ns : List (List ℕ)). lines_text l f ns (map with_byte_name c.deref-2.result.now)) names ∙ ap (λ (cs : List (Listed (List ℕ))). lines_text l f (fixed_names c.args.document.now.components) cs) cells) p))
     (c.describe_cells.ensures.cut l)

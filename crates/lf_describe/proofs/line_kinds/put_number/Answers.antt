@@ -11,7 +11,7 @@ pub returns-in_default-clause-err : goal.returns-in_default-clause-err
 returns-in_default-clause-err g c = λ d at. unwritten _ _
 
 pub put_line-requires : goal.put_line-requires
-put_line-requires g c = no_float c.args.told.now c.args.part c.args.number _ (sym c.in-Ok.ensures)
+put_line-requires g c = no_float c.args.reported.now c.args.part c.args.number _ (sym c.in-Ok.ensures)
 
 pub returns-clause-err : goal.returns-clause-err
 returns-clause-err g c = λ d at.

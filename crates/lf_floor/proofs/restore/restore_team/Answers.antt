@@ -6,10 +6,10 @@ use Rattle.lf_cells.specs.Cells.{Cells, cells_of}
 use Rattle.lf_undo.specs.declared.moves.Move.{Move}
 use Rattle.lf_undo.specs.Entries.{Places, entries_of}
 use Rattle.lf_undo.specs.Stacks.{stack_of}
-use Rattle.lf_placement.specs.Placings.{places_of}
+use Rattle.lf_placement.specs.Placements.{working_places_of}
 use Rattle.lf_state_restore.specs.Saved.{map_two, restored_cell, saved_cell}
 use Rattle.lf_state_restore.proofs.Restoring.{cells_back, saved_places}
-use Rattle.lf_floor_verbs.specs.Tables.{cells_in}
+use Rattle.lf_floor_verbs.specs.Tables.{table_cells}
 use Rattle.lf_floor_verbs.specs.declared.tables.Tables.{Tables}
 use Rattle.lf_floor.proofs.Placing.{still_awaits}
 use Rattle.lf_floor.proofs.Saving.{fit_is, others_are, own_cells, team_is}
@@ -17,7 +17,7 @@ use Rattle.lf_floor.proofs.restore.restore_team.Goals as goal
 
 pub restore_entries-requires : goal.restore_entries-requires
 restore_entries-requires c =
-    let cells = cells_in c.args.number c.args.tables.now in
+    let cells = table_cells c.args.number c.args.tables.now in
     record {
       team = c.requires.served.rows.undo;
       none = c.requires.awaits.none;
@@ -44,14 +44,14 @@ set_numbers-requires c =
 pub returns-clause-team : goal.returns-clause-team
 returns-clause-team c =
     let old = c.args.tables.now in
-    let cells = cells_in c.args.number old in
+    let cells = table_cells c.args.number old in
     let mid : Tables = record old { placement = c.restore_entries.new.placement; undo = c.restore_entries.new.undo } in
     team_is c.args.number old c.set_numbers.new.tables mid c.args.row.revision c.args.row.padding.sites c.args.row.slots.items c.requires.served.rows
     c.in_ok-restore_entries.ensures.others refl refl refl c.in_ok-restore_entries.ensures.teams c.in_ok-restore_entries.ensures.limit c.set_numbers.ensures
     (map_two restored_cell cells (map saved_cell cells))
     (entries_of (map (λ c. c.working) (map saved_cell cells)) c.args.row.entries.items)
     (ap (λ (cs : Cells). cells_of cs c.args.number) c.in_ok-restore_entries.ensures.cells ∙ sym (cells_back cells cells refl))
-    (ap (λ (cs : Cells). entries_of (places_of (cells_of cs c.args.number)) (stack_of mid.undo c.args.number)) c.in_ok-restore_entries.ensures.cells
+    (ap (λ (cs : Cells). entries_of (working_places_of (cells_of cs c.args.number)) (stack_of mid.undo c.args.number)) c.in_ok-restore_entries.ensures.cells
     ∙ ap (λ (ps : Places). entries_of ps (stack_of mid.undo c.args.number)) (sym (saved_places cells))
     ∙ ap (λ (es : List (List Move)). entries_of (map (λ c. c.working) (map saved_cell cells)) es) c.in_ok-restore_entries.ensures.stack)
 

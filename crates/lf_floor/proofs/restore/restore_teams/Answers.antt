@@ -4,10 +4,10 @@ use Rattle.lf_state_text.specs.declared.saved_rows.TeamRow.{TeamRow}
 use Rattle.lf_state_text.specs.Saved.{team_view, team_views}
 use Rattle.lf_state_restore.proofs.Framing.{due_many}
 use Rattle.lf_floor_verbs.specs.Tables.{frame_of, teams_in}
-use Rattle.lf_floor.specs.Saving.{saved_teams_at}
+use Rattle.lf_floor.specs.SavedStates.{saved_teams_at}
 use Rattle.lf_floor.proofs.Placing.{rest_awaits}
 use Rattle.lf_floor.proofs.Saving.{first_left, no_views, views_many, views_more}
-use Rattle.lf_floor.proofs.Standing.{all_stood, standing_due, standing_less, standing_served}
+use Rattle.lf_floor.proofs.Standing.{all_were_placed, standing_due, standing_less, standing_served}
 use Rattle.lf_floor.proofs.restore.restore_teams.Goals as goal
 
 pub loop-alloc-init : goal.loop-alloc-init
@@ -72,5 +72,5 @@ returns-clause-tables c = c.loop-alloc.invariant.left.tables
 
 pub returns-clause-floor : goal.returns-clause-floor
 returns-clause-floor c =
-    all_stood c.args.tables.now c.loop-alloc.tables (saved_teams_at c.args.tables.now (team_views c.args.rows.items)) (team_views c.loop-alloc.left.items)
+    all_were_placed c.args.tables.now c.loop-alloc.tables (saved_teams_at c.args.tables.now (team_views c.args.rows.items)) (team_views c.loop-alloc.left.items)
     c.loop-alloc.invariant.left (no_views c.loop-alloc.left.items (search rules))

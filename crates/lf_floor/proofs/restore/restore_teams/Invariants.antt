@@ -1,8 +1,8 @@
 use Rattle.std.proofs.Common.{◌≡◌, ◌≤◌, length}
-use Rattle.lf_occupancy.specs.Occupied.{KeepsCapacities}
+use Rattle.lf_occupancy.specs.Views.{KeepsCapacities}
 use Rattle.lf_state_text.specs.Saved.{team_views}
 use Rattle.lf_floor_verbs.specs.Tables.{teams_in}
-use Rattle.lf_floor.specs.Saving.{FirstHaveNoEntriesYet, saved_teams_at}
+use Rattle.lf_floor.specs.SavedStates.{FirstHaveNoEntriesYet, saved_teams_at}
 use Rattle.lf_floor.proofs.Saving.{AreLeft}
 use Rattle.lf_floor.proofs.restore.restore_teams.Given as goal
 

@@ -1,7 +1,7 @@
 use Rattle.std.proofs.Common.{ap, sym, ◌∙◌}
 use Rattle.lf_state_text.specs.Saved.{SavedTeam}
-use Rattle.lf_floor.proofs.Saving.{one_told}
+use Rattle.lf_floor.proofs.Saving.{one_reported}
 use Rattle.lf_floor.proofs.state_view.saved_revision.Goals as goal
 
 pub returns : goal.returns
-returns c = c.revision.ensures ∙ sym (ap (λ (t : SavedTeam). t.revision) (one_told c.args.tables.now c.args.team c.requires))
+returns c = c.revision.ensures ∙ sym (ap (λ (t : SavedTeam). t.revision) (one_reported c.args.tables.now c.args.team c.requires))

@@ -2,7 +2,7 @@ use Rattle.std.proofs.Common.{◌≡◌, ◌∙◌, ◌++◌, ℕ, [], false, le
 use Rattle.std.specs.Prelude.{All, filter_map, option_and_then}
 use Rattle.std.specs.List.{cons_option, range_with_len}
 use Rattle.std.proofs.lemmas.List.{append-nil, get_or_default}
-use Rattle.lf_floorplan.specs.Bounds.{IsName}
+use Rattle.lf_floorplan.specs.Bounds.{IsDesignName}
 use Rattle.lf_rules.specs.declared.report_types.Violation.{Violation}
 use Rattle.lf_rules.specs.declared.rule.Broken.{Broken}
 use Rattle.lf_cells.specs.declared.cell.CellId.{CellId}
@@ -34,7 +34,7 @@ broken_unmarked-verdict-requires c =
 pub put_verdict-requires : goal.put_verdict-requires
 put_verdict-requires c =
     names_printed (cells_of c.cells.result.now c.args.number)
-    (subst (λ (cs : Cells). All (λ c. IsName c.name) (cells_of cs c.args.number)) (sym c.cells.ensures) c.requires.printed)
+    (subst (λ (cs : Cells). All (λ c. IsDesignName c.name) (cells_of cs c.args.number)) (sym c.cells.ensures) c.requires.printed)
 
 pub loop-id-init : goal.loop-id-init
 loop-id-init c = λ lz rest. refl
@@ -50,13 +50,13 @@ loop-id-preserved c = λ lz rest.
     let id : get_or ids k no_id ≡ id_of number k =
     ids_read number k (cells_of p.cells number) ids (get_or ids k no_id) are c.loop-id-test.true (get_or_default ids k no_id (get_or ids k no_id) c.loop-id-test.true) in
     let g : ℕ → Option Violation = violation_where (team_rules lz p.frame number c.args.padding.sites) (cells_of p.cells number) in
-    let told : List (List ℕ) → Option Broken → ℕ → List ℕ = λ names verdict own.
+    let reported : List (List ℕ) → Option Broken → ℕ → List ℕ = λ names verdict own.
     c.loop-id.text.items ++ violations_text c.loop-id.later (cons_option (option_and_then (violation_in names own) verdict) rest) in
     let own = (get_or ids k no_id).own in
     c.in_ok-later.ensures {u = tt} rest
-    ∙ ap (λ (cs : Cells). told (names_of (cells_of cs number)) c.broken_unmarked-verdict.result own) c.cells.ensures
-    ∙ ap (λ (verdict : Option Broken). told (names_of (cells_of p.cells number)) verdict own) (c.broken_unmarked-verdict.ensures lz)
-    ∙ ap (λ (i : CellId). told (names_of (cells_of p.cells number)) (broken_where (team_rules lz p.frame i.team c.args.padding.sites) (cells_of p.cells i.team) i.own) i.own) id
+    ∙ ap (λ (cs : Cells). reported (names_of (cells_of cs number)) c.broken_unmarked-verdict.result own) c.cells.ensures
+    ∙ ap (λ (verdict : Option Broken). reported (names_of (cells_of p.cells number)) verdict own) (c.broken_unmarked-verdict.ensures lz)
+    ∙ ap (λ (i : CellId). reported (names_of (cells_of p.cells number)) (broken_where (team_rules lz p.frame i.team c.args.padding.sites) (cells_of p.cells i.team) i.own) i.own) id
     ∙ c.loop-id.invariant lz (cons_option (g k) rest)
     ∙ ap (λ (vs : List Violation). c.args.text.now.items ++ violations_text false vs) (one_more_violation g k rest)
 

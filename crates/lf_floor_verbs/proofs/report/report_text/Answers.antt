@@ -9,7 +9,7 @@ use Rattle.lf_reports.specs.Reports.{report_of, violations_in}
 use Rattle.lf_proto.specs.ReportText.{report_front}
 use Rattle.lf_proto.proofs.Reports.{in_parts}
 use Rattle.lf_floor_model.specs.Teams.{listed_of}
-use Rattle.lf_floor_verbs.specs.Tables.{cells_in, frame_of}
+use Rattle.lf_floor_verbs.specs.Tables.{table_cells, frame_of}
 use Rattle.lf_floor_verbs.proofs.Reporting.{unplaced_listed}
 use Rattle.lf_floor_verbs.proofs.report.report_text.Goals as goal
 
@@ -18,7 +18,7 @@ returns g c =
     let number = c.args.around.now.number in
     let sites = c.args.around.now.padding.sites in
     let f = frame_of c.args.tables.now in
-    let cells = cells_in number c.args.tables.now in
+    let cells = table_cells number c.args.tables.now in
     let listed = map (listed_of number) cells in
     let table = c.cells-cells.result.now in
     let same : cells_of table number ≡ cells = ap (λ (cs : Cells). cells_of cs number) c.cells-cells.ensures in

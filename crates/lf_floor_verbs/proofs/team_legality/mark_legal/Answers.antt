@@ -3,7 +3,7 @@ use Rattle.lf_rules.specs.Team.{IsLegalCell}
 use Rattle.lf_cells.specs.declared.cell.CellId.{CellId}
 use Rattle.lf_cells.specs.Cells.{cells_of}
 use Rattle.lf_legalize.specs.Members.{member_of}
-use Rattle.lf_floor_verbs.specs.Tables.{cells_in, frame_of}
+use Rattle.lf_floor_verbs.specs.Tables.{table_cells, frame_of}
 use Rattle.lf_floor_verbs.proofs.Marking.{id_is, one_more_mark}
 use Rattle.lf_floor_verbs.proofs.team_legality.mark_legal.Goals as goal
 
@@ -12,7 +12,7 @@ returns g c = λ are.
     let number = c.args.around.now.number in
     let sites = c.args.around.now.padding.sites in
     let tables = c.args.tables.now in
-    let cells = cells_in number tables in
+    let cells = table_cells number tables in
     one_more_mark (frame_of tables) number sites c.args.own cells c.args.marks.now.items c.mark.new.marks.items c.mark.ensures
     (subst (λ (i : CellId). IsLegalCell (frame_of tables) i.team sites (map member_of (cells_of tables.placement.cells i.team)) i.own)
     (id_is cells number c.args.own c.in-Some.id (sym c.in-Some.is ∙ c.cell_at.ensures)) (c.is_cell_legal.ensures.legal c.if-not-is_cell_legal.false))

@@ -4,7 +4,7 @@ use Rattle.lf_rules.specs.Tidy.{Going, tidied, tidied_from}
 use Rattle.lf_cells.specs.Cells.{cells_of}
 use Rattle.lf_legalize.specs.Members.{member_of}
 use Rattle.lf_cells.specs.declared.cell.Cell.{Cell}
-use Rattle.lf_placement.specs.Placings.{HaveMoved}
+use Rattle.lf_placement.specs.Placements.{HaveMoved}
 use Rattle.lf_floor_verbs.specs.Marking.{AreMarked}
 use Rattle.lf_floor_verbs.specs.Tables.{OnlyMovesTeam}
 use Rattle.lf_floor_verbs.proofs.tidy.tidy_cells.Given as goal

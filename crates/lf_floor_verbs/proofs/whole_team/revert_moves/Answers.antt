@@ -4,7 +4,7 @@ use Rattle.lf_cells.specs.declared.cell.CellId.{CellId}
 use Rattle.lf_cells.specs.Cells.{cells_of, id_of}
 use Rattle.lf_cells.proofs.TeamIds.{ids_long, ids_read}
 use Rattle.lf_undo.specs.declared.moves.Move.{Move}
-use Rattle.lf_placement.specs.Placings.{moves_applied}
+use Rattle.lf_placement.specs.Placements.{moves_applied}
 use Rattle.lf_floor_verbs.specs.Reverting.{IsRevertMove}
 use Rattle.lf_floor_verbs.proofs.Reverting.{all_are_back, one_more_noted}
 use Rattle.lf_floor_verbs.proofs.whole_team.revert_moves.Goals as goal

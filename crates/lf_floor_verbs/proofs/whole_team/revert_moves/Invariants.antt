@@ -1,6 +1,6 @@
 use Rattle.std.proofs.Common.{◌≡◌}
 use Rattle.lf_cells.specs.Cells.{cells_of}
-use Rattle.lf_placement.specs.Placings.{moves_applied}
+use Rattle.lf_placement.specs.Placements.{moves_applied}
 use Rattle.lf_floor_verbs.proofs.Reverting.{back_first}
 use Rattle.lf_floor_verbs.proofs.whole_team.revert_moves.Given as goal
 

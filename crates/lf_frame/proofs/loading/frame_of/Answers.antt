@@ -1,14 +1,14 @@
 use Rattle.std.proofs.Common.{◌≡◌, Some, sym}
 use Rattle.lf_floorplan.specs.declared.sites.Site.{Site}
 use Rattle.lf_frame_checks.specs.Findings.{LoadInputs, inputs, core_in}
-use Rattle.lf_frame.proofs.Accepted.{core_there, lent_there, core_whole, pitch_there, fixed_sized}
+use Rattle.lf_frame.proofs.Accepted.{core_there, borrowed_there, core_whole, pitch_there, fixed_sized}
 use Rattle.lf_frame.proofs.FrameMade.{frame_kept}
 use Rattle.lf_frame.proofs.loading.frame_of.Goals as goal
 
 pub unwrap-core-requires : goal.unwrap-core-requires
 unwrap-core-requires c =
     let i : LoadInputs = inputs c.args.library.now c.args.document.now c.args.limits.now in
-    lent_there c.sized_core_site.result (rw c.as_slice.ensures at c.sized_core_site.ensures.core) (core_there i c.requires)
+    borrowed_there c.sized_core_site.result (rw c.as_slice.ensures at c.sized_core_site.ensures.core) (core_there i c.requires)
 
 pub unwrap-pitch-requires : goal.unwrap-pitch-requires
 unwrap-pitch-requires c =
@@ -43,7 +43,7 @@ invariant_of-result c =
       pitch_whole = rw (header, site, found.1) kept.pitch_whole;
       has_row = rw rows kept.has_row;
       few_rows = rw rows kept.few_rows;
-      rows_heeded = rw (found.1, rows) kept.rows_heeded;
+      rows_are_core = rw (found.1, rows) kept.rows_are_core;
       rows_apart = rw (found.1, rows) kept.rows_apart;
       few_fences = rw teams kept.few_fences;
       fences_whole = rw teams kept.fences_whole;

@@ -1,11 +1,11 @@
 use Rattle.std.proofs.Common.{◌≡◌, ap, arith}
 use Rattle.lf_lex.specs.declared.fault.FaultNumber.TheVariants.{SecondName, TwoFences}
 use Rattle.lf_frame_claims.specs.Refusals.{HasEarlierName}
-use Rattle.lf_frame_checks.specs.Findings.{number_of}
+use Rattle.lf_frame_checks.specs.Findings.{finding_number}
 use Rattle.lf_frame_checks.proofs.Gathered.{none_of_name}
 use Rattle.lf_frame_checks.proofs.all_checks.first_finding.Goals as goal
 
 pub finding-requires-clause-order : goal.finding-requires-clause-order
 finding-requires-clause-order c = λ is.
-    let number : number_of c.numbered-refusal.result ≡ number_of TwoFences = ap number_of is in
+    let number : finding_number c.numbered-refusal.result ≡ finding_number TwoFences = ap finding_number is in
     none_of_name {breaks = HasEarlierName} (c.loop-number.invariant SecondName (omega (arith, number, c.numbered-refusal.ensures)))

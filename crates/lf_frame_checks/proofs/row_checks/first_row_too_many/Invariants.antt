@@ -7,6 +7,6 @@ use Rattle.lf_frame_checks.proofs.row_checks.first_row_too_many.Given as goal
 
 abbrev pub invariant-loop-number : goal.invariant-loop-number
 invariant-loop-number l = record {
-  counted : l.heeded ≡ length (filter (is_core_row l.core) (take l.number l.rows));
+  counted : l.core_ones ≡ length (filter (is_core_row l.core) (take l.number l.rows));
   none : NoneBelow (IsRowTooMany l.core l.limit) l.rows l.number;
 }

@@ -4,4 +4,4 @@ use Rattle.lf_frame_checks.specs.Sweep.{Clash}
 use Rattle.lf_frame_checks.proofs.sweep.clashes_with_none.Given as goal
 
 abbrev pub invariant-loop-other : goal.invariant-loop-other
-invariant-loop-other l = (k : ℕ) (d : SweepRect) → k < l.other-index → Clash l.piece (get_or l.behind k d) → ⊥
+invariant-loop-other l = (k : ℕ) (d : SweepRect) → k < l.other-index → Clash l.piece (get_or l.after_it k d) → ⊥

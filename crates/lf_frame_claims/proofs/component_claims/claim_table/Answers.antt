@@ -6,8 +6,8 @@ pub returns-in-Some : goal.returns-in-Some
 returns-in-Some c =
     let numbers = c.in_ok-numbers.ensures {u = tt} in
     let index = c.in_ok-index.ensures c.args.regions.now numbers.numbers in
-    let told = rw c.in-Some.is at (c.in_ok-claims.ensures (all_bounds c.args.regions.now c.args.groups.now) index) in
-    record { second = told.0; claims = λ none. claims_made c.args.regions.now c.args.groups.now c.args.components.now c.in-Some.claims told.1; ground = numbers.ground }
+    let reported = rw c.in-Some.is at (c.in_ok-claims.ensures (all_bounds c.args.regions.now c.args.groups.now) index) in
+    record { second = reported.0; claims = λ none. claims_made c.args.regions.now c.args.groups.now c.args.components.now c.in-Some.claims reported.1; ground = numbers.ground }
 
 pub returns : goal.returns
 returns c =

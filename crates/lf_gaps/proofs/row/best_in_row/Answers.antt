@@ -5,7 +5,7 @@ use Rattle.lf_spans.specs.declared.span.Span.{Span}
 use Rattle.lf_spans.specs.Grids.{FindsNearest, IsBoundedSpan}
 use Rattle.lf_spans.specs.Spans.{IsMeetAll, IsRising}
 use Rattle.lf_gaps.specs.Steps.{FitsOne}
-use Rattle.lf_gaps.proofs.Nearest.{near_met_of, found_in_rows, meet_of_one, one_list}
+use Rattle.lf_gaps.proofs.Nearest.{near_overlapped_of, found_in_rows, meet_of_one, one_list}
 use Rattle.lf_gaps.proofs.row.best_in_row.Goals as goal
 
 pub nearest_of-requires-clause-rising : goal.nearest_of-requires-clause-rising
@@ -27,20 +27,20 @@ returns-then-lists-eq1 c =
     let rising : IsRising spans = subst (λ (xs : List Span). IsRising xs)
     (ap (λ (v : Vec Span Global). v.items) (sym c.index-lists-0.is) ∙ sym c.as_slice.ensures.value) (c.requires.rising 0 first (omega arith)) in
     let one : length c.args.lists.now ≡ 1 = omega arith in
-    let met = subst (λ (rows : List (List Span)). IsMeetAll rows spans)
+    let overlapping_one = subst (λ (rows : List (List Span)). IsMeetAll rows spans)
     (ap (λ (xs : List Span). xs ∷ []) c.as_slice.ensures.value ∙ sym (one_list c.args.lists.now first one c.index-lists-0.is)) (meet_of_one spans rising) in
     found_in_rows (map (λ list. list.items) c.args.lists.now) spans c.args.grid.now c.args.width c.args.target c.wanted_of-wanted.result.width
-    c.wanted_of-wanted.result.target c.nearest_of.result c.requires.wide (omega (arith, ints)) (omega (arith, ints)) met c.nearest_of.ensures
+    c.wanted_of-wanted.result.target c.nearest_of.result c.requires.wide (omega (arith, ints)) (omega (arith, ints)) overlapping_one c.nearest_of.ensures
 
 pub nearest_of-requires-2-clause-bounded : goal.nearest_of-requires-2-clause-bounded
 nearest_of-requires-2-clause-bounded c =
     subst (λ (xs : List Span). All IsBoundedSpan xs) (sym c.as_slice-2.ensures.value)
-    (near_met_of c.args.lists.now c.in_ok-met.met.items c.requires.some c.requires.bounded c.in_ok-met.ensures)
+    (near_overlapped_of c.args.lists.now c.in_ok-overlapping_one.overlapping_one.items c.requires.some c.requires.bounded c.in_ok-overlapping_one.ensures)
 
 pub returns : goal.returns
 returns c =
-    found_in_rows (map (λ list. list.items) c.args.lists.now) c.in_ok-met.met.items c.args.grid.now c.args.width c.args.target
+    found_in_rows (map (λ list. list.items) c.args.lists.now) c.in_ok-overlapping_one.overlapping_one.items c.args.grid.now c.args.width c.args.target
     c.wanted_of-wanted.result.width c.wanted_of-wanted.result.target
-    c.nearest_of-2.result c.requires.wide (omega (arith, ints)) (omega (arith, ints)) c.in_ok-met.ensures
+    c.nearest_of-2.result c.requires.wide (omega (arith, ints)) (omega (arith, ints)) c.in_ok-overlapping_one.ensures
     (subst (λ (xs : List Span). FindsNearest (λ x. FitsOne xs c.args.grid.now c.wanted_of-wanted.result.width x) c.wanted_of-wanted.result.target c.nearest_of-2.result)
     c.as_slice-2.ensures.value c.nearest_of-2.ensures)

@@ -1,7 +1,7 @@
 use Rattle.std.proofs.Common.{◌≡◌, ℤ, ◌-ℤ◌, w64, to_z, of_z, arith, rules}
 use Rattle.std.proofs.lemmas.Bool.{ltb-true}
 use Rattle.std.proofs.lemmas.Int.{ints}
-use Rattle.lf_spans.specs.Grids.{distance}
+use Rattle.lf_spans.specs.Grids.{distance_to}
 use Rattle.lf_spans.proofs.Grids.{not_less_from}
 use Rattle.lf_gaps.proofs.Nearest.{before_is}
 use Rattle.lf_gaps.proofs.row.is_before.Goals as goal
@@ -14,6 +14,6 @@ returns c t =
     let width = c.requires.wanted.width in
     let left = not_less_from (to_z w64 (of_z w64 target)) (to_z w64 (of_z w64 last)) c.if-wanted-last.false in
     let less = ltb-true c.abs_diff.result c.abs_diff-2.result t in
-    let near : c.abs_diff.result ≡ distance target c.in-Some.found = search rules in
-    let far : c.abs_diff-2.result ≡ distance target (c.args.span.now.hi -ℤ c.args.wanted.now.width) = search rules in
+    let near : c.abs_diff.result ≡ distance_to target c.in-Some.found = search rules in
+    let far : c.abs_diff-2.result ≡ distance_to target (c.args.span.now.hi -ℤ c.args.wanted.now.width) = search rules in
     before_is c.args.span.now c.args.best.now c.args.wanted.now c.in-Some.found c.in-Some.is (omega (arith, ints)) (omega (arith, near, far, less))

@@ -1,18 +1,18 @@
 use Rattle.std.proofs.Common.{refl, arith}
-use Rattle.lf_gaps.proofs.Nearest.{place_before, found_before, found_in_back, found_behind, found_at_last, rising_behind, near_behind}
+use Rattle.lf_gaps.proofs.Nearest.{place_before, found_before, found_in_back, found_after, found_at_last, rising_after_it, near_after}
 use Rattle.lf_gaps.proofs.row.nearest_of.Goals as goal
 
 pub nearest_rightwards-best-requires-clause-rising : goal.nearest_rightwards-best-requires-clause-rising
-nearest_rightwards-best-requires-clause-rising c = rising_behind c.args.spans.now c.partition_point-middle.result c.requires.rising
+nearest_rightwards-best-requires-clause-rising c = rising_after_it c.args.spans.now c.partition_point-middle.result c.requires.rising
 
 pub nearest_rightwards-best-requires-clause-bounded : goal.nearest_rightwards-best-requires-clause-bounded
-nearest_rightwards-best-requires-clause-bounded c = near_behind c.args.spans.now c.partition_point-middle.result c.requires.bounded
+nearest_rightwards-best-requires-clause-bounded c = near_after c.args.spans.now c.partition_point-middle.result c.requires.bounded
 
 pub loop-i-init : goal.loop-i-init
 loop-i-init c = record {
   within = c.partition_point-middle.ensures.bound;
   nearest =
-      found_behind c.args.spans.now c.args.grid.now c.args.wanted.now.width c.args.wanted.now.target c.partition_point-middle.result
+      found_after c.args.spans.now c.args.grid.now c.args.wanted.now.width c.args.wanted.now.target c.partition_point-middle.result
       c.nearest_rightwards-best.result
       c.nearest_rightwards-best.ensures;
 }

@@ -11,7 +11,7 @@ use Rattle.lf_legalize.proofs.nearest.best_within.Goals as goal
 pub with_row-requires-clause-known : goal.with_row-requires-clause-known
 with_row-requires-clause-known c =
     let run = rw c.rows_of.ensures at c.between-run.ensures in
-    run_holds (IsEntryOf c.args.search.now.frame.now) c.args.search.now.occupancy.now.index.rows run.before c.between-run.result.now run.behind run.parts
+    run_holds (IsEntryOf c.args.search.now.frame.now) c.args.search.now.occupancy.now.index.rows run.before c.between-run.result.now run.after_it run.parts
     c.requires.held.index.rows.known c.loop-entry.entry-index record { y = pos 0; x = pos 0; row = 0 } (search rules)
 
 pub loop-entry-preserved : goal.loop-entry-preserved

@@ -14,7 +14,7 @@ returns-then-limit-rise c =
     (rw (← c.limit-limit.ensures, ← c.gap-rise.ensures) c.if-limit-rise.true)
 
 pub best_in_window-requires-clause-within : goal.best_in_window-requires-clause-within
-best_in_window-requires-clause-within c = slice_get_within c.args.search.now.frame.now.rows c.args.entry.now.row c.requires.known.row c.requires.known.stands
+best_in_window-requires-clause-within c = slice_get_within c.args.search.now.frame.now.rows c.args.entry.now.row c.requires.known.row c.requires.known.is_in_place
 
 pub best_in_window-requires-clause-low : goal.best_in_window-requires-clause-low
 best_in_window-requires-clause-low c =
@@ -23,7 +23,7 @@ best_in_window-requires-clause-low c =
 
 pub returns-in-None : goal.returns-in-None
 returns-in-None c =
-    let found = c.in_ok-best_in_window.ensures c.requires.known.row c.requires.known.stands in
+    let found = c.in_ok-best_in_window.ensures c.requires.known.row c.requires.known.is_in_place in
     let none = rw c.in-None.is at found in
     row_empty c.args.search.now.frame.now c.args.search.now.size (query_of_search c.args.search.now) c.args.search.now.target.now c.args.reach c.gap-rise.result
     (option_map spot_of c.args.best) c.args.entry.now c.requires.known c.window-window.result c.gap-rise.ensures
@@ -32,7 +32,7 @@ returns-in-None c =
 
 pub returns-in-Some : goal.returns-in-Some
 returns-in-Some c =
-    let found = c.in_ok-best_in_window.ensures c.requires.known.row c.requires.known.stands in
+    let found = c.in_ok-best_in_window.ensures c.requires.known.row c.requires.known.is_in_place in
     let some = rw c.in-Some.is at found in
     row_found c.args.search.now.frame.now c.args.search.now.size (query_of_search c.args.search.now) c.args.search.now.target.now c.args.reach c.gap-rise.result
     (option_map spot_of c.args.best) (option_map spot_of c.better.result)

@@ -4,7 +4,7 @@ use Rattle.lf_floorplan.specs.Bounds.{IsDefNumber}
 use Rattle.lf_spans.specs.Grids.{FindsNearest, IsNearest}
 use Rattle.lf_legalize.specs.RowSearches.{IsBestAmong, IsOnRowIn, query_of_search}
 use Rattle.lf_legalize.proofs.RowFree.{spot_on}
-use Rattle.lf_legalize.proofs.RunLemmas.{heeded_at}
+use Rattle.lf_legalize.proofs.RunLemmas.{core_at}
 use Rattle.lf_legalize.proofs.RowChoice.{IsFit, best_there, fit_in_def, may_go_fits}
 use Rattle.lf_legalize.proofs.on_row.best_at.Goals as goal
 
@@ -13,7 +13,7 @@ returns-in_default c p on may =
     let s = c.args.search.now in
     let rows = map (λ list. list.items) c.args.lists.now in
     let none = subst (λ (found : Option ℤ). FindsNearest (IsFit s c.args.bottom.now.row.now rows) s.target.now.x found) c.in_default.is c.in_ok-x.ensures in
-    none p.x (may_go_fits s c.args.bottom.now.number c.args.bottom.now.row.now c.args.bottom.now.window.now rows p c.requires.stands c.requires.held
+    none p.x (may_go_fits s c.args.bottom.now.number c.args.bottom.now.row.now c.args.bottom.now.window.now rows p c.requires.is_in_place c.requires.held
     c.requires.levels on may)
 
 pub place_on-requires-clause-x_in_def : goal.place_on-requires-clause-x_in_def
@@ -23,12 +23,12 @@ place_on-requires-clause-x_in_def c =
     let nearest : IsNearest (IsFit s c.args.bottom.now.row.now rows) s.target.now.x c.in-Some.x =
     subst (λ (found : Option ℤ). FindsNearest (IsFit s c.args.bottom.now.row.now rows) s.target.now.x found) c.in-Some.is c.in_ok-x.ensures in
     let def : IsDefNumber c.in-Some.x = fit_in_def s c.args.bottom.now.number c.args.bottom.now.row.now c.args.bottom.now.window.now rows c.in-Some.x
-    c.requires.stands c.requires.held
+    c.requires.is_in_place c.requires.held
     c.requires.levels nearest.fit in
     subst IsDefNumber (sym (to_z-of_z w64 c.in-Some.x (search rules))) def
 
 pub place_on-requires-clause-y_in_def : goal.place_on-requires-clause-y_in_def
-place_on-requires-clause-y_in_def c = (heeded_at c.args.search.now.frame.now c.args.bottom.now.number c.args.bottom.now.row.now c.requires.stands).y_in_def
+place_on-requires-clause-y_in_def c = (core_at c.args.search.now.frame.now c.args.bottom.now.number c.args.bottom.now.row.now c.requires.is_in_place).y_in_def
 
 pub returns : goal.returns
 returns c =
@@ -43,6 +43,6 @@ returns c =
     subst (IsBestAmong (IsOnRowIn s.frame.now s.size c.args.bottom.now.row.now c.args.bottom.now.window.now) (query_of_search s) s.target.now) (sym
     c.place_on.ensures)
     (subst best (sym (to_z-of_z w64 x fits))
-    (best_there s c.args.bottom.now.number c.args.bottom.now.row.now c.args.bottom.now.window.now rows c.args.orient x c.requires.stands c.requires.held
+    (best_there s c.args.bottom.now.number c.args.bottom.now.row.now c.args.bottom.now.window.now rows c.args.orient x c.requires.is_in_place c.requires.held
     c.requires.levels c.requires.first
     nearest))

@@ -13,7 +13,7 @@ returns-then-is_empty c p on may =
     let window = c.args.bottom.now.window.now in
     let none : length c.in_ok-free.free.items ≡ 0 = search rules in
     let bare : HasBareLevel s n row window = bare_bottom s n row window c.in_ok-free.free.items c.requires.one none c.in_ok-free.ensures in
-    none_bare s n row window p c.requires.stands c.requires.held bare on may
+    none_bare s n row window p c.requires.is_in_place c.requires.held bare on may
 
 pub best_at-requires-clause-levels : goal.best_at-requires-clause-levels
 best_at-requires-clause-levels c =

@@ -20,7 +20,7 @@ nearest_fit-requires-clause-bounded c k d within =
 
 pub nearest_fit-requires-clause-grid : goal.nearest_fit-requires-clause-grid
 nearest_fit-requires-clause-grid c =
-    subst IsGrid (sym c.grid_on-grid.ensures) (grid_is c.args.search.now c.args.bottom.now.number c.args.bottom.now.row.now c.requires.stands)
+    subst IsGrid (sym c.grid_on-grid.ensures) (grid_is c.args.search.now c.args.bottom.now.number c.args.bottom.now.row.now c.requires.is_in_place)
 
 pub nearest_fit-requires-clause-width : goal.nearest_fit-requires-clause-width
 nearest_fit-requires-clause-width c = width_is c.args.search.now
@@ -29,14 +29,14 @@ pub returns : goal.returns
 returns c =
     let s = c.args.search.now in
     let rows = map (λ list. list.items) c.args.lists.now in
-    let near : ℤ = c.stand_in-target.result in
+    let near : ℤ = c.equivalent_target-target.result in
     let fits : FitsSigned w64 near = search rules in
     let handed : ℤ = to_z w64 (of_z w64 near) in
     IfOk-weaker c.nearest_fit.result (λ found. FindsNearest (λ x. FitsRows rows c.grid_on-grid.result s.size.x x) handed found)
     (λ found. FindsNearest (IsFit s c.args.bottom.now.row.now rows) s.target.now.x found)
     (λ found nearest.
-    nearest_to_target (IsFit s c.args.bottom.now.row.now rows) s.target.now.x near found c.stand_in-target.ensures
-    (λ x fit. fit_in_def s c.args.bottom.now.number c.args.bottom.now.row.now c.args.bottom.now.window.now rows x c.requires.stands c.requires.held
+    nearest_to_target (IsFit s c.args.bottom.now.row.now rows) s.target.now.x near found c.equivalent_target-target.ensures
+    (λ x fit. fit_in_def s c.args.bottom.now.number c.args.bottom.now.row.now c.args.bottom.now.window.now rows x c.requires.is_in_place c.requires.held
     c.requires.levels fit)
     (subst (λ (t : ℤ). FindsNearest (IsFit s c.args.bottom.now.row.now rows) t found) (to_z-of_z w64 near fits)
     (subst (λ (g : SiteGrid). FindsNearest (λ x. FitsRows rows g s.size.x x) handed found) c.grid_on-grid.ensures nearest)))

@@ -3,9 +3,9 @@ use Rattle.std.proofs.lemmas.Int.{to_z-of_z}
 use Rattle.std.proofs.lemmas.Result.{IfOk-weaker}
 use Rattle.lf_spans.specs.Spans.{IsRising}
 use Rattle.std.specs.Prelude.{slice_index_or, []}
-use Rattle.lf_segments.specs.Grounds.{FrameIndexView}
+use Rattle.lf_segments.specs.Indexes.{FrameIndexView}
 use Rattle.lf_segments.specs.Strips.{AreNear}
-use Rattle.lf_occupancy.specs.Occupied.{IsFreeInRow}
+use Rattle.lf_occupancy.specs.Views.{IsFreeInRow}
 use Rattle.lf_legalize.specs.RowSearches.{padding_in}
 use Rattle.lf_legalize.specs.Levels.{AreWithoutSoft, AreOpenInRow}
 use Rattle.lf_legalize.proofs.SoftLemmas.{open_bare, open_row, soft_rising}

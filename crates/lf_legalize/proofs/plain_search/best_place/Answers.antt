@@ -4,7 +4,7 @@ use Rattle.std.proofs.lemmas.Option.{slice_get_read}
 use Rattle.lf_rules.specs.Choice.{IsChoice, spot_of}
 use Rattle.lf_rules.proofs.SiteLemmas.{next_row, chosen}
 use Rattle.lf_rules.proofs.ChoiceLemmas.{choice_one}
-use Rattle.lf_legalize.specs.Lifting.{query_without}
+use Rattle.lf_legalize.specs.Queries.{query_without}
 use Rattle.lf_legalize.proofs.plain_search.best_place.Goals as goal
 
 pub loop-row-preserved : goal.loop-row-preserved

@@ -1,8 +1,8 @@
 use Rattle.std.proofs.Common.{None}
 use Rattle.std.specs.Option.{option_map}
 use Rattle.lf_rules.specs.Choice.{spot_of}
-use Rattle.lf_rules.specs.Looking.{ScansPlaces, IsOnRows}
-use Rattle.lf_legalize.specs.Lifting.{query_without}
+use Rattle.lf_rules.specs.Scanning.{ScansPlaces, IsOnRows}
+use Rattle.lf_legalize.specs.Queries.{query_without}
 use Rattle.lf_legalize.proofs.plain_search.best_place.Given as goal
 
 -- the first rows were searched

@@ -1,13 +1,13 @@
 use Rattle.std.proofs.Common.{arith}
 use Rattle.std.proofs.lemmas.Int.{ints}
 use Rattle.lf_rules.specs.Choice.{spot_of}
-use Rattle.lf_rules.specs.Looking.{spot_at}
+use Rattle.lf_rules.specs.Scanning.{spot_at}
 use Rattle.lf_rules.proofs.Order.{same_spot}
 use Rattle.lf_legalize.proofs.plain_search.place_at.Goals as goal
 
 pub returns : goal.returns
 returns c =
     same_spot (spot_of c.new.result) (spot_at c.args.pitch.now c.args.row.now c.args.site c.args.orient)
-    (omega (arith, ints, c.new.ensures.x_is, c.offset.ensures.value, c.requires.heeded.ends, c.requires.heeded.x_in_def.above))
+    (omega (arith, ints, c.new.ensures.x_is, c.offset.ensures.value, c.requires.core_ones.ends, c.requires.core_ones.x_in_def.above))
     (omega (arith, ints, c.new.ensures.y_is))
     c.new.ensures.orient_is

@@ -1,12 +1,12 @@
 use Rattle.std.specs.Option.{option_map}
 use Rattle.lf_rules.specs.Choice.{spot_of}
 use Rattle.lf_rules.proofs.SiteLemmas.{all_four}
-use Rattle.lf_legalize.specs.Searches.{cell_of}
+use Rattle.lf_legalize.specs.Searches.{searched_cell}
 use Rattle.lf_legalize.proofs.plain_search.with_site.Goals as goal
 
 pub returns : goal.returns
 returns c =
-    all_four (cell_of c.args.search.now) c.args.search.now.target.now c.args.search.now.frame.now.pitch c.args.row.now c.args.site
+    all_four (searched_cell c.args.search.now) c.args.search.now.target.now c.args.search.now.frame.now.pitch c.args.row.now c.args.site
     (option_map spot_of c.args.best) (option_map spot_of c.with_place-north.result) (option_map spot_of c.with_place-south.result)
     (option_map spot_of c.with_place-mirrored.result) (option_map spot_of c.with_place.result)
     (spot_of c.place_at.result) (spot_of c.place_at-2.result) (spot_of c.place_at-3.result) (spot_of c.place_at-4.result)

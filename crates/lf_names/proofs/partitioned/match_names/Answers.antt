@@ -7,7 +7,7 @@ use Rattle.lf_names.proofs.partitioned.match_names.Goals as goal
 
 pub loop-position-preserved : goal.loop-position-preserved
 loop-position-preserved c =
-    let store = c.args.asked.now in
+    let store = c.args.requested.now in
     let i = c.loop-position.position in
     let matches = c.loop-position.matches.items in
     let known = c.loop-position.invariant in

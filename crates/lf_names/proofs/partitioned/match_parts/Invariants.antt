@@ -7,5 +7,5 @@ use Rattle.lf_names.proofs.partitioned.match_parts.Given as goal
 abbrev pub invariant-loop-part : goal.invariant-loop-part
 invariant-loop-part l = record {
   differ : (names : List Labelled) → ArePartsOf names l.own → (k : ℕ) → k < l.part → Differ (names_of_part k names);
-  matched : (names questions : List Labelled) → ArePartsOf names l.own → ArePartsOf questions l.asked → l.matches.items ≡ matches_below names questions l.part;
+  matched : (names questions : List Labelled) → ArePartsOf names l.own → ArePartsOf questions l.requested → l.matches.items ≡ matches_below names questions l.part;
 }

@@ -3,7 +3,7 @@ use Rattle.std.proofs.lemmas.Grind.{common_steps}
 use Rattle.lf_names.specs.Names.{position_of}
 use Rattle.std.proofs.lemmas.List.{length-map}
 use Rattle.lf_names.specs.NameParts.{entry_of}
-use Rattle.lf_names.proofs.LabelledLemmas.{read, cut_front, cut_back, differ_more, differ_labelled, stands_twice}
+use Rattle.lf_names.proofs.LabelledLemmas.{read, cut_front, cut_back, differ_more, differ_labelled, occurs_twice}
 use Rattle.lf_names.proofs.partitioned.table_of.Goals as goal
 
 pub loop-position-preserved : goal.loop-position-preserved
@@ -31,7 +31,7 @@ returns-in-Present-clause-none c = λ own keeps.
     let name = c.cut.ensures.front ∙ cut_front own i _ r c.loop-position.remaining.now (known.left own keeps) in
     let adds = rw c.in-Present.is at c.in_ok-add.ensures.ok in
     let there : position_of (map (λ n. n.name) (take i own)) r.one.name ≡ Some c.in-Present.field-0 = ap (position_of (map (λ n. n.name) (take i own))) (sym name) ∙ ap (λ ns. position_of ns c.cut.result.0.now) (sym (known.known own keeps)) ∙ adds.0 in
-    stands_twice own i _ r c.in-Present.field-0 there
+    occurs_twice own i _ r c.in-Present.field-0 there
 
 pub returns-clause-differ : goal.returns-clause-differ
 returns-clause-differ c = λ own keeps.

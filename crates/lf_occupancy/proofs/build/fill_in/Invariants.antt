@@ -8,4 +8,4 @@ use Rattle.lf_occupancy.proofs.build.fill_in.Given as goal
 abbrev pub invariant-loop-waiting : goal.invariant-loop-waiting
 invariant-loop-waiting l =
     AreFilledIn l.frame l.cells (widened_strips l.frame.pitch.x l.index.strips) (IsPassed l.team l.from (map (id_at l.ids) l.waiting-items) l.waiting-index)
-    l.lanes.items
+    l.mark_lists.items

@@ -15,9 +15,9 @@ put_in_run-requires-clause-room t c =
     let last = length rows - 1 in
     let some = c.if-rows-eq0.false in
     settled_takes (widened_strips c.args.site.now c.args.index.now.strips) rows last (get_or rows last no_entry) c.args.id.now.team c.args.id.now.own
-    c.args.rect.now c.widened_strips-near.result c.make_room_in_run.new.lanes.items c.settle_in_few.new.lanes.items c.requires.once (omega (arith, some))
+    c.args.rect.now c.widened_strips-near.result c.make_room_in_run.new.mark_lists.items c.settle_in_few.new.mark_lists.items c.requires.once (omega (arith, some))
     (get_or_default rows last _ _ (omega (arith, some))) c.widened_strips-near.ensures (c.in_ok-make_room_in_run.ensures.kept.many ∙ c.requires.many)
-    (rising_kept c.args.lanes.now.items c.make_room_in_run.new.lanes.items c.in_ok-make_room_in_run.ensures.kept c.requires.rising)
+    (rising_kept c.args.mark_lists.now.items c.make_room_in_run.new.mark_lists.items c.in_ok-make_room_in_run.ensures.kept c.requires.rising)
     c.in_ok-make_room_in_run.ensures.ok c.in_ok-settle_in_few.ensures.ok
 
 pub returns-clause-ok : goal.returns-clause-ok
@@ -26,6 +26,6 @@ returns-clause-ok t c =
     let last = length rows - 1 in
     let some = c.if-rows-eq0.false in
     settled_further (widened_strips c.args.site.now c.args.index.now.strips) rows last (get_or rows last no_entry) c.args.id.now.team c.args.id.now.own
-    c.args.rect.now c.widened_strips-near.result c.args.lanes.now.items c.make_room_in_run.new.lanes.items c.settle_in_few.new.lanes.items
-    c.put_in_run.new.lanes.items c.requires.once (omega (arith, some)) (get_or_default rows last _ _ (omega (arith, some))) c.widened_strips-near.ensures
+    c.args.rect.now c.widened_strips-near.result c.args.mark_lists.now.items c.make_room_in_run.new.mark_lists.items c.settle_in_few.new.mark_lists.items
+    c.put_in_run.new.mark_lists.items c.requires.once (omega (arith, some)) (get_or_default rows last _ _ (omega (arith, some))) c.widened_strips-near.ensures
     c.in_ok-make_room_in_run.ensures.kept c.in_ok-settle_in_few.ensures.ok c.put_in_run.ensures

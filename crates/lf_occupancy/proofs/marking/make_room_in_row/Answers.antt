@@ -5,7 +5,7 @@ use Rattle.lf_occupancy.proofs.Changes.{kept_same, kept_along, kept_set, room_fu
 use Rattle.lf_occupancy.proofs.marking.make_room_in_row.Goals as goal
 
 pub loop-n-init : goal.loop-n-init
-loop-n-init c = record { kept = kept_same c.args.lanes.now.items; room = λ n e b. let f = b.from in let h = b.below in absurd (omega (arith, f, h)) }
+loop-n-init c = record { kept = kept_same c.args.mark_lists.now.items; room = λ n e b. let f = b.from in let h = b.below in absurd (omega (arith, f, h)) }
 
 pub loop-n-preserved : goal.loop-n-preserved
 loop-n-preserved c =
@@ -13,13 +13,13 @@ loop-n-preserved c =
     let test = c.loop-n-test.true in
     let many = c.requires.many in
     let same = c.loop-n.invariant.kept.many in
-    let within : c.loop-n.n < length c.loop-n.lanes.items = omega (arith, bound, test, many, same) in
+    let within : c.loop-n.n < length c.loop-n.mark_lists.items = omega (arith, bound, test, many, same) in
     record {
-      kept = kept_along c.args.lanes.now.items c.loop-n.lanes.items _ c.loop-n.invariant.kept
-          (kept_set c.loop-n.lanes.items c.loop-n.n c.index_mut.result.now c.make_room.new.lane within c.index_mut.ensures.value
+      kept = kept_along c.args.mark_lists.now.items c.loop-n.mark_lists.items _ c.loop-n.invariant.kept
+          (kept_set c.loop-n.mark_lists.items c.loop-n.n c.index_mut.result.now c.make_room.new.mark_list within c.index_mut.ensures.value
           c.in_ok-make_room.ensures.kept);
-      room = room_further c.args.more c.widened_strips-near.result.start c.loop-n.n c.widened_strips-near.result.end c.loop-n.lanes.items c.index_mut.result.now
-          c.make_room.new.lane within c.index_mut.ensures.value c.in_ok-make_room.ensures.ok c.loop-n.invariant.room;
+      room = room_further c.args.more c.widened_strips-near.result.start c.loop-n.n c.widened_strips-near.result.end c.loop-n.mark_lists.items c.index_mut.result.now
+          c.make_room.new.mark_list within c.index_mut.ensures.value c.in_ok-make_room.ensures.ok c.loop-n.invariant.room;
     }
 
 pub returns-in_err-make_room : goal.returns-in_err-make_room
@@ -28,10 +28,10 @@ returns-in_err-make_room c =
     let test = c.loop-n-test.true in
     let many = c.requires.many in
     let same = c.loop-n.invariant.kept.many in
-    let within : c.loop-n.n < length c.loop-n.lanes.items = omega (arith, bound, test, many, same) in
+    let within : c.loop-n.n < length c.loop-n.mark_lists.items = omega (arith, bound, test, many, same) in
     record {
-      kept = kept_along c.args.lanes.now.items c.loop-n.lanes.items _ c.loop-n.invariant.kept
-          (kept_set c.loop-n.lanes.items c.loop-n.n c.index_mut.result.now c.make_room.new.lane within c.index_mut.ensures.value
+      kept = kept_along c.args.mark_lists.now.items c.loop-n.mark_lists.items _ c.loop-n.invariant.kept
+          (kept_set c.loop-n.mark_lists.items c.loop-n.n c.index_mut.result.now c.make_room.new.mark_list within c.index_mut.ensures.value
           c.in_err-make_room.ensures.kept);
       ok = IfOk-from_err c.from_residual.result _ c.from_residual.ensures.0;
     }
@@ -47,5 +47,5 @@ returns c =
     let near = c.widened_strips-near.ensures in
     record {
       kept = c.loop-n.invariant.kept;
-      ok = room_of_row c.args.more xs row team start c.loop-n.n end rect c.loop-n.lanes.items near c.loop-n-test.false c.loop-n.invariant.room;
+      ok = room_of_row c.args.more xs row team start c.loop-n.n end rect c.loop-n.mark_lists.items near c.loop-n-test.false c.loop-n.invariant.room;
     }

@@ -3,7 +3,7 @@ use Rattle.std.specs.Int.{int_max}
 use Rattle.std.proofs.lemmas.List.{get_or_default, take_all}
 use Rattle.lf_spans.proofs.Anys.{any_nil}
 use Rattle.lf_segments.specs.declared.rows_by_y.RowEntry.{RowEntry}
-use Rattle.lf_occupancy.specs.Lanes.{HasAtMostOne, IsUnmarked}
+use Rattle.lf_occupancy.specs.MarkLists.{HasAtMostOne, IsUnmarked}
 use Rattle.lf_occupancy.specs.Strips.{IsReached, widened_strips}
 use Rattle.lf_occupancy.specs.Strips.{AreChanged}
 use Rattle.lf_occupancy.proofs.Changes.{none_changed, other_row, rows_further}
@@ -23,7 +23,7 @@ prune_row-requires-clause-one c = λ n d e reached.
     let many = c.requires.many in
     let inner = reached.0 in
     let there : IsReached xs rows team rect n = (reached.0, (i, _, within, get_or_default rows i _ _ within, reached.1)) in
-    let same : get_or c.loop-entry.lanes.items n e ≡ get_or c.args.lanes.now.items n e =
+    let same : get_or c.loop-entry.mark_lists.items n e ≡ get_or c.args.mark_lists.now.items n e =
     c.loop-entry.invariant.others n e (omega (arith, inner, many))
     (λ before. other_row xs rows i _ team rect n c.requires.once within (get_or_default rows i _ _ within) before reached) in
     subst (HasAtMostOne c.args.id.now.own (int_max (get_or xs n d).area.x1 rect.x1)) (sym same) (c.requires.one n d e there)
@@ -31,7 +31,7 @@ prune_row-requires-clause-one c = λ n d e reached.
 pub loop-entry-preserved : goal.loop-entry-preserved
 loop-entry-preserved c =
     rows_further (λ n. IsUnmarked c.args.id.now.own) (widened_strips c.args.site.now c.args.index.now.strips) c.args.rows.now c.loop-entry.entry-index _ c.args.id.now.team c.args.rect.now
-    c.args.lanes.now.items c.loop-entry.lanes.items c.prune_row.new.lanes.items c.requires.once (omega arith)
+    c.args.mark_lists.now.items c.loop-entry.mark_lists.items c.prune_row.new.mark_lists.items c.requires.once (omega arith)
     (get_or_default c.args.rows.now c.loop-entry.entry-index _ _ (omega arith)) c.loop-entry.invariant c.prune_row.ensures
 
 pub returns : goal.returns
@@ -39,5 +39,5 @@ returns c =
     subst
     (λ (es : List RowEntry).
     AreChanged (IsReached (widened_strips c.args.site.now c.args.index.now.strips) es c.args.id.now.team c.args.rect.now) (λ n. IsUnmarked c.args.id.now.own)
-    c.args.lanes.now.items c.loop-entry.lanes.items)
+    c.args.mark_lists.now.items c.loop-entry.mark_lists.items)
     (take_all c.loop-entry.entry-index c.args.rows.now (omega arith)) c.loop-entry.invariant

@@ -1,9 +1,9 @@
 use Rattle.std.proofs.Common.{take}
-use Rattle.lf_occupancy.specs.Lanes.{IsUnmarked}
+use Rattle.lf_occupancy.specs.MarkLists.{IsUnmarked}
 use Rattle.lf_occupancy.specs.Strips.{AreChanged, IsReached, widened_strips}
 use Rattle.lf_occupancy.proofs.marking.prune_rows.Given as goal
 
 -- the strips of the rows visited are changed
 abbrev pub invariant-loop-entry : goal.invariant-loop-entry
 invariant-loop-entry l =
-    AreChanged (IsReached (widened_strips l.site l.index.strips) (take l.entry-index l.rows) l.id.team l.rect) (λ n. IsUnmarked l.id.own) l.initial.lanes.items l.lanes.items
+    AreChanged (IsReached (widened_strips l.site l.index.strips) (take l.entry-index l.rows) l.id.team l.rect) (λ n. IsUnmarked l.id.own) l.initial.mark_lists.items l.mark_lists.items

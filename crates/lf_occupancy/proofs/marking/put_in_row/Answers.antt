@@ -15,5 +15,5 @@ pub returns : goal.returns
 returns c =
     let xs = widened_strips c.args.site.now c.args.index.now.strips in
     let rect = c.args.rect.now in
-    changed_in_row xs c.args.row c.args.id.now.team rect c.widened_strips-near.result (PutsIn xs c.args.id.now.own rect) c.args.lanes.now.items
-    c.put_in_run.new.lanes.items c.widened_strips-near.ensures c.put_in_run.ensures
+    changed_in_row xs c.args.row c.args.id.now.team rect c.widened_strips-near.result (PutsIn xs c.args.id.now.own rect) c.args.mark_lists.now.items
+    c.put_in_run.new.mark_lists.items c.widened_strips-near.ensures c.put_in_run.ensures

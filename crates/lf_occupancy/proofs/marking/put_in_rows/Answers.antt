@@ -5,7 +5,7 @@ use Rattle.lf_segments.specs.declared.rows_by_y.RowEntry.{RowEntry}
 use Rattle.lf_occupancy.specs.Strips.{IsReached, PutsIn, widened_strips}
 use Rattle.lf_occupancy.specs.Strips.{AreChanged}
 use Rattle.lf_occupancy.proofs.Changes.{none_changed, other_row, rows_further}
-use Rattle.lf_occupancy.specs.Lanes.{TakesPart}
+use Rattle.lf_occupancy.specs.MarkLists.{TakesPart}
 use Rattle.lf_occupancy.proofs.marking.put_in_rows.Goals as goal
 
 pub loop-entry-init : goal.loop-entry-init
@@ -22,7 +22,7 @@ put_in_row-requires-clause-room c = λ n d e reached.
     let many = c.requires.many in
     let inner = reached.0 in
     let there : IsReached xs rows team rect n = (reached.0, (i, _, within, get_or_default rows i _ _ within, reached.1)) in
-    let same : get_or c.loop-entry.lanes.items n e ≡ get_or c.args.lanes.now.items n e =
+    let same : get_or c.loop-entry.mark_lists.items n e ≡ get_or c.args.mark_lists.now.items n e =
     c.loop-entry.invariant.others n e (omega (arith, inner, many))
     (λ before. other_row xs rows i _ team rect n c.requires.once within (get_or_default rows i _ _ within) before reached) in
     subst (TakesPart (get_or xs n d).area rect) (sym same) (c.requires.room n d e there)
@@ -31,7 +31,7 @@ pub loop-entry-preserved : goal.loop-entry-preserved
 loop-entry-preserved c =
     rows_further (PutsIn (widened_strips c.args.site.now c.args.index.now.strips) c.args.id.now.own c.args.rect.now) (widened_strips c.args.site.now c.args.index.now.strips) c.args.rows.now
     c.loop-entry.entry-index _ c.args.id.now.team c.args.rect.now
-    c.args.lanes.now.items c.loop-entry.lanes.items c.put_in_row.new.lanes.items c.requires.once (omega arith)
+    c.args.mark_lists.now.items c.loop-entry.mark_lists.items c.put_in_row.new.mark_lists.items c.requires.once (omega arith)
     (get_or_default c.args.rows.now c.loop-entry.entry-index _ _ (omega arith)) c.loop-entry.invariant c.put_in_row.ensures
 
 pub returns : goal.returns
@@ -40,5 +40,5 @@ returns c =
     (λ (es : List RowEntry).
     AreChanged (IsReached (widened_strips c.args.site.now c.args.index.now.strips) es c.args.id.now.team c.args.rect.now)
     (PutsIn (widened_strips c.args.site.now c.args.index.now.strips) c.args.id.now.own c.args.rect.now)
-    c.args.lanes.now.items c.loop-entry.lanes.items)
+    c.args.mark_lists.now.items c.loop-entry.mark_lists.items)
     (take_all c.loop-entry.entry-index c.args.rows.now (omega arith)) c.loop-entry.invariant

@@ -6,4 +6,4 @@ use Rattle.lf_occupancy.proofs.marking.put_in_rows.Given as goal
 abbrev pub invariant-loop-entry : goal.invariant-loop-entry
 invariant-loop-entry l =
     AreChanged (IsReached (widened_strips l.site l.index.strips) (take l.entry-index l.rows) l.id.team l.rect)
-    (PutsIn (widened_strips l.site l.index.strips) l.id.own l.rect) l.initial.lanes.items l.lanes.items
+    (PutsIn (widened_strips l.site l.index.strips) l.id.own l.rect) l.initial.mark_lists.items l.mark_lists.items

@@ -1,7 +1,7 @@
 use Rattle.std.proofs.Common.{◌≡◌, ◌<◌, arith, get_or, length, sym, subst, ◌∙◌}
 use Rattle.lf_units.specs.declared.geometry.Rect.{Rect}
 use Rattle.lf_occupancy.specs.Strips.{PutsIn, widened_strips}
-use Rattle.lf_occupancy.specs.Lanes.{IsPutIn, TakesPart}
+use Rattle.lf_occupancy.specs.MarkLists.{IsPutIn, TakesPart}
 use Rattle.lf_occupancy.proofs.Finds.{no_strip}
 use Rattle.lf_occupancy.proofs.Changes.{none_changed, changed_further}
 use Rattle.lf_occupancy.proofs.Settling.{changed_in_run}
@@ -21,16 +21,16 @@ put_in-requires c =
     let xs = widened_strips c.args.site.now c.args.index.now.strips in
     let rect = c.args.rect.now in
     let n = c.loop-n.n in
-    let lane = c.index_mut.result.now in
+    let mark_list = c.index_mut.result.now in
     let bound = c.requires.within in
     let test = c.loop-n-test.true in
     let many = c.requires.many in
     let within : n < length xs = omega (arith, bound, test) in
-    let takes = c.requires.room n no_strip lane (c.loop-n.auto.n, test) in
-    let same : get_or c.loop-n.lanes.items n lane ≡ get_or c.args.lanes.now.items n lane =
-    c.loop-n.invariant.others n lane (omega (arith, within, many)) (λ b. let h = b.below in omega (arith, h)) in
+    let takes = c.requires.room n no_strip mark_list (c.loop-n.auto.n, test) in
+    let same : get_or c.loop-n.mark_lists.items n mark_list ≡ get_or c.args.mark_lists.now.items n mark_list =
+    c.loop-n.invariant.others n mark_list (omega (arith, within, many)) (λ b. let h = b.below in omega (arith, h)) in
     let one = subst (TakesPart (get_or xs n no_strip).area rect) (sym same ∙ sym c.index_mut.ensures.value) takes in
-    let part = subst (λ (a : Rect). TakesPart a rect lane) (sym (c.widened_area.ensures.is no_strip)) one in
+    let part = subst (λ (a : Rect). TakesPart a rect mark_list) (sym (c.widened_area.ensures.is no_strip)) one in
     record { order = part.order; within = c.widened_area.ensures.near; edge = c.requires.edge; room = part.room }
 
 pub loop-n-preserved : goal.loop-n-preserved
@@ -44,12 +44,12 @@ loop-n-preserved c =
     let many = c.requires.many in
     let same = c.loop-n.invariant.many in
     let inner : n < length xs = omega (arith, bound, test) in
-    let put : PutsIn xs own rect n c.index_mut.result.now c.put_in.new.lane =
-    λ d. subst (λ (a : Rect). IsPutIn own rect a c.index_mut.result.now c.put_in.new.lane) (c.widened_area.ensures.is d) c.put_in.ensures in
-    changed_further (PutsIn xs own rect) c.args.near.now.start n c.args.near.now.end c.args.lanes.now.items c.loop-n.lanes.items c.index_mut.result.now
-    c.put_in.new.lane c.loop-n.auto.n test (omega (arith, inner, many, same)) c.index_mut.ensures.value put c.loop-n.invariant
+    let put : PutsIn xs own rect n c.index_mut.result.now c.put_in.new.mark_list =
+    λ d. subst (λ (a : Rect). IsPutIn own rect a c.index_mut.result.now c.put_in.new.mark_list) (c.widened_area.ensures.is d) c.put_in.ensures in
+    changed_further (PutsIn xs own rect) c.args.near.now.start n c.args.near.now.end c.args.mark_lists.now.items c.loop-n.mark_lists.items c.index_mut.result.now
+    c.put_in.new.mark_list c.loop-n.auto.n test (omega (arith, inner, many, same)) c.index_mut.ensures.value put c.loop-n.invariant
 
 pub returns : goal.returns
 returns c =
     changed_in_run c.args.near.now c.loop-n.n (PutsIn (widened_strips c.args.site.now c.args.index.now.strips) c.args.own c.args.rect.now)
-    c.args.lanes.now.items c.loop-n.lanes.items c.loop-n-test.false c.loop-n.invariant
+    c.args.mark_lists.now.items c.loop-n.mark_lists.items c.loop-n-test.false c.loop-n.invariant

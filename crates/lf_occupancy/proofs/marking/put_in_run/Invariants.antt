@@ -5,4 +5,4 @@ use Rattle.lf_occupancy.proofs.marking.put_in_run.Given as goal
 -- the strips visited have the cell's parts
 abbrev pub invariant-loop-n : goal.invariant-loop-n
 invariant-loop-n l =
-    AreChanged (IsBetween l.initial.n l.n l.n-end) (PutsIn (widened_strips l.site l.index.strips) l.own l.rect) l.initial.lanes.items l.lanes.items
+    AreChanged (IsBetween l.initial.n l.n l.n-end) (PutsIn (widened_strips l.site l.index.strips) l.own l.rect) l.initial.mark_lists.items l.mark_lists.items

@@ -1,7 +1,7 @@
 use Rattle.std.proofs.lemmas.Result.{on_ok_weaker}
 use Rattle.lf_occupancy.specs.Strips.{widened_strips}
-use Rattle.lf_occupancy.proofs.Around.{around, strips_felt}
-use Rattle.lf_occupancy.proofs.Reaching.{lanes_in, lanes_kept, once_in_run}
+use Rattle.lf_occupancy.proofs.Around.{around, strips_widened}
+use Rattle.lf_occupancy.proofs.Reaching.{mark_lists_in, mark_lists_kept, once_in_run}
 use Rattle.lf_occupancy.proofs.marking.reserve_and_mark.Goals as goal
 
 pub settle_in_rows-requires-clause-once : goal.settle_in_rows-requires-clause-once
@@ -12,8 +12,8 @@ pub returns-clause-ok : goal.returns-clause-ok
 returns-clause-ok c = λ boxes nowhere old.
     on_ok_weaker c.settle_in_rows.result
     (λ s.
-    lanes_in (around c.args.site.now c.args.index.now) boxes c.args.id.now.team c.args.id.now.own c.args.rect.now c.rows_near.result.now s.roomy
-    c.settle_in_rows.new.lanes.items (strips_felt c.args.site.now c.args.index.now c.requires.site c.strips_are_placed.ensures) c.rows_near.ensures
+    mark_lists_in (around c.args.site.now c.args.index.now) boxes c.args.id.now.team c.args.id.now.own c.args.rect.now c.rows_near.result.now s.roomy
+    c.settle_in_rows.new.mark_lists.items (strips_widened c.args.site.now c.args.index.now c.requires.site c.strips_are_placed.ensures) c.rows_near.ensures
     nowhere.known.team nowhere.known.own nowhere.at
-    (lanes_kept (widened_strips c.args.site.now c.args.index.now.strips) boxes c.args.lanes.now.items s.roomy s.kept old) s.put)
+    (mark_lists_kept (widened_strips c.args.site.now c.args.index.now.strips) boxes c.args.mark_lists.now.items s.roomy s.kept old) s.put)
     c.settle_in_rows.ensures.ok

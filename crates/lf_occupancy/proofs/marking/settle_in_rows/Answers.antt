@@ -12,14 +12,14 @@ put_in_rows-requires-clause-room c =
     let xs = widened_strips c.args.site.now c.args.index.now.strips in
     let many = c.requires.many in
     let same = c.in_ok-make_room_in_rows.ensures.kept.many in
-    takes_room xs c.args.rect.now (IsReached xs c.args.rows.now c.args.id.now.team c.args.rect.now) c.make_room_in_rows.new.lanes.items
+    takes_room xs c.args.rect.now (IsReached xs c.args.rows.now c.args.id.now.team c.args.rect.now) c.make_room_in_rows.new.mark_lists.items
     (λ n reached. let within = reached.0 in omega (arith, within, many, same))
-    (rising_kept c.args.lanes.now.items c.make_room_in_rows.new.lanes.items c.in_ok-make_room_in_rows.ensures.kept c.requires.rising)
+    (rising_kept c.args.mark_lists.now.items c.make_room_in_rows.new.mark_lists.items c.in_ok-make_room_in_rows.ensures.kept c.requires.rising)
     c.in_ok-make_room_in_rows.ensures.ok
 
 pub returns-clause-ok : goal.returns-clause-ok
 returns-clause-ok c = record {
-  roomy = c.make_room_in_rows.new.lanes.items;
+  roomy = c.make_room_in_rows.new.mark_lists.items;
   kept = c.in_ok-make_room_in_rows.ensures.kept;
   put = c.put_in_rows.ensures;
 }

@@ -1,6 +1,6 @@
 use Rattle.lf_occupancy.specs.Strips.{widened_strips}
-use Rattle.lf_occupancy.proofs.Around.{around, strips_felt}
-use Rattle.lf_occupancy.proofs.Reaching.{lanes_in, once_in_run, rooms_put, takes_parts}
+use Rattle.lf_occupancy.proofs.Around.{around, strips_widened}
+use Rattle.lf_occupancy.proofs.Reaching.{mark_lists_in, once_in_run, rooms_put, takes_parts}
 use Rattle.lf_occupancy.proofs.marking.take_in.Goals as goal
 
 pub put_in_rows-requires-clause-once : goal.put_in_rows-requires-clause-once
@@ -8,16 +8,16 @@ put_in_rows-requires-clause-once c = once_in_run c.args.index.now c.args.rect.no
 
 pub put_in_rows-requires-clause-room : goal.put_in_rows-requires-clause-room
 put_in_rows-requires-clause-room c =
-    takes_parts (widened_strips c.args.site.now c.args.index.now.strips) c.args.id.now.team c.args.rect.now c.rows_near.result.now c.args.lanes.now.items
+    takes_parts (widened_strips c.args.site.now c.args.index.now.strips) c.args.id.now.team c.args.rect.now c.rows_near.result.now c.args.mark_lists.now.items
     c.requires.many c.requires.rising c.requires.room
 
-pub returns-clause-lanes : goal.returns-clause-lanes
-returns-clause-lanes c = λ boxes nowhere old.
-    lanes_in (around c.args.site.now c.args.index.now) boxes c.args.id.now.team c.args.id.now.own c.args.rect.now c.rows_near.result.now c.args.lanes.now.items
-    c.put_in_rows.new.lanes.items (strips_felt c.args.site.now c.args.index.now c.requires.site c.strips_are_placed.ensures) c.rows_near.ensures
+pub returns-clause-mark_lists : goal.returns-clause-mark_lists
+returns-clause-mark_lists c = λ boxes nowhere old.
+    mark_lists_in (around c.args.site.now c.args.index.now) boxes c.args.id.now.team c.args.id.now.own c.args.rect.now c.rows_near.result.now c.args.mark_lists.now.items
+    c.put_in_rows.new.mark_lists.items (strips_widened c.args.site.now c.args.index.now c.requires.site c.strips_are_placed.ensures) c.rows_near.ensures
     nowhere.known.team nowhere.known.own nowhere.at old c.put_in_rows.ensures
 
 pub returns-clause-rooms : goal.returns-clause-rooms
 returns-clause-rooms c =
-    rooms_put (widened_strips c.args.site.now c.args.index.now.strips) c.rows_near.result.now c.args.id.now.team c.args.id.now.own c.args.rect.now c.args.lanes.now.items
-    c.put_in_rows.new.lanes.items c.requires.many c.put_in_rows.ensures
+    rooms_put (widened_strips c.args.site.now c.args.index.now.strips) c.rows_near.result.now c.args.id.now.team c.args.id.now.own c.args.rect.now c.args.mark_lists.now.items
+    c.put_in_rows.new.mark_lists.items c.requires.many c.put_in_rows.ensures

@@ -4,30 +4,30 @@ use Rattle.std.proofs.lemmas.Result.{IfOk-weaker}
 use Rattle.lf_spans.specs.declared.span.Span.{Span}
 use Rattle.lf_spans.specs.Spans.{IsFreeIn}
 use Rattle.lf_segments.specs.declared.strip.Strip.{Strip}
-use Rattle.lf_occupancy.specs.Lanes.{all_padded, others_in, strip_view, spans_in, x_range}
+use Rattle.lf_occupancy.specs.MarkLists.{all_padded, others_in, strip_view, spans_in, x_range}
 use Rattle.lf_occupancy.specs.Strips.{AreFreeSpansOfStrip, widened_strips, strip_views}
-use Rattle.lf_occupancy.proofs.Around.{felt_many}
+use Rattle.lf_occupancy.proofs.Around.{widened_many}
 use Rattle.lf_occupancy.proofs.Finds.{no_strip}
 use Rattle.lf_occupancy.proofs.Frees.{left_by_all, left_by_others}
-use Rattle.lf_occupancy.proofs.Showing.{felt_team, one_marked, one_shown}
+use Rattle.lf_occupancy.proofs.Showing.{widened_team, one_marked, one_shown}
 use Rattle.lf_occupancy.proofs.queries.free_in_one.Goals as goal
 
-pub free_in_lane-requires-clause-marked : goal.free_in_lane-requires-clause-marked
-free_in_lane-requires-clause-marked c =
+pub free_in_mark_list-requires-clause-marked : goal.free_in_mark_list-requires-clause-marked
+free_in_mark_list-requires-clause-marked c =
     let xs = c.args.index.now.strips in
     let site = c.args.site.now in
     let boxes = c.args.boxes.now in
     let n = c.args.number in
     let list = c.strips-list.ensures in
-    let long = felt_many site xs in
+    let long = widened_many site xs in
     let count = ap (λ (zs : List Strip). length zs) list in
     let test = c.if-number-list.false in
     let within : n < length xs = omega (arith, test, count) in
     let team = λ (d : Strip). ap (λ (g : Strip). g.team) (get_or_default xs n d no_strip within)
     ∙ ap (λ (zs : List Strip). (get_or zs n no_strip).team) (sym list) ∙ c.if-team-without.true in
-    one_marked (widened_strips site xs) boxes c.args.lanes.now n c.args.without.now.team c.widened_area-area.result c.index-lanes-number.result
-    c.requires.lanes (omega (arith, within, long)) (felt_team site xs n c.args.without.now.team within team) (c.widened_area-area.ensures.is no_strip)
-    c.index-lanes-number.is
+    one_marked (widened_strips site xs) boxes c.args.mark_lists.now n c.args.without.now.team c.widened_area-area.result c.index-mark_lists-number.result
+    c.requires.mark_lists (omega (arith, within, long)) (widened_team site xs n c.args.without.now.team within team) (c.widened_area-area.ensures.is no_strip)
+    c.index-mark_lists-number.is
 
 pub returns-then-team-without : goal.returns-then-team-without
 returns-then-team-without c =
@@ -36,7 +36,7 @@ returns-then-team-without c =
     let boxes = c.args.boxes.now in
     let n = c.args.number in
     let list = c.strips-list.ensures in
-    let long = felt_many site xs in
+    let long = widened_many site xs in
     let count = ap (λ (zs : List Strip). length zs) list in
     let test = c.if-number-list.false in
     let within : n < length xs = omega (arith, test, count) in
@@ -44,18 +44,18 @@ returns-then-team-without c =
     let padding = c.args.padding.now in
     let team = λ (d : Strip). ap (λ (g : Strip). g.team) (get_or_default xs n d no_strip within)
     ∙ ap (λ (zs : List Strip). (get_or zs n no_strip).team) (sym list) ∙ c.if-team-without.true in
-    let lane = strip_view (get_or boxes own []) c.widened_area-area.result c.index-lanes-number.result in
+    let mark_list = strip_view (get_or boxes own []) c.widened_area-area.result c.index-mark_lists-number.result in
     let is : c.x_range_of-span.result ≡ x_range (get_or xs n no_strip).area =
     c.x_range_of-span.ensures ∙ ap (λ (zs : List Strip). x_range (get_or zs n no_strip).area) list in
-    let taken = spans_in (others_in (all_padded padding lane.entries) c.args.without.now.own) in
-    IfOk-weaker c.free_in_lane.result (λ free. IsFreeIn c.x_range_of-span.result taken c.x_range_of-span.result free.items)
-    (λ free. AreFreeSpansOfStrip xs (strip_views (widened_strips site xs) boxes c.args.lanes.now) c.args.without.now padding n free.items)
+    let taken = spans_in (others_in (all_padded padding mark_list.entries) c.args.without.now.own) in
+    IfOk-weaker c.free_in_mark_list.result (λ free. IsFreeIn c.x_range_of-span.result taken c.x_range_of-span.result free.items)
+    (λ free. AreFreeSpansOfStrip xs (strip_views (widened_strips site xs) boxes c.args.mark_lists.now) c.args.without.now padding n free.items)
     (λ free f.
-    left_by_others xs (strip_views (widened_strips site xs) boxes c.args.lanes.now) c.args.without.now padding n lane free.items within team
-    (one_shown (widened_strips site xs) boxes c.args.lanes.now n own c.widened_area-area.result c.index-lanes-number.result c.requires.lanes
-    (omega (arith, within, long)) (felt_team site xs n own within team) (c.widened_area-area.ensures.is no_strip) c.index-lanes-number.is)
+    left_by_others xs (strip_views (widened_strips site xs) boxes c.args.mark_lists.now) c.args.without.now padding n mark_list free.items within team
+    (one_shown (widened_strips site xs) boxes c.args.mark_lists.now n own c.widened_area-area.result c.index-mark_lists-number.result c.requires.mark_lists
+    (omega (arith, within, long)) (widened_team site xs n own within team) (c.widened_area-area.ensures.is no_strip) c.index-mark_lists-number.is)
     (subst (λ (s : Span). IsFreeIn s taken s free.items) is f))
-    c.free_in_lane.ensures
+    c.free_in_mark_list.ensures
 
 pub free_of_all-requires-clause-marked : goal.free_of_all-requires-clause-marked
 free_of_all-requires-clause-marked c =
@@ -64,16 +64,16 @@ free_of_all-requires-clause-marked c =
     let boxes = c.args.boxes.now in
     let n = c.args.number in
     let list = c.strips-list.ensures in
-    let long = felt_many site xs in
+    let long = widened_many site xs in
     let count = ap (λ (zs : List Strip). length zs) list in
     let test = c.if-number-list.false in
     let within : n < length xs = omega (arith, test, count) in
     let own = (get_or c.strips-list.result.now n no_strip).team in
     let team : (d : Strip) → (get_or xs n d).team ≡ own = λ d. ap (λ (g : Strip). g.team) (get_or_default xs n d no_strip within)
     ∙ ap (λ (zs : List Strip). (get_or zs n no_strip).team) (sym list) in
-    one_marked (widened_strips site xs) boxes c.args.lanes.now n own c.widened_area-area.result c.index-lanes-number.result
-    c.requires.lanes (omega (arith, within, long)) (felt_team site xs n own within team) (c.widened_area-area.ensures.is no_strip)
-    c.index-lanes-number.is
+    one_marked (widened_strips site xs) boxes c.args.mark_lists.now n own c.widened_area-area.result c.index-mark_lists-number.result
+    c.requires.mark_lists (omega (arith, within, long)) (widened_team site xs n own within team) (c.widened_area-area.ensures.is no_strip)
+    c.index-mark_lists-number.is
 
 pub returns : goal.returns
 returns c =
@@ -82,7 +82,7 @@ returns c =
     let boxes = c.args.boxes.now in
     let n = c.args.number in
     let list = c.strips-list.ensures in
-    let long = felt_many site xs in
+    let long = widened_many site xs in
     let count = ap (λ (zs : List Strip). length zs) list in
     let test = c.if-number-list.false in
     let within : n < length xs = omega (arith, test, count) in
@@ -90,16 +90,16 @@ returns c =
     let padding = c.args.padding.now in
     let team : (d : Strip) → (get_or xs n d).team ≡ own = λ d. ap (λ (g : Strip). g.team) (get_or_default xs n d no_strip within)
     ∙ ap (λ (zs : List Strip). (get_or zs n no_strip).team) (sym list) in
-    let lane = strip_view (get_or boxes own []) c.widened_area-area.result c.index-lanes-number.result in
+    let mark_list = strip_view (get_or boxes own []) c.widened_area-area.result c.index-mark_lists-number.result in
     let is : c.x_range_of-span.result ≡ x_range (get_or xs n no_strip).area =
     c.x_range_of-span.ensures ∙ ap (λ (zs : List Strip). x_range (get_or zs n no_strip).area) list in
-    let taken = spans_in (all_padded padding lane.entries) in
+    let taken = spans_in (all_padded padding mark_list.entries) in
     IfOk-weaker c.free_of_all.result (λ free. IsFreeIn c.x_range_of-span.result taken c.x_range_of-span.result free.items)
-    (λ free. AreFreeSpansOfStrip xs (strip_views (widened_strips site xs) boxes c.args.lanes.now) c.args.without.now padding n free.items)
+    (λ free. AreFreeSpansOfStrip xs (strip_views (widened_strips site xs) boxes c.args.mark_lists.now) c.args.without.now padding n free.items)
     (λ free f.
-    left_by_all xs (strip_views (widened_strips site xs) boxes c.args.lanes.now) c.args.without.now padding n lane free.items within
+    left_by_all xs (strip_views (widened_strips site xs) boxes c.args.mark_lists.now) c.args.without.now padding n mark_list free.items within
     (λ d same. c.if-team-without.false (sym (team d) ∙ same))
-    (one_shown (widened_strips site xs) boxes c.args.lanes.now n own c.widened_area-area.result c.index-lanes-number.result c.requires.lanes
-    (omega (arith, within, long)) (felt_team site xs n own within team) (c.widened_area-area.ensures.is no_strip) c.index-lanes-number.is)
+    (one_shown (widened_strips site xs) boxes c.args.mark_lists.now n own c.widened_area-area.result c.index-mark_lists-number.result c.requires.mark_lists
+    (omega (arith, within, long)) (widened_team site xs n own within team) (c.widened_area-area.ensures.is no_strip) c.index-mark_lists-number.is)
     (subst (λ (s : Span). IsFreeIn s taken s free.items) is f))
     c.free_of_all.ensures

@@ -3,12 +3,12 @@ use Rattle.std.proofs.lemmas.List.{get_or_default}
 use Rattle.lf_spans.specs.declared.span.Span.{Span}
 use Rattle.lf_spans.specs.Spans.{IsFreeIn}
 use Rattle.lf_segments.specs.declared.strip.Strip.{Strip}
-use Rattle.lf_occupancy.specs.Lanes.{all_padded, others_in, strip_view, spans_in, x_range}
+use Rattle.lf_occupancy.specs.MarkLists.{all_padded, others_in, strip_view, spans_in, x_range}
 use Rattle.lf_occupancy.specs.Strips.{widened_strips, strip_views}
-use Rattle.lf_occupancy.proofs.Around.{felt_many}
+use Rattle.lf_occupancy.proofs.Around.{widened_many}
 use Rattle.lf_occupancy.proofs.Frees.{AreFreeBetween, none_free, free_further, free_of_row}
 use Rattle.lf_occupancy.proofs.Finds.{no_strip}
-use Rattle.lf_occupancy.proofs.Showing.{felt_team, one_marked, one_shown, shown_many}
+use Rattle.lf_occupancy.proofs.Showing.{widened_team, one_marked, one_shown, shown_many}
 use Rattle.lf_occupancy.proofs.queries.free_in_strips.Goals as goal
 
 pub loop-n-init : goal.loop-n-init
@@ -16,32 +16,32 @@ loop-n-init c =
     let start = c.strips_overlapping-near.result.start in
     let end = c.strips_overlapping-near.result.end in
     let xs = c.args.index.now.strips in
-    let lanes = strip_views (widened_strips c.args.site.now xs) c.args.boxes.now c.args.lanes.now in
+    let mark_lists = strip_views (widened_strips c.args.site.now xs) c.args.boxes.now c.args.mark_lists.now in
     let own = c.args.id.now.own in
     let padding = c.args.padding.now in
-    subst (λ (free : List Span). AreFreeBetween xs lanes own padding start start end c.args.window.now free) (sym c.new-free.ensures.items)
-    (none_free xs lanes own padding start end c.args.window.now)
+    subst (λ (free : List Span). AreFreeBetween xs mark_lists own padding start start end c.args.window.now free) (sym c.new-free.ensures.items)
+    (none_free xs mark_lists own padding start end c.args.window.now)
 
 pub widened_area-area-requires-clause-within : goal.widened_area-area-requires-clause-within
 widened_area-area-requires-clause-within c =
     let bound = c.strips_overlapping-near.ensures.within in
     let test = c.loop-n-test.true in
-    let long = felt_many c.args.site.now c.args.index.now.strips in
+    let long = widened_many c.args.site.now c.args.index.now.strips in
     omega (arith, bound, test, long)
 
-pub free_in_lane-requires-clause-marked : goal.free_in_lane-requires-clause-marked
-free_in_lane-requires-clause-marked c =
+pub free_in_mark_list-requires-clause-marked : goal.free_in_mark_list-requires-clause-marked
+free_in_mark_list-requires-clause-marked c =
     let xs = c.args.index.now.strips in
     let n = c.loop-n.n in
     let near = c.strips_overlapping-near.ensures in
     let bound = near.within in
     let test = c.loop-n-test.true in
-    let long = felt_many c.args.site.now xs in
+    let long = widened_many c.args.site.now xs in
     let within : n < length xs = omega (arith, bound, test) in
-    one_marked (widened_strips c.args.site.now xs) c.args.boxes.now c.args.lanes.now n c.args.id.now.team c.widened_area-area.result c.index-lanes-n.result
-    c.requires.lanes (omega (arith, within, long))
-    (felt_team c.args.site.now xs n c.args.id.now.team within (λ d. ((near.exact n d within).0 (c.loop-n.auto.n, test)).of_team))
-    (c.widened_area-area.ensures.is no_strip) c.index-lanes-n.is
+    one_marked (widened_strips c.args.site.now xs) c.args.boxes.now c.args.mark_lists.now n c.args.id.now.team c.widened_area-area.result c.index-mark_lists-n.result
+    c.requires.mark_lists (omega (arith, within, long))
+    (widened_team c.args.site.now xs n c.args.id.now.team within (λ d. ((near.exact n d within).0 (c.loop-n.auto.n, test)).of_team))
+    (c.widened_area-area.ensures.is no_strip) c.index-mark_lists-n.is
 
 pub loop-n-preserved : goal.loop-n-preserved
 loop-n-preserved c =
@@ -51,32 +51,32 @@ loop-n-preserved c =
     let site = c.args.site.now in
     let boxes = c.args.boxes.now in
     let xs = c.args.index.now.strips in
-    let lanes = strip_views (widened_strips site xs) boxes c.args.lanes.now in
+    let mark_lists = strip_views (widened_strips site xs) boxes c.args.mark_lists.now in
     let row = c.args.row in
     let team = c.args.id.now.team in
     let own = c.args.id.now.own in
     let padding = c.args.padding.now in
     let window = c.args.window.now in
     let area = c.widened_area-area.result in
-    let lane = strip_view (get_or boxes team []) area c.index-lanes-n.result in
+    let mark_list = strip_view (get_or boxes team []) area c.index-mark_lists-n.result in
     let list = c.strips-list.ensures in
     let part = c.in_ok-part.part.items in
     let free = c.loop-n.free.items in
     let near = c.strips_overlapping-near.ensures in
     let bound = near.within in
     let test = c.loop-n-test.true in
-    let long = felt_many site xs in
+    let long = widened_many site xs in
     let within : n < length xs = omega (arith, bound, test) in
-    let many = shown_many (widened_strips site xs) boxes c.args.lanes.now c.requires.lanes.many in
+    let many = shown_many (widened_strips site xs) boxes c.args.mark_lists.now c.requires.mark_lists.many in
     let g : Strip = get_or xs n no_strip in
     let is : c.x_range_of-span.result ≡ x_range g.area = c.x_range_of-span.ensures ∙ ap (λ (zs : List Strip). x_range (get_or zs n no_strip).area) list in
-    let new = subst (λ (s : Span). IsFreeIn s (spans_in (others_in (all_padded padding lane.entries) own)) window part) is c.in_ok-part.ensures in
-    let shows = one_shown (widened_strips site xs) boxes c.args.lanes.now n team area c.index-lanes-n.result c.requires.lanes (omega (arith, within, long))
-    (felt_team site xs n team within (λ d. ((near.exact n d within).0 (c.loop-n.auto.n, test)).of_team))
-    (c.widened_area-area.ensures.is no_strip) c.index-lanes-n.is lane in
-    subst (λ (zs : List Span). AreFreeBetween xs lanes own padding start (n + 1) end window zs)
+    let new = subst (λ (s : Span). IsFreeIn s (spans_in (others_in (all_padded padding mark_list.entries) own)) window part) is c.in_ok-part.ensures in
+    let shows = one_shown (widened_strips site xs) boxes c.args.mark_lists.now n team area c.index-mark_lists-n.result c.requires.mark_lists (omega (arith, within, long))
+    (widened_team site xs n team within (λ d. ((near.exact n d within).0 (c.loop-n.auto.n, test)).of_team))
+    (c.widened_area-area.ensures.is no_strip) c.index-mark_lists-n.is mark_list in
+    subst (λ (zs : List Span). AreFreeBetween xs mark_lists own padding start (n + 1) end window zs)
     (sym c.in_ok-free.ensures)
-    (free_further xs lanes row team own padding start n end window lane g free part c.strips_are_placed.ensures.in_order near c.loop-n.auto.n test
+    (free_further xs mark_lists row team own padding start n end window mark_list g free part c.strips_are_placed.ensures.in_order near c.loop-n.auto.n test
     (omega (arith, within, many, long)) (λ k d inner. (c.strips_are_placed.ensures.placed k d inner).wide) shows
     (λ d. get_or_default xs n no_strip d within) c.loop-n.invariant new)
 
@@ -85,9 +85,9 @@ returns c =
     let start = c.strips_overlapping-near.result.start in
     let end = c.strips_overlapping-near.result.end in
     let xs = c.args.index.now.strips in
-    let lanes = strip_views (widened_strips c.args.site.now xs) c.args.boxes.now c.args.lanes.now in
+    let mark_lists = strip_views (widened_strips c.args.site.now xs) c.args.boxes.now c.args.mark_lists.now in
     let row = c.args.row in
     let team = c.args.id.now.team in
     let window = c.args.window.now in
     let near = c.strips_overlapping-near.ensures in
-    free_of_row xs lanes row team c.args.id.now.own c.args.padding.now start c.loop-n.n end window c.loop-n.free.items near c.loop-n-test.false c.loop-n.invariant
+    free_of_row xs mark_lists row team c.args.id.now.own c.args.padding.now start c.loop-n.n end window c.loop-n.free.items near c.loop-n-test.false c.loop-n.invariant

@@ -1,7 +1,7 @@
 use Rattle.std.proofs.Common.{Option, subst, sym}
 use Rattle.lf_units.specs.declared.geometry.Rect.{Rect}
 use Rattle.lf_occupancy.specs.Strips.{widened_strips}
-use Rattle.lf_occupancy.specs.Tallies.{IsLower}
+use Rattle.lf_occupancy.specs.StripCounting.{IsLower}
 use Rattle.lf_occupancy.proofs.Reaching.{once_in_run}
 use Rattle.lf_occupancy.proofs.Tallying.{lower_of_reached}
 use Rattle.lf_occupancy.proofs.strip_counts.lower.Goals as goal

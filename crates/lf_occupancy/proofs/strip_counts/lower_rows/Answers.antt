@@ -3,7 +3,7 @@ use Rattle.std.proofs.lemmas.List.{get_or_default, take_all}
 use Rattle.lf_spans.proofs.Anys.{any_nil}
 use Rattle.lf_segments.specs.declared.rows_by_y.RowEntry.{RowEntry}
 use Rattle.lf_occupancy.specs.Strips.{AreChanged, IsReached, widened_strips}
-use Rattle.lf_occupancy.specs.Tallies.{IsLessAt}
+use Rattle.lf_occupancy.specs.StripCounting.{IsLessAt}
 use Rattle.lf_occupancy.proofs.Changes.{none_changed, rows_further}
 use Rattle.lf_occupancy.proofs.Settling.{changed_in_row}
 use Rattle.lf_occupancy.proofs.strip_counts.lower_rows.Goals as goal

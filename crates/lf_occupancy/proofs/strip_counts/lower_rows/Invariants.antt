@@ -1,6 +1,6 @@
 use Rattle.std.proofs.Common.{take}
 use Rattle.lf_occupancy.specs.Strips.{AreChanged, IsReached, widened_strips}
-use Rattle.lf_occupancy.specs.Tallies.{IsLessAt}
+use Rattle.lf_occupancy.specs.StripCounting.{IsLessAt}
 use Rattle.lf_occupancy.proofs.strip_counts.lower_rows.Given as goal
 
 -- the strips of the rows visited count less

@@ -1,7 +1,7 @@
 use Rattle.std.proofs.Common.{◌<◌, arith, length, subst}
 use Rattle.lf_units.specs.declared.geometry.Rect.{Rect}
 use Rattle.lf_occupancy.specs.Strips.{widened_strips}
-use Rattle.lf_occupancy.specs.Tallies.{IsLess, IsLessAt}
+use Rattle.lf_occupancy.specs.StripCounting.{IsLess, IsLessAt}
 use Rattle.lf_occupancy.proofs.Changes.{none_changed, changed_further}
 use Rattle.lf_occupancy.proofs.Settling.{changed_in_run}
 use Rattle.lf_occupancy.proofs.strip_counts.lower_run.Goals as goal

@@ -1,5 +1,5 @@
 use Rattle.lf_occupancy.specs.Strips.{AreChanged, widened_strips}
-use Rattle.lf_occupancy.specs.Tallies.{IsLessAt}
+use Rattle.lf_occupancy.specs.StripCounting.{IsLessAt}
 use Rattle.lf_occupancy.proofs.Changes.{IsBetween}
 use Rattle.lf_occupancy.proofs.strip_counts.lower_run.Given as goal
 

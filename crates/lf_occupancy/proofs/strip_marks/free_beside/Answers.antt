@@ -3,7 +3,7 @@ use Rattle.std.proofs.lemmas.Int.{ints}
 use Rattle.lf_spans.specs.declared.span.Span.{Span}
 use Rattle.lf_spans.specs.Spans.{IsFilled}
 use Rattle.lf_occupancy.specs.declared.strip_marks.Entry.{Entry}
-use Rattle.lf_occupancy.specs.Lanes.{entries_in, wider_range, x_range}
+use Rattle.lf_occupancy.specs.MarkLists.{marked_entries, wider_range, x_range}
 use Rattle.lf_occupancy.proofs.Laning.{entries_many, entry_there}
 use Rattle.lf_occupancy.proofs.Padded.{no_entry, range_there, same_entry}
 use Rattle.lf_occupancy.proofs.Walking.{walk_begins, walk_ends, walk_goes_on, walk_skips}
@@ -13,7 +13,7 @@ pub loop-mark-init : goal.loop-mark-init
 loop-mark-init c = walk_begins c.args.range.now _ _ c.in_ok-free.ensures.items
 
 pub range_at-reach-requires : goal.range_at-reach-requires
-range_at-reach-requires c = c.requires.told c.loop-mark.mark-index _ (omega arith)
+range_at-reach-requires c = c.requires.reported c.loop-mark.mark-index _ (omega arith)
 
 pub padded_range-span-requires-clause-low : goal.padded_range-span-requires-clause-low
 padded_range-span-requires-clause-low c =
@@ -44,7 +44,7 @@ loop-mark-preserved-then-mark-id c =
     let cells = get_or c.args.boxes.now c.args.id.now.team [] in
     let area = c.args.area.now in
     let ms = c.args.marks.now in
-    let es = entries_in cells area ms in
+    let es = marked_entries cells area ms in
     let i = c.loop-mark.mark-index in
     let many = entries_many cells area ms in
     let e : Entry = get_or es i no_entry in
@@ -57,7 +57,7 @@ loop-mark-preserved c =
     let cells = get_or c.args.boxes.now c.args.id.now.team [] in
     let area = c.args.area.now in
     let ms = c.args.marks.now in
-    let es = entries_in cells area ms in
+    let es = marked_entries cells area ms in
     let i = c.loop-mark.mark-index in
     let many = entries_many cells area ms in
     let by = c.args.padding.now in
@@ -71,14 +71,14 @@ loop-mark-preserved c =
     let least = c.requires.short.least in
     let filled : IsFilled c.padded_range-span.result = omega (arith, ints, lo, hi, wide, least) in
     let own = ap (λ (z : Entry). z.own) (entry_there cells area ms i no_entry _ (omega arith)) in
-    walk_goes_on by es i e c.args.id.now.own c.args.range.now c.loop-mark.free.items c.push_filled.new.spans.items c.loop-mark.rest c.part_behind-rest.result _
+    walk_goes_on by es i e c.args.id.now.own c.args.range.now c.loop-mark.free.items c.push_filled.new.spans.items c.loop-mark.rest c.part_after-rest.result _
     c.padded_range-span.result (omega (arith, many)) at (λ same. c.if-mark-id.false (sym own ∙ same)) span filled c.requires.order c.part_before.ensures
-    c.part_behind-rest.ensures c.in_ok-push_filled.ensures c.loop-mark.invariant
+    c.part_after-rest.ensures c.in_ok-push_filled.ensures c.loop-mark.invariant
 
 pub returns : goal.returns
 returns c =
     let cells = get_or c.args.boxes.now c.args.id.now.team [] in
-    let es = entries_in cells c.args.area.now c.args.marks.now in
+    let es = marked_entries cells c.args.area.now c.args.marks.now in
     let many = entries_many cells c.args.area.now c.args.marks.now in
     walk_ends c.args.padding.now es c.loop-mark.mark-index c.args.id.now.own c.args.range.now c.loop-mark.free.items c.push_filled-2.new.spans.items
     c.loop-mark.rest (omega (arith, many)) c.loop-mark.invariant c.in_ok-push_filled-2.ensures

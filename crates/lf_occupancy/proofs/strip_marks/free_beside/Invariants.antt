@@ -1,11 +1,11 @@
 use Rattle.std.proofs.Common.{[], get_or}
 use Rattle.lf_spans.proofs.Frees.{Frees}
-use Rattle.lf_occupancy.specs.Lanes.{entries_in}
+use Rattle.lf_occupancy.specs.MarkLists.{marked_entries}
 use Rattle.lf_occupancy.proofs.Walking.{passed, taken}
 use Rattle.lf_occupancy.proofs.strip_marks.free_beside.Given as goal
 
 -- the free spans of the entries visited, and the remaining range
 abbrev pub invariant-loop-mark : goal.invariant-loop-mark
 invariant-loop-mark l =
-    Frees l.range (taken l.padding (entries_in (get_or l.boxes l.id.team []) l.area l.marks) l.id.own) l.free.items l.rest
-    (passed l.padding (entries_in (get_or l.boxes l.id.team []) l.area l.marks) l.id.own l.mark-index)
+    Frees l.range (taken l.padding (marked_entries (get_or l.boxes l.id.team []) l.area l.marks) l.id.own) l.free.items l.rest
+    (passed l.padding (marked_entries (get_or l.boxes l.id.team []) l.area l.marks) l.id.own l.mark-index)

@@ -12,7 +12,7 @@ overflow_sub-area c =
 
 pub returns : goal.returns
 returns c =
-    let old = c.args.lane.now.marks.items in
+    let old = c.args.mark_list.now.marks.items in
     let at = c.count_before-at.result in
     let same = c.as_slice.ensures.value in
     record {
@@ -24,13 +24,13 @@ returns c =
           let there : (get_or c.as_slice.result.now k d).left ≡ (get_or old k d).left = ap (λ (xs : List Mark). (get_or xs k d).left) same in
           let left = c.from.ensures in
           omega (arith, ints, h, there, left);
-      behind = λ k d from until.
+      after_it = λ k d from until.
           let long = ap (λ (xs : List Mark). length xs) same in
           let h = c.count_before-at.ensures.rest k d from (omega (arith, until, long)) in
           let there : (get_or c.as_slice.result.now k d).left ≡ (get_or old k d).left = ap (λ (xs : List Mark). (get_or xs k d).left) same in
           let left = c.from.ensures in
           omega (arith, ints, h, there, left);
-      widest = let h = c.max-lane.ensures.value in
+      widest = let h = c.max-mark_list.ensures.value in
           let low = c.requires.left in
           let high = c.requires.right in
           let wide = c.requires.whole.wide in

@@ -1,9 +1,9 @@
 use Rattle.std.proofs.Common.{[], get_or, take}
 use Rattle.std.specs.Prelude.{Any}
-use Rattle.lf_occupancy.specs.Lanes.{IsLeast, MeetsEntry, entry_in}
+use Rattle.lf_occupancy.specs.MarkLists.{IsLeast, OverlapsEntry, marked_entry}
 use Rattle.lf_occupancy.proofs.strip_marks.least_in.Given as goal
 
 -- the least of the number at the start and of the entries visited
 abbrev pub invariant-loop-mark : goal.invariant-loop-mark
 invariant-loop-mark l =
-    IsLeast (λ own. Any (λ m. MeetsEntry l.rect l.but own (entry_in (get_or l.boxes l.team []) l.area m)) (take l.mark-index l.marks)) l.fn.so_far l.least
+    IsLeast (λ own. Any (λ m. OverlapsEntry l.rect l.but own (marked_entry (get_or l.boxes l.team []) l.area m)) (take l.mark-index l.marks)) l.fn.so_far l.least

@@ -3,13 +3,13 @@ use Rattle.std.proofs.lemmas.Int.{ints}
 use Rattle.std.proofs.lemmas.List.Elements.{All-take}
 use Rattle.lf_rtree.proofs.Lists.{rest_from}
 use Rattle.lf_occupancy.specs.declared.strip_marks.Mark.{Mark}
-use Rattle.lf_occupancy.specs.Lanes.{MarkIsOf, entry_in}
-use Rattle.lf_occupancy.proofs.Showing.{near_marked, rest_told}
+use Rattle.lf_occupancy.specs.MarkLists.{MarkIsOf, marked_entry}
+use Rattle.lf_occupancy.proofs.Showing.{near_marked, rest_reported}
 use Rattle.lf_occupancy.proofs.strip_marks.near_marks.Goals as goal
 
 pub returns-clause-near : goal.returns-clause-near
 returns-clause-near c = λ cells area marked.
-    let l = c.args.lane.now in
+    let l = c.args.mark_list.now in
     let lo = c.args.lo.now in
     let hi = c.args.hi.now in
     let ms = c.as_slice-marks.result.now in
@@ -26,12 +26,12 @@ returns-clause-near c = λ cells area marked.
     omega (arith, ints, h, there))
     c.count_before-2.ensures.rest
 
-pub returns-clause-told : goal.returns-clause-told
-returns-clause-told c = λ cells area marked.
-    let l = c.args.lane.now in
+pub returns-clause-reported : goal.returns-clause-reported
+returns-clause-reported c = λ cells area marked.
+    let l = c.args.mark_list.now in
     let ms = c.as_slice-marks.result.now in
     let f = c.count_before.result in
     let rest = take (length ms - f) (drop f ms) in
     let same : ms ≡ l.marks.items = c.as_slice-marks.ensures.value in
-    All-take (λ m. MarkIsOf (entry_in cells area m) m) c.count_before-2.result rest
-    (rest_told cells area l rest f marked (rest_from ms f ∙ ap (λ (xs : List Mark). drop f xs) same))
+    All-take (λ m. MarkIsOf (marked_entry cells area m) m) c.count_before-2.result rest
+    (rest_reported cells area l rest f marked (rest_from ms f ∙ ap (λ (xs : List Mark). drop f xs) same))

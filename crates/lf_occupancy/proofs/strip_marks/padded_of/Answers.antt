@@ -1,14 +1,14 @@
 use Rattle.std.proofs.Common.{◌≡◌, [], get_or, ap, ◌∙◌, arith}
 use Rattle.std.proofs.lemmas.Int.{ints}
 use Rattle.lf_occupancy.specs.declared.strip_marks.Entry.{Entry}
-use Rattle.lf_occupancy.specs.Lanes.{entries_in, wider_range}
+use Rattle.lf_occupancy.specs.MarkLists.{marked_entries, wider_range}
 use Rattle.lf_spans.specs.declared.span.Span.{Span}
 use Rattle.lf_occupancy.proofs.Laning.{entries_many}
 use Rattle.lf_occupancy.proofs.Padded.{no_entry, range_there, same_entry, spans_further}
 use Rattle.lf_occupancy.proofs.strip_marks.padded_of.Goals as goal
 
 pub range_at-range-requires : goal.range_at-range-requires
-range_at-range-requires c = c.requires.told c.loop-mark.mark-index _ (omega arith)
+range_at-range-requires c = c.requires.reported c.loop-mark.mark-index _ (omega arith)
 
 pub padded_range-requires-clause-low : goal.padded_range-requires-clause-low
 padded_range-requires-clause-low c =
@@ -39,7 +39,7 @@ loop-mark-preserved c =
     let cells = get_or c.args.boxes.now c.args.team [] in
     let area = c.args.area.now in
     let ms = c.args.marks.now in
-    let es = entries_in cells area ms in
+    let es = marked_entries cells area ms in
     let i = c.loop-mark.mark-index in
     let many = entries_many cells area ms in
     let by = c.args.padding.now in

@@ -2,7 +2,7 @@ use Rattle.std.proofs.Common.{inl, inr, refl, subst, ap, arith}
 use Rattle.std.proofs.lemmas.Bool.{false≢true}
 use Rattle.std.proofs.lemmas.Int.{ints, clamps}
 use Rattle.lf_units.specs.declared.geometry.Rect.{Rect}
-use Rattle.lf_occupancy.specs.Lanes.{IsAdded, IsPutPart, HasPoints}
+use Rattle.lf_occupancy.specs.MarkLists.{IsAdded, IsPutPart, HasPoints}
 use Rattle.lf_occupancy.proofs.strip_marks.put_in.Goals as goal
 
 pub mark_of-requires-clause-left : goal.mark_of-requires-clause-left
@@ -40,14 +40,14 @@ pub returns-then-has_points : goal.returns-then-has_points
 returns-then-has_points c =
     let own = c.args.own in
     let part = c.part_of-part.result in
-    let added : IsAdded own part c.args.lane.now c.join.new.lane = record {
+    let added : IsAdded own part c.args.mark_list.now c.join.new.mark_list = record {
       mark = c.mark_of.result;
       of = record { is = c.mark_of.ensures.is; left = c.mark_of.ensures.left; width = c.mark_of.ensures.width };
       joined = c.join.ensures;
     } in
-    subst (λ (r : Rect). IsPutPart own r c.args.lane.now c.join.new.lane) c.part_of-part.ensures (inl (c.if-has_points.ensures.0 refl, added))
+    subst (λ (r : Rect). IsPutPart own r c.args.mark_list.now c.join.new.mark_list) c.part_of-part.ensures (inl (c.if-has_points.ensures.0 refl, added))
 
 pub returns-else-has_points : goal.returns-else-has_points
 returns-else-has_points c =
-    subst (λ (r : Rect). IsPutPart c.args.own r c.args.lane.now c.args.lane.now) c.part_of-part.ensures
+    subst (λ (r : Rect). IsPutPart c.args.own r c.args.mark_list.now c.args.mark_list.now) c.part_of-part.ensures
     (inr (λ whole. false≢true (c.if-has_points.ensures.1 whole), refl))

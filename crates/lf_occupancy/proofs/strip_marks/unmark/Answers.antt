@@ -1,7 +1,7 @@
 use Rattle.std.specs.Prelude.{All}
 use Rattle.std.proofs.Common.{◌≡◌, ◌<ℤ◌, ◌<◌, ℕ, List, get_or, refl, subst, sym, ap, ◌∙◌, length, arith}
 use Rattle.lf_occupancy.specs.declared.strip_marks.Mark.{Mark}
-use Rattle.lf_occupancy.specs.Lanes.{AreRising, IsMarkOfCell, HasNoMarkFrom}
+use Rattle.lf_occupancy.specs.MarkLists.{AreRising, IsMarkOfCell, HasNoMarkFrom}
 use Rattle.lf_occupancy.proofs.Ones.{all_kept, not_before, one_left}
 use Rattle.lf_occupancy.proofs.strip_marks.unmark.Goals as goal
 
@@ -14,7 +14,7 @@ place_from-requires-clause-begins c =
 
 pub returns-in-Some : goal.returns-in-Some
 returns-in-Some c =
-    let items = c.args.lane.now.marks.items in
+    let items = c.args.mark_list.now.marks.items in
     let own = c.args.own in
     let at = subst (λ (es : List Mark). IsMarkOfCell es own c.in-Some.n) c.as_slice-marks.ensures.value c.in-Some.ensures in
     let fewer = c.remove.ensures.len in
@@ -27,7 +27,7 @@ returns-in-Some c =
 
 pub returns-in_default : goal.returns-in_default
 returns-in_default c =
-    let items = c.args.lane.now.marks.items in
+    let items = c.args.mark_list.now.marks.items in
     let own = c.args.own in
     let left = c.args.left.now in
     let from = c.count_before.result in
@@ -37,7 +37,7 @@ returns-in_default c =
     let below = subst (λ (es : List Mark). (k : ℕ) (d : Mark) → k < from → (get_or es k d).left <ℤ left) same c.count_before.ensures.below in
     let none = subst (λ (es : List Mark). HasNoMarkFrom es own from) same c.in_default.ensures in
     record {
-      marks = sym (all_kept items own (not_before c.args.lane.now own left from c.requires (omega (arith, bound, long)) below none));
+      marks = sym (all_kept items own (not_before c.args.mark_list.now own left from c.requires (omega (arith, bound, long)) below none));
       widest = refl;
       fewer = omega arith;
       room = refl;

@@ -1,6 +1,6 @@
 use Rattle.std.proofs.Common.{arith}
 use Rattle.std.proofs.lemmas.Int.{ints, clamps}
-use Rattle.lf_occupancy.proofs.Around.{near_is_felt}
+use Rattle.lf_occupancy.proofs.Around.{near_is_widened}
 use Rattle.lf_occupancy.proofs.widened.widened_strips.Goals as goal
 
 pub returns : goal.returns
@@ -11,5 +11,5 @@ returns c =
     let s = c.reach_of-reach.ensures.short in
     let p = s.least in
     let q = s.most in
-    near_is_felt c.args.site.now c.args.index.now c.args.row c.args.team c.args.rect.now.x1 c.args.rect.now.x2 _ _ _ _ c.requires
+    near_is_widened c.args.site.now c.args.index.now c.args.row c.args.team c.args.rect.now.x1 c.args.rect.now.x2 _ _ _ _ c.requires
     c.strips_are_placed.ensures (omega (arith, ints, clamps, a, r, p, q)) (omega (arith, ints, clamps, b, r, p, q)) c.strips_overlapping.ensures

@@ -1,15 +1,15 @@
 use Rattle.std.proofs.Common.{◌≡◌, List, ℕ, length, map, subst, sym, ap, ◌∙◌}
 use Rattle.lf_cells.specs.declared.cell.Cell.{Cell}
 use Rattle.lf_cells.specs.Cells.{cells_of}
-use Rattle.lf_occupancy.specs.Occupied.{FitIn}
-use Rattle.lf_occupancy.specs.Floorplans.{box_of, boxes_in}
+use Rattle.lf_occupancy.specs.Views.{FitIn}
+use Rattle.lf_occupancy.specs.Floorplans.{working_box_of, boxes_in}
 use Rattle.lf_occupancy.specs.Strips.{with_boxes}
 use Rattle.lf_occupancy.proofs.Building.{boxes_there}
-use Rattle.lf_placement.proofs.Marks.{can_stand, rooms_through}
+use Rattle.lf_placement.proofs.Marks.{can_be_placed, rooms_through}
 use Rattle.lf_undo.specs.declared.moves.Move.{Move}
 use Rattle.lf_placement.specs.Steps.{AreRemoved, BoxesMayBeInserted, AreInsertedExcept, moves_reverted, moved_positions, working_boxes}
 use Rattle.lf_placement.proofs.Moves.{length_same, same_back}
-use Rattle.lf_placement.proofs.Changing.{all_out, may_stand, others_back, owns_count, sized_back, stand_but}
+use Rattle.lf_placement.proofs.Changing.{all_out, may_be_placed, others_back, owns_count, sized_back, placed_except}
 use Rattle.lf_placement.proofs.apply.revert_moves.Goals as goal
 
 pub insert_moved-requires-clause-sized : goal.insert_moved-requires-clause-sized
@@ -29,18 +29,18 @@ insert_moved-requires-clause-may c =
     let before = with_boxes c.args.occupancy.now (boxes_in f c.args.cells.now) in
     let after = with_boxes c.remove_moved.new.occupancy c.remove_moved.ensures.out.boxes in
     let may : BoxesMayBeInserted team (working_boxes f c.revert_in_table.new.cells team) after =
-    may_stand f team (moved_positions moves) _ old new before after (owns_count moves) (boxes_there f c.args.cells.now team)
+    may_be_placed f team (moved_positions moves) _ old new before after (owns_count moves) (boxes_there f c.args.cells.now team)
     (others_back moves old new back_of) c.remove_moved.ensures.out.is
     (ap {B = ℕ} (λ (cs : List Cell). length cs) c.revert_in_table.ensures.own ∙ length_same old (moves_reverted given old) (same_back given old))
-    (subst (λ (cs : List Cell). FitIn before team (map (box_of f) cs)) (sym c.revert_in_table.ensures.own) c.requires.fits) in
+    (subst (λ (cs : List Cell). FitIn before team (map (working_box_of f) cs)) (sym c.revert_in_table.ensures.own) c.requires.fits) in
     let named : moved_positions moves ≡ moved_positions c.as_slice-2.result.now = ap moved_positions (c.as_slice.ensures ∙ sym c.as_slice-2.ensures) in
     let rest : AreInsertedExcept team (working_boxes f c.revert_in_table.new.cells team) (moved_positions c.as_slice-2.result.now) after =
-    subst (λ (ns : List ℕ). AreInsertedExcept team (map (box_of f) new) ns after) named
-    (stand_but f team (moved_positions moves) _ old new before after (owns_count moves) (boxes_there f c.args.cells.now team)
+    subst (λ (ns : List ℕ). AreInsertedExcept team (map (working_box_of f) new) ns after) named
+    (placed_except f team (moved_positions moves) _ old new before after (owns_count moves) (boxes_there f c.args.cells.now team)
     (others_back moves old new back_of) c.remove_moved.ensures.out.is) in
     let gone : AreRemoved team (moved_positions c.as_slice-2.result.now) after =
     subst (λ (ns : List ℕ). AreRemoved team ns after) named (all_out team (moved_positions moves) _ before after (owns_count moves) c.remove_moved.ensures.out.is) in
-    can_stand f c.args.cells.now c.revert_in_table.new.cells team (moved_positions moves) (moved_positions c.as_slice-2.result.now) _ c.args.occupancy.now c.remove_moved.new.occupancy
+    can_be_placed f c.args.cells.now c.revert_in_table.new.cells team (moved_positions moves) (moved_positions c.as_slice-2.result.now) _ c.args.occupancy.now c.remove_moved.new.occupancy
     c.revert_in_table.ensures.others c.remove_moved.ensures.out may rest gone
 
 pub returns-clause-rooms : goal.returns-clause-rooms

@@ -1,6 +1,6 @@
 use Rattle.std.proofs.Common.{sym, subst}
 use Rattle.lf_floorplan.specs.declared.frame.Frame.{Frame}
-use Rattle.lf_placement.specs.Placings.{AreSized}
+use Rattle.lf_placement.specs.Placements.{AreSized}
 use Rattle.lf_placement.proofs.Keeping.{few_opening, sized_opening}
 use Rattle.lf_placement.proofs.build.cells_in.Goals as goal
 

@@ -2,7 +2,7 @@ use Rattle.std.proofs.Common.{sym, subst}
 use Rattle.lf_floorplan.specs.declared.frame.Frame.{Frame}
 use Rattle.lf_occupancy.specs.Floorplans.{IsMarkedBy, boxes_in}
 use Rattle.lf_occupancy.specs.Strips.{with_boxes}
-use Rattle.lf_placement.specs.Placings.{IsPlacing, placing_of}
+use Rattle.lf_placement.specs.Placements.{IsPlacing, placing_of}
 use Rattle.lf_placement.proofs.Keeping.{placing_opening}
 use Rattle.lf_placement.proofs.Marks.{of_marked}
 use Rattle.lf_placement.proofs.build.tables_of.Goals as goal

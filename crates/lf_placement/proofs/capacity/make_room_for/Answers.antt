@@ -4,7 +4,7 @@ use Rattle.lf_cells.specs.declared.cell.CellId.{CellId}
 use Rattle.lf_cells.specs.Cells.{cells_of}
 use Rattle.lf_units.specs.declared.geometry.Rect.{Rect}
 use Rattle.lf_occupancy.specs.Floorplans.{boxes_in}
-use Rattle.lf_occupancy.specs.Occupied.{HasRoomFor}
+use Rattle.lf_occupancy.specs.Views.{HasRoomFor}
 use Rattle.lf_occupancy.specs.Strips.{with_boxes}
 use Rattle.lf_occupancy.proofs.Building.{boxes_there}
 use Rattle.lf_placement.proofs.Counts.{room_made}
@@ -18,8 +18,8 @@ returns-clause-ok c =
     room_made c.args.frame.now team (cells_of c.args.cells.now team) (c.args.next.now ∷ []) o
     (boxes_there c.args.frame.now c.args.cells.now team)
     (c.boxes_fit.ensures boxes (c.in_ok-reserve_for.ensures.holds boxes c.requires.holds) team)
-    (subst (λ (asked : List (CellId × Option Rect)). All (λ m. IfSome m.1 (λ r. HasRoomFor o m.0.team r (length asked))) asked)
-    (c.from_ref.ensures.value ∙ ap (λ (m : CellId × Option Rect). m ∷ []) c.requested_box-asked.ensures) (c.in_ok-reserve_for.ensures.ok boxes c.requires.holds))
+    (subst (λ (requested : List (CellId × Option Rect)). All (λ m. IfSome m.1 (λ r. HasRoomFor o m.0.team r (length requested))) requested)
+    (c.from_ref.ensures.value ∙ ap (λ (m : CellId × Option Rect). m ∷ []) c.requested_box-requested.ensures) (c.in_ok-reserve_for.ensures.ok boxes c.requires.holds))
 
 pub returns-in_err-reserve_for-clause-holds : goal.returns-in_err-reserve_for-clause-holds
 returns-in_err-reserve_for-clause-holds c = c.in_err-reserve_for.ensures.holds (boxes_in c.args.frame.now c.args.cells.now) c.requires.holds

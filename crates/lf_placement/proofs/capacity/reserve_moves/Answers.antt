@@ -3,12 +3,12 @@ use Rattle.std.specs.Prelude.{All, IfSome, OnOk}
 use Rattle.lf_cells.specs.declared.cell.CellId.{CellId}
 use Rattle.lf_cells.specs.Cells.{cells_of}
 use Rattle.lf_units.specs.declared.geometry.Rect.{Rect}
-use Rattle.lf_occupancy.specs.Floorplans.{box_of, boxes_in}
-use Rattle.lf_occupancy.specs.Occupied.{FitIn, HasRoomFor}
+use Rattle.lf_occupancy.specs.Floorplans.{working_box_of, boxes_in}
+use Rattle.lf_occupancy.specs.Views.{FitIn, HasRoomFor}
 use Rattle.lf_occupancy.specs.Strips.{with_boxes}
 use Rattle.lf_occupancy.proofs.Building.{boxes_there}
 use Rattle.lf_undo.specs.declared.moves.Move.{Move}
-use Rattle.lf_placement.specs.Placings.{moves_applied}
+use Rattle.lf_placement.specs.Placements.{moves_applied}
 use Rattle.lf_placement.proofs.Counts.{room_made}
 use Rattle.lf_placement.proofs.capacity.reserve_moves.Goals as goal
 
@@ -22,7 +22,7 @@ returns-then-moves-eq1-clause-ok c =
     let team = c.args.team in
     subst (λ (moves : List Move). OnOk c.make_room_for.result
     (FitIn (with_boxes c.make_room_for.new.occupancy (boxes_in c.args.frame.now c.args.cells.now)) team
-    (map (box_of c.args.frame.now) (moves_applied moves (cells_of c.args.cells.now team)))))
+    (map (working_box_of c.args.frame.now) (moves_applied moves (cells_of c.args.cells.now team)))))
     (one_move c.args.moves.now c.index-moves-0.result (omega arith) c.index-moves-0.is) c.make_room_for.ensures.ok
 
 pub returns-clause-ok : goal.returns-clause-ok
@@ -33,8 +33,8 @@ returns-clause-ok c =
     room_made c.args.frame.now team (cells_of c.args.cells.now team) c.args.moves.now o
     (boxes_there c.args.frame.now c.args.cells.now team)
     (c.boxes_fit.ensures boxes (c.in_ok-reserve_for.ensures.holds boxes c.requires.holds) team)
-    (subst (λ (asked : List (CellId × Option Rect)). All (λ m. IfSome m.1 (λ r. HasRoomFor o m.0.team r (length asked))) asked)
-    (c.as_slice.ensures.value ∙ c.in_ok-asked.ensures) (c.in_ok-reserve_for.ensures.ok boxes c.requires.holds))
+    (subst (λ (requested : List (CellId × Option Rect)). All (λ m. IfSome m.1 (λ r. HasRoomFor o m.0.team r (length requested))) requested)
+    (c.as_slice.ensures.value ∙ c.in_ok-requested.ensures) (c.in_ok-reserve_for.ensures.ok boxes c.requires.holds))
 
 pub returns-in_err-reserve_for-clause-holds : goal.returns-in_err-reserve_for-clause-holds
 returns-in_err-reserve_for-clause-holds c = c.in_err-reserve_for.ensures.holds (boxes_in c.args.frame.now c.args.cells.now) c.requires.holds

@@ -2,7 +2,7 @@ use Rattle.std.proofs.Common.{[], arith}
 use Rattle.lf_cells.specs.Cells.{cells_of}
 use Rattle.lf_occupancy.specs.Floorplans.{boxes_in}
 use Rattle.lf_occupancy.specs.Strips.{with_boxes}
-use Rattle.lf_placement.specs.Placings.{boxes_at, committed_of}
+use Rattle.lf_placement.specs.Placements.{boxes_at, committed_of}
 use Rattle.lf_placement.proofs.Tallying.{all_committed, bounds_at_work, bounds_fit, gains_none, gains_through, team_next}
 use Rattle.lf_placement.proofs.counted_capacity.fit_all_committed.Goals as goal
 

@@ -1,5 +1,5 @@
 use Rattle.std.proofs.Common.{[]}
-use Rattle.lf_occupancy.specs.Occupied.{KeepsCapacities}
+use Rattle.lf_occupancy.specs.Views.{KeepsCapacities}
 use Rattle.lf_occupancy.specs.Strips.{with_boxes, capacities_in}
 use Rattle.lf_placement.specs.Steps.{KeepsMarks}
 use Rattle.lf_placement.proofs.Tallying.{HalfCommitted}
@@ -10,5 +10,5 @@ abbrev pub invariant-loop-team : goal.invariant-loop-team
 invariant-loop-team l = record {
   half : HalfCommitted l.frame l.cells (with_boxes l.occupancy []) l.team l.tally;
   gains : KeepsMarks l.fn.occupancy l.occupancy;
-  room : KeepsCapacities l.tally (capacities_in l.occupancy.lanes);
+  room : KeepsCapacities l.tally (capacities_in l.occupancy.mark_lists);
 }

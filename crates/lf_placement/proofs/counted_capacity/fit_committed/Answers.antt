@@ -2,10 +2,10 @@ use Rattle.std.proofs.Common.{◌≡◌, [], Option, Some, ap, refl, set, subst,
 use Rattle.std.specs.Prelude.{OnOk, slice_get}
 use Rattle.lf_floorplan.specs.declared.place.Place.{Place}
 use Rattle.lf_cells.specs.Cells.{cells_of, committed_at, working_at}
-use Rattle.lf_occupancy.specs.Occupied.{Bounds}
+use Rattle.lf_occupancy.specs.Views.{Bounds}
 use Rattle.lf_occupancy.specs.Strips.{with_boxes}
 use Rattle.lf_undo.specs.Entries.{Places}
-use Rattle.lf_placement.specs.Placings.{boxes_at}
+use Rattle.lf_placement.specs.Placements.{boxes_at}
 use Rattle.lf_placement.proofs.Tallying.{put_same}
 use Rattle.lf_placement.proofs.counted_capacity.fit_committed.Goals as goal
 

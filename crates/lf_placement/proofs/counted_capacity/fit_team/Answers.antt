@@ -6,10 +6,10 @@ use Rattle.lf_cells.specs.declared.cell.CellId.{CellId}
 use Rattle.lf_cells.specs.Cells.{cells_of, committed_at, id_of, working_at}
 use Rattle.lf_cells.proofs.TeamIds.{ids_long, ids_read}
 use Rattle.lf_legalize.specs.Members.{IsSizedCell}
-use Rattle.lf_occupancy.specs.Occupied.{Bounds}
+use Rattle.lf_occupancy.specs.Views.{Bounds}
 use Rattle.lf_occupancy.specs.Strips.{with_boxes}
 use Rattle.lf_undo.specs.Entries.{Places}
-use Rattle.lf_placement.specs.Placings.{boxes_at}
+use Rattle.lf_placement.specs.Placements.{boxes_at}
 use Rattle.lf_placement.proofs.Tallying.{gains_none, gains_through, half_all, half_committed, half_next, half_there}
 use Rattle.lf_placement.proofs.counted_capacity.fit_team.Goals as goal
 

@@ -2,9 +2,9 @@ use Rattle.std.proofs.Common.{[], List, Option, ap, set, subst, sym, ◌∙◌}
 use Rattle.std.specs.Prelude.{OnOk}
 use Rattle.lf_units.specs.declared.geometry.Rect.{Rect}
 use Rattle.lf_cells.specs.Cells.{cells_of}
-use Rattle.lf_occupancy.specs.Occupied.{Bounds}
+use Rattle.lf_occupancy.specs.Views.{Bounds}
 use Rattle.lf_occupancy.specs.Strips.{with_boxes}
-use Rattle.lf_placement.specs.Placings.{boxes_at}
+use Rattle.lf_placement.specs.Placements.{boxes_at}
 use Rattle.lf_placement.proofs.Tallying.{box_put_at, place_box, within_places}
 use Rattle.lf_placement.proofs.counted_capacity.reserve_change.Goals as goal
 

@@ -1,5 +1,5 @@
 use Rattle.std.proofs.Common.{sym, ◌∙◌}
-use Rattle.lf_occupancy.specs.Occupied.{cell_box}
+use Rattle.lf_occupancy.specs.Views.{cell_box}
 use Rattle.lf_occupancy.specs.Strips.{with_boxes}
 use Rattle.lf_placement.specs.Steps.{working_boxes}
 use Rattle.lf_placement.proofs.Marks.{at_work, is_nowhere, may_enter, none_holds, rooms_same, still_bare}

@@ -1,10 +1,10 @@
 use Rattle.std.proofs.Common.{◌≡◌, ◌≤◌, ◌∙◌, ℕ, [], None, ap, length, get_or, subst, sym, arith}
 use Rattle.std.proofs.lemmas.List.{length-map}
 use Rattle.lf_undo.specs.declared.moves.Move.{Move}
-use Rattle.lf_occupancy.specs.Occupied.{cell_box}
+use Rattle.lf_occupancy.specs.Views.{cell_box}
 use Rattle.lf_placement.specs.Steps.{moved_positions}
 use Rattle.lf_placement.proofs.Boxes.{own_there}
-use Rattle.lf_placement.proofs.Marks.{all_hold, may_of, none_stand, one_enters, one_stands, rooms_same, rooms_through}
+use Rattle.lf_placement.proofs.Marks.{all_hold, may_of, none_are_placed, one_enters, one_is_placed, rooms_same, rooms_through}
 use Rattle.lf_placement.proofs.occupancy_sync.insert_moved.Goals as goal
 
 pub insert_absent-requires-clause-may : goal.insert_absent-requires-clause-may
@@ -34,7 +34,7 @@ returns-then-moves-eq1-clause-holds c =
 
 pub loop-next-init : goal.loop-next-init
 loop-next-init c = record {
-  standing = none_stand c.args.frame.now c.args.cells.now c.args.team (moved_positions c.args.moves.now) c.args.occupancy.now c.requires.may;
+  standing = none_are_placed c.args.frame.now c.args.cells.now c.args.team (moved_positions c.args.moves.now) c.args.occupancy.now c.requires.may;
   rooms = rooms_same c.args.occupancy.now;
 }
 
@@ -47,7 +47,7 @@ loop-next-preserved c =
     let next = c.next-item.result in
     let was = c.loop-next.invariant.standing in
     record {
-      standing = one_stands c.args.frame.now c.args.cells.now c.args.team (moved_positions c.args.moves.now) c.loop-next.next-index next.own c.loop-next.occupancy
+      standing = one_is_placed c.args.frame.now c.args.cells.now c.args.team (moved_positions c.args.moves.now) c.loop-next.next-index next.own c.loop-next.occupancy
           c.replace_at_working.new.occupancy (own_there c.args.moves.now c.loop-next.next-index next c.loop-next-test.true c.next-item.is)
           c.replace_at_working.ensures.rooms was
           (c.replace_at_working.ensures.holds was.boxes record { many = was.is.may.many; part = was.is.may.part } was.holds);

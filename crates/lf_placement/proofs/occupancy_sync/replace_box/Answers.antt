@@ -1,6 +1,6 @@
 use Rattle.std.proofs.Common.{Some, None, subst}
 use Rattle.lf_occupancy.specs.Strips.{MarksBoxes}
-use Rattle.lf_placement.specs.Steps.{KeepsRooms, box_set}
+use Rattle.lf_placement.specs.Steps.{KeepsStripRooms, box_set}
 use Rattle.lf_placement.proofs.Marks.{can_enter, can_leave, out_nowhere, rooms_through, set_twice}
 use Rattle.lf_placement.proofs.occupancy_sync.replace_box.Goals as goal
 
@@ -23,8 +23,8 @@ returns-clause-holds c = λ boxes at holds.
 
 pub returns-clause-rooms : goal.returns-clause-rooms
 returns-clause-rooms c =
-    let first : KeepsRooms c.args.occupancy.now c.remove.new.self =
+    let first : KeepsStripRooms c.args.occupancy.now c.remove.new.self =
     record { index = c.remove.ensures.index; site = c.remove.ensures.site; rooms = c.remove.ensures.rooms } in
-    let second : KeepsRooms c.remove.new.self c.insert.new.self =
+    let second : KeepsStripRooms c.remove.new.self c.insert.new.self =
     record { index = c.insert.ensures.index; site = c.insert.ensures.site; rooms = c.insert.ensures.rooms } in
     rooms_through c.args.occupancy.now c.remove.new.self c.insert.new.self first second

@@ -1,6 +1,6 @@
 use Rattle.std.proofs.Common.{drop}
 use Rattle.lf_cells.specs.Cells.{cells_of}
-use Rattle.lf_placement.specs.Placings.{OtherCellsStay, moves_applied}
+use Rattle.lf_placement.specs.Placements.{OtherCellsStay, moves_applied}
 use Rattle.lf_placement.proofs.Moves.{IsMakingAt}
 use Rattle.lf_placement.proofs.table_sync.apply_in_table.Given as goal
 

@@ -1,6 +1,6 @@
 use Rattle.std.proofs.Common.{◌≡◌, take}
 use Rattle.lf_cells.specs.Cells.{cells_of}
-use Rattle.lf_placement.specs.Placings.{OtherCellsStay}
+use Rattle.lf_placement.specs.Placements.{OtherCellsStay}
 use Rattle.lf_placement.specs.Steps.{moves_reverted}
 use Rattle.lf_placement.proofs.table_sync.revert_in_table.Given as goal
 

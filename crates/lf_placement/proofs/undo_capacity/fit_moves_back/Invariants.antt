@@ -1,7 +1,7 @@
 use Rattle.std.proofs.Common.{◌≡◌, ◌≢◌, ℕ, length, take}
-use Rattle.lf_occupancy.specs.Occupied.{KeepsCapacities}
+use Rattle.lf_occupancy.specs.Views.{KeepsCapacities}
 use Rattle.lf_undo.specs.Entries.{Places, moves_taken_back}
-use Rattle.lf_placement.specs.Placings.{BoundsAt, SameButRooms}
+use Rattle.lf_placement.specs.Placements.{BoundsAt, SameButRooms}
 use Rattle.lf_placement.proofs.undo_capacity.fit_moves_back.Given as goal
 
 -- undoing the remaining moves gives the same places as undoing all

@@ -1,4 +1,4 @@
-use Rattle.lf_repair_bounds.specs.Bare.{AreFirstCells}
+use Rattle.lf_repair_bounds.specs.EmptyFloors.{AreFirstCells}
 use Rattle.lf_repair_bounds.proofs.empty_floor.first_cells.Given as goal
 
 -- the kept cells are from the cells visited

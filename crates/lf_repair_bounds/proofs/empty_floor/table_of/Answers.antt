@@ -1,5 +1,5 @@
 use Rattle.std.proofs.Common.{subst, sym}
-use Rattle.lf_repair_bounds.specs.Bare.{AreUnplaced}
+use Rattle.lf_repair_bounds.specs.EmptyFloors.{AreUnplaced}
 use Rattle.lf_repair_bounds.proofs.Standing.{bare_table}
 use Rattle.lf_repair_bounds.proofs.empty_floor.table_of.Goals as goal
 

@@ -2,9 +2,9 @@ use Rattle.std.proofs.Common.{◌≡◌, ◌∙◌, ℕ, ◌+◌, List, Some, ap
 use Rattle.std.specs.Prelude.{option_map, slice_get}
 use Rattle.std.proofs.lemmas.List.{take_all}
 use Rattle.std.proofs.lemmas.Option.{get_or_from_slice_get, slice_get_within}
-use Rattle.lf_floorplan.specs.declared.loaded.Cell.{Cell}
+use Rattle.lf_floorplan.specs.declared.loaded.LoadedCell.{LoadedCell}
 use Rattle.lf_floorplan.specs.LoadedCells.{borrowed_cell}
-use Rattle.lf_repair_bounds.specs.Alone.{AreMaxMinDisplacements}
+use Rattle.lf_repair_bounds.specs.MinDisplacements.{AreMaxMinDisplacements}
 use Rattle.lf_repair_bounds.proofs.Copying.{there}
 use Rattle.lf_repair_bounds.proofs.Ways.{first_zeros, one_raised, take_more}
 use Rattle.lf_repair_bounds.proofs.min_displacement.max_min_displacements.Goals as goal
@@ -36,7 +36,7 @@ loop-at-preserved c =
     let is : slice_get cells at ≡ Some cell = sym c.get.ensures ∙ ap (option_map borrowed_cell) c.unwrap-cell.ensures in
     let raised = c.raise.ensures in (
       raised.many ∙ c.loop-at.invariant.0,
-      subst (λ (seen : List Cell). AreMaxMinDisplacements f seen c.raise.new.largest.items) (sym (take_more cells at cell is))
+      subst (λ (seen : List LoadedCell). AreMaxMinDisplacements f seen c.raise.new.largest.items) (sym (take_more cells at cell is))
           (one_raised f _ cell c.in_ok-way.way _ _ (c.in_ok-way.ensures {u = tt}) raised c.loop-at.invariant.1),
     )
 
@@ -46,5 +46,5 @@ returns-clause-many c = c.loop-at.invariant.0
 pub returns-clause-each : goal.returns-clause-each
 returns-clause-each c =
     let cells = c.args.loaded.now.cells in
-    subst (λ (seen : List Cell). AreMaxMinDisplacements c.args.loaded.now.frame seen c.loop-at.largest.items)
+    subst (λ (seen : List LoadedCell). AreMaxMinDisplacements c.args.loaded.now.frame seen c.loop-at.largest.items)
     (take_all c.loop-at.at cells (omega (arith, c.loop-at-test.false, c.len-at-end.ensures))) c.loop-at.invariant.1

@@ -1,5 +1,5 @@
 use Rattle.std.proofs.Common.{◌≡◌, ◌+◌, length, take}
-use Rattle.lf_repair_bounds.specs.Alone.{AreMaxMinDisplacements}
+use Rattle.lf_repair_bounds.specs.MinDisplacements.{AreMaxMinDisplacements}
 use Rattle.lf_repair_bounds.proofs.min_displacement.max_min_displacements.Given as goal
 
 -- the numbers are those of the cells so far

@@ -1,14 +1,14 @@
 use Rattle.std.proofs.Common.{◌≡◌, ◌≤◌, ◌+◌, get_or, refl, ap, arith}
-use Rattle.lf_repair_packing.specs.declared.cells.Cell.{Cell}
+use Rattle.lf_repair_packing.specs.declared.cells.PackedCell.{PackedCell}
 use Rattle.lf_repair_packing.proofs.Looking.{settles_more}
 use Rattle.lf_repair_packing.proofs.push_apart.push_apart.Goals as goal
 
 pub loop-cell-preserved : goal.loop-cell-preserved
 loop-cell-preserved c =
     let s = c.loop-cell.invariant in
-    let none : Cell = record { number = 0; width = 0; wanted = 0; at = 0 } in
-    let x : Cell = get_or c.loop-cell.cells c.loop-cell.cell-index none in
-    let y : Cell = record { number = x.number; width = x.width; wanted = x.wanted; at = c.max-cell.result } in
+    let none : PackedCell = record { number = 0; width = 0; wanted = 0; at = 0 } in
+    let x : PackedCell = get_or c.loop-cell.cells c.loop-cell.cell-index none in
+    let y : PackedCell = record { number = x.number; width = x.width; wanted = x.wanted; at = c.max-cell.result } in
     let fit = s.fit in
     let low = c.min.ensures in
     let high = c.max-cell.ensures in

@@ -1,5 +1,5 @@
 use Rattle.std.proofs.Common.{◌≡◌, ℕ, ◌<◌, get_or, length, map}
-use Rattle.lf_repair_packing.specs.declared.cells.Cell.{Cell}
+use Rattle.lf_repair_packing.specs.declared.cells.PackedCell.{PackedCell}
 use Rattle.lf_repair_packing.specs.Packing.{IsPackedWithin, shape}
 use Rattle.lf_repair_packing.proofs.push_apart.push_left.Given as goal
 
@@ -7,7 +7,7 @@ abbrev pub invariant-loop-own : goal.invariant-loop-own
 invariant-loop-own l = record {
   within : l.own < length l.cells;
   same : map shape l.initial.cells ≡ map shape l.cells;
-  at : (d : Cell) → l.end ≡ (get_or l.cells l.own d).at;
+  at : (d : PackedCell) → l.end ≡ (get_or l.cells l.own d).at;
   kept : (start end : ℕ) → IsPackedWithin start end l.initial.cells → l.cells ≡ l.initial.cells;
 }
 

@@ -1,7 +1,7 @@
 use Rattle.std.proofs.Common.{◌+◌, ◌≤◌, w64, sym, ap, ◌∙◌, arith, subst, rules, SFits}
 use Rattle.std.proofs.lemmas.Int.{ints}
 use Rattle.std.specs.List.{between, insert}
-use Rattle.lf_repair_packing.specs.Packing.{total_displacement, total_width}
+use Rattle.lf_repair_packing.specs.Packing.{total_site_displacement, total_width}
 use Rattle.lf_repair_packing.specs.Windows.{IsWindow, MovesWithin}
 use Rattle.lf_repair_packing.proofs.Grown.{grown, kept_grown, packed_grown, room_grown, same_moved_within, way_grown}
 use Rattle.lf_repair_packing.proofs.window.insert_cell.Goals as goal
@@ -62,10 +62,10 @@ returns-clause-cost c =
     let moved = subst (λ g. MovesWithin g (insert xs c.args.gap y) ys) c.with_one_more-grown.ensures
     (subst (λ zs. MovesWithin c.with_one_more-grown.result zs ys) c.in_ok-insert.ensures.items c.move_list.ensures.moved) in
     let ways = way_grown c.args.room c.args.gap xs ys y w is e.first e.last moved in
-    let before = c.total_displacement-before.ensures.way ∙ ap (λ zs. total_displacement (between w.first w.last zs)) c.deref.ensures.value in
+    let before = c.total_displacement-before.ensures.way ∙ ap (λ zs. total_site_displacement (between w.first w.last zs)) c.deref.ensures.value in
     let g = c.with_one_more-grown.result in
-    let after = c.total_displacement-after.ensures.way ∙ ap (λ zs. total_displacement (between g.first g.last zs)) c.deref-2.ensures.value
-    ∙ ap (λ g. total_displacement (between g.first g.last ys)) c.with_one_more-grown.ensures in
+    let after = c.total_displacement-after.ensures.way ∙ ap (λ zs. total_site_displacement (between g.first g.last zs)) c.deref-2.ensures.value
+    ∙ ap (λ g. total_site_displacement (between g.first g.last ys)) c.with_one_more-grown.ensures in
     let growth = c.growth.ensures in
     let fits : SFits w64 c.growth.result = search rules in
     omega (arith, ints, ways, before, after, growth, fits)

@@ -1,11 +1,11 @@
 use Rattle.lf_cells.specs.Cells.{cells_of}
-use Rattle.lf_repair_team.specs.Deeds.{HaveLeftTargets}
-use Rattle.lf_repair_team.proofs.Finding.{IsHome}
+use Rattle.lf_repair_team.specs.CellEdits.{HaveLeftTargets}
+use Rattle.lf_repair_team.proofs.Finding.{IsAtTarget}
 use Rattle.lf_repair_team.proofs.Lists.{AreNamedTo}
 use Rattle.lf_repair_team.proofs.outcome.changed_cells.Given as goal
 
 abbrev pub invariant-loop-id : goal.invariant-loop-id
 invariant-loop-id l = record {
-  changed : AreNamedTo (IsHome (cells_of l.placement.cells l.number) l.homes) l.id-index l.changed.items;
-  moved : HaveLeftTargets (cells_of l.placement.cells l.number) l.homes l.changed.items;
+  changed : AreNamedTo (IsAtTarget (cells_of l.placement.cells l.number) l.wanted_places) l.id-index l.changed.items;
+  moved : HaveLeftTargets (cells_of l.placement.cells l.number) l.wanted_places l.changed.items;
 }

@@ -1,8 +1,8 @@
 use Rattle.std.proofs.Common.{ℕ, get_or}
 use Rattle.std.proofs.lemmas.List.Elements.{All-nil, All-same}
 use Rattle.lf_cells.specs.Cells.{cells_of}
-use Rattle.lf_repair_team.specs.Mending.{IsIllegalIn}
-use Rattle.lf_repair_team.proofs.Finding.{MayStand, all_named, left_at, named_at}
+use Rattle.lf_repair_team.specs.TeamRepairs.{IsIllegalIn}
+use Rattle.lf_repair_team.proofs.Finding.{IsLegalIfKnown, all_named, left_at, named_at}
 use Rattle.lf_repair_strategy.proofs.Ids.{id_at, ids_are, no_id}
 use Rattle.lf_repair_team.proofs.Ids.{all_looked, looked_within}
 use Rattle.lf_repair_team.proofs.Lists.{none_named}
@@ -12,7 +12,7 @@ pub loop-id-init : goal.loop-id-init
 loop-id-init g c =
     let Left = λ (own : ℕ). IsIllegalIn c.args.floor.now c.args.seat.now.team.now own in
     record {
-      named = none_named (MayStand c.args.seat.now.team.now c.args.floor.now) c.new-left.result.items;
+      named = none_named (IsLegalIfKnown c.args.seat.now.team.now c.args.floor.now) c.new-left.result.items;
       illegal = All-same Left c.new-left.result.items _ c.new-left.ensures.items (All-nil Left);
     }
 

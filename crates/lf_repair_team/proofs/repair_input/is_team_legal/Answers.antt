@@ -6,7 +6,7 @@ use Rattle.lf_cells.specs.Cells.{cells_of}
 use Rattle.lf_legalize.specs.Members.{member_of}
 use Rattle.lf_floor_model.specs.States.{TeamState}
 use Rattle.lf_floor_model.specs.Teams.{team_number}
-use Rattle.lf_repair_team.proofs.Finding.{all_stand, not_whole, one_more_stands}
+use Rattle.lf_repair_team.proofs.Finding.{all_are_placed, not_whole, one_more_is_placed}
 use Rattle.lf_repair_strategy.proofs.Ids.{id_at, ids_are, no_id}
 use Rattle.lf_repair_team.proofs.Ids.{all_looked, looked_within}
 use Rattle.lf_repair_team.proofs.repair_input.is_team_legal.Goals as goal
@@ -14,8 +14,8 @@ use Rattle.lf_repair_team.proofs.repair_input.is_team_legal.Goals as goal
 false_true : false ≡ true → ⊥
 false_true e = cc
 
-pub returns-then-not-is_cell_legal-clause-told : goal.returns-then-not-is_cell_legal-clause-told
-returns-then-not-is_cell_legal-clause-told g c = λ s there whole.
+pub returns-then-not-is_cell_legal-clause-reported : goal.returns-then-not-is_cell_legal-clause-reported
+returns-then-not-is_cell_legal-clause-reported g c = λ s there whole.
     let floor = c.args.floor.now in
     let team = c.args.team.now in
     let number = c.in-Some.number in
@@ -24,11 +24,11 @@ returns-then-not-is_cell_legal-clause-told g c = λ s there whole.
     let cells = cells_of c.placement.result.now.cells number in
     let ids = c.cells_of-id-items.result.now in
     let are = ids_are c.placement.result.now.cells c.cells.result.now number ids c.cells.ensures c.cells_of-id-items.ensures in
-    let Told = c.is_cell_legal.result ≡ true in
-    absurd (not_whole team floor number k Told named
+    let Reported = c.is_cell_legal.result ≡ true in
+    absurd (not_whole team floor number k Reported named
     (subst (λ (i : CellId). (s : TeamState) → slice_get floor.teams number ≡ Some s → i.own < length s.cells
-    → IsLegalCell floor.frame number s.padding (map member_of s.cells) i.own → Told) (id_at number k cells ids are c.loop-id-test.true) c.is_cell_legal.ensures.told)
-    (λ told. false_true (sym c.if-not-is_cell_legal.true ∙ told)) s there
+    → IsLegalCell floor.frame number s.padding (map member_of s.cells) i.own → Reported) (id_at number k cells ids are c.loop-id-test.true) c.is_cell_legal.ensures.reported)
+    (λ reported. false_true (sym c.if-not-is_cell_legal.true ∙ reported)) s there
     (looked_within team floor number k cells ids are c.loop-id-test.true named (λ s at. c.placement.ensures.cells number s at) s there) whole)
 
 pub loop-id-preserved : goal.loop-id-preserved
@@ -41,7 +41,7 @@ loop-id-preserved g c =
     let cells = cells_of c.placement.result.now.cells number in
     let ids = c.cells_of-id-items.result.now in
     let are = ids_are c.placement.result.now.cells c.cells.result.now number ids c.cells.ensures c.cells_of-id-items.ensures in
-    one_more_stands team floor number k (get_or ids k no_id) (id_at number k cells ids are c.loop-id-test.true) named
+    one_more_is_placed team floor number k (get_or ids k no_id) (id_at number k cells ids are c.loop-id-test.true) named
     (λ s at. c.is_cell_legal.ensures.legal s at c.if-not-is_cell_legal.false) c.loop-id.invariant
 
 pub returns-clause-whole : goal.returns-clause-whole
@@ -54,4 +54,4 @@ returns-clause-whole g c = λ e.
     let cells = cells_of c.placement.result.now.cells number in
     let ids = c.cells_of-id-items.result.now in
     let are = ids_are c.placement.result.now.cells c.cells.result.now number ids c.cells.ensures c.cells_of-id-items.ensures in
-    all_stand team floor number k named (all_looked floor number k cells ids are c.loop-id-test.false (λ s at. c.placement.ensures.cells number s at)) c.loop-id.invariant
+    all_are_placed team floor number k named (all_looked floor number k cells ids are c.loop-id-test.false (λ s at. c.placement.ensures.cells number s at)) c.loop-id.invariant

@@ -4,6 +4,6 @@ pub returns : goal.returns
 returns g c = record {
   mark = c.is_cell_legal.result;
   more = c.in_ok-push.ensures.items;
-  told = c.is_cell_legal.ensures.told;
+  reported = c.is_cell_legal.ensures.reported;
   legal = c.is_cell_legal.ensures.legal;
 }

@@ -1,7 +1,7 @@
 use Rattle.std.proofs.Common.{◌≡◌, ◌∙◌, ◌++◌, inl, inr, refl, sym, ap}
 use Rattle.std.specs.Io.KnownBytes.{Appends}
-use Rattle.lf_proto.specs.Commands.{command_of}
-use Rattle.lf_repair_team.specs.Runs.{AppendsFront, line_of}
+use Rattle.lf_proto.specs.Commands.{command_with_names}
+use Rattle.lf_repair_team.specs.Runs.{AppendsSomeOf, request_line}
 use Rattle.lf_repair_team.proofs.Results.{err_is, ok_is}
 use Rattle.lf_repair_team.proofs.Runs.{left_out, none_cut, one_cut, one_written, step_only, unchanged}
 use Rattle.lf_repair_team.proofs.Steps.{step_names}
@@ -13,8 +13,8 @@ returns-then-is_err-clause-err g c = λ l team to plain. none_cut l team c.args.
 pub returns-then-is_err-clause-only : goal.returns-then-is_err-clause-only
 returns-then-is_err-clause-only g c = λ team to. unchanged team c.args.floor.now
 
-pub returns-then-is_err-clause-asked : goal.returns-then-is_err-clause-asked
-returns-then-is_err-clause-asked g c = λ l. inl refl
+pub returns-then-is_err-clause-requested : goal.returns-then-is_err-clause-requested
+returns-then-is_err-clause-requested g c = λ l. inl refl
 
 pub returns-then-not-is_accepted-clause-run : goal.returns-then-not-is_accepted-clause-run
 returns-then-not-is_accepted-clause-run g c = λ l team to plain.
@@ -24,55 +24,55 @@ returns-then-not-is_accepted-clause-run g c = λ l team to plain.
 pub returns-then-not-is_accepted-clause-only : goal.returns-then-not-is_accepted-clause-only
 returns-then-not-is_accepted-clause-only g c = λ team to.
     let l = c.legalizer_exists.ensures in
-    step_only team (command_of c.args.request.now) c.args.floor.now c.step-reply.new.self to c.step-reply.ensures.others c.step-reply.ensures.frame
-    c.step-reply.ensures.components (step_names l team (command_of c.args.request.now) c.args.floor.now c.step-reply.new.self c.step-reply.result to (c.step-reply.ensures.step l))
+    step_only team (command_with_names c.args.request.now) c.args.floor.now c.step-reply.new.self to c.step-reply.ensures.others c.step-reply.ensures.frame
+    c.step-reply.ensures.components (step_names l team (command_with_names c.args.request.now) c.args.floor.now c.step-reply.new.self c.step-reply.result to (c.step-reply.ensures.step l))
     c.step-reply.ensures.legal
 
-pub returns-then-not-is_accepted-clause-asked : goal.returns-then-not-is_accepted-clause-asked
-returns-then-not-is_accepted-clause-asked g c = λ l. inr (c.step-reply.result, c.step-reply.ensures.step l)
+pub returns-then-not-is_accepted-clause-requested : goal.returns-then-not-is_accepted-clause-requested
+returns-then-not-is_accepted-clause-requested g c = λ l. inr (c.step-reply.result, c.step-reply.ensures.step l)
 
-pub returns-then-is_err-2-clause-asked : goal.returns-then-is_err-2-clause-asked
-returns-then-is_err-2-clause-asked g c = λ l. inr (c.step-reply.result, c.step-reply.ensures.step l)
+pub returns-then-is_err-2-clause-requested : goal.returns-then-is_err-2-clause-requested
+returns-then-is_err-2-clause-requested g c = λ l. inr (c.step-reply.result, c.step-reply.ensures.step l)
 
-pub returns-clause-asked : goal.returns-clause-asked
-returns-clause-asked g c = λ l. inr (c.step-reply.result, c.step-reply.ensures.step l)
+pub returns-clause-requested : goal.returns-clause-requested
+returns-clause-requested g c = λ l. inr (c.step-reply.result, c.step-reply.ensures.step l)
 
 pub returns-then-is_err-2-clause-err : goal.returns-then-is_err-2-clause-err
 returns-then-is_err-2-clause-err g c = λ l team to plain.
-    let line : c.write_request.new.out.items ≡ c.clear.new.self.items ++ line_of (command_of c.args.request.now) =
-    ok_is c.write_request.result (c.write_request.new.out.items ≡ c.clear.new.self.items ++ line_of (command_of c.args.request.now))
+    let line : c.write_request.new.out.items ≡ c.clear.new.self.items ++ request_line (command_with_names c.args.request.now) =
+    ok_is c.write_request.result (c.write_request.new.out.items ≡ c.clear.new.self.items ++ request_line (command_with_names c.args.request.now))
     (sym c.is_err.ensures.value ∙ c.if-is_err.false) c.write_request.ensures in
-    let front : AppendsFront (g.K.Sink.contents c.args.lines.now) (g.K.Sink.contents c.write_whole.new.lines) c.as_slice.result.now =
-    err_is c.write_whole.result (AppendsFront (g.K.Sink.contents c.args.lines.now) (g.K.Sink.contents c.write_whole.new.lines) c.as_slice.result.now)
+    let front : AppendsSomeOf (g.K.Sink.contents c.args.lines.now) (g.K.Sink.contents c.write_whole.new.lines) c.as_slice.result.now =
+    err_is c.write_whole.result (AppendsSomeOf (g.K.Sink.contents c.args.lines.now) (g.K.Sink.contents c.write_whole.new.lines) c.as_slice.result.now)
     (sym c.is_err-2.ensures.value ∙ c.if-is_err-2.true) c.write_whole.ensures.err in
     one_cut l team c.args.floor.now c.step-reply.new.self (g.K.Sink.contents c.args.lines.now) (g.K.Sink.contents c.write_whole.new.lines)
-    c.as_slice.result.now (command_of c.args.request.now) c.step-reply.result to plain (c.step-reply.ensures.step l)
+    c.as_slice.result.now (command_with_names c.args.request.now) c.step-reply.result to plain (c.step-reply.ensures.step l)
     (sym c.is_accepted.ensures ∙ c.if-not-is_accepted.false)
-    (c.as_slice.ensures.value ∙ line ∙ ap (λ xs. xs ++ line_of (command_of c.args.request.now)) c.clear.ensures.items) front
+    (c.as_slice.ensures.value ∙ line ∙ ap (λ xs. xs ++ request_line (command_with_names c.args.request.now)) c.clear.ensures.items) front
 
 pub returns-then-is_err-2-clause-only : goal.returns-then-is_err-2-clause-only
 returns-then-is_err-2-clause-only g c = λ team to.
     let l = c.legalizer_exists.ensures in
-    step_only team (command_of c.args.request.now) c.args.floor.now c.step-reply.new.self to c.step-reply.ensures.others c.step-reply.ensures.frame
-    c.step-reply.ensures.components (step_names l team (command_of c.args.request.now) c.args.floor.now c.step-reply.new.self c.step-reply.result to (c.step-reply.ensures.step l))
+    step_only team (command_with_names c.args.request.now) c.args.floor.now c.step-reply.new.self to c.step-reply.ensures.others c.step-reply.ensures.frame
+    c.step-reply.ensures.components (step_names l team (command_with_names c.args.request.now) c.args.floor.now c.step-reply.new.self c.step-reply.result to (c.step-reply.ensures.step l))
     c.step-reply.ensures.legal
 
 pub returns-clause-run : goal.returns-clause-run
 returns-clause-run g c = λ l team to plain.
-    let line : c.write_request.new.out.items ≡ c.clear.new.self.items ++ line_of (command_of c.args.request.now) =
-    ok_is c.write_request.result (c.write_request.new.out.items ≡ c.clear.new.self.items ++ line_of (command_of c.args.request.now))
+    let line : c.write_request.new.out.items ≡ c.clear.new.self.items ++ request_line (command_with_names c.args.request.now) =
+    ok_is c.write_request.result (c.write_request.new.out.items ≡ c.clear.new.self.items ++ request_line (command_with_names c.args.request.now))
     (sym c.is_err.ensures.value ∙ c.if-is_err.false) c.write_request.ensures in
     let whole : Appends (g.K.Sink.contents c.args.lines.now) (g.K.Sink.contents c.write_whole.new.lines) c.as_slice.result.now =
     ok_is c.write_whole.result (Appends (g.K.Sink.contents c.args.lines.now) (g.K.Sink.contents c.write_whole.new.lines) c.as_slice.result.now)
     (sym c.is_err-2.ensures.value ∙ c.if-is_err-2.false) c.write_whole.ensures.ok in
     one_written l team c.args.floor.now c.step-reply.new.self (g.K.Sink.contents c.args.lines.now) (g.K.Sink.contents c.write_whole.new.lines)
-    c.as_slice.result.now (command_of c.args.request.now) c.step-reply.result to plain (c.step-reply.ensures.step l)
+    c.as_slice.result.now (command_with_names c.args.request.now) c.step-reply.result to plain (c.step-reply.ensures.step l)
     (sym c.is_accepted.ensures ∙ c.if-not-is_accepted.false)
-    (c.as_slice.ensures.value ∙ line ∙ ap (λ xs. xs ++ line_of (command_of c.args.request.now)) c.clear.ensures.items) whole
+    (c.as_slice.ensures.value ∙ line ∙ ap (λ xs. xs ++ request_line (command_with_names c.args.request.now)) c.clear.ensures.items) whole
 
 pub returns-clause-only : goal.returns-clause-only
 returns-clause-only g c = λ team to.
     let l = c.legalizer_exists.ensures in
-    step_only team (command_of c.args.request.now) c.args.floor.now c.step-reply.new.self to c.step-reply.ensures.others c.step-reply.ensures.frame
-    c.step-reply.ensures.components (step_names l team (command_of c.args.request.now) c.args.floor.now c.step-reply.new.self c.step-reply.result to (c.step-reply.ensures.step l))
+    step_only team (command_with_names c.args.request.now) c.args.floor.now c.step-reply.new.self to c.step-reply.ensures.others c.step-reply.ensures.frame
+    c.step-reply.ensures.components (step_names l team (command_with_names c.args.request.now) c.args.floor.now c.step-reply.new.self c.step-reply.result to (c.step-reply.ensures.step l))
     c.step-reply.ensures.legal

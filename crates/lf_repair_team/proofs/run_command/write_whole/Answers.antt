@@ -1,8 +1,8 @@
 use Rattle.std.proofs.Common.{arith, take}
 use Rattle.lf_io.proofs.Known.{Appends-more, Appends-same, joined}
-use Rattle.lf_repair_team.specs.Runs.{AppendsFront}
+use Rattle.lf_repair_team.specs.Runs.{AppendsSomeOf}
 use Rattle.lf_repair_team.proofs.Results.{err_from}
-use Rattle.lf_repair_team.proofs.Runs.{kept_behind}
+use Rattle.lf_repair_team.proofs.Runs.{kept_after}
 use Rattle.lf_repair_team.proofs.run_command.write_whole.Goals as goal
 
 pub loop-at-preserved : goal.loop-at-preserved
@@ -13,8 +13,8 @@ loop-at-preserved g c = record {
 
 pub returns-in_err-at-clause-err : goal.returns-in_err-at-clause-err
 returns-in_err-at-clause-err g c =
-    err_from c.from_residual.result (AppendsFront (g.K.Sink.contents c.args.lines.now) (g.K.Sink.contents c.write.new.self) c.args.bytes.now) (
+    err_from c.from_residual.result (AppendsSomeOf (g.K.Sink.contents c.args.lines.now) (g.K.Sink.contents c.write.new.self) c.args.bytes.now) (
       c.loop-at.at,
-      kept_behind (g.K.Sink.contents c.args.lines.now) (g.K.Sink.contents c.loop-at.lines) (g.K.Sink.contents c.write.new.self)
+      kept_after (g.K.Sink.contents c.args.lines.now) (g.K.Sink.contents c.loop-at.lines) (g.K.Sink.contents c.write.new.self)
           (take c.loop-at.at c.args.bytes.now) c.loop-at.invariant.written c.in_err-at.ensures.bytes,
     )

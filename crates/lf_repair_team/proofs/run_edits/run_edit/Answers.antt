@@ -1,5 +1,5 @@
 use Rattle.std.proofs.Common.{◌∙◌, List, ℕ, Some, ap, subst, sym}
-use Rattle.lf_proto.specs.Lines.{IsName}
+use Rattle.lf_proto.specs.Lines.{IsLineName}
 use Rattle.lf_floor_model.specs.Teams.{IsTeamOf}
 use Rattle.lf_repair_team.proofs.Cells.{named_is}
 use Rattle.lf_repair_team.proofs.Results.{each_state}
@@ -16,7 +16,7 @@ returns-in-Ok-true-clause-cells g c = λ other differ.
     (c.in-Ok-true.ensures.name s c.in-Ok-true.field-0-test there ∙ ap (λ (n : List ℕ). Some n) (sym c.as_slice.ensures.value)) named))
 
 pub run_edit_of-requires : goal.run_edit_of-requires
-run_edit_of-requires g c = subst IsName (sym c.as_slice.ensures.value) (c.in-Ok-true.ensures.plain c.in-Ok-true.field-0-test)
+run_edit_of-requires g c = subst IsLineName (sym c.as_slice.ensures.value) (c.in-Ok-true.ensures.plain c.in-Ok-true.field-0-test)
 
 pub returns-in-Err-clause-err : goal.returns-in-Err-clause-err
 returns-in-Err-clause-err g c = λ l. none_cut l c.args.seat.now.team.now c.args.floor.now (g.K.Sink.contents c.args.lines.now)

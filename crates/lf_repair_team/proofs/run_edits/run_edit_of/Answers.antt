@@ -31,24 +31,24 @@ returns-in-Ok-clause-only g c = c.in-Ok.ensures.only c.args.seat.now.team.now re
 pub returns-in-Ok-clause-cells : goal.returns-in-Ok-clause-cells
 returns-in-Ok-clause-cells g c = λ other differ.
     others_stay c.legalizer_exists.ensures c.args.floor.now c.run_command.new.floor c.args.seat.now.team.now c.args.cell.now c.args.seat.now.session
-    (change_of c.change_of.result) other c.change_of.ensures.cell (c.in-Ok.ensures.asked c.legalizer_exists.ensures) differ
+    (change_of c.change_of.result) other c.change_of.ensures.cell (c.in-Ok.ensures.requested c.legalizer_exists.ensures) differ
 
 pub returns-in-Ok-clause-committed : goal.returns-in-Ok-clause-committed
 returns-in-Ok-clause-committed g c =
     committed_stays c.legalizer_exists.ensures c.args.floor.now c.run_command.new.floor c.args.seat.now.team.now
     (Within c.args.seat.now.session (Changing (change_of c.change_of.result))) (no_commit c.args.seat.now.session c.args.cell.now (change_of c.change_of.result) c.change_of.ensures.cell)
-    (c.in-Ok.ensures.asked c.legalizer_exists.ensures)
+    (c.in-Ok.ensures.requested c.legalizer_exists.ensures)
 
 pub returns-in-Err-clause-cells : goal.returns-in-Err-clause-cells
 returns-in-Err-clause-cells g c = λ other differ.
     others_stay c.legalizer_exists.ensures c.args.floor.now c.run_command.new.floor c.args.seat.now.team.now c.args.cell.now c.args.seat.now.session
-    (change_of c.change_of.result) other c.change_of.ensures.cell (c.in-Err.ensures.asked c.legalizer_exists.ensures) differ
+    (change_of c.change_of.result) other c.change_of.ensures.cell (c.in-Err.ensures.requested c.legalizer_exists.ensures) differ
 
 pub returns-in-Err-clause-committed : goal.returns-in-Err-clause-committed
 returns-in-Err-clause-committed g c =
     committed_stays c.legalizer_exists.ensures c.args.floor.now c.run_command.new.floor c.args.seat.now.team.now
     (Within c.args.seat.now.session (Changing (change_of c.change_of.result))) (no_commit c.args.seat.now.session c.args.cell.now (change_of c.change_of.result) c.change_of.ensures.cell)
-    (c.in-Err.ensures.asked c.legalizer_exists.ensures)
+    (c.in-Err.ensures.requested c.legalizer_exists.ensures)
 
 pub returns-in-Err-clause-only : goal.returns-in-Err-clause-only
 returns-in-Err-clause-only g c = c.in-Err.ensures.only c.args.seat.now.team.now refl

@@ -2,8 +2,8 @@ use Rattle.std.proofs.Common.{◌∙◌, refl}
 use Rattle.lf_repair_team.proofs.Runs.{none_moves, nothing, then_cut, then_only, then_stay, then_written, unchanged}
 use Rattle.lf_repair_team.proofs.run_edits.run_edits.Goals as goal
 
-pub loop-deed-init : goal.loop-deed-init
-loop-deed-init g c = record {
+pub loop-cell_edit-init : goal.loop-cell_edit-init
+loop-cell_edit-init g c = record {
   run = λ l. nothing l c.args.seat.now.team.now c.args.floor.now (g.K.Sink.contents c.args.lines.now);
   only = unchanged c.args.seat.now.team.now c.args.floor.now;
   marked = none_moves c.args.seat.now.team.now c.args.marks.now c.args.floor.now;
@@ -12,24 +12,24 @@ loop-deed-init g c = record {
 
 pub returns-in-Err-clause-err : goal.returns-in-Err-clause-err
 returns-in-Err-clause-err g c = λ l.
-    then_cut l c.args.seat.now.team.now c.args.floor.now c.loop-deed.floor c.run_edit_unless_locked.new.floor (g.K.Sink.contents c.args.lines.now) (g.K.Sink.contents c.loop-deed.lines)
-    (g.K.Sink.contents c.run_edit_unless_locked.new.lines) (c.loop-deed.invariant.run l) (c.in-Err.ensures.err l)
+    then_cut l c.args.seat.now.team.now c.args.floor.now c.loop-cell_edit.floor c.run_edit_unless_locked.new.floor (g.K.Sink.contents c.args.lines.now) (g.K.Sink.contents c.loop-cell_edit.lines)
+    (g.K.Sink.contents c.run_edit_unless_locked.new.lines) (c.loop-cell_edit.invariant.run l) (c.in-Err.ensures.err l)
 
 pub returns-in-Err-clause-only : goal.returns-in-Err-clause-only
-returns-in-Err-clause-only g c = then_only c.args.seat.now.team.now c.args.floor.now c.loop-deed.floor c.run_edit_unless_locked.new.floor c.loop-deed.invariant.only c.in-Err.ensures.only
+returns-in-Err-clause-only g c = then_only c.args.seat.now.team.now c.args.floor.now c.loop-cell_edit.floor c.run_edit_unless_locked.new.floor c.loop-cell_edit.invariant.only c.in-Err.ensures.only
 
 pub returns-in-Err-clause-marked : goal.returns-in-Err-clause-marked
 returns-in-Err-clause-marked g c =
-    then_stay c.args.seat.now.team.now c.args.marks.now c.args.floor.now c.loop-deed.floor c.run_edit_unless_locked.new.floor c.loop-deed.invariant.marked c.in-Err.ensures.marked
+    then_stay c.args.seat.now.team.now c.args.marks.now c.args.floor.now c.loop-cell_edit.floor c.run_edit_unless_locked.new.floor c.loop-cell_edit.invariant.marked c.in-Err.ensures.marked
 
 pub returns-in-Err-clause-committed : goal.returns-in-Err-clause-committed
-returns-in-Err-clause-committed g c = c.in-Err.ensures.committed ∙ c.loop-deed.invariant.committed
+returns-in-Err-clause-committed g c = c.in-Err.ensures.committed ∙ c.loop-cell_edit.invariant.committed
 
-pub loop-deed-preserved : goal.loop-deed-preserved
-loop-deed-preserved g c = record {
-  run = λ l. then_written l c.args.seat.now.team.now c.args.floor.now c.loop-deed.floor c.run_edit_unless_locked.new.floor (g.K.Sink.contents c.args.lines.now)
-      (g.K.Sink.contents c.loop-deed.lines) (g.K.Sink.contents c.run_edit_unless_locked.new.lines) (c.loop-deed.invariant.run l) (c.in-Ok.ensures.run l);
-  only = then_only c.args.seat.now.team.now c.args.floor.now c.loop-deed.floor c.run_edit_unless_locked.new.floor c.loop-deed.invariant.only c.in-Ok.ensures.only;
-  marked = then_stay c.args.seat.now.team.now c.args.marks.now c.args.floor.now c.loop-deed.floor c.run_edit_unless_locked.new.floor c.loop-deed.invariant.marked c.in-Ok.ensures.marked;
-  committed = c.in-Ok.ensures.committed ∙ c.loop-deed.invariant.committed;
+pub loop-cell_edit-preserved : goal.loop-cell_edit-preserved
+loop-cell_edit-preserved g c = record {
+  run = λ l. then_written l c.args.seat.now.team.now c.args.floor.now c.loop-cell_edit.floor c.run_edit_unless_locked.new.floor (g.K.Sink.contents c.args.lines.now)
+      (g.K.Sink.contents c.loop-cell_edit.lines) (g.K.Sink.contents c.run_edit_unless_locked.new.lines) (c.loop-cell_edit.invariant.run l) (c.in-Ok.ensures.run l);
+  only = then_only c.args.seat.now.team.now c.args.floor.now c.loop-cell_edit.floor c.run_edit_unless_locked.new.floor c.loop-cell_edit.invariant.only c.in-Ok.ensures.only;
+  marked = then_stay c.args.seat.now.team.now c.args.marks.now c.args.floor.now c.loop-cell_edit.floor c.run_edit_unless_locked.new.floor c.loop-cell_edit.invariant.marked c.in-Ok.ensures.marked;
+  committed = c.in-Ok.ensures.committed ∙ c.loop-cell_edit.invariant.committed;
 }

@@ -2,14 +2,14 @@ use Rattle.std.proofs.Common.{List, Bool, Option, length, subst}
 use Rattle.lf_floorplan.specs.declared.place.Place.{Place}
 use Rattle.lf_cells.specs.declared.cell.Cell.{Cell}
 use Rattle.lf_cells.specs.Cells.{cells_of}
-use Rattle.lf_repair_team.specs.Deeds.{AreStatsOfFirst}
+use Rattle.lf_repair_team.specs.CellEdits.{AreStatsOfFirst}
 use Rattle.lf_repair_team.proofs.stats.stats_of.Goals as goal
 
 pub returns-clause-tally : goal.returns-clause-tally
 returns-clause-tally g c = λ s at.
-    let told = c.count_cells.result in
+    let reported = c.count_cells.result in
     let marks = c.args.start.now.legal.items in
     let cells = cells_of c.placement.result.now.cells c.args.number in
-    subst (λ (cs : List Cell). AreStatsOfFirst c.args.start.now.go.homes.items marks cs (length cs) told) (c.placement.ensures.cells c.args.number s at)
-    (subst (λ (homes : List (Option Place)). AreStatsOfFirst homes marks cells (length cells) told) c.as_slice.ensures.value
-    (subst (λ (ms : List Bool). AreStatsOfFirst c.as_slice.result.now ms cells (length cells) told) c.as_slice-2.ensures.value c.count_cells.ensures.tally))
+    subst (λ (cs : List Cell). AreStatsOfFirst c.args.start.now.pass.wanted_places.items marks cs (length cs) reported) (c.placement.ensures.cells c.args.number s at)
+    (subst (λ (wanted_places : List (Option Place)). AreStatsOfFirst wanted_places marks cells (length cells) reported) c.as_slice.ensures.value
+    (subst (λ (ms : List Bool). AreStatsOfFirst c.as_slice.result.now ms cells (length cells) reported) c.as_slice-2.ensures.value c.count_cells.ensures.tally))

@@ -29,7 +29,7 @@ returns-in-Ok-clause-only g c = c.in-Ok.ensures.only c.args.seat.now.team.now re
 pub returns-in-Ok-clause-cells : goal.returns-in-Ok-clause-cells
 returns-in-Ok-clause-cells g c =
     look_same c.legalizer_exists.ensures c.args.floor.now c.run_command.new.floor c.args.seat.now.team.now (Within c.args.seat.now.session Close) c.query_keeps_state.ensures refl
-    (c.in-Ok.ensures.asked c.legalizer_exists.ensures)
+    (c.in-Ok.ensures.requested c.legalizer_exists.ensures)
 
 pub returns-in-Err-clause-only : goal.returns-in-Err-clause-only
 returns-in-Err-clause-only g c = c.in-Err.ensures.only c.args.seat.now.team.now refl
@@ -37,4 +37,4 @@ returns-in-Err-clause-only g c = c.in-Err.ensures.only c.args.seat.now.team.now 
 pub returns-in-Err-clause-cells : goal.returns-in-Err-clause-cells
 returns-in-Err-clause-cells g c =
     look_same c.legalizer_exists.ensures c.args.floor.now c.run_command.new.floor c.args.seat.now.team.now (Within c.args.seat.now.session Close) c.query_keeps_state.ensures refl
-    (c.in-Err.ensures.asked c.legalizer_exists.ensures)
+    (c.in-Err.ensures.requested c.legalizer_exists.ensures)

@@ -35,7 +35,7 @@ returns-in-Ok-clause-only g c = c.in-Ok.ensures.only c.args.seat.now.team.now re
 pub returns-in-Ok-clause-places : goal.returns-in-Ok-clause-places
 returns-in-Ok-clause-places g c =
     commit_stays c.legalizer_exists.ensures c.args.floor.now c.run_command.new.floor c.args.seat.now.team.now c.args.seat.now.session
-    (c.in-Ok.ensures.asked c.legalizer_exists.ensures)
+    (c.in-Ok.ensures.requested c.legalizer_exists.ensures)
 
 pub returns-in-Err-clause-only : goal.returns-in-Err-clause-only
 returns-in-Err-clause-only g c = c.in-Err.ensures.only c.args.seat.now.team.now refl
@@ -43,4 +43,4 @@ returns-in-Err-clause-only g c = c.in-Err.ensures.only c.args.seat.now.team.now 
 pub returns-in-Err-clause-places : goal.returns-in-Err-clause-places
 returns-in-Err-clause-places g c =
     commit_stays c.legalizer_exists.ensures c.args.floor.now c.run_command.new.floor c.args.seat.now.team.now c.args.seat.now.session
-    (c.in-Err.ensures.asked c.legalizer_exists.ensures)
+    (c.in-Err.ensures.requested c.legalizer_exists.ensures)

@@ -1,5 +1,5 @@
 use Rattle.std.proofs.Common.{◌∙◌}
-use Rattle.lf_repair_team.proofs.Finding.{elsewhere_through, home_through}
+use Rattle.lf_repair_team.proofs.Finding.{elsewhere_through, wanted_place_through}
 use Rattle.lf_repair_team.proofs.Legal.{all_left_through, but_committed, but_through, committed_through, left_committed, same_committed, same_places, uncommitted}
 use Rattle.lf_repair_team.proofs.Runs.{none_cut, then_cut, then_written}
 use Rattle.lf_repair_team.proofs.team.finish.Goals as goal
@@ -16,14 +16,14 @@ returns-in-Err-close-clause-err g c = λ l.
 
 pub returns-in-Ok-close-clause-changed : goal.returns-in-Ok-close-clause-changed
 returns-in-Ok-close-clause-changed g c =
-    home_through c.args.seat.now.team.now c.args.homes.now c.args.floor.now c.close.new.floor c.in-Ok.found.changed.items
+    wanted_place_through c.args.seat.now.team.now c.args.wanted_places.now c.args.floor.now c.close.new.floor c.in-Ok.found.changed.items
     (c.in-Ok-close.ensures.only.names ∙ c.in-Ok-commit_if_clean.ensures.only.names)
     (λ own. same_places c.args.seat.now.team.now c.commit_if_clean.new.floor c.close.new.floor c.in-Ok-close.ensures.cells own ∙ c.in-Ok-commit_if_clean.ensures.places own)
     c.in-Ok.ensures.changed
 
 pub returns-in-Ok-close-clause-moved : goal.returns-in-Ok-close-clause-moved
 returns-in-Ok-close-clause-moved g c =
-    elsewhere_through c.args.seat.now.team.now c.args.homes.now c.args.floor.now c.close.new.floor c.in-Ok.found.changed.items
+    elsewhere_through c.args.seat.now.team.now c.args.wanted_places.now c.args.floor.now c.close.new.floor c.in-Ok.found.changed.items
     (c.in-Ok-close.ensures.only.names ∙ c.in-Ok-commit_if_clean.ensures.only.names)
     (λ own. same_places c.args.seat.now.team.now c.commit_if_clean.new.floor c.close.new.floor c.in-Ok-close.ensures.cells own ∙ c.in-Ok-commit_if_clean.ensures.places own)
     c.in-Ok.ensures.moved

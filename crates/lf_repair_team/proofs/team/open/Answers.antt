@@ -28,7 +28,7 @@ returns-in-Ok-clause-only g c = c.in-Ok.ensures.only c.args.team.now refl
 pub returns-in-Ok-clause-cells : goal.returns-in-Ok-clause-cells
 returns-in-Ok-clause-cells g c =
     look_same c.legalizer_exists.ensures c.args.floor.now c.run_command.new.floor c.args.team.now Open c.query_keeps_state.ensures refl
-    (c.in-Ok.ensures.asked c.legalizer_exists.ensures)
+    (c.in-Ok.ensures.requested c.legalizer_exists.ensures)
 
 pub returns-in-Err-clause-only : goal.returns-in-Err-clause-only
 returns-in-Err-clause-only g c = c.in-Err.ensures.only c.args.team.now refl
@@ -36,4 +36,4 @@ returns-in-Err-clause-only g c = c.in-Err.ensures.only c.args.team.now refl
 pub returns-in-Err-clause-cells : goal.returns-in-Err-clause-cells
 returns-in-Err-clause-cells g c =
     look_same c.legalizer_exists.ensures c.args.floor.now c.run_command.new.floor c.args.team.now Open c.query_keeps_state.ensures refl
-    (c.in-Err.ensures.asked c.legalizer_exists.ensures)
+    (c.in-Err.ensures.requested c.legalizer_exists.ensures)

@@ -1,7 +1,7 @@
 use Rattle.std.proofs.Common.{◌≢◌, ◌∙◌, [], List, Option, subst}
 use Rattle.std.specs.Prelude.{IfOk}
 use Rattle.lf_floorplan.specs.declared.place.Place.{Place}
-use Rattle.lf_repair_team.specs.Deeds.{KeepsCommittedPlaces, TeamHasLeftTargets, TeamIsAtTargetsExcept}
+use Rattle.lf_repair_team.specs.CellEdits.{KeepsCommittedPlaces, TeamHasLeftTargets, TeamIsAtTargetsExcept}
 use Rattle.lf_repair_team.specs.Runs.{IsRunWithCutLine, IsWrittenRun}
 use Rattle.lf_repair_team.proofs.Legal.{same_committed}
 use Rattle.lf_repair_team.proofs.Results.{err_then, ok_then, ok_weaker}
@@ -47,12 +47,12 @@ returns-clause-err g c = λ l.
 
 pub returns-clause-changed : goal.returns-clause-changed
 returns-clause-changed g c =
-    subst (λ (homes : List (Option Place)). IfOk c.finish.result (λ found. TeamIsAtTargetsExcept c.args.team.now homes c.finish.new.floor found.changed.items))
+    subst (λ (wanted_places : List (Option Place)). IfOk c.finish.result (λ found. TeamIsAtTargetsExcept c.args.team.now wanted_places c.finish.new.floor found.changed.items))
     c.as_slice.ensures.value c.finish.ensures.changed
 
 pub returns-clause-moved : goal.returns-clause-moved
 returns-clause-moved g c =
-    subst (λ (homes : List (Option Place)). IfOk c.finish.result (λ found. TeamHasLeftTargets c.args.team.now homes c.finish.new.floor found.changed.items))
+    subst (λ (wanted_places : List (Option Place)). IfOk c.finish.result (λ found. TeamHasLeftTargets c.args.team.now wanted_places c.finish.new.floor found.changed.items))
     c.as_slice.ensures.value c.finish.ensures.moved
 
 pub returns-clause-uncommitted : goal.returns-clause-uncommitted

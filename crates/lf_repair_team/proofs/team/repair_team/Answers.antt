@@ -1,10 +1,10 @@
 use Rattle.std.proofs.Common.{◌≡◌, ◌∙◌, ℕ, List, Vec, Global, Some, ap, subst, sym}
 use Rattle.lf_floor_model.specs.Teams.{team_number}
-use Rattle.lf_repair_team.specs.Mending.{AllListedMove, AreLegalExcept, OnlyListedMove}
+use Rattle.lf_repair_team.specs.TeamRepairs.{AllListedMove, AreLegalExcept, OnlyListedMove}
 use Rattle.lf_repair_team.proofs.Finding.{all_move, only_move}
 use Rattle.lf_repair_team.proofs.Legal.{legal_stay, none_left}
 use Rattle.lf_repair_team.proofs.Runs.{none_cut}
-use Rattle.lf_repair_team.proofs.Telling.{tells_of}
+use Rattle.lf_repair_team.proofs.Telling.{team_stats_of}
 use Rattle.lf_repair_team.proofs.team.repair_team.Goals as goal
 
 items_same : (v w : Vec ℕ Global) → v ≡ w → v.items ≡ w.items
@@ -12,12 +12,12 @@ items_same v w same = ap (λ (u : Vec ℕ Global). u.items) same
 
 pub returns-in-Ok-repair_in_session-clause-kept : goal.returns-in-Ok-repair_in_session-clause-kept
 returns-in-Ok-repair_in_session-clause-kept g c = λ keep.
-    legal_stay c.args.team.now c.in-Ok.start.go.marks.items c.args.floor.now c.repair_in_session.new.floor
+    legal_stay c.args.team.now c.in-Ok.start.pass.marks.items c.args.floor.now c.repair_in_session.new.floor
     (c.in-Ok.ensures.marked c.args.team.now keep (sym c.team_number.ensures ∙ c.in-Some.is)) (c.in-Ok-repair_in_session.ensures.marked (c.in-Ok.ensures.how ∙ keep))
 
 pub returns-clause-kept : goal.returns-clause-kept
 returns-clause-kept g c = λ keep.
-    legal_stay c.args.team.now c.in-Ok.start.go.marks.items c.args.floor.now c.repair_in_session.new.floor
+    legal_stay c.args.team.now c.in-Ok.start.pass.marks.items c.args.floor.now c.repair_in_session.new.floor
     (c.in-Ok.ensures.marked c.args.team.now keep (sym c.team_number.ensures ∙ c.in-Some.is)) (c.in-Err.ensures.marked (c.in-Ok.ensures.how ∙ keep))
 
 pub returns-in-Ok-repair_in_session-clause-changed : goal.returns-in-Ok-repair_in_session-clause-changed
@@ -26,7 +26,7 @@ returns-in-Ok-repair_in_session-clause-changed g c =
     let old = c.args.floor.now in
     let new = c.repair_in_session.new.floor in
     subst (λ (xs : List ℕ). OnlyListedMove team old new xs) (sym (items_same c.stats_of.result.changed c.in-Ok-repair_in_session.found.changed c.stats_of.ensures.changed))
-    (only_move team old new c.in-Some.number c.in-Ok.start.go.homes.items c.in-Ok-repair_in_session.found.changed.items (sym c.team_number.ensures ∙ c.in-Some.is) c.in-Ok.ensures.homes
+    (only_move team old new c.in-Some.number c.in-Ok.start.pass.wanted_places.items c.in-Ok-repair_in_session.found.changed.items (sym c.team_number.ensures ∙ c.in-Some.is) c.in-Ok.ensures.wanted_places
     c.in-Ok-repair_in_session.ensures.only.names c.in-Ok-repair_in_session.ensures.changed)
 
 pub returns-in-Ok-repair_in_session-clause-moved : goal.returns-in-Ok-repair_in_session-clause-moved
@@ -35,7 +35,7 @@ returns-in-Ok-repair_in_session-clause-moved g c =
     let old = c.args.floor.now in
     let new = c.repair_in_session.new.floor in
     subst (λ (xs : List ℕ). AllListedMove team old new xs) (sym (items_same c.stats_of.result.changed c.in-Ok-repair_in_session.found.changed c.stats_of.ensures.changed))
-    (all_move team old new c.in-Some.number c.in-Ok.start.go.homes.items c.in-Ok-repair_in_session.found.changed.items (sym c.team_number.ensures ∙ c.in-Some.is) c.in-Ok.ensures.homes
+    (all_move team old new c.in-Some.number c.in-Ok.start.pass.wanted_places.items c.in-Ok-repair_in_session.found.changed.items (sym c.team_number.ensures ∙ c.in-Some.is) c.in-Ok.ensures.wanted_places
     c.in-Ok-repair_in_session.ensures.only.names c.in-Ok-repair_in_session.ensures.moved)
 
 pub returns-in-Ok-repair_in_session-clause-named : goal.returns-in-Ok-repair_in_session-clause-named
@@ -56,9 +56,9 @@ returns-in_default-clause-err g c = λ l. none_cut l c.args.team.now c.args.floo
 pub returns-in_default-repair_input-clause-err : goal.returns-in_default-repair_input-clause-err
 returns-in_default-repair_input-clause-err g c = λ l. none_cut l c.args.team.now c.args.floor.now (g.K.Sink.contents c.args.lines.now)
 
-pub returns-in-Ok-repair_in_session-clause-told : goal.returns-in-Ok-repair_in_session-clause-told
-returns-in-Ok-repair_in_session-clause-told g c =
+pub returns-in-Ok-repair_in_session-clause-reported : goal.returns-in-Ok-repair_in_session-clause-reported
+returns-in-Ok-repair_in_session-clause-reported g c =
     let team = c.args.team.now in
     let named : team_number c.args.floor.now.frame team ≡ Some c.in-Some.number = sym c.team_number.ensures ∙ c.in-Some.is in
-    tells_of team c.args.floor.now c.repair_in_session.new.floor c.in-Some.number c.in-Ok.start.go.homes.items c.in-Ok.start.legal.items c.stats_of.result named
-    c.in-Ok-repair_in_session.ensures.only c.in-Ok.ensures.homes (c.in-Ok.ensures.legal team named) c.stats_of.ensures.tally
+    team_stats_of team c.args.floor.now c.repair_in_session.new.floor c.in-Some.number c.in-Ok.start.pass.wanted_places.items c.in-Ok.start.legal.items c.stats_of.result named
+    c.in-Ok-repair_in_session.ensures.only c.in-Ok.ensures.wanted_places (c.in-Ok.ensures.legal team named) c.stats_of.ensures.tally

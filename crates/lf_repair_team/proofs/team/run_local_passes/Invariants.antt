@@ -1,6 +1,6 @@
 use Rattle.lf_rules.specs.Legalizer.{Legalizer}
-use Rattle.lf_repair_team.specs.Deeds.{KeepsCommittedPlaces}
-use Rattle.lf_repair_team.specs.Mending.{ChangesOnly}
+use Rattle.lf_repair_team.specs.CellEdits.{KeepsCommittedPlaces}
+use Rattle.lf_repair_team.specs.TeamRepairs.{ChangesOnly}
 use Rattle.lf_repair_team.specs.Runs.{IsWrittenRun}
 use Rattle.lf_repair_team.proofs.team.run_local_passes.Given as goal
 

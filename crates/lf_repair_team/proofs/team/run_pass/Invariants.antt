@@ -1,6 +1,6 @@
 use Rattle.lf_rules.specs.Legalizer.{Legalizer}
-use Rattle.lf_repair_team.specs.Deeds.{KeepsCommittedPlaces, KeepsLockedPlaces}
-use Rattle.lf_repair_team.specs.Mending.{ChangesOnly}
+use Rattle.lf_repair_team.specs.CellEdits.{KeepsCommittedPlaces, KeepsLockedPlaces}
+use Rattle.lf_repair_team.specs.TeamRepairs.{ChangesOnly}
 use Rattle.lf_repair_team.specs.Runs.{IsWrittenRun}
 use Rattle.lf_repair_team.proofs.team.run_pass.Given as goal
 
@@ -8,6 +8,6 @@ abbrev pub invariant-loop-phase : goal.invariant-loop-phase
 invariant-loop-phase g l = record {
   run : (lz : Legalizer) → IsWrittenRun lz l.seat.team.now l.fn.floor (g.K.Sink.contents l.fn.lines) (g.K.Sink.contents l.lines) l.floor;
   only : ChangesOnly l.seat.team.now l.fn.floor l.floor;
-  marked : KeepsLockedPlaces l.seat.team.now l.go.marks.items l.fn.floor l.floor;
+  marked : KeepsLockedPlaces l.seat.team.now l.pass.marks.items l.fn.floor l.floor;
   committed : KeepsCommittedPlaces l.seat.team.now l.fn.floor l.floor;
 }

@@ -8,7 +8,7 @@ use Rattle.lf_rules.specs.Legality.{IsFirstBroken, padded_box, candidate_of}
 use Rattle.lf_rules.specs.Legalizer.{IsVerdict}
 use Rattle.lf_rules.specs.Team.{boxes_beside}
 use Rattle.lf_rules.proofs.RuleLemmas.{frame_broken}
-use Rattle.lf_reports.proofs.MetLemmas.{met_in_tree}
+use Rattle.lf_reports.proofs.OverlapLemmas.{overlapped_in_tree}
 use Rattle.lf_reports.proofs.verdicts.broken_at.Goals as goal
 
 pub returns-in-Some : goal.returns-in-Some
@@ -31,5 +31,5 @@ returns c = λ cells same.
     let rect = subst (λ (h : Frame). c.padded_box.result ≡ padded_box (candidate_of h team c.args.padding.sites m c.args.place.now others)) c.frame-frame.ensures c.padded_box.ensures in
     rw c.overlap_of.ensures
     (subst (λ (n : Macro). IsVerdict (candidate_of f team c.args.padding.sites n c.args.place.now others) (option_map (λ own. record { rule = Overlap; other = Some own }) c.least_overlapping.result)) mac
-    (met_in_tree (candidate_of f team c.args.padding.sites m c.args.place.now others) cells c.args.own c.args.boxes.now c.padded_box.result c.broken_frame_rule.result c.least_overlapping.result refl rect
+    (overlapped_in_tree (candidate_of f team c.args.padding.sites m c.args.place.now others) cells c.args.own c.args.boxes.now c.padded_box.result c.broken_frame_rule.result c.least_overlapping.result refl rect
     c.in_default.is (c.broken_frame_rule.ensures c.args.padding.sites others) same c.least_overlapping.ensures))

@@ -1,5 +1,5 @@
 use Rattle.std.proofs.Common.{◌<◌, map, length, arith}
-use Rattle.lf_reports.specs.Reports.{named}
+use Rattle.lf_reports.specs.Reports.{with_byte_name}
 use Rattle.lf_reports.proofs.VerdictLists.{puts_or_keeps}
 use Rattle.lf_reports.proofs.verdicts.put_verdict.Goals as goal
 
@@ -8,4 +8,4 @@ returns-clause-put c = λ l some.
     let count = c.requires.count in
     let few = c.requires.within in
     let within : c.args.own < length c.args.verdicts.now.items = omega (arith, count, few) in
-    puts_or_keeps l c.args.plan.now c.args.padding.sites (map named c.args.cells.now) c.args.own (named c.args.cell.now) c.broken_in-verdict.result c.args.verdicts.now.items _ c.requires.there (c.broken_in-verdict.ensures l) within some c.put.ensures
+    puts_or_keeps l c.args.plan.now c.args.padding.sites (map with_byte_name c.args.cells.now) c.args.own (with_byte_name c.args.cell.now) c.broken_in-verdict.result c.args.verdicts.now.items _ c.requires.there (c.broken_in-verdict.ensures l) within some c.put.ensures

@@ -4,7 +4,7 @@ use Rattle.std.proofs.lemmas.List.{append-nil, take_all}
 use Rattle.std.proofs.lemmas.Option.{slice_get-map, slice_get_read}
 use Rattle.std.proofs.Math.ListN.{length-map}
 use Rattle.lf_rtree.specs.declared.placed.Placed.{Placed}
-use Rattle.lf_reports.specs.Reports.{named, HaveVerdicts}
+use Rattle.lf_reports.specs.Reports.{with_byte_name, HaveVerdicts}
 use Rattle.lf_reports.proofs.VerdictLists.{fetched_at, listed_there, next_done}
 use Rattle.lf_reports.proofs.verdicts.put_verdicts.Goals as goal
 
@@ -16,30 +16,30 @@ put_verdict-requires-clause-within c = c.requires.known c.loop-number.number now
 
 -- The cell at the loop's number is the one of its box.
 there : (c : goal.After-put_verdict-arg-1) →
-    slice_get (map named c.args.cells.now) (get_or c.args.boxes.now c.loop-number.number nowhere).own ≡ Some (named c.index-cell.result.now)
+    slice_get (map with_byte_name c.args.cells.now) (get_or c.args.boxes.now c.loop-number.number nowhere).own ≡ Some (with_byte_name c.index-cell.result.now)
 there c =
-    let cells = map named c.args.cells.now in
+    let cells = map with_byte_name c.args.cells.now in
     let items = c.in_ok-fetched.fetched.items in
     let number = c.loop-number.number in
-    let same : map Some (map named items) ≡ map (λ p. slice_get cells p.own) c.args.boxes.now = c.in_ok-fetched.ensures in
+    let same : map Some (map with_byte_name items) ≡ map (λ p. slice_get cells p.own) c.args.boxes.now = c.in_ok-fetched.ensures in
     let long : length items ≡ length c.args.boxes.now =
-    sym (length-map items named) ∙ sym (length-map (map named items) Some) ∙ ap length same ∙ length-map c.args.boxes.now (λ p. slice_get cells p.own) in
+    sym (length-map items with_byte_name) ∙ sym (length-map (map with_byte_name items) Some) ∙ ap length same ∙ length-map c.args.boxes.now (λ p. slice_get cells p.own) in
     let below : number < length c.args.boxes.now = c.loop-number-test.true in
     let within : number < length items = omega (arith, long, below) in
     let read : slice_get items number ≡ Some c.index-cell.result.now = slice_get_read items _ number c.index-cell.result.now refl within c.index-cell.ensures in
-    fetched_at cells (map named items) c.args.boxes.now number nowhere (named c.index-cell.result.now) same below (slice_get-map named items number ∙ ap (option_map named) read)
+    fetched_at cells (map with_byte_name items) c.args.boxes.now number nowhere (with_byte_name c.index-cell.result.now) same below (slice_get-map with_byte_name items number ∙ ap (option_map with_byte_name) read)
 
 pub put_verdict-requires-clause-there : goal.put_verdict-requires-clause-there
 put_verdict-requires-clause-there c = there c
 
 pub put_verdict-requires-clause-this : goal.put_verdict-requires-clause-this
 put_verdict-requires-clause-this c =
-    listed_there c.args.plan.now c.args.cells.now (get_or c.args.boxes.now c.loop-number.number nowhere).own (named c.index-cell.result.now) c.requires.listed (there c)
+    listed_there c.args.plan.now c.args.cells.now (get_or c.args.boxes.now c.loop-number.number nowhere).own (with_byte_name c.index-cell.result.now) c.requires.listed (there c)
 
 pub loop-number-init : goal.loop-number-init
 loop-number-init c = (
   c.requires.count,
-  λ l done have. subst (λ (xs : List Placed). HaveVerdicts l c.args.plan.now c.args.padding.sites (map named c.args.cells.now) xs c.args.verdicts.now.items) (sym (append-nil done)) have,
+  λ l done have. subst (λ (xs : List Placed). HaveVerdicts l c.args.plan.now c.args.padding.sites (map with_byte_name c.args.cells.now) xs c.args.verdicts.now.items) (sym (append-nil done)) have,
 )
 
 pub loop-number-preserved : goal.loop-number-preserved
@@ -47,11 +47,11 @@ loop-number-preserved c = (
   c.put_verdict.ensures.count,
   λ l done have.
       let before = c.loop-number.invariant.1 l done have in
-      next_done l c.args.plan.now c.args.padding.sites (map named c.args.cells.now) done c.args.boxes.now c.loop-number.number nowhere c.loop-number.verdicts.items _
+      next_done l c.args.plan.now c.args.padding.sites (map with_byte_name c.args.cells.now) done c.args.boxes.now c.loop-number.number nowhere c.loop-number.verdicts.items _
       c.loop-number-test.true before (c.put_verdict.ensures.put l before.some),
 )
 
 pub returns-clause-put : goal.returns-clause-put
 returns-clause-put c = λ l done have.
     let all : take c.loop-number.number c.args.boxes.now ≡ c.args.boxes.now = take_all c.loop-number.number c.args.boxes.now c.loop-number-test.false in
-    subst (λ (xs : List Placed). HaveVerdicts l c.args.plan.now c.args.padding.sites (map named c.args.cells.now) (done ++ xs) c.loop-number.verdicts.items) all (c.loop-number.invariant.1 l done have)
+    subst (λ (xs : List Placed). HaveVerdicts l c.args.plan.now c.args.padding.sites (map with_byte_name c.args.cells.now) (done ++ xs) c.loop-number.verdicts.items) all (c.loop-number.invariant.1 l done have)

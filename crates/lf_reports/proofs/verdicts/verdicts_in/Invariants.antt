@@ -1,7 +1,7 @@
 use Rattle.std.proofs.Common.{◌≡◌, ◌<◌, length, map}
 use Rattle.std.specs.Prelude.{All}
 use Rattle.lf_rules.specs.Legalizer.{Legalizer}
-use Rattle.lf_reports.specs.Reports.{named}
+use Rattle.lf_reports.specs.Reports.{with_byte_name}
 use Rattle.lf_reports.proofs.VerdictLists.{HaveBefore}
 use Rattle.lf_reports.proofs.verdicts.verdicts_in.Given as goal
 
@@ -10,7 +10,7 @@ abbrev pub invariant-loop-rest : goal.invariant-loop-rest
 invariant-loop-rest l = record {
   count : length l.verdicts.items ≡ length l.cells;
   known : All (λ p. p.own < length l.cells) l.rest;
-  have : (lz : Legalizer) → HaveBefore lz l.plan l.padding.sites (map named l.cells) l.tree l.rest l.verdicts.items;
+  have : (lz : Legalizer) → HaveBefore lz l.plan l.padding.sites (map with_byte_name l.cells) l.tree l.rest l.verdicts.items;
 }
 
 abbrev pub decreases-loop-rest : goal.decreases-loop-rest

@@ -3,7 +3,7 @@ use Rattle.std.specs.Prelude.{All, IfOk}
 use Rattle.std.proofs.Math.ListN.{length-map}
 use Rattle.std.proofs.lemmas.Result.{IfOk-weaker}
 use Rattle.lf_rules.specs.declared.report_types.Listed.{Listed}
-use Rattle.lf_reports.specs.Reports.{named, AreVerdicts, IsListed}
+use Rattle.lf_reports.specs.Reports.{with_byte_name, AreVerdicts, IsListed}
 use Rattle.lf_reports.proofs.CleanLemmas.{all_listed, each_named, joined, length_listed}
 use Rattle.lf_reports.proofs.LegalVerdicts.{legal_by_verdicts}
 use Rattle.lf_reports.proofs.verdicts.verdicts_of_all.Goals as goal
@@ -19,7 +19,7 @@ pub verdicts_over-requires-clause-few : goal.verdicts_over-requires-clause-few
 verdicts_over-requires-clause-few c =
     let are = joined c.args.loaded.now.cells c.args.places.now c.deref.result.now c.in_ok-cells.cells.items c.deref.ensures.value (c.in_ok-cells.ensures {u = tt}) in
     let count : length c.deref.result.now ≡ length c.args.loaded.now.cells =
-    sym (length-map c.deref.result.now named) ∙ ap (λ (cs : List (Listed (List ℕ))). length cs) are ∙ length_listed c.args.loaded.now.cells c.args.places.now in
+    sym (length-map c.deref.result.now with_byte_name) ∙ ap (λ (cs : List (Listed (List ℕ))). length cs) are ∙ length_listed c.args.loaded.now.cells c.args.places.now in
     let few = c.args.loaded.now.few_cells in
     omega (arith, count, few)
 
@@ -27,7 +27,7 @@ pub returns-clause-count : goal.returns-clause-count
 returns-clause-count c =
     let are = joined c.args.loaded.now.cells c.args.places.now c.deref.result.now c.in_ok-cells.cells.items c.deref.ensures.value (c.in_ok-cells.ensures {u = tt}) in
     let count : length c.deref.result.now ≡ length c.args.loaded.now.cells =
-    sym (length-map c.deref.result.now named) ∙ ap (λ (cs : List (Listed (List ℕ))). length cs) are ∙ length_listed c.args.loaded.now.cells c.args.places.now in
+    sym (length-map c.deref.result.now with_byte_name) ∙ ap (λ (cs : List (Listed (List ℕ))). length cs) are ∙ length_listed c.args.loaded.now.cells c.args.places.now in
     subst (λ (n : ℕ). IfOk c.verdicts_over.result (λ verdicts. length verdicts.items ≡ n)) count c.verdicts_over.ensures.count
 
 pub returns-clause-each : goal.returns-clause-each
@@ -42,6 +42,6 @@ returns-clause-legal c =
     let cells = c.args.loaded.now.cells in
     let are = joined cells c.args.places.now c.deref.result.now c.in_ok-cells.cells.items c.deref.ensures.value (c.in_ok-cells.ensures {u = tt}) in
     IfOk-weaker c.verdicts_over.result _ _
-    (λ verdicts told. legal_by_verdicts l f cells c.args.places.now verdicts.items c.cell_is_sized.ensures c.args.loaded.now.cells_known c.requires
-    (subst (λ (listed : List (Listed (List ℕ))). AreVerdicts l f 0 listed verdicts.items) are told))
+    (λ verdicts reported. legal_by_verdicts l f cells c.args.places.now verdicts.items c.cell_is_sized.ensures c.args.loaded.now.cells_known c.requires
+    (subst (λ (listed : List (Listed (List ℕ))). AreVerdicts l f 0 listed verdicts.items) are reported))
     (c.verdicts_over.ensures.each l)

@@ -14,9 +14,9 @@ returns-then-not-may_be_less t c =
 pub returns-then-likely_least : goal.returns-then-likely_least
 returns-then-likely_least t c =
     let Least : Option ℕ → Option ℕ → List Placed → Type 0 = λ a b xs. IsLeastOf xs c.args.rect.now c.args.but a b in
-    let middle = c.least_among-with_behind.result in
+    let middle = c.least_among-with_after.result in
     least_turned c.args.boxes.now (length c.args.boxes.now / 2) c.args.rect.now c.args.but c.args.so_far middle c.least_among.result
-    (subst (Least c.args.so_far middle) c.split_at.ensures.back c.least_among-with_behind.ensures)
+    (subst (Least c.args.so_far middle) c.split_at.ensures.back c.least_among-with_after.ensures)
     (subst (Least middle c.least_among.result) c.split_at.ensures.front c.least_among.ensures)
 
 pub returns : goal.returns

@@ -1,5 +1,5 @@
 use Rattle.lf_rules.proofs.Order.{compared, not_itself, through}
-use Rattle.lf_rules.proofs.SiteLemmas.{rank_tells, four_of_upright}
+use Rattle.lf_rules.proofs.SiteLemmas.{rank_decides, four_of_upright}
 use Rattle.lf_rules.proofs.laws.key_is_total.Goals as goal
 
 pub returns : goal.returns
@@ -7,5 +7,5 @@ returns c = record {
   not_itself = not_itself;
   through = through;
   total = λ target p q first second.
-      compared target p q (rank_tells p.orient q.orient (four_of_upright p.orient first) (four_of_upright q.orient second));
+      compared target p q (rank_decides p.orient q.orient (four_of_upright p.orient first) (four_of_upright q.orient second));
 }

@@ -14,11 +14,11 @@ returns c t sized legal =
     let found : Holds t RowRule = legal RowRule in
     let row = found.0 in
     let bottom = found.1 in
-    let heeded : IsCoreRow t.frame.pitch row = subst (λ (r : Row). IsCoreRow t.frame.pitch r) bottom.heeded.2 (t.frame.rows_heeded bottom.heeded.0 row bottom.heeded.1) in
+    let core_ones : IsCoreRow t.frame.pitch row = subst (λ (r : Row). IsCoreRow t.frame.pitch r) bottom.core_ones.2 (t.frame.rows_are_core bottom.core_ones.0 row bottom.core_ones.1) in
     let small : IsSmall (turned (size_of t.frame t.mac) t.orient) = turned_small _ _ (small_pitch _ _ _ (sized_pitch _ _ sized)) in
     let left = bottom.at_bottom.left in
     let right = bottom.at_bottom.right in
     let level = bottom.at_bottom.at_level in (
-      record { above = omega (arith, ints, left, heeded.x_in_def.above); most = omega (arith, ints, right, heeded.ends, small.wide) },
-      record { above = omega (arith, ints, level, heeded.y_in_def.above); most = omega (arith, ints, level, heeded.y_in_def.most) },
+      record { above = omega (arith, ints, left, core_ones.x_in_def.above); most = omega (arith, ints, right, core_ones.ends, small.wide) },
+      record { above = omega (arith, ints, level, core_ones.y_in_def.above); most = omega (arith, ints, level, core_ones.y_in_def.most) },
     )

@@ -25,24 +25,24 @@ rule_one t a b p q = elim order [
 -- No overlapping cell precedes the first one.
 earlier : (box : Rect) (others : List Placed) (own i : ℕ) (cell : Placed) (b : IsFirstOverlapping box others own) → i < b.place →
     slice_get others i ≡ Some cell → SharesPoint box cell.rect → ⊥
-earlier box others own i cell b less there meets =
+earlier box others own i cell b less there does_overlap =
     let within : b.place < length others = slice_get_within others b.place b.cell b.there in
     let len : length (take b.place others) ≡ b.place = grind (arith, common_steps) in
     let is : get_or others i cell ≡ cell = get_or_from_slice_get others i cell cell there in
     let early : i < length (take b.place others) = omega arith in
     let at : get_or (take b.place others) i cell ≡ get_or others i cell = grind (arith, common_steps) in
-    b.first i cell early (rw (at, is) meets)
+    b.first i cell early (rw (at, is) does_overlap)
 
 -- The first overlapping cell is unique.
-met_one : (box : Rect) (others : List Placed) (m n : ℕ) → IsFirstOverlapping box others m → IsFirstOverlapping box others n → m ≡ n
-met_one box others m n a b = elim order [
-  | inl less ↦ absurd (earlier box others n a.place a.cell b less a.there a.meets)
+overlapped_one : (box : Rect) (others : List Placed) (m n : ℕ) → IsFirstOverlapping box others m → IsFirstOverlapping box others n → m ≡ n
+overlapped_one box others m n a b = elim order [
+  | inl less ↦ absurd (earlier box others n a.place a.cell b less a.there a.does_overlap)
   | inr rest ↦ elim rest [
     | inl same ↦
         let here : get_or others b.place a.cell ≡ a.cell = get_or_from_slice_get others b.place a.cell a.cell (subst (λ (k : ℕ). slice_get others k ≡ Some a.cell) same a.there) in
         let there : get_or others b.place a.cell ≡ b.cell = get_or_from_slice_get others b.place b.cell a.cell b.there in
         sym a.named ∙ ap (λ (p : Placed). p.own) (sym here ∙ there) ∙ b.named
-    | inr more ↦ absurd (earlier box others m b.place b.cell a more b.there b.meets)
+    | inr more ↦ absurd (earlier box others m b.place b.cell a more b.there b.does_overlap)
   ]
 ]
   where
@@ -55,7 +55,7 @@ other_one : (t : Candidate) (a b : Rule) (p q : Option ℕ) → a ≡ b →
 other_one t a b None None e h k = refl
 other_one t a b None (Some n) e h k = absurd (h (e ∙ k.0))
 other_one t a b (Some m) None e h k = absurd (k (sym e ∙ h.0))
-other_one t a b (Some m) (Some n) e h k = ap Some (met_one (padded_box t) t.others m n h.1 k.1)
+other_one t a b (Some m) (Some n) e h k = ap Some (overlapped_one (padded_box t) t.others m n h.1 k.1)
 
 abbrev broken_of : Rule → Option ℕ → Broken
 broken_of r o = record { rule = r; other = o }

@@ -13,8 +13,8 @@ returns-in_default g c =
 pub is_bottom_row-requires-clause-known : goal.is_bottom_row-requires-clause-known
 is_bottom_row-requires-clause-known g c = subst (λ (h : Frame). Contains h.rows c.in-Some.row.now) (sym c.frame.ensures) c.in-Some.ensures.only.0
 
-pub is_bottom_row-requires-clause-heeded : goal.is_bottom_row-requires-clause-heeded
-is_bottom_row-requires-clause-heeded g c = subst (λ (h : Frame). IsCoreRow h.pitch c.in-Some.row.now) (sym c.frame.ensures) c.in-Some.ensures.heeded
+pub is_bottom_row-requires-clause-core_ones : goal.is_bottom_row-requires-clause-core_ones
+is_bottom_row-requires-clause-core_ones g c = subst (λ (h : Frame). IsCoreRow h.pitch c.in-Some.row.now) (sym c.frame.ensures) c.in-Some.ensures.core_ones
 
 pub returns : goal.returns
 returns g c =

@@ -1,8 +1,8 @@
 use Rattle.std.proofs.Common.{◌≡◌}
 use Rattle.std.specs.Option.{option_map}
 use Rattle.lf_orient.specs.Orientation.{rail_below}
-use Rattle.lf_floorplan.specs.Standing.{changed}
+use Rattle.lf_floorplan.specs.Standing.{rail_alternated}
 use Rattle.lf_rules.proofs.rows.changed_rail.Given as goal
 
 abbrev pub invariant-loop : goal.invariant-loop
-invariant-loop l = l.rail ≡ option_map (changed l.counter) (rail_below l.fn.orient)
+invariant-loop l = l.rail ≡ option_map (rail_alternated l.counter) (rail_below l.fn.orient)

@@ -22,7 +22,7 @@ returns-in-Some g c =
     record {
       only = only_row f c.args.point.now c.in-Some.number row (subst (λ (h : Frame). slice_get h.rows c.in-Some.number ≡ Some row) c.frame.ensures c.row_of.ensures.row)
           (rw (to_z-of_z w64 c.args.point.now.y y, to_z-of_z w64 c.args.point.now.x x) at c.in-Some.ensures);
-      heeded = subst (λ (h : Frame). IsCoreRow h.pitch row) c.frame.ensures c.row_of.ensures.heeded;
+      core_ones = subst (λ (h : Frame). IsCoreRow h.pitch row) c.frame.ensures c.row_of.ensures.core_ones;
     }
 
 pub returns-in-None : goal.returns-in-None
@@ -32,5 +32,5 @@ returns-in-None g c =
     record {
       only = no_row (g.N.FrameQuery.of c.args.near.now) c.args.point.now
           (rw (to_z-of_z w64 c.args.point.now.y y, to_z-of_z w64 c.args.point.now.x x) at c.in-None.ensures);
-      heeded = tt;
+      core_ones = tt;
     }

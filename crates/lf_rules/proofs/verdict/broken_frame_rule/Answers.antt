@@ -1,5 +1,5 @@
 use Rattle.std.proofs.Common.{refl}
-use Rattle.lf_rules.proofs.WalkLemmas.{clear_first, fence_first, orient_first, rail_first, row_first, rows_kept, stand_first, stands, all_kept}
+use Rattle.lf_rules.proofs.WalkLemmas.{clear_first, fence_first, orient_first, rail_first, row_first, rows_kept, first_are_placed, is_in_place, all_kept}
 use Rattle.lf_rules.proofs.verdict.broken_frame_rule.Goals as goal
 
 pub returns-in_default-bottom_row : goal.returns-in_default-bottom_row
@@ -9,7 +9,7 @@ returns-in_default-bottom_row g c = λ padding others.
 
 pub returns-then-not-is_standing : goal.returns-then-not-is_standing
 returns-then-not-is_standing g c = λ padding others.
-    stand_first c.frame-frame.result.now (g.N.FrameQuery.of c.args.near.now) c.frame-frame.ensures c.args.team c.args.mac.now c.args.place.now padding others c.box_with_points-rect.result
+    first_are_placed c.frame-frame.result.now (g.N.FrameQuery.of c.args.near.now) c.frame-frame.ensures c.args.team c.args.mac.now c.args.place.now padding others c.box_with_points-rect.result
     c.box_with_points-rect.ensures.is c.box_with_points-rect.ensures.solid c.in-Some.height c.in-Some-bottom_row.bottom.now c.in-Some.ensures c.in-Some-bottom_row.ensures
     (λ s. let t = c.if-not-is_standing.ensures.1 s in cc)
 
@@ -25,9 +25,9 @@ returns-then-not-is_on_rail g c = λ padding others.
     c.box_with_points-rect.ensures.is c.box_with_points-rect.ensures.solid c.in-Some.height c.in-Some-bottom_row.bottom.now c.in-Some.ensures c.in-Some-bottom_row.ensures
     (c.if-not-is_standing.ensures.0 refl) (c.if-not-is_oriented.ensures.0 refl) (λ s. let t = c.if-not-is_on_rail.ensures.1 s in cc)
 
-pub stays_in_ground-requires-clause-stands : goal.stays_in_ground-requires-clause-stands
-stays_in_ground-requires-clause-stands g c =
-    stands c.frame-frame.result.now (g.N.FrameQuery.of c.args.near.now) c.frame-frame.ensures c.args.team c.args.mac.now c.args.place.now c.box_with_points-rect.result
+pub stays_in_ground-requires-clause-is_in_place : goal.stays_in_ground-requires-clause-is_in_place
+stays_in_ground-requires-clause-is_in_place g c =
+    is_in_place c.frame-frame.result.now (g.N.FrameQuery.of c.args.near.now) c.frame-frame.ensures c.args.team c.args.mac.now c.args.place.now c.box_with_points-rect.result
     c.box_with_points-rect.ensures.is c.box_with_points-rect.ensures.solid c.in-Some.height c.in-Some-bottom_row.bottom.now c.in-Some.ensures c.in-Some-bottom_row.ensures
     (c.if-not-is_standing.ensures.0 refl) (c.if-not-is_oriented.ensures.0 refl) (c.if-not-is_on_rail.ensures.0 refl)
 
@@ -40,9 +40,9 @@ returns-then-not-stays_in_ground g c = λ padding others.
     (c.if-not-is_standing.ensures.0 refl) (c.if-not-is_oriented.ensures.0 refl) (c.if-not-is_on_rail.ensures.0 refl))
     (λ s. let t = c.if-not-stays_in_ground.ensures.1 s in cc)
 
-pub is_clear-requires-clause-stands : goal.is_clear-requires-clause-stands
-is_clear-requires-clause-stands g c =
-    stands c.frame-frame.result.now (g.N.FrameQuery.of c.args.near.now) c.frame-frame.ensures c.args.team c.args.mac.now c.args.place.now c.box_with_points-rect.result
+pub is_clear-requires-clause-is_in_place : goal.is_clear-requires-clause-is_in_place
+is_clear-requires-clause-is_in_place g c =
+    is_in_place c.frame-frame.result.now (g.N.FrameQuery.of c.args.near.now) c.frame-frame.ensures c.args.team c.args.mac.now c.args.place.now c.box_with_points-rect.result
     c.box_with_points-rect.ensures.is c.box_with_points-rect.ensures.solid c.in-Some.height c.in-Some-bottom_row.bottom.now c.in-Some.ensures c.in-Some-bottom_row.ensures
     (c.if-not-is_standing.ensures.0 refl) (c.if-not-is_oriented.ensures.0 refl) (c.if-not-is_on_rail.ensures.0 refl)
 

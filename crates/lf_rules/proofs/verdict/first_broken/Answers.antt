@@ -1,5 +1,5 @@
 use Rattle.lf_rules.specs.Legality.{candidate_of}
-use Rattle.lf_rules.proofs.RuleLemmas.{frame_broken, met_verdict}
+use Rattle.lf_rules.proofs.RuleLemmas.{frame_broken, overlapped_verdict}
 use Rattle.lf_rules.proofs.verdict.first_broken.Goals as goal
 
 pub returns-in-Some : goal.returns-in-Some
@@ -10,5 +10,5 @@ returns-in-Some c =
 pub returns : goal.returns
 returns c =
     rw c.overlap_of.ensures
-    (met_verdict (candidate_of c.args.frame.now c.args.team c.args.padding.sites c.args.mac.now c.args.place.now c.args.others.now) c.padded_box.result c.broken_frame_rule.result c.first_overlapping.result
+    (overlapped_verdict (candidate_of c.args.frame.now c.args.team c.args.padding.sites c.args.mac.now c.args.place.now c.args.others.now) c.padded_box.result c.broken_frame_rule.result c.first_overlapping.result
     c.padded_box.ensures c.in_default.is (c.broken_frame_rule.ensures c.args.padding.sites c.args.others.now) c.first_overlapping.ensures)

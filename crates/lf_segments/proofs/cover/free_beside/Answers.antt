@@ -13,13 +13,13 @@ free_spans_in-requires c =
 
 pub returns : goal.returns
 returns c =
-    let lent = c.as_slice.result.now in
+    let borrowed_view = c.as_slice.result.now in
     let taken = map (λ p. x_extent p.rect) c.args.boxes.now in
-    IfOk-weaker c.free_spans_in.result (λ free. IsFree c.span_of.result (map (λ s. s) lent) free.items)
+    IfOk-weaker c.free_spans_in.result (λ free. IsFree c.span_of.result (map (λ s. s) borrowed_view) free.items)
     (λ free. IsFree (x_extent c.args.area.now) taken free.items)
     (λ free f.
     free_moved (x_extent c.args.area.now) taken c.in_ok-taken.taken.items free.items c.in_ok-taken.ensures.moved
     (subst (λ (s : Span). IsFree s c.in_ok-taken.taken.items free.items) c.span_of.ensures
     (subst (λ (xs : List Span). IsFree c.span_of.result xs free.items) c.as_slice.ensures.value
-    (subst (λ (xs : List Span). IsFree c.span_of.result xs free.items) (map-id lent) f))))
+    (subst (λ (xs : List Span). IsFree c.span_of.result xs free.items) (map-id borrowed_view) f))))
     c.free_spans_in.ensures

@@ -1,5 +1,5 @@
 use Rattle.std.proofs.Common.{subst, sym}
-use Rattle.lf_segments.specs.Plans.{IsSoftOf}
+use Rattle.lf_segments.specs.IndexedFrames.{IsSoftOf}
 use Rattle.lf_segments.proofs.OnRowLemmas.{soft_of_ground}
 use Rattle.lf_segments.proofs.indexed_frame.soft_of.Goals as goal
 

@@ -6,7 +6,7 @@ use Rattle.lf_segments.proofs.OnRowLemmas.{all_lie, ends_by_level, level_lies, s
 use Rattle.lf_segments.proofs.row_lookup.lies_in.Goals as goal
 
 pub level_above-y-requires-clause-from : goal.level_above-y-requires-clause-from
-level_above-y-requires-clause-from c = starts_in_def c.args.frame.now c.args.rect.now c.requires.stands
+level_above-y-requires-clause-from c = starts_in_def c.args.frame.now c.args.rect.now c.requires.is_in_place
 
 pub returns-then-rect-y : goal.returns-then-rect-y
 returns-then-rect-y c =
@@ -33,7 +33,7 @@ returns-then-not-lies_at c =
       λ yes. absurd cc,
       λ lies.
           c.if-not-lies_at.ensures.1
-          (subst (LiesAt f xs c.args.team box) (sym (same ∙ at)) (level_lies f xs c.args.team box level c.requires.wide c.requires.stands under lies)),
+          (subst (LiesAt f xs c.args.team box) (sym (same ∙ at)) (level_lies f xs c.args.team box level c.requires.wide c.requires.is_in_place under lies)),
     )
 
 pub loop-level-preserved : goal.loop-level-preserved

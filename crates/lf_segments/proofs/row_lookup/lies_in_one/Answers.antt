@@ -19,11 +19,11 @@ returns-in-Some-get c =
     let same : to_z w64 (of_z w64 c.args.rect.now.x1) ≡ c.args.rect.now.x1 = omega (arith, ints) in
     let at : (d : Segment) → IsAt c.args.row c.args.team c.args.rect.now.x1 (get_or xs n d) =
     λ d. subst (λ (x : ℤ). IsAt c.args.row c.args.team x (get_or xs n d)) same (c.in-Some.ensures d) in
-    let stands : slice_get xs n ≡ Some g = subst (λ (zs : List Segment). slice_get zs n ≡ Some g) c.as_slice.ensures read in (
-      λ yes. lies_of_end xs c.args.row c.args.team n g c.args.rect.now at stands (c.ends_in.ensures.0 yes),
+    let is_in_place : slice_get xs n ≡ Some g = subst (λ (zs : List Segment). slice_get zs n ≡ Some g) c.as_slice.ensures read in (
+      λ yes. lies_of_end xs c.args.row c.args.team n g c.args.rect.now at is_in_place (c.ends_in.ensures.0 yes),
       λ lies.
           c.ends_in.ensures.1
-          (end_of_lies xs c.args.row c.args.team n g c.args.rect.now c.requires.order c.requires.wide at stands lies),
+          (end_of_lies xs c.args.row c.args.team n g c.args.rect.now c.requires.order c.requires.wide at is_in_place lies),
     )
 
 pub returns-in-None : goal.returns-in-None

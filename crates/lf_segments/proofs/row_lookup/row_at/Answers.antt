@@ -6,5 +6,5 @@ returns-in_default c = no_row c.args.frame.now c.args.rows.now c.args.y.now c.ar
 
 pub returns-then-ends_by : goal.returns-then-ends_by
 returns-then-ends_by c =
-    ended_row c.args.frame.now c.args.rows.now c.args.y.now c.args.x.now _ _ c.requires c.in-Some.ensures c.row_of.ensures.row c.row_of.ensures.heeded
+    ended_row c.args.frame.now c.args.rows.now c.args.y.now c.args.x.now _ _ c.requires c.in-Some.ensures c.row_of.ensures.row c.row_of.ensures.core_ones
     (c.ends_by.ensures.0 c.if-ends_by.true)

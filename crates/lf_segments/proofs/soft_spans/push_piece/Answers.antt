@@ -1,6 +1,6 @@
 use Rattle.std.proofs.Common.{ℕ, List, [], ◌∷◌, ◌++◌, length, ap, ◌∙◌}
 use Rattle.lf_spans.specs.declared.span.Span.{Span}
-use Rattle.lf_segments.specs.Soft.{pieces}
+use Rattle.lf_segments.specs.Soft.{lists_from}
 use Rattle.lf_segments.proofs.SoftLemmas.{pieces_more}
 use Rattle.lf_segments.proofs.soft_spans.push_piece.Goals as goal
 
@@ -9,6 +9,6 @@ returns-clause-pieces c =
     let spans = c.args.spans.now.items in
     let starts = c.args.starts.now.items in
     let more = c.args.more.now in
-    ap (λ (xs : List Span). pieces xs c.push.new.self.items) c.in_ok-extend_from_slice.ensures.items
-    ∙ ap (λ (ns : List ℕ). pieces (spans ++ more) ns) (c.in_ok-push.ensures.items ∙ ap (λ (xs : List Span). starts ++ length xs ∷ []) c.as_slice.ensures.value)
+    ap (λ (xs : List Span). lists_from xs c.push.new.self.items) c.in_ok-extend_from_slice.ensures.items
+    ∙ ap (λ (ns : List ℕ). lists_from (spans ++ more) ns) (c.in_ok-push.ensures.items ∙ ap (λ (xs : List Span). starts ++ length xs ∷ []) c.as_slice.ensures.value)
     ∙ pieces_more spans more starts c.requires.within

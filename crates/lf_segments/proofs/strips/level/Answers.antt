@@ -12,11 +12,11 @@ returns c =
     let n = c.args.row in
     let r = c.index-as_slice-row.result in
     let same = ap (λ (rows : List Row). (get_or rows n r).y) c.as_slice.ensures in
-    let stands : slice_get f.rows n ≡ Some (get_or f.rows n r) = slice_get-get_or f.rows n r c.requires in
-    let is : row_y f n ≡ (get_or f.rows n r).y = ap (λ o. option_map_or (λ (q : Row). q.y) o (pos 0)) stands in
-    let heeded = f.rows_heeded n r c.requires in
-    let low = heeded.y_in_def.above in
-    let high = heeded.y_in_def.most in
+    let is_in_place : slice_get f.rows n ≡ Some (get_or f.rows n r) = slice_get-get_or f.rows n r c.requires in
+    let is : row_y f n ≡ (get_or f.rows n r).y = ap (λ o. option_map_or (λ (q : Row). q.y) o (pos 0)) is_in_place in
+    let core_ones = f.rows_are_core n r c.requires in
+    let low = core_ones.y_in_def.above in
+    let high = core_ones.y_in_def.most in
     let from = c.from.ensures in
     record {
       is = omega (arith, ints, same, is, low, high, from);

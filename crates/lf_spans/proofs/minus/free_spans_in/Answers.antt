@@ -12,8 +12,8 @@ loop-entry-preserved-then-not-is_filled g c =
 pub loop-entry-preserved : goal.loop-entry-preserved
 loop-entry-preserved g c =
     frees_on g.T.HasSpan.span c.args.taken.now c.args.range.now c.loop-entry.free.items c.push_filled.new.spans.items c.loop-entry.rest
-    c.behind-rest.result _ c.loop-entry.entry-index c.entry-item.result c.span-span.result c.requires (omega arith) c.entry-item.is
-    c.span-span.ensures c.loop-entry.invariant (c.if-not-is_filled.ensures.0 refl) c.before-in-loop-entry.ensures c.behind-rest.ensures
+    c.after_it-rest.result _ c.loop-entry.entry-index c.entry-item.result c.span-span.result c.requires (omega arith) c.entry-item.is
+    c.span-span.ensures c.loop-entry.invariant (c.if-not-is_filled.ensures.0 refl) c.before-in-loop-entry.ensures c.after_it-rest.ensures
     c.in_ok-push_filled.ensures
 
 pub returns : goal.returns

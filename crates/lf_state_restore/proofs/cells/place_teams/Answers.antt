@@ -1,7 +1,7 @@
 use Rattle.std.proofs.Common.{subst, sym}
 use Rattle.lf_cells.specs.Cells.{Cells}
 use Rattle.lf_state_text.specs.Saved.{team_views}
-use Rattle.lf_state_restore.specs.Stands.{AreAsMany}
+use Rattle.lf_state_restore.specs.Placed.{AreAsMany}
 use Rattle.lf_state_restore.proofs.Framing.{few_placed, sized_placed}
 use Rattle.lf_state_restore.proofs.cells.place_teams.Goals as goal
 

@@ -1,8 +1,8 @@
 use Rattle.std.proofs.Common.{◌≡◌, ◌≢◌, ℕ, drop, length}
 use Rattle.std.specs.Prelude.{All}
-use Rattle.lf_occupancy.specs.Occupied.{KeepsCapacities}
+use Rattle.lf_occupancy.specs.Views.{KeepsCapacities}
 use Rattle.lf_undo.specs.Entries.{Places, entries_of}
-use Rattle.lf_placement.specs.Placings.{BoundsAt, Fits, Placing, SameButRooms}
+use Rattle.lf_placement.specs.Placements.{BoundsAt, Fits, Placing, SameButRooms}
 use Rattle.lf_state_restore.proofs.entries.fit_entries.Given as goal
 
 -- if there is room for the places before the remaining entries, there is room for those before all

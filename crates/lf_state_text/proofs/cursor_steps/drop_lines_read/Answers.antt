@@ -1,6 +1,6 @@
 use Rattle.std.proofs.Common.{◌≡◌, ◌+◌, ◌++◌, take, drop, arith, rules}
 use Rattle.lf_lex.specs.Tokens.{line_feeds}
-use Rattle.lf_state_text.specs.Pieces.{joined}
+use Rattle.lf_state_text.specs.Pieces.{text_of_chunks}
 use Rattle.lf_state_text.proofs.Held.{feeds-append, held-on, lines-append}
 use Rattle.lf_state_text.proofs.cursor_steps.drop_lines_read.Goals as goal
 
@@ -13,6 +13,6 @@ returns-clause-ends c = λ text end.
     record {
       gone = end.gone ++ take start old.piece.items;
       whole = lines-append end.gone (take start old.piece.items) end.whole (search rules);
-      is = rw left (held-on end.gone old.piece.items (joined old.later.items) text start end.is);
+      is = rw left (held-on end.gone old.piece.items (text_of_chunks old.later.items) text start end.is);
       lines = omega (arith, counted, end.lines, feeds-append end.gone (take start old.piece.items));
     }

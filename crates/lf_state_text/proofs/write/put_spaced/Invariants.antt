@@ -1,8 +1,8 @@
 use Rattle.std.proofs.Common.{◌∷◌, take}
 use Rattle.std.specs.List.{flat_map}
 use Rattle.lf_team_def.specs.Output.{PutsText}
-use Rattle.lf_state_text.specs.Writing.{word_text}
+use Rattle.lf_state_text.specs.Writing.{state_word_text}
 use Rattle.lf_state_text.proofs.write.put_spaced.Given as goal
 
 abbrev pub invariant-loop-word : goal.invariant-loop-word
-invariant-loop-word g l = PutsText g.O.Output.took l.fn.out l.out (flat_map (λ w. 32 ∷ word_text w) (take l.word-index l.words))
+invariant-loop-word g l = PutsText g.O.Output.took l.fn.out l.out (flat_map (λ w. 32 ∷ state_word_text w) (take l.word-index l.words))

@@ -6,7 +6,7 @@ use Rattle.lf_rules.specs.declared.report_types.Listed.{Listed}
 use Rattle.lf_reports.specs.Reports.{report_of, violations_in}
 use Rattle.lf_proto.specs.ReportText.{report_front, report_text}
 use Rattle.lf_proto.proofs.Reports.{in_parts}
-use Rattle.lf_task_designs.specs.Reporting.{listed_of}
+use Rattle.lf_task_designs.specs.Reporting.{listed_as_loaded}
 use Rattle.lf_task_designs.proofs.Reporting.{at_home}
 use Rattle.lf_task_designs.proofs.check_report.text_by_verdicts.Goals as goal
 
@@ -14,8 +14,8 @@ pub returns : goal.returns
 returns c = λ l unplaced are.
     let f = c.args.loaded.now.frame in
     let cells = c.args.loaded.now.cells in
-    let listed = map listed_of cells in
-    let count : c.len.result ≡ length listed = c.len.ensures ∙ sym (length-map cells listed_of) in
+    let listed = map listed_as_loaded cells in
+    let count : c.len.result ≡ length listed = c.len.ensures ∙ sym (length-map cells listed_as_loaded) in
     let none : c.args.unplaced ≡ count_by (λ c. is_none c.place) listed = unplaced ∙ ap (λ (cs : List (Listed (List ℕ))). count_by (λ c. is_none c.place) cs) (at_home cells) in
     let written = c.put_cells.new.text.items in
     IfOk-weaker c.report_closed.result _ _

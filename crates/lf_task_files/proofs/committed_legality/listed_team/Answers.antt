@@ -5,9 +5,9 @@ use Rattle.lf_cells.specs.declared.cell.Cell.{Cell}
 use Rattle.lf_cells.specs.declared.cell.CellId.{CellId}
 use Rattle.lf_cells.specs.Cells.{cell_at, cells_of, id_of, ids_of}
 use Rattle.lf_cells.proofs.TeamIds.{ids_long, ids_read}
-use Rattle.lf_reports.specs.Reports.{named}
+use Rattle.lf_reports.specs.Reports.{with_byte_name}
 use Rattle.lf_floor_model.proofs.Standing.{there_within}
-use Rattle.lf_task_files.specs.Judged.{committed_listed}
+use Rattle.lf_task_files.specs.CommittedLegality.{committed_listed}
 use Rattle.lf_task_files.proofs.committed_legality.listed_team.Goals as goal
 
 abbrev no_id : CellId
@@ -27,7 +27,7 @@ loop-id-preserved c =
     let there = there_within cells k within in
     let here : get_or cells k there.0 ≡ there.0 = get_or_from_slice_get cells k there.0 there.0 there.1 in
     let pushed = c.in_ok-push_cell.ensures {u = tt} there.0 (subst (λ (i : CellId). cell_at c.args.cells.now i ≡ Some there.0) (sym id) there.1) in
-    pushed ∙ ap (λ (i : CellId). map named c.loop-id.listed.items ++ committed_listed i.team there.0 ∷ []) id
+    pushed ∙ ap (λ (i : CellId). map with_byte_name c.loop-id.listed.items ++ committed_listed i.team there.0 ∷ []) id
     ∙ ap (λ xs. xs ++ committed_listed team there.0 ∷ []) c.loop-id.invariant
     ∙ ap (λ (x : Cell). map (committed_listed team) (take k cells) ++ committed_listed team x ∷ []) (sym here)
     ∙ sym (map_more (committed_listed team) cells k there.0 within)

@@ -1,7 +1,7 @@
 use Rattle.std.proofs.Common.{◌≡◌, ◌++◌, drop, map}
-use Rattle.lf_task_files.specs.Twins.{cells_in, placed_by_table}
+use Rattle.lf_task_files.specs.Copies.{cells_of_parts, placed_by_table}
 use Rattle.lf_task_files.proofs.copies.copy_cells.Given as goal
 
 -- The copies so far, followed by those of the remaining cells, are all copies.
 abbrev pub invariant-loop-at : goal.invariant-loop-at
-invariant-loop-at l = l.copies ++ map (placed_by_table l.table) (drop l.at (cells_in l.parts)) ≡ map (placed_by_table l.table) (cells_in l.parts)
+invariant-loop-at l = l.copies ++ map (placed_by_table l.table) (drop l.at (cells_of_parts l.parts)) ≡ map (placed_by_table l.table) (cells_of_parts l.parts)

@@ -5,7 +5,7 @@ use Rattle.lf_def.specs.Contents.{contents}
 use Rattle.lf_def.specs.Document.{Document, document_of}
 use Rattle.lf_floorplan.specs.declared.loaded.Loaded.{Loaded}
 use Rattle.lf_task_designs.specs.declared.faults.TextKind.TheVariants.{Def}
-use Rattle.lf_task_designs.specs.Designs.{IsDefRefusal, IsLoadRefusal, IsLoadedIn, IsRefused}
+use Rattle.lf_task_designs.specs.Designs.{IsDefRefusal, IsLoadRefusal, IsLoadedIn, IsRefusedText}
 use Rattle.lf_task_files.specs.Exits.{IsViewNotDescribed}
 use Rattle.lf_task_files.specs.States.{IsNotOpened}
 use Rattle.lf_task_files.specs.Inputs.{path_of}
@@ -34,9 +34,9 @@ returns-in_err-seen-clause-err g c =
     let def = c.args.inputs.def.now in
     let document = contents c.in_ok-document.document in
     let bytes = g.W.Sink.contents c.args.writer.now in
-    rw (p.1, p.2) (first_fails (λ fault. IsRefused Def def text (IsLoadRefusal c.args.inputs.limits library document) fault
+    rw (p.1, p.2) (first_fails (λ fault. IsRefusedText Def def text (IsLoadRefusal c.args.inputs.limits library document) fault
     ⊎ ((loaded : Loaded) × IsLoadedIn c.args.inputs.limits library document loaded × IsNotOpened gives state loaded fault))
-    (λ fault. IsRefused Def def text (IsDefRefusal c.args.inputs.limits library text) fault
+    (λ fault. IsRefusedText Def def text (IsDefRefusal c.args.inputs.limits library text) fault
     ⊎ ((d : Document) × (document_of text ≡ Ok d) × ((loaded : Loaded) × IsLoadedIn c.args.inputs.limits library d loaded × IsViewNotDescribed gives state d loaded bytes bytes fault)))
     (c.args.writer.now ≡ c.args.writer.now) _ _ _ _ _ _ refl refl c.in_err-seen.ensures.err
     (unseen_early c.args.inputs.limits gives def library text document state)

@@ -4,10 +4,10 @@ use Rattle.lf_task_files.proofs.restore.restore_file.Goals as goal
 
 pub returns-in-Ok-clause-ok : goal.returns-in-Ok-clause-ok
 returns-in-Ok-clause-ok g c =
-    let told = c.in_ok-rows.ensures.ok in
-    (told.0, told.1, (team_views c.in_ok-rows.rows.items, told.2, c.in-Ok.ensures.restored))
+    let reported = c.in_ok-rows.ensures.ok in
+    (reported.0, reported.1, (team_views c.in_ok-rows.rows.items, reported.2, c.in-Ok.ensures.restored))
 
 pub returns-in-Err-clause-err : goal.returns-in-Err-clause-err
 returns-in-Err-clause-err g c =
-    let told = c.in_ok-rows.ensures.ok in
-    inr (told.0, told.1, inl refl)
+    let reported = c.in_ok-rows.ensures.ok in
+    inr (reported.0, reported.1, inl refl)

@@ -16,13 +16,13 @@ returns-clause-err g c = λ document kept.
     fails_and c.save_lines.result _ _ _ c.save_lines.ensures.err c.save_lines.ensures.unput
     (λ fault why same. inr (
       why,
-      subst (λ (puts : Option (List Put)). IsExported (path_of c.args.asked.now.export) c.args.original.now.text.items document c.args.floor.now
+      subst (λ (puts : Option (List Put)). IsExported (path_of c.args.requested.now.export) c.args.original.now.text.items document c.args.floor.now
           (g.E.OutputFiles.puts c.args.exports.now) puts) (sym same) (c.in_ok-save_export.ensures.ok document kept),
     ))
 
 pub returns-clause-unput : goal.returns-clause-unput
 returns-clause-unput g c = λ none.
-    never_fails c.save_lines.result _ _ c.save_lines.ensures.err (λ fault is. none_unlisted (path_of c.args.asked.now.lines) fault none is)
+    never_fails c.save_lines.result _ _ c.save_lines.ensures.err (λ fault is. none_unlisted (path_of c.args.requested.now.lines) fault none is)
 
 pub returns-in_err-save_export-clause-err : goal.returns-in_err-save_export-clause-err
 returns-in_err-save_export-clause-err g c = λ document kept.

@@ -7,7 +7,7 @@ use Rattle.lf_task_repair.proofs.repair_task.repair.Goals as goal
 pub repair_opened-requires : goal.repair_opened-requires
 repair_opened-requires g c =
     let is = c.in_ok-opened.ensures.ok.1 in
-    record { loads = (c.args.asked.now.limits, is.library, c.in_ok-opened.ensures.ok.0, record { read = is.read; clauses_are = c.in_ok-opened.ensures.ok.2; loads = is.loads }) }
+    record { loads = (c.args.requested.now.limits, is.library, c.in_ok-opened.ensures.ok.0, record { read = is.read; clauses_are = c.in_ok-opened.ensures.ok.2; loads = is.loads }) }
 
 pub returns-clause-ok : goal.returns-clause-ok
 returns-clause-ok g c =
@@ -43,7 +43,7 @@ pub returns-in_err-opened-clause-err : goal.returns-in_err-opened-clause-err
 returns-in_err-opened-clause-err g c =
     let p = err_from_is_err_and c.from_residual.result c.from_residual.ensures.1 in
     let gives = g.T.InputFiles.gives c.args.texts.now in
-    let def = c.args.asked.now.def.now in
-    let lefs = map (λ lef. lef.now) c.args.asked.now.lefs.now in
+    let def = c.args.requested.now.def.now in
+    let lefs = map (λ lef. lef.now) c.args.requested.now.lefs.now in
     let why = c.in_err-opened.ensures.err in
-    rw (p.1, p.2) (inl (inl why, refl, refl), early_blames _ _ _ _ _ _ _ refl (refl, refl) (design_early c.args.asked.now.limits gives def lefs _ why))
+    rw (p.1, p.2) (inl (inl why, refl, refl), early_blames _ _ _ _ _ _ _ refl (refl, refl) (design_early c.args.requested.now.limits gives def lefs _ why))

@@ -5,7 +5,7 @@ use Rattle.lf_floor_model.specs.Teams.{team_names, team_number}
 use Rattle.lf_task_repair.specs.Repairs.{how_of, is_selected}
 use Rattle.lf_task_repair.proofs.Named.{numbered}
 use Rattle.lf_task_repair.proofs.Repairing.{stay_alike}
-use Rattle.lf_task_repair.proofs.Telling.{one_told}
+use Rattle.lf_task_repair.proofs.Telling.{one_reported}
 use Rattle.lf_task_repair.proofs.repair_task.repair_numbered.Goals as goal
 
 clash : true ≡ false → ⊥
@@ -13,17 +13,17 @@ clash e = cc
 
 pub returns-clause-only : goal.returns-clause-only
 returns-clause-only g c =
-    let teams = map (λ team. team.now) c.args.asked.now.teams.now in
-    let asked : is_selected teams c.as_slice-name.result.now ≡ true = sym c.is_selected.ensures ∙ c.if-not-is_selected.false in
+    let teams = map (λ team. team.now) c.args.requested.now.teams.now in
+    let requested : is_selected teams c.as_slice-name.result.now ≡ true = sym c.is_selected.ensures ∙ c.if-not-is_selected.false in
     let only = c.repair_named.ensures.only in
     on_ok_weaker c.repair_named.result
-    (λ told. record {
-      others = λ team unasked. only.others team (λ same. clash (sym asked ∙ ap (λ (name : List ℕ). is_selected teams name) (sym same) ∙ unasked));
+    (λ reported. record {
+      others = λ team unasked. only.others team (λ same. clash (sym requested ∙ ap (λ (name : List ℕ). is_selected teams name) (sym same) ∙ unasked));
       frame = only.frame;
       components = only.components;
       legal = only.legal;
     })
-    c.repair_named.ensures.told
+    c.repair_named.ensures.reported
 
 pub returns-clause-kept : goal.returns-clause-kept
 returns-clause-kept g c = λ to_stay team named.
@@ -38,10 +38,10 @@ returns-clause-others g c = λ team differ.
     (λ same. differ (ap (λ (name : List ℕ). team_number c.args.floor.now.frame name) same
     ∙ numbered c.args.floor.now.frame c.args.number c.as_slice-name.result.now there))
 
-pub returns-clause-told : goal.returns-clause-told
-returns-clause-told g c =
+pub returns-clause-reported : goal.returns-clause-reported
+returns-clause-reported g c =
     let there : slice_get (team_names c.args.floor.now.frame) c.args.number ≡ Some c.as_slice-name.result.now = search rules in
     on_ok_weaker c.repair_named.result
-    (λ once. one_told c.args.floor.now.frame (map (λ team. team.now) c.args.asked.now.teams.now) c.args.number c.as_slice-name.result.now
+    (λ once. one_reported c.args.floor.now.frame (map (λ team. team.now) c.args.requested.now.teams.now) c.args.number c.as_slice-name.result.now
     c.repair_named.new.floor once.0 c.args.report.now c.repair_named.new.report there (sym c.is_selected.ensures ∙ c.if-not-is_selected.false) once.1 once.2 once.3)
-    c.repair_named.ensures.told
+    c.repair_named.ensures.reported

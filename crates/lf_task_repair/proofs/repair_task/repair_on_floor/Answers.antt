@@ -3,7 +3,7 @@ use Rattle.std.proofs.lemmas.Result.{IfErr-weaker, err_from_is_err_and}
 use Rattle.lf_io_files.specs.Shelf.{Put}
 use Rattle.lf_task_repair.specs.Exits.{IsNotPut, IsPut}
 use Rattle.lf_task_repair.specs.Repairs.{IsStatusOf, kept_text}
-use Rattle.lf_task_repair.specs.Telling.{IsReport}
+use Rattle.lf_task_repair.specs.Reports.{IsReport}
 use Rattle.lf_task_files.specs.Inputs.{path_of}
 use Rattle.lf_task_repair.proofs.Repairing.{memory_early, ok_and, unknown_early}
 use Rattle.lf_task_files.proofs.WorkSteps.{blames_as, early_blames, export_blames}
@@ -17,7 +17,7 @@ returns-clause-ok g c = λ document kept.
     let floor = c.repair_selected.new.floor in
     let lines = kept_text c.in_ok-done.done.lines in
     let report = c.in_ok-done.done.report.text.items in
-    let asked = c.args.asked.now in
+    let requested = c.args.requested.now in
     ok_and c.put_all.result _ _ _ c.put_all.ensures.status (c.put_all.ensures.ok document kept)
     (λ status is put. record {
       floor = floor;
@@ -28,11 +28,11 @@ returns-clause-ok g c = λ document kept.
         run = λ l. c.in_ok-done.ensures.run l;
         only = c.in_ok-done.ensures.only;
         stay = λ to_stay. c.in_ok-done.ensures.kept to_stay;
-        tells = subst (λ (bounds : List ℕ). IsReport (map (λ team. team.now) asked.teams.now) bounds floor report) c.deref.ensures.value c.in_ok-done.ensures.told;
+        decides = subst (λ (bounds : List ℕ). IsReport (map (λ team. team.now) requested.teams.now) bounds floor report) c.deref.ensures.value c.in_ok-done.ensures.reported;
       };
-      put = subst (λ (puts : Option (List Put)). IsPut (path_of asked.export) (path_of asked.lines) c.args.before.now.original.text.items document floor lines
+      put = subst (λ (puts : Option (List Put)). IsPut (path_of requested.export) (path_of requested.lines) c.args.before.now.original.text.items document floor lines
           report (g.W.Sink.contents c.args.writer.now) (g.W.Sink.contents c.put_all.new.writer) puts (g.E.OutputFiles.puts c.put_all.new.exports)) c.try_files.ensures.unput put;
-      judged = subst (λ (n : ℕ). IsStatusOf floor n) (sym is) c.in_ok-done.ensures.judged;
+      committed_checked = subst (λ (n : ℕ). IsStatusOf floor n) (sym is) c.in_ok-done.ensures.committed_checked;
     })
 
 pub returns-clause-err : goal.returns-clause-err
@@ -40,7 +40,7 @@ returns-clause-err g c = λ document kept.
     let floor = c.repair_selected.new.floor in
     let lines = kept_text c.in_ok-done.done.lines in
     let report = c.in_ok-done.done.report.text.items in
-    let asked = c.args.asked.now in
+    let requested = c.args.requested.now in
     IfErr-weaker c.put_all.result _ _
     (λ fault unput. inr (
       floor,
@@ -51,9 +51,9 @@ returns-clause-err g c = λ document kept.
         run = λ l. c.in_ok-done.ensures.run l;
         only = c.in_ok-done.ensures.only;
         stay = λ to_stay. c.in_ok-done.ensures.kept to_stay;
-        tells = subst (λ (bounds : List ℕ). IsReport (map (λ team. team.now) asked.teams.now) bounds floor report) c.deref.ensures.value c.in_ok-done.ensures.told;
+        decides = subst (λ (bounds : List ℕ). IsReport (map (λ team. team.now) requested.teams.now) bounds floor report) c.deref.ensures.value c.in_ok-done.ensures.reported;
       },
-      subst (λ (puts : Option (List Put)). IsNotPut (path_of asked.export) (path_of asked.lines) c.args.before.now.original.text.items document floor
+      subst (λ (puts : Option (List Put)). IsNotPut (path_of requested.export) (path_of requested.lines) c.args.before.now.original.text.items document floor
           report (g.W.Sink.contents c.args.writer.now) (g.W.Sink.contents c.put_all.new.writer) puts (g.E.OutputFiles.puts c.put_all.new.exports) fault)
           c.try_files.ensures.unput unput,
     ))
@@ -76,7 +76,7 @@ returns-in_err-all_known-clause-blames g c =
     let p = err_from_is_err_and c.from_residual.result c.from_residual.ensures.1 in
     rw (p.1, p.2) (
     early_blames _ _ _ _ _ _ _ refl (refl, refl)
-    (unknown_early c.args.floor.now.frame (map (λ team. team.now) c.args.asked.now.teams.now) _ c.in_err-all_known.ensures.err)
+    (unknown_early c.args.floor.now.frame (map (λ team. team.now) c.args.requested.now.teams.now) _ c.in_err-all_known.ensures.err)
     )
 
 pub returns-in_err-try_files-clause-err : goal.returns-in_err-try_files-clause-err

@@ -1,14 +1,14 @@
 use Rattle.std.proofs.Common.{◌∙◌, map, rules}
 use Rattle.lf_task_repair.specs.Repairs.{kept_text}
-use Rattle.lf_task_repair.proofs.Repairing.{all_stayed, none_changes, none_stayed, nothing_asked, one_more_stayed, then_asked, then_kept}
-use Rattle.lf_task_repair.proofs.Telling.{every_told, next_told, none_told}
+use Rattle.lf_task_repair.proofs.Repairing.{all_stayed, none_changes, none_stayed, nothing_requested, one_more_stayed, then_requested, then_kept}
+use Rattle.lf_task_repair.proofs.Telling.{every_reported, next_reported, none_reported}
 use Rattle.lf_task_repair.proofs.repair_task.repair_teams.Goals as goal
 
 pub loop-number-init : goal.loop-number-init
 loop-number-init g c = record {
-  run = λ lz. nothing_asked lz c.args.floor.now (kept_text c.args.lines.now.lines);
-  only = none_changes (map (λ team. team.now) c.args.asked.now.teams.now) c.args.floor.now;
-  told = none_told c.args.floor.now c.args.report.now;
+  run = λ lz. nothing_requested lz c.args.floor.now (kept_text c.args.lines.now.lines);
+  only = none_changes (map (λ team. team.now) c.args.requested.now.teams.now) c.args.floor.now;
+  reported = none_reported c.args.floor.now c.args.report.now;
   stayed = λ to_stay. none_stayed c.args.floor.now;
 }
 
@@ -16,12 +16,12 @@ pub loop-number-preserved : goal.loop-number-preserved
 loop-number-preserved g c = record {
   run = λ lz. then_kept lz c.args.floor.now c.loop-number.floor c.repair_numbered.new.floor (kept_text c.args.lines.now.lines) (kept_text c.loop-number.lines.lines)
       (kept_text c.repair_numbered.new.lines.lines) (c.loop-number.invariant.run lz) (c.in_ok-repair_numbered.ensures.run lz);
-  only = then_asked (map (λ team. team.now) c.args.asked.now.teams.now) c.args.floor.now c.loop-number.floor c.repair_numbered.new.floor
+  only = then_requested (map (λ team. team.now) c.args.requested.now.teams.now) c.args.floor.now c.loop-number.floor c.repair_numbered.new.floor
       c.loop-number.invariant.only c.in_ok-repair_numbered.ensures.only;
-  told = next_told c.args.floor.now.frame (map (λ team. team.now) c.args.asked.now.teams.now) c.loop-number.number c.loop-number.floor
+  reported = next_reported c.args.floor.now.frame (map (λ team. team.now) c.args.requested.now.teams.now) c.loop-number.number c.loop-number.floor
       c.repair_numbered.new.floor c.args.report.now c.loop-number.report _ (search rules) c.loop-number.invariant.only.frame
       (c.in_ok-repair_numbered.ensures.only.frame ∙ c.loop-number.invariant.only.frame) c.repair_numbered.ensures.others
-      c.loop-number.invariant.told c.in_ok-repair_numbered.ensures.told;
+      c.loop-number.invariant.reported c.in_ok-repair_numbered.ensures.reported;
   stayed = λ to_stay. one_more_stayed c.args.floor.now c.loop-number.floor c.repair_numbered.new.floor c.loop-number.number c.loop-number.invariant.only.frame
       (c.loop-number.invariant.stayed to_stay) (c.repair_numbered.ensures.kept to_stay) c.repair_numbered.ensures.others;
 }
@@ -29,7 +29,7 @@ loop-number-preserved g c = record {
 pub returns-clause-kept : goal.returns-clause-kept
 returns-clause-kept g c = λ to_stay. all_stayed c.args.floor.now c.loop-number.floor c.loop-number.number (c.loop-number.invariant.stayed to_stay)
 
-pub returns-clause-told : goal.returns-clause-told
-returns-clause-told g c =
-    every_told c.args.floor.now.frame (map (λ team. team.now) c.args.asked.now.teams.now) c.loop-number.number c.loop-number.floor c.args.report.now
-    c.loop-number.report (search rules) c.loop-number.invariant.told
+pub returns-clause-reported : goal.returns-clause-reported
+returns-clause-reported g c =
+    every_reported c.args.floor.now.frame (map (λ team. team.now) c.args.requested.now.teams.now) c.loop-number.number c.loop-number.floor c.args.report.now
+    c.loop-number.report (search rules) c.loop-number.invariant.reported

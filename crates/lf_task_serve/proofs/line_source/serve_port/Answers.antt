@@ -14,7 +14,7 @@ returns-then-served-clause-err g c =
           served.result.connections,
           fewer _ _ _ served.ensures.most served.ensures.all c.if-served.true,
           record {
-            told = on_ok_no c.send.result sent c.send.ensures.ok;
+            reported = on_ok_no c.send.result sent c.send.ensures.ok;
             served = rw (c.requires.lines, c.requires.reads, c.in_default.ensures.unaccepted) at served.ensures.served;
           },
         ),

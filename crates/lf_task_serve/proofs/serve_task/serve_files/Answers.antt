@@ -3,7 +3,7 @@ use Rattle.std.proofs.lemmas.Result.{err_from_is_err_and}
 use Rattle.lf_task_designs.specs.Designs.{IsDesignFault}
 use Rattle.lf_task_serve.specs.Exits.{IsUndone}
 use Rattle.lf_task_serve.specs.Surroundings.{io_of}
-use Rattle.lf_task_serve.specs.Work.{AreAnswered, IsFault}
+use Rattle.lf_task_serve.specs.Work.{AreAnswered, IsServingFault}
 use Rattle.lf_task_files.specs.Inputs.{path_of}
 use Rattle.lf_task_files.proofs.WorkSteps.{design_early, first_fails, step_fails, weaker_ok}
 use Rattle.lf_task_serve.proofs.LineSteps.{still_sound, undone}
@@ -46,7 +46,7 @@ returns-in_err-design-clause-err g c =
     let lefs = map (λ lef. lef.now) c.args.inputs.lefs.now in
     rw (p.1, p.2) (first_fails (IsDesignFault c.args.inputs.limits gives def lefs)
     (λ fault. IsUndone c.args.inputs.limits gives def lefs (path_of c.args.inputs.state) (path_of c.args.outputs.save) (path_of c.args.outputs.export)
-    (IsFault c.args.lines) (AreAnswered c.args.lines) fault
+    (IsServingFault c.args.lines) (AreAnswered c.args.lines) fault
     (io_of g.R.Source.remaining g.W.Sink.contents g.E.OutputFiles.puts g.V.Acceptor.accepted c.args.around.now c.args.around.now))
     (c.args.around.now.writer ≡ c.args.around.now.writer) _ _ _ _ _ _ refl
     (still_sound g.E.OutputFiles.has_failed g.V.Acceptor.has_failed g.R.Source.has_failed g.W.Sink.has_failed c.args.around.now) c.in_err-design.ensures.err

@@ -7,13 +7,13 @@ use Rattle.lf_cells.specs.declared.cell.Cell.{Cell}
 use Rattle.lf_cells.specs.Cells.{cells_of}
 use Rattle.lf_cells.proofs.TeamIds.{ids_long}
 use Rattle.lf_team_def.specs.Output.{PutsText}
-use Rattle.lf_team_def.specs.TeamText.{line_of, group_lines, group_words, section_lines}
+use Rattle.lf_team_def.specs.TeamText.{words_line, group_lines, team_group_words, section_lines}
 use Rattle.lf_team_def.proofs.Lines.{put_three}
 use Rattle.lf_team_def.proofs.team_text.put_groups.Goals as goal
 
 -- A team with cells has a group.
 has_group : (fence : Team) (cells : List Cell) (n : ℕ) → n ≡ length cells → (n == 0) ≡ false
-    → group_lines (Some fence) cells ≡ section_lines (codes "GROUPS") (group_words fence cells ∷ [])
+    → group_lines (Some fence) cells ≡ section_lines (codes "GROUPS") (team_group_words fence cells ∷ [])
 has_group fence [] n long some = let none : (0 == 0) ≡ false = subst (λ (k : ℕ). (k == 0) ≡ false) long some in absurd cc
 has_group fence (c ∷ cs) n long some = refl
 
@@ -23,9 +23,9 @@ returns-else-is_empty g c =
     let lines = ap (λ o. group_lines o (cells_of c.args.cells.now c.args.team)) there
     ∙ has_group c.in-Some.fence.now (cells_of c.args.cells.now c.args.team) (length c.cells_of.result.now)
     (ids_long c.args.team (cells_of c.args.cells.now c.args.team) c.cells_of.result.now c.cells_of.ensures) (sym c.is_empty.ensures ∙ c.if-is_empty.false) in
-    subst (λ ls. PutsText g.O.Output.took c.args.out.now c.put_end.new.out (flat_map line_of ls)) (sym lines)
+    subst (λ ls. PutsText g.O.Output.took c.args.out.now c.put_end.new.out (flat_map words_line ls)) (sym lines)
     (λ start before had. subst (g.O.Output.took start c.put_end.new.out)
     (put_three before _ _ _
-    (codes "GROUPS" ∷ decimal 1 ∷ codes ";" ∷ []) (group_words c.in-Some.fence.now (cells_of c.args.cells.now c.args.team)) (codes "END" ∷ codes "GROUPS" ∷ [])
+    (codes "GROUPS" ∷ decimal 1 ∷ codes ";" ∷ []) (team_group_words c.in-Some.fence.now (cells_of c.args.cells.now c.args.team)) (codes "END" ∷ codes "GROUPS" ∷ [])
     refl refl refl)
     (c.put_end.ensures start _ (c.put_group.ensures start _ (c.put_begin.ensures start before had))))

@@ -29,7 +29,7 @@ loop-number-preserved g c =
         | then-not-is_unchanged+in_ok-at w ↦
             rw (w.out-is, w.at-is)
             (written_change k (sym c.is_unchanged.ensures ∙ w.if-not-is_unchanged.true) c.loop-number.invariant.written w.in_ok-at.ensures.bytes
-            w.in_ok-at.ensures.behind)
+            w.in_ok-at.ensures.after_it)
         | else-not-is_unchanged w ↦
             rw (w.out-is, w.at-is) (written_standing k (sym c.is_unchanged.ensures ∙ w.if-not-is_unchanged.false) c.loop-number.invariant.written)
       ];

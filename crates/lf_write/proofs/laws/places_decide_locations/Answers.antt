@@ -1,5 +1,5 @@
-use Rattle.lf_write.proofs.Standing.{stands_there, given_stands}
+use Rattle.lf_write.proofs.Standing.{is_found_there, given_place_is_taken}
 use Rattle.lf_write.proofs.laws.places_decide_locations.Goals as goal
 
 pub returns : goal.returns
-returns c = record { stands = λ x given. stands_there x given; given = λ x given. given_stands x given }
+returns c = record { is_in_place = λ x given. is_found_there x given; given = λ x given. given_place_is_taken x given }

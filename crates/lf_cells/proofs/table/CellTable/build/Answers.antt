@@ -1,10 +1,10 @@
 use Rattle.std.proofs.Common.{◌≡◌, ◌+◌, ◌<◌, ◌≤◌, ℕ, List, length, map, ap₂, ◌∙◌, arith}
 use Rattle.std.specs.Prelude.{All}
 use Rattle.std.specs.List.{range_with_len}
-use Rattle.lf_floorplan.specs.declared.loaded.Cell.{Cell as LoadedCell}
+use Rattle.lf_floorplan.specs.declared.loaded.LoadedCell.{LoadedCell}
 use Rattle.lf_floorplan.specs.LoadedCells.{with_names}
 use Rattle.lf_floorplan.proofs.NamedCells.{many_seen}
-use Rattle.lf_cells.specs.Openings.{own_cells, own_components}
+use Rattle.lf_cells.specs.Initial.{own_cells, own_components}
 use Rattle.lf_cells.proofs.Opened.{all_plain, opened_cells, opened_components, opened_index}
 use Rattle.lf_cells.proofs.table.CellTable.build.Goals as goal
 

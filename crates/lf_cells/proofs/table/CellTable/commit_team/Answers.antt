@@ -1,5 +1,5 @@
 use Rattle.std.proofs.Common.{◌≡◌, ap, ◌∙◌}
-use Rattle.lf_cells.specs.Slots.{cells_in, components_in, labels_in}
+use Rattle.lf_cells.specs.Records.{cells_in, components_in, labels_in}
 use Rattle.lf_cells.proofs.Changes.{all_committed, labels_all_committed, components_all_committed}
 use Rattle.lf_cells.proofs.table.CellTable.commit_team.Goals as goal
 

@@ -1,5 +1,5 @@
 use Rattle.std.proofs.Common.{◌≡◌, ap, ◌∙◌}
-use Rattle.lf_cells.specs.Slots.{cells_in, components_in, labels_in}
+use Rattle.lf_cells.specs.Records.{cells_in, components_in, labels_in}
 use Rattle.lf_cells.proofs.Changes.{all_moved, labels_all_moved, components_all_moved}
 use Rattle.lf_cells.proofs.table.CellTable.set_working.Goals as goal
 

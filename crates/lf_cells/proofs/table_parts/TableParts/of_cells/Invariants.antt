@@ -1,5 +1,5 @@
 use Rattle.std.proofs.Common.{take}
-use Rattle.lf_cells.specs.Slots.{AreAdded}
+use Rattle.lf_cells.specs.Records.{AreAdded}
 use Rattle.lf_cells.proofs.table_parts.TableParts.of_cells.Given as goal
 
 -- The cells in front of this one are added.

@@ -1,7 +1,7 @@
 use Rattle.std.proofs.Common.{subst, sym, ◌∙◌, ap}
 use Rattle.lf_floor_model.specs.States.{FloorState}
 use Rattle.lf_state_text.specs.Saved.{team_views}
-use Rattle.lf_state_restore.specs.Saved.{MatchDesign, ShareDesign, restored}
+use Rattle.lf_state_restore.specs.Saved.{MatchDesign, ShareDesign, restored_floor}
 use Rattle.lf_floor_verbs.specs.Tables.{floor_in}
 use Rattle.lf_floor.proofs.Saving.{of_design}
 use Rattle.lf_floor.proofs.floor.Floor.restore_saved.Goals as goal
@@ -12,7 +12,7 @@ restored_by-requires-clause-due g c =
 
 pub returns-clause-restored : goal.returns-clause-restored
 returns-clause-restored g c =
-    c.in_ok-now.ensures.floor ∙ ap (λ (f : FloorState). restored f (team_views c.args.rows.items)) c.floor.view_is
+    c.in_ok-now.ensures.floor ∙ ap (λ (f : FloorState). restored_floor f (team_views c.args.rows.items)) c.floor.view_is
 
 pub returns-clause-design : goal.returns-clause-design
 returns-clause-design g c =

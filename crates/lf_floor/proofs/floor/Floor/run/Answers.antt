@@ -1,5 +1,5 @@
 use Rattle.std.proofs.Common.{arith, sym, ◌∙◌}
-use Rattle.lf_proto.specs.Commands.{command_of}
+use Rattle.lf_proto.specs.Commands.{command_with_names}
 use Rattle.lf_floor_model.proofs.Isolation.{run_more, run_all, isolated_from_run}
 use Rattle.lf_floor_model.proofs.Journals.{leave_out, backs_up}
 use Rattle.lf_floor_model.proofs.Running.{legal_run, commits_legal}
@@ -9,7 +9,7 @@ use Rattle.lf_floor.proofs.floor.Floor.run.Goals as goal
 pub loop-i-preserved : goal.loop-i-preserved
 loop-i-preserved g c = record {
   run =
-      λ l rest new later. rw c.push_within.ensures.items (run_more l c.args.self.now c.loop-i.self c.step-reply.new.self c.args.requests.now c.loop-i.replies.items c.loop-i.i (command_of c.in-Some.request) c.step-reply.result (c.loop-i.invariant.run l) (sym c.in-Some.ensures) (c.step-reply.ensures.step l) rest new later);
+      λ l rest new later. rw c.push_within.ensures.items (run_more l c.args.self.now c.loop-i.self c.step-reply.new.self c.args.requests.now c.loop-i.replies.items c.loop-i.i (command_with_names c.in-Some.request) c.step-reply.result (c.loop-i.invariant.run l) (sym c.in-Some.ensures) (c.step-reply.ensures.step l) rest new later);
   components = c.step-reply.ensures.components ∙ c.loop-i.invariant.components;
   count = omega arith;
   room = omega arith;

@@ -7,7 +7,7 @@ use Rattle.lf_floor_model.specs.States.{FloorState}
 use Rattle.lf_floor_model.specs.Teams.{team_number}
 use Rattle.lf_floor.specs.Responses.{def_text}
 use Rattle.lf_floor_verbs.specs.Tables.{frame_of}
-use Rattle.lf_floor.proofs.Asked.{text_there}
+use Rattle.lf_floor.proofs.Requested.{text_there}
 use Rattle.lf_floor.proofs.floor.Floor.write_def.Goals as goal
 
 pub returns : goal.returns

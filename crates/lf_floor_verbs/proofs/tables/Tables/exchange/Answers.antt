@@ -3,11 +3,11 @@ use Rattle.lf_cells.specs.declared.cell.Cell.{Cell}
 use Rattle.lf_cells.specs.Cells.{cells_of}
 use Rattle.lf_floorplan.specs.declared.frame.Frame.{Frame}
 use Rattle.lf_undo.specs.declared.moves.Move.{Move}
-use Rattle.lf_placement.specs.Placings.{moves_applied}
+use Rattle.lf_placement.specs.Placements.{moves_applied}
 use Rattle.lf_floor_model.specs.Teams.{team_rules}
 use Rattle.lf_floor_model.specs.Changes.{exchanged}
 use Rattle.lf_floor_verbs.specs.Swapping.{swap_refusal}
-use Rattle.lf_floor_verbs.specs.Tables.{cells_in, frame_of, own_team}
+use Rattle.lf_floor_verbs.specs.Tables.{table_cells, frame_of, own_team}
 use Rattle.lf_floor_verbs.proofs.Ends.{back_to}
 use Rattle.lf_floor_verbs.proofs.Fitting.{back_fits, kept_fit, only_made}
 use Rattle.lf_floor_verbs.proofs.Judging.{alone_moved}
@@ -20,7 +20,7 @@ refusal_of-requires c =
     let x = c.args.exchange.now in
     let k = x.first.team in
     let are = c.requires.are in
-    let cells = cells_in k c.args.self.now in
+    let cells = table_cells k c.args.self.now in
     let only = only_made k c.args.moves c.args.self.now.placement c.apply.new.self c.apply.ensures.own c.apply.ensures.others c.apply.ensures.rest in
     record {
       team = are.second;
@@ -33,7 +33,7 @@ refusal_of-requires c =
 pub undo_moves-requires : goal.undo_moves-requires
 undo_moves-requires c =
     let k = c.args.exchange.now.first.team in
-    let before = cells_in k c.args.self.now in
+    let before = table_cells k c.args.self.now in
     back_fits k c.apply.new.moves before c.args.self.now.placement c.apply.new.self
     (only_made k c.args.moves c.args.self.now.placement c.apply.new.self c.apply.ensures.own c.apply.ensures.others c.apply.ensures.rest)
     (c.boxes_match_places.ensures k) (c.apply.ensures.moved before (none_yet before))
@@ -42,7 +42,7 @@ pub returns-in-None-clause-fit : goal.returns-in-None-clause-fit
 returns-in-None-clause-fit c =
     let k = c.args.exchange.now.first.team in
     let old = c.args.self.now in
-    let before = cells_in k old in
+    let before = table_cells k old in
     kept_fit k c.args.session (cells_of c.apply.new.self.cells k) old c.push_undo.new.self
     (rw c.push_undo.ensures.placement (only_made k c.args.moves old.placement c.apply.new.self c.apply.ensures.own c.apply.ensures.others c.apply.ensures.rest))
     (c.boxes_match_places.ensures k) (c.push_undo.ensures.team before (c.apply.ensures.moved before (none_yet before))) c.requires.change.served.fit
@@ -52,7 +52,7 @@ returns-in-Some-clause-team c = λ l.
     let x = c.args.exchange.now in
     let k = x.first.team in
     let old = c.args.self.now in
-    let before = cells_in k old in
+    let before = table_cells k old in
     let t = team_rules l (frame_of old) k c.args.padding.sites in
     let now = cells_of c.apply.new.self.cells k in
     let are : now ≡ exchanged before x.first.own x.second.own =

@@ -2,9 +2,9 @@ use Rattle.std.proofs.Common.{◌≡◌, ◌+◌, ℕ, List, Option, ap, map, re
 use Rattle.lf_floorplan.specs.declared.place.Place.{Place}
 use Rattle.lf_cells.specs.Cells.{Cells, cells_of}
 use Rattle.lf_proto.proofs.Fronts.{on_err_from}
-use Rattle.lf_placement.specs.Placings.{Fits, Placing, moves_applied, places_of}
+use Rattle.lf_placement.specs.Placements.{Fits, Placing, moves_applied, working_places_of}
 use Rattle.lf_floor_model.specs.Changes.{back_to_committed}
-use Rattle.lf_floor_verbs.specs.Tables.{cells_in, team_after_change, context_in, team_in}
+use Rattle.lf_floor_verbs.specs.Tables.{table_cells, team_after_change, context_in, team_in}
 use Rattle.lf_floor_verbs.proofs.Ends.{reverted_reaches, reverted_short}
 use Rattle.lf_floor_verbs.proofs.Fitting.{fit_grown, grown_kept, grown_revision, grown_team}
 use Rattle.lf_floor_verbs.proofs.Reverting.{places_reverted}
@@ -31,7 +31,7 @@ change_places-requires-clause-fits g c =
     let moves = c.in_ok-moves.moves in
     let back : moves_applied moves cells ≡ map back_to_committed cells =
     subst (λ (cs : Cells). moves_applied moves (cells_of cs number) ≡ map back_to_committed (cells_of cs number)) c.cells.ensures (c.in_ok-moves.ensures {u = tt}) in
-    subst (λ (q : Placing). Fits q number (places_of (moves_applied moves (cells_of q.cells number)))) (sym c.make_room.ensures.placement)
+    subst (λ (q : Placing). Fits q number (working_places_of (moves_applied moves (cells_of q.cells number)))) (sym c.make_room.ensures.placement)
     (subst (λ (places : List (Option Place)). Fits p number places) (sym (places_reverted cells (moves_applied moves cells) back)) (c.committed_fit.ensures number))
 
 pub returns-clause-ok : goal.returns-clause-ok
@@ -39,7 +39,7 @@ returns-clause-ok g c = λ l.
     let number = c.args.around.now.number in
     let old = c.args.self.now in
     let mid = c.make_room.new.self in
-    let cells = cells_in number old in
+    let cells = table_cells number old in
     let moves = c.in_ok-moves.moves in
     let back : moves_applied moves cells ≡ map back_to_committed cells =
     subst (λ (cs : Cells). moves_applied moves (cells_of cs number) ≡ map back_to_committed (cells_of cs number)) c.cells.ensures (c.in_ok-moves.ensures {u = tt}) in

@@ -2,7 +2,7 @@ use Rattle.std.proofs.Common.{◌≡◌, ℕ, Some, ap, sym, ◌∙◌}
 use Rattle.std.proofs.lemmas.Result.{on_err_weaker}
 use Rattle.lf_cells.specs.Cells.{working_at}
 use Rattle.lf_floor_model.specs.Outcomes.{Outcome, may_be_short}
-use Rattle.lf_floor_verbs.specs.Tables.{cells_in, context_in, team_in}
+use Rattle.lf_floor_verbs.specs.Tables.{table_cells, context_in, team_in}
 use Rattle.lf_floor_verbs.proofs.Swaps.{swap_short, swapped_is}
 use Rattle.lf_floor_verbs.proofs.tables.Tables.swap.Goals as goal
 
@@ -16,9 +16,9 @@ returns-clause-ok g c = λ l.
     let first = c.in-Some.ensures {u = tt} in
     let second = c.in-Some-cell_named.ensures {u = tt} in
     let from : working_at s.cells a.own ≡ Some c.in-Some-working.from =
-    ap (λ (n : ℕ). working_at (cells_in n c.args.self.now) a.own) (sym first.team) ∙ sym c.working.ensures ∙ c.in-Some-working.is in
+    ap (λ (n : ℕ). working_at (table_cells n c.args.self.now) a.own) (sym first.team) ∙ sym c.working.ensures ∙ c.in-Some-working.is in
     let to : working_at s.cells b.own ≡ Some c.in-Some-working-2.to =
-    ap (λ (n : ℕ). working_at (cells_in n c.args.self.now) b.own) (sym second.team) ∙ sym c.working-2.ensures ∙ c.in-Some-working-2.is in
+    ap (λ (n : ℕ). working_at (table_cells n c.args.self.now) b.own) (sym second.team) ∙ sym c.working-2.ensures ∙ c.in-Some-working-2.is in
     let is = swapped_is t c.args.session c.args.first.now c.args.second.now a.own b.own c.in-Some-working.from c.in-Some-working-2.to s first.own second.own from to in
     rw is (c.swap_placed.ensures.ok l)
 
@@ -32,9 +32,9 @@ returns-clause-err g c = λ l.
     let first = c.in-Some.ensures {u = tt} in
     let second = c.in-Some-cell_named.ensures {u = tt} in
     let from : working_at s.cells a.own ≡ Some c.in-Some-working.from =
-    ap (λ (n : ℕ). working_at (cells_in n c.args.self.now) a.own) (sym first.team) ∙ sym c.working.ensures ∙ c.in-Some-working.is in
+    ap (λ (n : ℕ). working_at (table_cells n c.args.self.now) a.own) (sym first.team) ∙ sym c.working.ensures ∙ c.in-Some-working.is in
     let to : working_at s.cells b.own ≡ Some c.in-Some-working-2.to =
-    ap (λ (n : ℕ). working_at (cells_in n c.args.self.now) b.own) (sym second.team) ∙ sym c.working-2.ensures ∙ c.in-Some-working-2.is in
+    ap (λ (n : ℕ). working_at (table_cells n c.args.self.now) b.own) (sym second.team) ∙ sym c.working-2.ensures ∙ c.in-Some-working-2.is in
     let is = swapped_is t c.args.session c.args.first.now c.args.second.now a.own b.own c.in-Some-working.from c.in-Some-working-2.to s first.own second.own from to in
     on_err_weaker c.swap_placed.result (λ kept. record {
       kept = kept;

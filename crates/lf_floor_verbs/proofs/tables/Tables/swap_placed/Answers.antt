@@ -2,9 +2,9 @@ use Rattle.std.proofs.Common.{◌≡◌, ℕ, Some, None, Option, refl, subst}
 use Rattle.lf_cells.specs.Cells.{cells_of, moved}
 use Rattle.lf_rules.specs.declared.rule.Rule.{Rule}
 use Rattle.lf_proto.specs.declared.reply.Refusal.TheVariants.{Illegal}
-use Rattle.lf_placement.specs.Placings.{IsBrokenFrameRule}
+use Rattle.lf_placement.specs.Placements.{IsBrokenFrameRule}
 use Rattle.lf_floor_model.specs.Teams.{broken_at, team_rules}
-use Rattle.lf_floor_verbs.specs.Tables.{cells_in, context_in, team_in}
+use Rattle.lf_floor_verbs.specs.Tables.{table_cells, context_in, team_in}
 use Rattle.lf_floor_verbs.specs.Swapping.{IsExchange}
 use Rattle.lf_floor_verbs.proofs.Fitting.{only_grown}
 use Rattle.lf_floor_verbs.proofs.Judging.{alone_anywhere, alone_moved, first_broken}
@@ -28,7 +28,7 @@ returns-in-Some-clause-ok g c = λ l.
     (subst (λ (a : Option Rule). IsBrokenFrameRule p x.first x.to a) c.in-Some.is c.broken_frame_rule-alone.ensures) in
     rw (swap_refused (context_in l c.args.around.now c.args.self.now) c.args.session x.first.own x.second.own (team_in c.args.around.now c.args.self.now)
     (Illegal rule x.first.own None)
-    (first_refused (cells_in number c.args.self.now) x.first.own x.second.own x.from x.to are.from are.to
+    (first_refused (table_cells number c.args.self.now) x.first.own x.second.own x.from x.to are.from are.to
     (context_in l c.args.around.now c.args.self.now) rule
     (subst (λ (n : ℕ). first_broken rule
     ≡ broken_at (team_rules l p.frame n c.args.around.now.padding.sites) (moved (moved (cells_of p.cells n) x.first.own (Some x.to)) x.second.own (Some x.from)) x.first.own x.to) are.first verdict)))

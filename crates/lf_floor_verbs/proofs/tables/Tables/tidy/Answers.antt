@@ -1,8 +1,8 @@
 use Rattle.std.proofs.Common.{◌+◌, ℕ, ap, refl, subst, ◌∙◌}
 use Rattle.lf_cells.specs.Cells.{cells_of}
 use Rattle.lf_proto.proofs.Fronts.{on_err_from}
-use Rattle.lf_placement.specs.Placings.{Placing, SameButPlaces}
-use Rattle.lf_floor_verbs.specs.Tables.{cells_in, team_after_change, own_team, context_at, context_in, team_in}
+use Rattle.lf_placement.specs.Placements.{Placing, SameButPlaces}
+use Rattle.lf_floor_verbs.specs.Tables.{table_cells, team_after_change, own_team, context_at, context_in, team_in}
 use Rattle.lf_floor_verbs.specs.Tidying.{TidiesCells}
 use Rattle.lf_floor_verbs.proofs.Ends.{back_to, stuck_reaches, tidied_reaches, tidy_short}
 use Rattle.lf_floor_verbs.proofs.Fitting.{back_fits, entries_stay, fit_grown, grown_kept, grown_revision, grown_team, kept_fit, rooms_through, same_rooms}
@@ -32,7 +32,7 @@ returns-in-Ok-Done-clause-ok g c = λ l.
     let number = c.args.around.now.number in
     let old = c.args.self.now in
     let mid = c.make_room.new.self in
-    let before = cells_in number mid in
+    let before = table_cells number mid in
     let now = cells_of c.tidy_cells.new.placement.cells number in
     let still = c.make_room.ensures.placement in
     let have = c.tidy_cells.ensures.moved before (from_none before c.in_ok-moves.moves (c.in_ok-moves.ensures {u = tt})) in
@@ -43,7 +43,7 @@ returns-in-Ok-Done-clause-ok g c = λ l.
     (subst (λ (p : Placing). SameButPlaces (cells_of p.cells number) now) still c.tidy_cells.ensures.only.same)
     (c.push_undo-revision.ensures.team before have
     ∙ ap (λ (p : Placing). team_after_change number c.args.session (cells_of p.cells number) now mid) still
-    ∙ grown_kept number c.args.session (cells_in number old) now old mid c.make_room.ensures.grown)
+    ∙ grown_kept number c.args.session (table_cells number old) now old mid c.make_room.ensures.grown)
     (c.push_undo-revision.ensures.revision ∙ ap (λ (n : ℕ). n + 1) (grown_revision number old mid c.make_room.ensures.grown))
 
 pub returns-in-Ok-Done-clause-fit : goal.returns-in-Ok-Done-clause-fit
@@ -51,7 +51,7 @@ returns-in-Ok-Done-clause-fit g c =
     let number = c.args.around.now.number in
     let old = c.args.self.now in
     let mid = c.make_room.new.self in
-    let before = cells_in number mid in
+    let before = table_cells number mid in
     kept_fit number c.args.session (cells_of c.tidy_cells.new.placement.cells number) mid c.push_undo-revision.new.self
     (rw c.push_undo-revision.ensures.placement c.tidy_cells.ensures.only) (c.boxes_match_places.ensures number)
     (c.push_undo-revision.ensures.team before (c.tidy_cells.ensures.moved before (from_none before c.in_ok-moves.moves (c.in_ok-moves.ensures {u = tt}))))
@@ -60,14 +60,14 @@ returns-in-Ok-Done-clause-fit g c =
 pub undo_moves-requires : goal.undo_moves-requires
 undo_moves-requires g c =
     let number = c.args.around.now.number in
-    let before = cells_in number c.make_room.new.self in
+    let before = table_cells number c.make_room.new.self in
     back_fits number c.tidy_cells.new.moves before c.make_room.new.self.placement c.tidy_cells.new.placement c.tidy_cells.ensures.only (c.boxes_match_places.ensures number)
     (c.tidy_cells.ensures.moved before (from_none before c.in_ok-moves.moves (c.in_ok-moves.ensures {u = tt})))
 
 pub undo_moves-requires-in-Err : goal.undo_moves-requires-in-Err
 undo_moves-requires-in-Err g c =
     let number = c.args.around.now.number in
-    let before = cells_in number c.make_room.new.self in
+    let before = table_cells number c.make_room.new.self in
     back_fits number c.tidy_cells.new.moves before c.make_room.new.self.placement c.tidy_cells.new.placement c.tidy_cells.ensures.only (c.boxes_match_places.ensures number)
     (c.tidy_cells.ensures.moved before (from_none before c.in_ok-moves.moves (c.in_ok-moves.ensures {u = tt})))
 
@@ -76,7 +76,7 @@ returns-in-Ok-Stopped-clause-ok g c = λ l.
     let number = c.args.around.now.number in
     let old = c.args.self.now in
     let mid = c.make_room.new.self in
-    let before = cells_in number mid in
+    let before = table_cells number mid in
     let now = cells_of c.tidy_cells.new.placement.cells number in
     let have = c.tidy_cells.ensures.moved before (from_none before c.in_ok-moves.moves (c.in_ok-moves.ensures {u = tt})) in
     stuck_reaches (context_in l c.args.around.now old) c.args.session c.in-Ok-Stopped.cell (team_in c.args.around.now old)
@@ -90,7 +90,7 @@ returns-clause-err g c = λ l.
     let number = c.args.around.now.number in
     let old = c.args.self.now in
     let mid = c.make_room.new.self in
-    let before = cells_in number mid in
+    let before = table_cells number mid in
     let have = c.tidy_cells.ensures.moved before (from_none before c.in_ok-moves.moves (c.in_ok-moves.ensures {u = tt})) in
     tidy_short (context_in l c.args.around.now old) c.args.session (team_in c.args.around.now old)
     (own_team number record mid { placement = c.undo_moves-in-Err.new.self })
@@ -103,7 +103,7 @@ returns-in-Ok-Stopped-clause-fit g c =
     let mid = c.make_room.new.self in
     let sent = c.tidy_cells.new.placement in
     let back = c.undo_moves.new.self in
-    let before = cells_in number mid in
+    let before = table_cells number mid in
     let have = c.tidy_cells.ensures.moved before (from_none before c.in_ok-moves.moves (c.in_ok-moves.ensures {u = tt})) in
     entries_stay number mid record mid { placement = back }
     (rooms_through mid.placement sent back c.tidy_cells.ensures.only.ground (same_rooms sent back c.undo_moves.ensures.rest))
@@ -116,7 +116,7 @@ returns-clause-fit g c =
     let mid = c.make_room.new.self in
     let sent = c.tidy_cells.new.placement in
     let back = c.undo_moves-in-Err.new.self in
-    let before = cells_in number mid in
+    let before = table_cells number mid in
     let have = c.tidy_cells.ensures.moved before (from_none before c.in_ok-moves.moves (c.in_ok-moves.ensures {u = tt})) in
     entries_stay number mid record mid { placement = back }
     (rooms_through mid.placement sent back c.tidy_cells.ensures.only.ground (same_rooms sent back c.undo_moves-in-Err.ensures.rest))

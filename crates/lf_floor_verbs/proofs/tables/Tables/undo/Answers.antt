@@ -1,4 +1,4 @@
-use Rattle.lf_floor_verbs.specs.Tables.{cells_in}
+use Rattle.lf_floor_verbs.specs.Tables.{table_cells}
 use Rattle.lf_floor_verbs.proofs.Undoing.{cells_before, led_from, newest_fits, none_reaches, undone_fit, undone_moves, undone_reaches}
 use Rattle.lf_floor_verbs.proofs.tables.Tables.undo.Goals as goal
 
@@ -9,7 +9,7 @@ undo_moves-requires c =
 pub returns-in-Some-clause-team : goal.returns-in-Some-clause-team
 returns-in-Some-clause-team c =
     let popped = c.in-Some.ensures {u = tt} in
-    let now = cells_in c.args.number c.args.self.now in
+    let now = table_cells c.args.number c.args.self.now in
     undone_reaches c.args.number c.args.session c.count_change.result c.in-Some.moves c.args.self.now c.count_change.new.self c.pop.new.self
     c.undo_moves.new.self c.requires.rows popped.front popped.lists
     (c.undo_moves.ensures.own (cells_before c.in-Some.moves now) (led_from c.in-Some.moves now))

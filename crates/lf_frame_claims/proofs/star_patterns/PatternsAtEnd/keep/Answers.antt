@@ -1,5 +1,5 @@
 use Rattle.std.proofs.Common.{refl}
-use Rattle.lf_frame_claims.proofs.KeyLemmas.{keeps_new, keeps_old, bounds_stand}
+use Rattle.lf_frame_claims.proofs.KeyLemmas.{keeps_new, keeps_old, bounds_hold}
 use Rattle.lf_frame_claims.proofs.star_patterns.PatternsAtEnd.keep.Goals as goal
 
 pub returns-in_ok-push-in-New : goal.returns-in_ok-push-in-New
@@ -11,7 +11,7 @@ returns-in_ok-push-in-New c = λ whole.
 pub returns-in_ok-push_at-in-Present : goal.returns-in_ok-push_at-in-Present
 returns-in_ok-push_at-in-Present c = λ whole.
     let adds = rw c.in-Present.is at c.in_ok-add.ensures.ok in
-    let stands = bounds_stand c.args.self.now c.args.key.now c.in-Present.place whole adds.0 in
-    let pushed = c.in_ok-push_at-in-Present.ensures stands.0 stands.1 in
-    keeps_old c.args.self.now (record { end = c.args.self.now.end; keys = c.add.new.self; bounds = c.push_at.new.all; lengths = c.args.self.now.lengths }) c.args.key.now c.args.bound c.in-Present.place stands.0 pushed.0
-    whole adds.0 stands.1 pushed.1 adds.1 pushed.2 refl refl
+    let is_in_place = bounds_hold c.args.self.now c.args.key.now c.in-Present.place whole adds.0 in
+    let pushed = c.in_ok-push_at-in-Present.ensures is_in_place.0 is_in_place.1 in
+    keeps_old c.args.self.now (record { end = c.args.self.now.end; keys = c.add.new.self; bounds = c.push_at.new.all; lengths = c.args.self.now.lengths }) c.args.key.now c.args.bound c.in-Present.place is_in_place.0 pushed.0
+    whole adds.0 is_in_place.1 pushed.1 adds.1 pushed.2 refl refl

@@ -4,7 +4,7 @@ use Rattle.lf_units.specs.declared.geometry.Rect.{Rect}
 use Rattle.lf_cells.specs.declared.cell.CellId.{CellId}
 use Rattle.lf_cells.specs.Cells.{cells_of, id_of}
 use Rattle.lf_occupancy.specs.Floorplans.{boxes_in}
-use Rattle.lf_occupancy.specs.Occupied.{cell_box}
+use Rattle.lf_occupancy.specs.Views.{cell_box}
 use Rattle.lf_occupancy.proofs.Building.{box_here, id_there, none_in}
 use Rattle.lf_occupancy.proofs.boxes.Boxes.get_in.Goals as goal
 

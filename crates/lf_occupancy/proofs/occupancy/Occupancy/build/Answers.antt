@@ -9,6 +9,6 @@ returns c =
     record {
       index = c.requires.index;
       site = is;
-      holds = subst (λ (s : ℤ). ShowAllBoxes (widened_strips s c.args.index.strips) (boxes_in c.args.frame.now c.args.cells.now) c.in_ok-lanes.lanes.items)
-          (sym is) c.in_ok-lanes.ensures;
+      holds = subst (λ (s : ℤ). ShowAllBoxes (widened_strips s c.args.index.strips) (boxes_in c.args.frame.now c.args.cells.now) c.in_ok-mark_lists.mark_lists.items)
+          (sym is) c.in_ok-mark_lists.ensures;
     }

@@ -1,10 +1,10 @@
 use Rattle.std.proofs.Common.{ℕ, List, Option, [], set, subst, sym, ◌∙◌}
 use Rattle.std.proofs.lemmas.Result.{on_ok_weaker}
 use Rattle.lf_units.specs.declared.geometry.Rect.{Rect}
-use Rattle.lf_occupancy.specs.Occupied.{Bounds, KeepsCapacities, Occupied}
+use Rattle.lf_occupancy.specs.Views.{Bounds, KeepsCapacities, Occupied}
 use Rattle.lf_occupancy.specs.Strips.{MarksBoxes, Marked, widened_strips, with_boxes, capacities_in}
-use Rattle.lf_occupancy.specs.Tallies.{AreShifted, IsHigher}
-use Rattle.lf_occupancy.proofs.Reaching.{lanes_kept, rooms_kept}
+use Rattle.lf_occupancy.specs.StripCounting.{AreShifted, IsHigher}
+use Rattle.lf_occupancy.proofs.Reaching.{mark_lists_kept, rooms_kept}
 use Rattle.lf_occupancy.proofs.Tallying.{bounds_beside, bounds_other, bounds_own, bounds_shifted}
 use Rattle.lf_occupancy.proofs.occupancy.Occupancy.reserve_counted.Goals as goal
 
@@ -12,7 +12,7 @@ pub returns-clause-own : goal.returns-clause-own
 returns-clause-own c = λ boxes own is bounds.
     let o = c.self.inside in
     let team = c.args.team in
-    let held : Occupied = with_boxes record { index = o.index; site = o.site; lanes = o.lanes.items } [] in
+    let held : Occupied = with_boxes record { index = o.index; site = o.site; mark_lists = o.mark_lists.items } [] in
     let was : Bounds held team boxes c.args.tally.now =
     subst (λ (m : Marked). Bounds (with_boxes m []) team boxes c.args.tally.now) (sym c.self.view_is) bounds in
     let before : Bounds held team boxes c.tally.inside.counts.items = subst (λ (ns : List ℕ). Bounds held team boxes ns) (sym c.tally.view_is) was in
@@ -25,7 +25,7 @@ pub returns-clause-others : goal.returns-clause-others
 returns-clause-others c = λ boxes other differ bounds.
     let o = c.self.inside in
     let team = c.args.team in
-    let held : Occupied = with_boxes record { index = o.index; site = o.site; lanes = o.lanes.items } [] in
+    let held : Occupied = with_boxes record { index = o.index; site = o.site; mark_lists = o.mark_lists.items } [] in
     let was : Bounds held other boxes c.args.tally.now =
     subst (λ (m : Marked). Bounds (with_boxes m []) other boxes c.args.tally.now) (sym c.self.view_is) bounds in
     let before : Bounds held other boxes c.tally.inside.counts.items = subst (λ (ns : List ℕ). Bounds held other boxes ns) (sym c.tally.view_is) was in
@@ -37,20 +37,20 @@ returns-clause-others c = λ boxes other differ bounds.
 pub returns-clause-holds : goal.returns-clause-holds
 returns-clause-holds c = λ boxes holds.
     let o = c.self.inside in
-    lanes_kept (widened_strips o.site o.index.strips) boxes o.lanes.items c.raise.new.lanes.items c.raise.ensures.kept
+    mark_lists_kept (widened_strips o.site o.index.strips) boxes o.mark_lists.items c.raise.new.mark_lists.items c.raise.ensures.kept
     (subst (λ (m : Marked). MarksBoxes m boxes) (sym c.self.view_is) holds)
 
 pub returns-clause-rooms : goal.returns-clause-rooms
 returns-clause-rooms c =
-    subst (λ (m : Marked). KeepsCapacities (capacities_in m.lanes) (capacities_in c.raise.new.lanes.items)) c.self.view_is
-    (rooms_kept c.self.inside.lanes.items c.raise.new.lanes.items c.raise.ensures.kept)
+    subst (λ (m : Marked). KeepsCapacities (capacities_in m.mark_lists) (capacities_in c.raise.new.mark_lists.items)) c.self.view_is
+    (rooms_kept c.self.inside.mark_lists.items c.raise.new.mark_lists.items c.raise.ensures.kept)
 
 pub returns-in-Some-clause-own : goal.returns-in-Some-clause-own
 returns-in-Some-clause-own c = λ boxes own is bounds.
     let o = c.self.inside in
     let team = c.args.team in
     let shift = c.in-Some.shift in
-    let held : Occupied = with_boxes record { index = o.index; site = o.site; lanes = o.lanes.items } [] in
+    let held : Occupied = with_boxes record { index = o.index; site = o.site; mark_lists = o.mark_lists.items } [] in
     let was : Bounds held team boxes c.args.tally.now =
     subst (λ (m : Marked). Bounds (with_boxes m []) team boxes c.args.tally.now) (sym c.self.view_is) bounds in
     let before : Bounds held team boxes c.tally.inside.counts.items = subst (λ (ns : List ℕ). Bounds held team boxes ns) (sym c.tally.view_is) was in
@@ -65,7 +65,7 @@ returns-in-Some-clause-others c = λ boxes other differ bounds.
     let o = c.self.inside in
     let team = c.args.team in
     let shift = c.in-Some.shift in
-    let held : Occupied = with_boxes record { index = o.index; site = o.site; lanes = o.lanes.items } [] in
+    let held : Occupied = with_boxes record { index = o.index; site = o.site; mark_lists = o.mark_lists.items } [] in
     let was : Bounds held other boxes c.args.tally.now =
     subst (λ (m : Marked). Bounds (with_boxes m []) other boxes c.args.tally.now) (sym c.self.view_is) bounds in
     let before : Bounds held other boxes c.tally.inside.counts.items = subst (λ (ns : List ℕ). Bounds held other boxes ns) (sym c.tally.view_is) was in
@@ -76,10 +76,10 @@ returns-in-Some-clause-others c = λ boxes other differ bounds.
 pub returns-in-Some-clause-holds : goal.returns-in-Some-clause-holds
 returns-in-Some-clause-holds c = λ boxes holds.
     let o = c.self.inside in
-    lanes_kept (widened_strips o.site o.index.strips) boxes o.lanes.items c.shift_rows.new.lanes.items c.shift_rows.ensures.kept
+    mark_lists_kept (widened_strips o.site o.index.strips) boxes o.mark_lists.items c.shift_rows.new.mark_lists.items c.shift_rows.ensures.kept
     (subst (λ (m : Marked). MarksBoxes m boxes) (sym c.self.view_is) holds)
 
 pub returns-in-Some-clause-rooms : goal.returns-in-Some-clause-rooms
 returns-in-Some-clause-rooms c =
-    subst (λ (m : Marked). KeepsCapacities (capacities_in m.lanes) (capacities_in c.shift_rows.new.lanes.items)) c.self.view_is
-    (rooms_kept c.self.inside.lanes.items c.shift_rows.new.lanes.items c.shift_rows.ensures.kept)
+    subst (λ (m : Marked). KeepsCapacities (capacities_in m.mark_lists) (capacities_in c.shift_rows.new.mark_lists.items)) c.self.view_is
+    (rooms_kept c.self.inside.mark_lists.items c.shift_rows.new.mark_lists.items c.shift_rows.ensures.kept)

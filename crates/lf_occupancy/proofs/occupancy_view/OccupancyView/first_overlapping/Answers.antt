@@ -1,17 +1,17 @@
 use Rattle.std.proofs.Common.{None, List, ap, sym, subst, ◌∙◌}
 use Rattle.lf_occupancy.specs.declared.strip_marks.StripMarks.{StripMarks}
-use Rattle.lf_occupancy.specs.Lanes.{IsLeast}
-use Rattle.lf_occupancy.specs.Occupied.{Occupied, IsFirstMet}
-use Rattle.lf_occupancy.specs.Strips.{ShowAllBoxes, MarksBoxes, Marked, MeetsInOne, widened_strips, with_boxes, strip_views}
-use Rattle.lf_occupancy.proofs.Showing.{lanes_shown}
+use Rattle.lf_occupancy.specs.MarkLists.{IsLeast}
+use Rattle.lf_occupancy.specs.Views.{Occupied, IsFirstOverlappingCell}
+use Rattle.lf_occupancy.specs.Strips.{ShowAllBoxes, MarksBoxes, Marked, OverlapsInOne, widened_strips, with_boxes, strip_views}
+use Rattle.lf_occupancy.proofs.Showing.{mark_lists_shown}
 use Rattle.lf_occupancy.proofs.Views.{first_of_least}
 use Rattle.lf_occupancy.proofs.occupancy_view.OccupancyView.first_overlapping.Goals as goal
 
-pub least_met-requires-clause-site : goal.least_met-requires-clause-site
-least_met-requires-clause-site c = c.occupancy.invariant.site
+pub least_overlapped-requires-clause-site : goal.least_overlapped-requires-clause-site
+least_overlapped-requires-clause-site c = c.occupancy.invariant.site
 
-pub least_met-requires-clause-lanes : goal.least_met-requires-clause-lanes
-least_met-requires-clause-lanes c =
+pub least_overlapped-requires-clause-mark_lists : goal.least_overlapped-requires-clause-mark_lists
+least_overlapped-requires-clause-mark_lists c =
     let h = c.self.inside in
     let o = c.occupancy.inside in
     subst (λ (ls : List StripMarks). ShowAllBoxes (widened_strips o.site o.index.strips) h.boxes ls) (sym c.deref.ensures.value)
@@ -26,8 +26,8 @@ returns c =
     let xs = widened_strips o.site o.index.strips in
     let at = ap (λ (m : Marked). with_boxes m h.boxes) c.occupancy.view_is ∙ c.self.view_is in
     let holds = subst (λ (m : Marked). MarksBoxes m h.boxes) (sym c.occupancy.view_is) c.self.invariant in
-    subst (λ (v : Occupied). IsFirstMet v id rect c.least_met.result) at
-    (first_of_least (with_boxes record { index = o.index; site = o.site; lanes = o.lanes.items } h.boxes) (strip_views xs h.boxes o.lanes.items) id rect
-    c.least_met.result (lanes_shown xs h.boxes o.lanes.items holds)
-    (subst (λ (ls : List StripMarks). IsLeast (MeetsInOne xs (strip_views xs h.boxes ls) id.team rect id.own) None c.least_met.result) c.deref.ensures.value
-    c.least_met.ensures))
+    subst (λ (v : Occupied). IsFirstOverlappingCell v id rect c.least_overlapped.result) at
+    (first_of_least (with_boxes record { index = o.index; site = o.site; mark_lists = o.mark_lists.items } h.boxes) (strip_views xs h.boxes o.mark_lists.items) id rect
+    c.least_overlapped.result (mark_lists_shown xs h.boxes o.mark_lists.items holds)
+    (subst (λ (ls : List StripMarks). IsLeast (OverlapsInOne xs (strip_views xs h.boxes ls) id.team rect id.own) None c.least_overlapped.result) c.deref.ensures.value
+    c.least_overlapped.ensures))

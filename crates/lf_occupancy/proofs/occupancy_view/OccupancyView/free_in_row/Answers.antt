@@ -3,18 +3,18 @@ use Rattle.std.proofs.lemmas.Int.{ints}
 use Rattle.std.proofs.lemmas.Result.{IfOk-weaker}
 use Rattle.lf_rules.specs.Padding.{IsShort}
 use Rattle.lf_occupancy.specs.declared.strip_marks.StripMarks.{StripMarks}
-use Rattle.lf_occupancy.specs.Occupied.{Occupied, IsFreeInRow, IsPaddingOf}
+use Rattle.lf_occupancy.specs.Views.{Occupied, IsFreeInRow, IsPaddingOf}
 use Rattle.lf_occupancy.specs.Strips.{AreFreeTo, ShowAllBoxes, MarksBoxes, Marked, widened_strips, with_boxes, strip_views}
 use Rattle.lf_occupancy.proofs.Around.{site_short}
-use Rattle.lf_occupancy.proofs.Showing.{lanes_shown}
+use Rattle.lf_occupancy.proofs.Showing.{mark_lists_shown}
 use Rattle.lf_occupancy.proofs.Views.{free_of_strips}
 use Rattle.lf_occupancy.proofs.occupancy_view.OccupancyView.free_in_row.Goals as goal
 
 pub free_in_strips-requires-clause-site : goal.free_in_strips-requires-clause-site
 free_in_strips-requires-clause-site c = c.occupancy.invariant.site
 
-pub free_in_strips-requires-clause-lanes : goal.free_in_strips-requires-clause-lanes
-free_in_strips-requires-clause-lanes c =
+pub free_in_strips-requires-clause-mark_lists : goal.free_in_strips-requires-clause-mark_lists
+free_in_strips-requires-clause-mark_lists c =
     let h = c.self.inside in
     let o = c.occupancy.inside in
     subst (λ (ls : List StripMarks). ShowAllBoxes (widened_strips o.site o.index.strips) h.boxes ls) (sym c.deref.ensures.value)
@@ -39,21 +39,21 @@ returns c =
     let row = c.args.row in
     let window = c.args.window.now in
     let xs = o.index.strips in
-    let felt = widened_strips o.site xs in
+    let widened_by_reach = widened_strips o.site xs in
     let at = ap (λ (m : Marked). with_boxes m h.boxes) c.occupancy.view_is ∙ c.self.view_is in
     let holds = subst (λ (m : Marked). MarksBoxes m h.boxes) (sym c.occupancy.view_is) c.self.invariant in
     let padding : ℤ = to_z w64 (of_z w64 c.args.padding) in
     let is : to_z w64 (of_z w64 c.args.padding) ≡ c.args.padding = search rules in
     let short : IsPaddingOf c.args.self.now padding = subst (λ (q : ℤ). IsPaddingOf c.args.self.now q) (sym is) c.requires.padding in
     IfOk-weaker c.free_in_strips.result
-    (λ free. AreFreeTo xs (strip_views felt h.boxes c.deref.result.now) row id.team id.own window padding (length xs) free.items)
+    (λ free. AreFreeTo xs (strip_views widened_by_reach h.boxes c.deref.result.now) row id.team id.own window padding (length xs) free.items)
     (λ free. IsFreeInRow c.args.self.now row id window c.args.padding free.items)
     (λ free f.
     subst (λ (q : ℤ). IsFreeInRow c.args.self.now row id window q free.items) is
     (subst (λ (v : Occupied). IsPaddingOf v padding → IsFreeInRow v row id window padding free.items) at
     (λ near.
-    free_of_strips (with_boxes record { index = o.index; site = o.site; lanes = o.lanes.items } h.boxes) (strip_views felt h.boxes o.lanes.items) row id window
-    padding free.items near (lanes_shown felt h.boxes o.lanes.items holds)
-    (subst (λ (ls : List StripMarks). AreFreeTo xs (strip_views felt h.boxes ls) row id.team id.own window padding (length xs) free.items) c.deref.ensures.value f))
+    free_of_strips (with_boxes record { index = o.index; site = o.site; mark_lists = o.mark_lists.items } h.boxes) (strip_views widened_by_reach h.boxes o.mark_lists.items) row id window
+    padding free.items near (mark_lists_shown widened_by_reach h.boxes o.mark_lists.items holds)
+    (subst (λ (ls : List StripMarks). AreFreeTo xs (strip_views widened_by_reach h.boxes ls) row id.team id.own window padding (length xs) free.items) c.deref.ensures.value f))
     short))
     c.free_in_strips.ensures

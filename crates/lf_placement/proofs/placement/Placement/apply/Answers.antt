@@ -3,7 +3,7 @@ use Rattle.lf_cells.specs.Cells.{cells_of}
 use Rattle.lf_occupancy.specs.Floorplans.{boxes_in}
 use Rattle.lf_occupancy.specs.Strips.{with_boxes}
 use Rattle.lf_placement.proofs.Marks.{follows_still}
-use Rattle.lf_placement.specs.Placings.{Fits, Placing, SameButPlaces, moves_applied, placing_of, places_of}
+use Rattle.lf_placement.specs.Placements.{Fits, Placing, SameButPlaces, moves_applied, placing_of, working_places_of}
 use Rattle.lf_placement.proofs.Moves.{same_made}
 use Rattle.lf_placement.proofs.Keeping.{fits_made, placing_moved}
 use Rattle.lf_placement.proofs.placement.Placement.apply.Goals as goal
@@ -12,7 +12,7 @@ pub apply_moves-requires-clause-fits : goal.apply_moves-requires-clause-fits
 apply_moves-requires-clause-fits c =
     let moves = drop c.args.from c.args.moves.now in
     fits_made (placing_of c.self.inside.frame c.self.inside.cells c.self.inside.occupancy) c.args.team moves
-    (subst (λ (p : Placing). Fits p c.args.team (places_of (moves_applied moves (cells_of p.cells c.args.team)))) (sym c.self.view_is) c.requires)
+    (subst (λ (p : Placing). Fits p c.args.team (working_places_of (moves_applied moves (cells_of p.cells c.args.team)))) (sym c.self.view_is) c.requires)
 
 pub invariant_of-self : goal.invariant_of-self
 invariant_of-self c =

@@ -5,8 +5,8 @@ use Rattle.lf_rules.specs.Legalizer.{Legalizer}
 use Rattle.lf_cells.specs.Cells.{cells_of}
 use Rattle.lf_legalize.specs.Members.{best_of}
 use Rattle.lf_occupancy.specs.Floorplans.{IsOccupancyOf}
-use Rattle.lf_occupancy.specs.Occupied.{Occupied}
-use Rattle.lf_placement.specs.Placings.{Placing}
+use Rattle.lf_occupancy.specs.Views.{Occupied}
+use Rattle.lf_placement.specs.Placements.{Placing}
 use Rattle.lf_placement.proofs.placement.Placement.best_place.Goals as goal
 
 pub with_boxes-requires-clause-sized : goal.with_boxes-requires-clause-sized

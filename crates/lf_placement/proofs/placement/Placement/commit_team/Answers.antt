@@ -1,8 +1,8 @@
 use Rattle.std.proofs.Common.{refl}
 use Rattle.lf_occupancy.specs.Floorplans.{boxes_in}
 use Rattle.lf_occupancy.specs.Strips.{widened_strips, with_boxes}
-use Rattle.lf_occupancy.proofs.Building.{lanes_of_same}
-use Rattle.lf_placement.specs.Placings.{placing_of}
+use Rattle.lf_occupancy.proofs.Building.{mark_lists_of_same}
+use Rattle.lf_placement.specs.Placements.{placing_of}
 use Rattle.lf_placement.proofs.Keeping.{boxes_still_committed, placing_committed}
 use Rattle.lf_placement.proofs.Marks.{follows_still, rooms_same}
 use Rattle.lf_placement.proofs.placement.Placement.commit_team.Goals as goal
@@ -15,7 +15,7 @@ invariant_of-self c =
     let m = c.self.inside.occupancy in
     let boxes = boxes_in f old in
     record {
-      holds = lanes_of_same (widened_strips m.site m.index.strips) boxes (boxes_in f cells) m.lanes
+      holds = mark_lists_of_same (widened_strips m.site m.index.strips) boxes (boxes_in f cells) m.mark_lists
           (boxes_still_committed f c.args.team old cells c.commit_places.ensures.others c.commit_places.ensures.own) c.self.invariant.holds;
       placing = placing_committed (placing_of f old m) c.args.team cells (with_boxes m (boxes_in f cells)) c.self.invariant.placing
           c.commit_places.ensures.others c.commit_places.ensures.own (c.boxes_fit.ensures boxes c.self.invariant.holds)

@@ -1,6 +1,6 @@
 use Rattle.std.proofs.Common.{Option, subst}
 use Rattle.lf_rules.specs.declared.rule.Rule.{Rule}
-use Rattle.lf_placement.specs.Placings.{IsBrokenFrameRule}
+use Rattle.lf_placement.specs.Placements.{IsBrokenFrameRule}
 use Rattle.lf_placement.proofs.Judging.{broken_alone}
 use Rattle.lf_placement.proofs.placement.Placement.first_broken.Goals as goal
 

@@ -1,9 +1,9 @@
 use Rattle.std.proofs.Common.{map, subst}
 use Rattle.std.proofs.lemmas.Result.{on_ok_weaker}
 use Rattle.lf_cells.specs.Cells.{cells_of}
-use Rattle.lf_occupancy.specs.Occupied.{FitIn}
-use Rattle.lf_occupancy.specs.Floorplans.{box_of}
-use Rattle.lf_placement.specs.Placings.{Placing, boxes_at, moves_applied, placing_of, places_of}
+use Rattle.lf_occupancy.specs.Views.{FitIn}
+use Rattle.lf_occupancy.specs.Floorplans.{working_box_of}
+use Rattle.lf_placement.specs.Placements.{Placing, boxes_at, moves_applied, placing_of, working_places_of}
 use Rattle.lf_placement.proofs.Keeping.{made_fits, placing_grown}
 use Rattle.lf_placement.proofs.placement.Placement.reserve.Goals as goal
 
@@ -14,8 +14,8 @@ returns-clause-ok c =
     let moves = c.args.moves.now in
     let p = placing_of f c.self.inside.cells c.reserve_moves.new.occupancy in
     on_ok_weaker c.reserve_moves.result
-    (λ (fits : FitIn p.held c.args.team (map (box_of f) (moves_applied moves old))).
-    subst (λ (q : Placing). FitIn p.held c.args.team (boxes_at f old (places_of (moves_applied moves (cells_of q.cells c.args.team)))))
+    (λ (fits : FitIn p.held c.args.team (map (working_box_of f) (moves_applied moves old))).
+    subst (λ (q : Placing). FitIn p.held c.args.team (boxes_at f old (working_places_of (moves_applied moves (cells_of q.cells c.args.team)))))
     c.self.view_is
     (made_fits p c.args.team moves fits)) c.reserve_moves.ensures.ok
 

@@ -1,8 +1,8 @@
 use Rattle.std.proofs.Common.{refl, subst, sym}
 use Rattle.lf_cells.specs.Cells.{cells_of}
 use Rattle.lf_occupancy.specs.Floorplans.{boxes_in}
-use Rattle.lf_occupancy.specs.Occupied.{KeepsCapacities}
-use Rattle.lf_placement.specs.Placings.{BoundsAt, Placing, SameButRooms, boxes_at, placing_of}
+use Rattle.lf_occupancy.specs.Views.{KeepsCapacities}
+use Rattle.lf_placement.specs.Placements.{BoundsAt, Placing, SameButRooms, boxes_at, placing_of}
 use Rattle.lf_placement.proofs.Keeping.{placing_grown}
 use Rattle.lf_placement.proofs.placement.Placement.reserve_change.Goals as goal
 

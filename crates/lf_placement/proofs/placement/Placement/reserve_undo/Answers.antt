@@ -1,5 +1,5 @@
 use Rattle.lf_cells.specs.Cells.{cells_of}
-use Rattle.lf_placement.specs.Placings.{boxes_at}
+use Rattle.lf_placement.specs.Placements.{boxes_at}
 use Rattle.lf_placement.proofs.Tallying.{both_ok, bounds_fit}
 use Rattle.lf_placement.proofs.placement.Placement.reserve_undo.Goals as goal
 

@@ -4,7 +4,7 @@ use Rattle.lf_undo.specs.Entries.{moves_taken_back}
 use Rattle.lf_occupancy.specs.Floorplans.{boxes_in}
 use Rattle.lf_occupancy.specs.Strips.{with_boxes}
 use Rattle.lf_placement.proofs.Marks.{follows_still}
-use Rattle.lf_placement.specs.Placings.{Fits, HaveMoved, Placing, SameButPlaces, placing_of, places_of}
+use Rattle.lf_placement.specs.Placements.{Fits, HaveMoved, Placing, SameButPlaces, placing_of, working_places_of}
 use Rattle.lf_placement.proofs.Moves.{have_back, same_back}
 use Rattle.lf_placement.proofs.Keeping.{fits_back, placing_moved}
 use Rattle.lf_placement.proofs.placement.Placement.undo_moves.Goals as goal
@@ -13,7 +13,7 @@ pub revert_moves-requires-clause-fits : goal.revert_moves-requires-clause-fits
 revert_moves-requires-clause-fits c =
     let moves = c.args.moves.now in
     fits_back (placing_of c.self.inside.frame c.self.inside.cells c.self.inside.occupancy) c.args.team moves
-    (subst (λ (p : Placing). Fits p c.args.team (moves_taken_back moves (places_of (cells_of p.cells c.args.team)))) (sym c.self.view_is) c.requires)
+    (subst (λ (p : Placing). Fits p c.args.team (moves_taken_back moves (working_places_of (cells_of p.cells c.args.team)))) (sym c.self.view_is) c.requires)
 
 pub invariant_of-self : goal.invariant_of-self
 invariant_of-self c =

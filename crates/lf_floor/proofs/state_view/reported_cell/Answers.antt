@@ -1,0 +1,15 @@
+use Rattle.std.proofs.Common.{map, ap, sym, ◌∙◌}
+use Rattle.std.specs.Prelude.{slice_get}
+use Rattle.lf_cells.specs.Cells.{Cells, cells_of}
+use Rattle.lf_state_text.specs.Saved.{SavedTeam}
+use Rattle.lf_state_restore.specs.Saved.{saved_cell}
+use Rattle.lf_floor.proofs.Saving.{one_reported}
+use Rattle.lf_floor.proofs.state_view.reported_cell.Goals as goal
+
+pub returns : goal.returns
+returns c =
+    let tables = c.args.tables.now in
+    let k = c.args.team in
+    c.saved_cell.ensures
+    ∙ ap (λ (cs : Cells). slice_get (map saved_cell (cells_of cs k)) c.args.own) c.cells.ensures
+    ∙ sym (ap (λ (t : SavedTeam). slice_get t.cells c.args.own) (one_reported tables k c.requires))

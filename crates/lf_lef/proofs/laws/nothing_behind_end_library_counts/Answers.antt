@@ -1,5 +1,0 @@
-use Rattle.lf_lef.proofs.Whole.{ends_before}
-use Rattle.lf_lef.proofs.laws.nothing_behind_end_library_counts.Goals as goal
-
-pub returns : goal.returns
-returns c = λ old new text. ends_before old new text

@@ -1,9 +1,0 @@
-use Rattle.std.proofs.Common.{length}
-use Rattle.lf_names.proofs.Places.{IsEndWithAll}
-use Rattle.lf_names.proofs.pattern.behind_first.Given as goal
-
-abbrev pub invariant-loop-rest : goal.invariant-loop-rest
-invariant-loop-rest l = IsEndWithAll l.name l.piece l.end
-
-abbrev pub decreases-loop-rest : goal.decreases-loop-rest
-decreases-loop-rest l = length l.end

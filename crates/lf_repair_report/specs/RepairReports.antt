@@ -1,0 +1,146 @@
+-- The report of a repair: a line of JSON for each team, and one for all. Lengths are in database
+-- units.
+use Rattle.std.specs.Prelude.{◌≡◌, ◌==◌, ◌+◌, ◌-◌, ◌/◌, ◌^◌, ℕ, Bool, true, if◌then◌else◌, List, [], ◌∷◌, ◌++◌, All, Option, Some, None, codes, flat_map, length, map, max, min, slice_get, option_and_then}
+use Rattle.std.specs.Option.{option_map_or}
+use Rattle.serde_json.specs.Data.{Data, array, boolean, member, no_members, object}
+use Rattle.serde_json.specs.View.{items_of}
+use Rattle.lf_describe.specs.Description.{count_data as whole_number, line_text as text_of_line, text_data as name_data}
+use Rattle.lf_floorplan.specs.declared.frame.Frame.{Frame}
+use Rattle.lf_floor_model.specs.States.{FloorState}
+use Rattle.lf_floor_model.specs.Teams.{state_of, team_number}
+use Rattle.lf_floor_model.specs.Outcomes.{name_at}
+use Rattle.lf_repair_strategy.specs.declared.stats.RepairStats.{RepairStats}
+use Rattle.lf_repair_report.specs.declared.totals.Totals.{Totals}
+use Rattle.lf_repair_report.specs.declared.report.RepairReport.{RepairReport}
+
+-- ---- values
+
+-- a name as a text; null if its bytes are not UTF-8
+abbrev pub report_text_value : List ℕ → Data
+report_text_value = name_data
+
+abbrev pub report_number : ℕ → Data
+report_number = whole_number
+
+-- a line: JSON without spaces, and a line feed
+abbrev pub report_line_text : Data → List ℕ
+report_line_text = text_of_line
+
+-- the name of the team's cell at this position, if there is one
+abbrev pub name_of_cell : FloorState → List ℕ → ℕ → List (List ℕ)
+name_of_cell floor team own = option_map_or (λ name. name ∷ []) (option_and_then (λ s. name_at s.cells own) (state_of floor team)) []
+
+-- the names of the team's cells at these positions
+abbrev pub cell_names : FloorState → List ℕ → List ℕ → List (List ℕ)
+cell_names floor team owns = flat_map (λ own. name_of_cell floor team own) owns
+
+-- the mean displacement of `moved` cells with this total, rounded down; 0 for no cells
+abbrev pub mean_displacement : ℕ → ℕ → ℕ
+mean_displacement total moved = if moved == 0 then 0 else total / moved
+
+-- ---- a team
+
+-- the JSON of a team: its name, the names of the unrepaired cells, the width of the widest gap near
+-- each, the largest of the least displacements of its cells, and the statistics of its repair
+abbrev pub team_data : Data → Data → Data → ℕ → RepairStats → Data
+team_data name left gaps least r =
+    object (member (codes "cells") (report_number r.cells)
+    (member (codes "gaps") gaps
+    (member (codes "kept") (report_number r.kept)
+    (member (codes "largest") (report_number r.largest)
+    (member (codes "least_largest") (report_number least)
+    (member (codes "left") left
+    (member (codes "mean") (report_number (mean_displacement r.total r.moved))
+    (member (codes "moved") (report_number r.moved)
+    (member (codes "placed") (report_number r.placed)
+    (member (codes "pushed") (report_number r.pushed)
+    (member (codes "team") name
+    (member (codes "total") (report_number r.total)
+    (member (codes "turned") (report_number r.turned) no_members)))))))))))))
+
+-- the names, and the numbers, in their order
+abbrev pub names_data : List (List ℕ) → Data
+names_data names = array (items_of (map report_text_value names))
+
+abbrev pub counts_data : List ℕ → Data
+counts_data counts = array (items_of (map report_number counts))
+
+-- the line of a team whose unrepaired cells have these names and gaps
+abbrev pub team_line : List ℕ → List (List ℕ) → List ℕ → ℕ → RepairStats → List ℕ
+team_line name left gaps least r = report_line_text (team_data (report_text_value name) (names_data left) (counts_data gaps) least r)
+
+-- the number for this team; 0 if there is no number for it
+abbrev pub least_for : List ℕ → Option ℕ → ℕ
+least_for least number = option_map_or (λ n. option_map_or (λ way. way) (slice_get least n) 0) number 0
+
+-- the JSON of the team on this floor
+abbrev pub IsTeamData : FloorState → List ℕ → RepairStats → ℕ → Data → Type 0
+IsTeamData floor team r least line =
+    (gaps : List ℕ) × (line ≡ team_data (report_text_value team) (names_data (cell_names floor team r.left.items)) (counts_data gaps) least r)
+
+-- ---- all teams
+
+-- a sum that saturates at the greatest number of 64 bits
+abbrev pub saturating_sum : ℕ → ℕ → ℕ
+saturating_sum a b = min (a + b) (2 ^ 64 - 1)
+
+-- the sums of no team
+abbrev pub no_sums : Totals
+no_sums = record {
+  teams = 0;
+  cells = 0;
+  kept = 0;
+  moved = 0;
+  placed = 0;
+  pushed = 0;
+  turned = 0;
+  left = 0;
+  total = 0;
+  largest = 0;
+  least_largest = 0;
+}
+
+-- the sums with one more team
+abbrev pub totals_with_team : Totals → RepairStats → ℕ → Totals
+totals_with_team s r least = record {
+  teams = saturating_sum s.teams 1;
+  cells = saturating_sum s.cells r.cells;
+  kept = saturating_sum s.kept r.kept;
+  moved = saturating_sum s.moved r.moved;
+  placed = saturating_sum s.placed r.placed;
+  pushed = saturating_sum s.pushed r.pushed;
+  turned = saturating_sum s.turned r.turned;
+  left = saturating_sum s.left (length r.left.items);
+  total = saturating_sum s.total r.total;
+  largest = max s.largest r.largest;
+  least_largest = max s.least_largest least;
+}
+
+abbrev pub all_data : Totals → Bool → Data
+all_data s legal =
+    object (member (codes "cells") (report_number s.cells)
+    (member (codes "kept") (report_number s.kept)
+    (member (codes "largest") (report_number s.largest)
+    (member (codes "least_largest") (report_number s.least_largest)
+    (member (codes "left_cells") (report_number s.left)
+    (member (codes "legal") (boolean legal)
+    (member (codes "mean") (report_number (mean_displacement s.total s.moved))
+    (member (codes "moved") (report_number s.moved)
+    (member (codes "placed") (report_number s.placed)
+    (member (codes "pushed") (report_number s.pushed)
+    (member (codes "teams") (report_number s.teams)
+    (member (codes "total") (report_number s.total)
+    (member (codes "turned") (report_number s.turned) no_members)))))))))))))
+
+-- the line of all teams
+abbrev pub all_line : Totals → Bool → List ℕ
+all_line s legal = report_line_text (all_data s legal)
+
+-- ---- the lines
+
+-- the line of one more team is appended, given the result of its repair on this floor
+pub record IsOneMore (floor : FloorState) (team : List ℕ) (r : RepairStats) (old new : RepairReport) : Type 0 where
+  pub gaps : List ℕ
+  pub text : new.text.items ≡ old.text.items ++ team_line team (cell_names floor team r.left.items) gaps (least_for old.least.items (team_number floor.frame team)) r
+  pub sums : new.sums ≡ totals_with_team old.sums r (least_for old.least.items (team_number floor.frame team))
+  pub least : new.least ≡ old.least

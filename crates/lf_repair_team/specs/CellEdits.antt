@@ -1,0 +1,125 @@
+-- Changes of one cell, and what is read at the start and at the end of a repair. No public clause
+-- cites this module.
+use Rattle.std.specs.Prelude.{◌≡◌, ◌≢◌, ◌⊎◌, ℕ, ◌<◌, ◌≤◌, ◌+◌, ◌++◌, ◌∷◌, [], List, Bool, true, All, Contains, IsSome, None, Option, Some, length, map, max, min, slice_get}
+use Rattle.lf_floorplan.specs.declared.place.Place.{Place}
+use Rattle.lf_rules.specs.Legalizer.{Legalizer}
+use Rattle.lf_rules.specs.Team.{IsLegalCell}
+use Rattle.lf_proto.specs.declared.request.Command.{Command}
+use Rattle.lf_proto.specs.declared.reply.Reply.{Reply}
+use Rattle.lf_proto.specs.declared.verb.Change.{Change}
+use Rattle.lf_proto.specs.declared.verb.Change.TheVariants.{Place as PlaceAt, Legalize, Unplace}
+use Rattle.lf_cells.specs.declared.cell.Cell.{Cell}
+use Rattle.lf_cells.specs.Cells.{working_at}
+use Rattle.lf_legalize.specs.Members.{member_of}
+use Rattle.lf_floor_model.specs.States.{FloorState, TeamState}
+use Rattle.lf_floor_model.specs.Steps.{Step}
+use Rattle.lf_floor_model.specs.Teams.{state_of}
+use Rattle.lf_floor_model.specs.VerbLaws.{KeepsCells}
+use Rattle.lf_repair_strategy.specs.WantedPlaces.{target_at}
+use Rattle.lf_repair_strategy.specs.declared.stats.RepairStats.{RepairStats}
+use Rattle.lf_repair_team.specs.TeamRepairs.{IsLegalIn, committed_in, team_cell_names, place_of_cell_in}
+use Rattle.lf_repair_team.specs.Stats.{AreTurned, AreStatsOf, displacement}
+
+-- the floor is unchanged, or has executed the command
+abbrev pub IsUnchangedOrStepped : Legalizer → FloorState → Command (List ℕ) Place → FloorState → Type 0
+IsUnchangedOrStepped l old command new = (new ≡ old) ⊎ ((reply : Reply) × Step l old command reply new)
+
+-- the change is a place, a legalize or an unplace of the cell with this name
+abbrev pub IsOfCell : List ℕ → Change (List ℕ) Place → Type 0
+IsOfCell cell (PlaceAt name place) = name ≡ cell
+IsOfCell cell (Legalize name target) = name ≡ cell
+IsOfCell cell (Unplace name) = name ≡ cell
+IsOfCell cell _ = ⊥
+
+-- the team has the same cells and padding on both floors
+pub record HasSameCells (team : List ℕ) (old new : FloorState) : Type 0 where
+  pub before : TeamState
+  pub after : TeamState
+  pub was : state_of old team ≡ Some before
+  pub is : state_of new team ≡ Some after
+  pub keeps : KeepsCells before after
+
+-- the team has the same cells and padding on both floors, or is unchanged
+abbrev pub SameCells : List ℕ → FloorState → FloorState → Type 0
+SameCells team old new = (state_of new team ≡ state_of old team) ⊎ HasSameCells team old new
+
+-- ---- what is unchanged
+
+-- all cells are at the same places
+abbrev pub KeepsPlaces : List ℕ → FloorState → FloorState → Type 0
+KeepsPlaces team old new = (own : ℕ) → place_of_cell_in new team own ≡ place_of_cell_in old team own
+
+-- the locked cells are at the same places
+abbrev pub KeepsLockedPlaces : List ℕ → List Bool → FloorState → FloorState → Type 0
+KeepsLockedPlaces team marks old new = (own : ℕ) → slice_get marks own ≡ Some true → place_of_cell_in new team own ≡ place_of_cell_in old team own
+
+-- the committed places are unchanged
+abbrev pub KeepsCommittedPlaces : List ℕ → FloorState → FloorState → Type 0
+KeepsCommittedPlaces team old new = committed_in new team ≡ committed_in old team
+
+-- ---- at the start of a repair
+
+-- the marked cells are exactly those that are legal
+pub record AreLegalFlags (team : List ℕ) (floor : FloorState) (marks : List Bool) : Type 0 where
+  pub legal : (own : ℕ) → IsLegalIn floor team own → slice_get marks own ≡ Some true
+  pub only : (s : TeamState) → state_of floor team ≡ Some s → (own : ℕ) → slice_get marks own ≡ Some true → IsLegalIn floor team own
+
+-- one flag more, which is true if the cell at this position is legal in the team of this number
+pub record AddsLegalFlag (floor : FloorState) (number own : ℕ) (old new : List Bool) : Type 0 where
+  pub mark : Bool
+  pub more : new ≡ old ++ mark ∷ []
+  pub reported : (s : TeamState) → slice_get floor.teams number ≡ Some s → own < length s.cells
+      → IsLegalCell floor.frame number s.padding (map member_of s.cells) own → mark ≡ true
+  pub legal : (s : TeamState) → slice_get floor.teams number ≡ Some s → mark ≡ true
+      → IsLegalCell floor.frame number s.padding (map member_of s.cells) own
+
+-- ---- at the end of a repair
+
+-- it is so and the list is unchanged, or it is not so and the position is appended to the list
+abbrev pub HoldsOrIsListed : Type 0 → Type 0 → ℕ → List ℕ → List ℕ → Type 0
+HoldsOrIsListed So Not own old new = ((new ≡ old) × So) ⊎ ((new ≡ old ++ own ∷ []) × Not)
+
+-- the cell at this position is legal, if it exists, or it is listed and is not legal
+abbrev pub IsLegalOrListed : List ℕ → FloorState → ℕ → List ℕ → List ℕ → Type 0
+IsLegalOrListed team floor own old new =
+    HoldsOrIsListed ((s : TeamState) → state_of floor team ≡ Some s → own < length s.cells → IsLegalIn floor team own) (IsLegalIn floor team own → ⊥) own old new
+
+-- each of the cells has its place in `wanted_places`, or is listed
+abbrev pub AreAtTargetsExcept : List Cell → List (Option Place) → List ℕ → Type 0
+AreAtTargetsExcept cells wanted_places changed = (own : ℕ) → own < length cells → (working_at cells own ≡ target_at wanted_places own) ⊎ Contains changed own
+
+-- the same for the team's cells
+abbrev pub TeamIsAtTargetsExcept : List ℕ → List (Option Place) → FloorState → List ℕ → Type 0
+TeamIsAtTargetsExcept team wanted_places floor changed =
+    (names : List (List ℕ)) → team_cell_names floor team ≡ Some names → (own : ℕ) → own < length names → (place_of_cell_in floor team own ≡ target_at wanted_places own) ⊎ Contains changed own
+
+-- each of the listed cells has another place than in `wanted_places`
+abbrev pub HaveLeftTargets : List Cell → List (Option Place) → List ℕ → Type 0
+HaveLeftTargets cells wanted_places changed = All (λ own. working_at cells own ≢ target_at wanted_places own) changed
+
+-- the same for the team's cells
+abbrev pub TeamHasLeftTargets : List ℕ → List (Option Place) → FloorState → List ℕ → Type 0
+TeamHasLeftTargets team wanted_places floor changed =
+    (s : TeamState) → state_of floor team ≡ Some s → All (λ own. place_of_cell_in floor team own ≢ target_at wanted_places own) changed
+
+-- ---- the statistics
+
+-- the count is one more if it is so, up to the greatest number, and otherwise the same
+abbrev pub CountsIf : Type 0 → ℕ → ℕ → Type 0
+CountsIf So old new = (So × (new ≡ min (old + 1) 4294967295)) ⊎ ((So → ⊥) × (new ≡ old))
+
+-- one more cell is counted, given its original and its present place, and whether it was legal
+pub record CountsOneCell (wanted_place now : Option Place) (WasAtPlace : Type 0) (old new : RepairStats) : Type 0 where
+  pub cells : CountsIf (WasAtPlace → ⊥) old.cells new.cells
+  pub kept : CountsIf (WasAtPlace × (now ≡ wanted_place)) old.kept new.kept
+  pub pushed : CountsIf (WasAtPlace × (now ≢ wanted_place)) old.pushed new.pushed
+  pub moved : CountsIf (0 < displacement wanted_place now) old.moved new.moved
+  pub placed : CountsIf ((wanted_place ≡ None) × IsSome now) old.placed new.placed
+  pub turned : CountsIf (AreTurned wanted_place now) old.turned new.turned
+  pub short : displacement wanted_place now ≤ 8589934590
+  pub total : new.total ≡ min (old.total + displacement wanted_place now) 18446744073709551615
+  pub largest : new.largest ≡ max old.largest (displacement wanted_place now)
+
+-- the statistics of the first `all` cells, given these lists of original places and of legal cells
+abbrev pub AreStatsOfFirst : List (Option Place) → List Bool → List Cell → ℕ → RepairStats → Type 0
+AreStatsOfFirst wanted_places marks cells all reported = AreStatsOf (target_at wanted_places) (working_at cells) (λ own. slice_get marks own ≡ Some true) all reported

@@ -1,0 +1,61 @@
+-- The result of repairing a team.
+use Rattle.std.specs.Prelude.{◌≡◌, ◌≢◌, ◌⊎◌, ℕ, ◌<◌, List, Option, Some, All, Contains, length, map, option_and_then, option_map}
+use Rattle.lf_floorplan.specs.declared.place.Place.{Place}
+use Rattle.lf_rules.specs.Team.{IsLegalCell}
+use Rattle.lf_cells.specs.Cells.{working_at}
+use Rattle.lf_legalize.specs.Members.{member_of}
+use Rattle.lf_floor_model.specs.States.{FloorState, TeamState}
+use Rattle.lf_floor_model.specs.Teams.{state_of, team_number}
+use Rattle.lf_floor_model.specs.VerbLaws.{committed_places}
+use Rattle.lf_floor_model.specs.Committed.{IsCommittedLegal}
+
+-- the place of the team's cell at this position; None also if there is no such cell
+abbrev pub place_of_cell_in : FloorState → List ℕ → ℕ → Option Place
+place_of_cell_in floor team own = option_and_then (λ s. working_at s.cells own) (state_of floor team)
+
+-- the names of the team's cells, in loading order; None if there is no such team
+abbrev pub team_cell_names : FloorState → List ℕ → Option (List (List ℕ))
+team_cell_names floor team = option_map (λ s. map (λ c. c.name) s.cells) (state_of floor team)
+
+-- the committed places of the team's cells, in loading order; None if there is no such team
+abbrev pub committed_in : FloorState → List ℕ → Option (List (Option Place))
+committed_in floor team = option_map committed_places (state_of floor team)
+
+-- only the state of the team with this name may differ, the team has the same cells, and a fully
+-- legal committed design stays fully legal
+pub record ChangesOnly (team : List ℕ) (old new : FloorState) : Type 0 where
+  pub others : (other : List ℕ) → other ≢ team → state_of new other ≡ state_of old other
+  pub frame : new.frame ≡ old.frame
+  pub components : new.components ≡ old.components
+  pub names : team_cell_names new team ≡ team_cell_names old team
+  pub legal : IsCommittedLegal old → IsCommittedLegal new
+
+-- the team has a cell at this position, which is legal
+pub record IsLegalIn (floor : FloorState) (team : List ℕ) (own : ℕ) : Type 0 where
+  pub number : ℕ
+  pub state : TeamState
+  pub named : team_number floor.frame team ≡ Some number
+  pub there : state_of floor team ≡ Some state
+  pub within : own < length state.cells
+  pub legal : IsLegalCell floor.frame number state.padding (map member_of state.cells) own
+
+-- the legal cells are at the same places
+abbrev pub KeepsLegalPlaces : List ℕ → FloorState → FloorState → Type 0
+KeepsLegalPlaces team old new = (own : ℕ) → IsLegalIn old team own → place_of_cell_in new team own ≡ place_of_cell_in old team own
+
+-- each cell of the team is at the same place, or its position is listed
+abbrev pub OnlyListedMove : List ℕ → FloorState → FloorState → List ℕ → Type 0
+OnlyListedMove team old new changed = (own : ℕ) → (place_of_cell_in new team own ≡ place_of_cell_in old team own) ⊎ Contains changed own
+
+-- each cell at a listed position is at another place
+abbrev pub AllListedMove : List ℕ → FloorState → FloorState → List ℕ → Type 0
+AllListedMove team old new changed = (s : TeamState) → state_of old team ≡ Some s → All (λ own. place_of_cell_in new team own ≢ place_of_cell_in old team own) changed
+
+-- each cell of the team is legal, or its position is listed
+abbrev pub AreLegalExcept : List ℕ → FloorState → List ℕ → Type 0
+AreLegalExcept team floor left = (s : TeamState) → state_of floor team ≡ Some s → (own : ℕ) → own < length s.cells → IsLegalIn floor team own ⊎ Contains left own
+
+-- the position is that of a cell of the team, which is not legal
+pub record IsIllegalIn (floor : FloorState) (team : List ℕ) (own : ℕ) : Type 0 where
+  pub within : (s : TeamState) → state_of floor team ≡ Some s → own < length s.cells
+  pub illegal : IsLegalIn floor team own → ⊥

@@ -1,7 +1,0 @@
-use Rattle.std.proofs.Common.{map}
-use Rattle.lf_state_restore.proofs.Placed.{StandSoFar}
-use Rattle.lf_state_restore.proofs.cells.stand_working.Given as goal
-
--- the cells so far are at their places
-abbrev pub invariant-loop-own : goal.invariant-loop-own
-invariant-loop-own l = StandSoFar l.team l.own (map (λ c. c.working) l.saved) l.fn.cells l.cells

@@ -1,0 +1,79 @@
+-- The report of a repair: the lines of its teams, and the line of all teams.
+use Rattle.std.specs.Prelude.{◌≡◌, ◌↔◌, ◌+◌, ◌++◌, ℕ, Bool, IsTrue, List, [], ◌∷◌, All, filter, flat_map, length, map, slice_get}
+use Rattle.std.specs.Option.{option_map_or}
+use Rattle.lf_floorplan.specs.declared.frame.Frame.{Frame}
+use Rattle.lf_floorplan.specs.declared.loaded.Loaded.{Loaded}
+use Rattle.lf_floor_model.specs.States.{FloorState}
+use Rattle.lf_floor_model.specs.Teams.{team_names, team_number}
+use Rattle.lf_floor_model.specs.Committed.{IsCommittedLegal}
+use Rattle.lf_repair_bounds.specs.MinDisplacements.{AreMaxMinDisplacements}
+use Rattle.lf_repair_team.specs.TeamRepairs.{AreLegalExcept, IsIllegalIn}
+use Rattle.lf_repair_strategy.specs.declared.stats.RepairStats.{RepairStats}
+use Rattle.lf_repair_report.specs.declared.report.RepairReport.{RepairReport}
+use Rattle.lf_repair_report.specs.declared.totals.Totals.{Totals}
+use Rattle.lf_repair_report.specs.RepairReports.{all_line, cell_names, least_for, no_sums, team_line, totals_with_team}
+use Rattle.lf_task_repair.specs.Repairs.{is_selected}
+
+-- the report of a team: its name, the names of its unrepaired cells and the gaps near them, the
+-- largest of the least displacements of its cells, and the statistics of its repair
+pub record TeamReport : Type 0 where
+  pub name : List ℕ
+  pub left : List (List ℕ)
+  pub gaps : List ℕ
+  pub least : ℕ
+  pub became : RepairStats
+
+abbrev pub line_of_team : TeamReport → List ℕ
+line_of_team t = team_line t.name t.left t.gaps t.least t.became
+
+-- the sums with those of the teams
+abbrev pub sums_with : Totals → List TeamReport → Totals
+sums_with s [] = s
+sums_with s (t ∷ ts) = sums_with (totals_with_team s t.became t.least) ts
+
+-- the names of the selected teams, in the frame's order, the ground team's last
+abbrev pub selected_names : Frame → List (List ℕ) → List (List ℕ)
+selected_names f teams = filter (is_selected teams) (team_names f)
+
+-- the name of the team with this number, if it is selected
+abbrev pub selected_at : Frame → List (List ℕ) → ℕ → List (List ℕ)
+selected_at f teams number = filter (is_selected teams) (option_map_or (λ name. name ∷ []) (slice_get (team_names f) number) [])
+
+-- the team is reported with its own bound, and its reported cells are exactly those that are not
+-- legal on the floor
+pub record IsTeamReport (bounds : List ℕ) (floor : FloorState) (t : TeamReport) : Type 0 where
+  pub least : t.least ≡ least_for bounds (team_number floor.frame t.name)
+  pub left : t.left ≡ cell_names floor t.name t.became.left.items
+  pub legal : AreLegalExcept t.name floor t.became.left.items
+  pub illegal : All (IsIllegalIn floor t.name) t.became.left.items
+
+-- the lines of the teams with these names are appended, each with its unrepaired cells on this
+-- floor
+pub record AddsTeamLines (names : List (List ℕ)) (floor : FloorState) (old new : RepairReport) : Type 0 where
+  pub reported : List TeamReport
+  pub named : map (λ t. t.name) reported ≡ names
+  pub each : All (IsTeamReport old.least.items floor) reported
+  pub text : new.text.items ≡ old.text.items ++ flat_map line_of_team reported
+  pub sums : new.sums ≡ sums_with old.sums reported
+  pub least : new.least ≡ old.least
+
+-- the line of all teams is appended last, and says whether the committed design is fully legal
+pub record AddsTotalLine (floor : FloorState) (old new : RepairReport) : Type 0 where
+  pub legal : Bool
+  pub right : IsTrue legal ↔ IsCommittedLegal floor
+  pub text : new.text.items ≡ old.text.items ++ all_line old.sums legal
+
+-- the text has the line of each selected team, with its own bound and its unrepaired cells on the
+-- floor, and then the line of all teams, which says whether the committed design is fully legal
+pub record IsReport (teams : List (List ℕ)) (bounds : List ℕ) (floor : FloorState) (text : List ℕ) : Type 0 where
+  pub reported : List TeamReport
+  pub named : map (λ t. t.name) reported ≡ selected_names floor.frame teams
+  pub each : All (IsTeamReport bounds floor) reported
+  pub legal : Bool
+  pub right : IsTrue legal ↔ IsCommittedLegal floor
+  pub is : text ≡ flat_map line_of_team reported ++ all_line (sums_with no_sums reported) legal
+
+-- for each team of the design the largest of the least displacements of its cells
+pub record AreBounds (loaded : Loaded) (bounds : List ℕ) : Type 0 where
+  pub many : length bounds ≡ length loaded.frame.teams + 1
+  pub each : AreMaxMinDisplacements loaded.frame loaded.cells bounds
