@@ -5,7 +5,7 @@ A row is made of a verb's name, the fields of its shape, and the comment at its 
 That comment says what the verb does, then its reply and the numbers of its refusals. The rows are in the order of VERBS; the row of
 open is before them and the row of bye after them, and these two are made of the comments in src/request.rt.
 
-front/lefence/tables.py has the verbs of the same sources: one changes the floor if it is no look by `is_query` of lf_floor_model, and
+front/lefence/base/tables.py has the verbs of the same sources: one changes the floor if it is no look by `is_query` of lf_floor_model, and
 makes a revision if it is a Change; the refusals of src/reply.rt, with the numbers and names of src/reply_words.rt; the rules of lf_rules,
 and the orientations. front/tcl/tables.tcl has the verbs for Tcl.
 
@@ -29,10 +29,10 @@ RULES = Path("crates/lf_rules/src/rule.rt")
 ORIENTS = Path("crates/lf_orient/src/lib.rt")
 LOOKS = Path("crates/lf_floor_model/specs/Journals.antt")
 PAGE = Path("docs/PROTOCOL.md")
-TABLES = Path("front/lefence/tables.py")
+TABLES = Path("front/lefence/base/tables.py")
 TCL = Path("front/tcl/tables.tcl")
-CLIENT = Path("front/lefence/verbs.py")
-REFUSALS = Path("front/lefence/refusals.py")
+CLIENT = Path("front/lefence/client/verbs.py")
+REFUSALS = Path("front/lefence/client/refusals.py")
 HEAD = ["| line | reply | what it does | refusals |", "|---|---|---|---|"]
 # A line of an enum that begins a variant, and the last paragraph of a command's comment.
 VARIANT = re.compile(r"    (\w+)\b")

@@ -18,13 +18,13 @@ from unittest import mock
 
 from support import CELLS, FRONT, LEF, PATIENCE, PROGRAM, TEAMS, Hub, HubCase, Script, design_text, spot, wait_gone
 
-from lefence.checkpoints import Checkpoints as Checkpointer, Limits, _synced
-from lefence.faults import Fault
-from lefence.frames import Reader, Record, Text, frame_of, header_of
-from lefence.journal import Journal
-from lefence.protocol import text_length
-from lefence.segments import Past, read_records
-from lefence.status import ask_status
+from lefence.base.faults import Fault
+from lefence.base.protocol import text_length
+from lefence.hub.checkpoints import Checkpoints as Checkpointer, Limits, _synced
+from lefence.hub.status import ask_status
+from lefence.journal.frames import Reader, Record, Text, frame_of, header_of
+from lefence.journal.journal import Journal
+from lefence.journal.segments import Past, read_records
 
 TEXTS = [Text("0" * 64, Path("/a.def")), Text("f" * 64, Path("/b.lef"))]
 

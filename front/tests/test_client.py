@@ -22,11 +22,12 @@ from unittest import mock
 from support import CELLS, FRONT, PATIENCE, WIDTH, HubCase
 
 import lefence
-from lefence import Legalized, Pending, Place, Report, Tidied, Violation, verbs
-from lefence.endpoint import connect_to
-from lefence.faults import Fault
-from lefence.protocol import REFUSALS, VERBS
-from lefence.refusals import refusal_of
+from lefence import Legalized, Pending, Place, Report, Tidied, Violation
+from lefence.base.faults import Fault
+from lefence.base.protocol import REFUSALS, VERBS
+from lefence.client import verbs
+from lefence.client.endpoint import connect_to
+from lefence.client.refusals import refusal_of
 
 
 class Verbs(HubCase):

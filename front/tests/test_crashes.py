@@ -13,8 +13,8 @@ from collections.abc import Callable
 
 from support import CELLS, PATIENCE, PROGRAM, TURNS, Hub, HubCase, Talker, spot, wait_gone
 
-from lefence.crowd import Crowd
-from lefence.segments import Past
+from lefence.hub.clients import Crowd
+from lefence.journal.segments import Past
 
 # Changes that each of four teams has in flight at a crash.
 MANY = 2000

@@ -6,8 +6,8 @@ import unittest
 
 from support import CELLS, TEAMS, FrontCase
 
-from lefence.description import Box, Cell, Description, Facts, Fence, Obstacle, Row, Total
-from lefence.faults import Fault
+from lefence.base.description import Box, Cell, Description, Facts, Fence, Obstacle, Row, Total
+from lefence.base.faults import Fault
 
 # A FIXED component, a soft blockage, and two cells that overlap.
 MORE = """BLOCKAGES 1 ;

@@ -7,7 +7,7 @@ import unittest
 
 from support import SEED
 
-from lefence.design import entries, statements, words_in
+from lefence.base.design import entries, statements, words_in
 
 WHITE = b" \t\r\n"
 # What random texts are made of: white space, comments, quotes that end and that do not, words with all of them inside.

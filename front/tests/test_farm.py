@@ -15,14 +15,14 @@ from unittest import mock
 import cluster
 from support import CELLS, FRONT, PATIENCE, PROGRAM, FrontCase, tool_words
 
-from lefence.design import Design
-from lefence.farm import teams_of
-from lefence.farm_tool import ranges_of
-from lefence.faults import Fault
-from lefence.journal import Journal, texts_in
-from lefence.merge import merge
-from lefence.owner import own
-from lefence.slice import slice_of, slices_of
+from lefence.base.design import Design
+from lefence.base.faults import Fault
+from lefence.journal.journal import Journal, texts_in
+from lefence.journal.owner import own
+from lefence.tools.farm import ranges_of
+from lefence.tools.farm_runs import teams_of
+from lefence.tools.merge import merge
+from lefence.tools.slice import slice_of, slices_of
 
 # Two fences and the ground around them, with two cells each.
 TEAMS = ("A", "B", "-")

@@ -19,13 +19,13 @@ from unittest import mock
 
 from support import CELLS, PATIENCE, PROGRAM, TEAMS, WIDTH, HubCase, Script, Talker, converse, design_text, spot, tool_words
 
-from lefence import hub as hub_module
-from lefence.crowd import MOST_CLIENTS
-from lefence.faults import Fault
-from lefence.frames import Record
-from lefence.hub_client import Client
-from lefence.journal import Journal, texts_in
-from lefence.protocol import socket_name, team_of_socket
+from lefence.base.faults import Fault
+from lefence.base.protocol import socket_name, team_of_socket
+from lefence.hub import hub as hub_module
+from lefence.hub.clients import MOST_CLIENTS
+from lefence.hub.hub_client import Client
+from lefence.journal.frames import Record
+from lefence.journal.journal import Journal, texts_in
 
 
 def flood_until_broken(end: socket.socket, text: bytes) -> None:

@@ -14,11 +14,11 @@ from unittest import mock
 
 from support import FRONT, SEED
 
-from lefence.faults import Fault
-from lefence.frames import Record, Text
-from lefence.journal import Journal, texts_in
-from lefence.owner import own
-from lefence.segments import read_records
+from lefence.base.faults import Fault
+from lefence.journal.frames import Record, Text
+from lefence.journal.journal import Journal, texts_in
+from lefence.journal.owner import own
+from lefence.journal.segments import read_records
 
 TEXTS = [Text("0" * 64, Path("/a b\n.def")), Text("f" * 64, Path("/b.lef"))]
 RECORDS = [

@@ -11,10 +11,10 @@ from pathlib import Path
 
 from support import PROGRAM, HubCase
 
-from lefence.frames import Reader
-from lefence.journal import Journal, texts_in
-from lefence.owner import own
-from lefence.segments import Past, read_records
+from lefence.journal.frames import Reader
+from lefence.journal.journal import Journal, texts_in
+from lefence.journal.owner import own
+from lefence.journal.segments import Past, read_records
 
 
 class JournalTool(HubCase):

@@ -9,10 +9,10 @@ from xml.etree import ElementTree
 
 from support import PROGRAM, FrontCase, klayout, with_klayout
 
-from lefence.description import Box, Cell
-from lefence.faults import Fault
-from lefence.markers import Violation, violations_of
-from lefence.protocol import ORIENTS
+from lefence.base.description import Box, Cell
+from lefence.base.faults import Fault
+from lefence.base.protocol import ORIENTS
+from lefence.tools.markers import Violation, violations_of
 
 # Each item of the database with its tagged values, and the box of the instance of that name by KLayout's own reading.
 ITEMS = """

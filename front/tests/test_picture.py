@@ -10,9 +10,9 @@ from xml.etree import ElementTree
 
 from support import PATIENCE, TEAMS, FrontCase, tool_words
 
-from lefence.description import Box, Description
-from lefence.drawing import WAYS, Drawing, Move, shortened, text_of
-from lefence.scene import Scene, colour_of
+from lefence.base.description import Box, Description
+from lefence.tools.drawing import WAYS, Drawing, Move, shortened, text_of
+from lefence.tools.scene import Scene, colour_of
 
 SVG = "{http://www.w3.org/2000/svg}"
 # A FIXED component, a blockage, a soft one, two cells that overlap, one far outside, and one with a name that XML must escape.

@@ -8,11 +8,11 @@ from pathlib import Path
 
 from support import PROGRAM, FrontCase
 
-from lefence.description import Box
-from lefence.faults import Fault
-from lefence.lef import sites_of
-from lefence.prepare import Preparation, Wanted
-from lefence.prepare_tool import prepare
+from lefence.base.description import Box
+from lefence.base.faults import Fault
+from lefence.base.lef import sites_of
+from lefence.tools.preparation import Preparation, Wanted
+from lefence.tools.prepare import prepare
 
 LEF = """VERSION 5.8 ;
 PROPERTYDEFINITIONS MACRO SITE STRING ; END PROPERTYDEFINITIONS

@@ -10,8 +10,8 @@ from unittest import main
 
 from support import CELLS, LEF, PROGRAM, TEAMS, WIDTH, FrontCase, klayout, with_klayout
 
-from lefence.description import Cell, Description
-from lefence.splice import Spot, with_spots
+from lefence.base.description import Cell, Description
+from lefence.tools.splice import Spot, with_spots
 
 # A macro that is higher than all rows.
 HIGH = "MACRO HIGH CLASS CORE ; ORIGIN 0 0 ; SIZE 0.4 BY 10.0 ; SYMMETRY X Y ; SITE core ; END HIGH\nEND LIBRARY"

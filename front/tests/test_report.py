@@ -13,8 +13,8 @@ from browser import CHROMIUM, Browser
 from support import FrontCase
 
 import lefence
-from lefence.description import Box, Cell
-from lefence.report import Near
+from lefence.base.description import Box, Cell
+from lefence.tools.report import Near
 
 # Cells that break rules, two of them with odd names; a soft blockage, a FIXED component with such a name, and a blockage.
 ODD = "f0c</script><b>&\"'%41"

@@ -27,16 +27,18 @@ from unittest import mock
 
 from support import FRONT, PATIENCE, PROGRAM, FrontCase, Hub as RunningHub, HubCase, design_text, tool_words
 
-from lefence import crowd, exporter, hub_tool, status, whole_file
-from lefence.calm import Calm
-from lefence.faults import Fault
-from lefence.frames import sum_of
-from lefence.hub import Bounds, Hub
-from lefence.hub_client import Client
-from lefence.journal import Journal
-from lefence.notify import notify_alive
-from lefence.sockets import bound_socket, groups_of, take_folder
-from lefence.texts import settle_texts
+from lefence.base import atomic_file
+from lefence.base.faults import Fault
+from lefence.hub import clients, exporter, status
+from lefence.hub.hub import Bounds, Hub
+from lefence.hub.hub_client import Client
+from lefence.hub.log_limit import Calm
+from lefence.hub.notify import notify_alive
+from lefence.hub.sockets import bound_socket, groups_of, take_folder
+from lefence.journal.frames import sum_of
+from lefence.journal.journal import Journal
+from lefence.journal.texts import settle_texts
+from lefence.tools import hub as hub_tool
 
 
 class Texts(HubCase):
@@ -289,7 +291,7 @@ class Shares(unittest.TestCase):
         first.is_clogged = False
         self.hub.unclog(first)
         self.assertEqual(self.answer_all(), [b"check f0 0", b"where f0 0 y"])
-        with mock.patch.object(crowd, "_MOST_UNREAD", 50000):
+        with mock.patch.object(clients, "_MOST_UNREAD", 50000):
             self.send(other, b"def f1 0\n")
             self.assertEqual(self.answer_all(), [])
             self.hub.leave(second)
@@ -300,7 +302,7 @@ class Shares(unittest.TestCase):
         second = mock.Mock(start=mock.AsyncMock(), restore=mock.AsyncMock(), kill=mock.AsyncMock())
         second.end = mock.AsyncMock(side_effect=lambda: [steps.end(), 0][1])
         self.hub.server.program.texts = []
-        with mock.patch.object(exporter, "Server", return_value=second), mock.patch.object(whole_file, "sync_folder", steps.sync):
+        with mock.patch.object(exporter, "Server", return_value=second), mock.patch.object(atomic_file, "sync_folder", steps.sync):
             self.assertIsNone(asyncio.run(self.hub.exporter.write(str(target), self.hub.journal.place)))
         self.assertEqual([str(call) for call in steps.mock_calls], ["call.end()", f"call.sync({target.parent!r})"])
 

@@ -11,10 +11,10 @@ import unittest
 
 from support import PATIENCE, PROGRAM, TEAMS, HubCase, tool_words
 
-from lefence.endpoint import start_program
-from lefence.protocol import RULES
-from lefence.refusals import broken_in_words
-from lefence.shell import OWN, Shell
+from lefence.base.protocol import RULES
+from lefence.client.endpoint import start_program
+from lefence.client.refusals import broken_in_words
+from lefence.tools.shell import OWN, Shell
 
 
 class Words(HubCase):

@@ -13,11 +13,11 @@ from unittest import mock
 from support import LEF, PROGRAM, TEAMS, Hub, HubCase, Script, converse, design_text
 
 import lefence
-from lefence.design import Design
-from lefence.faults import Fault
-from lefence.frames import Record
-from lefence.journal import Journal, texts_in
-from lefence.slice import refuse_difference, slice_of
+from lefence.base.design import Design
+from lefence.base.faults import Fault
+from lefence.journal.frames import Record
+from lefence.journal.journal import Journal, texts_in
+from lefence.tools.slice import refuse_difference, slice_of
 
 # What a design of a flow holds beside the small one: sections that a slice drops, comments, quotes, FIXED and COVER components.
 SECTIONS = """PINS 1 ;

@@ -11,7 +11,7 @@ from pathlib import Path
 from support import CELLS, FRONT, PATIENCE, HubCase
 
 import lefence
-from lefence.protocol import OPENACCESS
+from lefence.base.protocol import OPENACCESS
 
 TCLSH = shutil.which("tclsh")
 

@@ -17,7 +17,7 @@ from unittest import mock
 from support import FRONT, PROGRAM, FrontCase, tool_words
 
 import lefence
-from lefence.faults import Fault, run_tool
+from lefence.base.faults import Fault, run_tool
 
 TOOLS = (
     *("lefence-hub", "lefence-slice", "lefence-push", "lefence-shell", "lefence-picture", "lefence-report"),

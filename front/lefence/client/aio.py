@@ -1,0 +1,244 @@
+"""The client library for asyncio: the same sessions and verbs, each a coroutine.
+
+    async with await lefence.aio.connect("/run/lefence/A.sock") as connection, connection.session("A") as session:
+        await asyncio.gather(*(session.place(cell, x, y, "N") for cell, x, y in moves))
+
+A coroutine sends its line when it begins to run, so those that run at once are in flight together, in the order in which they
+began.
+"""
+
+from __future__ import annotations
+
+import asyncio
+import os
+from collections import deque
+from types import TracebackType
+from typing import TypeVar
+
+from ..base.protocol import ProtocolError, is_accepted, text_length
+from . import verbs
+from .blocking import ConnectionLost, answer_of, named, refuse_port
+from .cells import Cell, cells_in
+from .refusals import BadRequest, Refusal, Stale
+from .session import BaseSession, Wishes
+from .verbs import Request
+
+T = TypeVar("T")
+
+# A reply may be as long as a report of a million cells.
+_MOST_REPLY = 1 << 40
+
+
+async def connect(where: str | os.PathLike[str], port: int | None = None, timeout: float | None = None) -> Connection:
+    """A connection to a Unix socket at a path or, with a port, to a host by TCP.
+
+    With a timeout in seconds, a line raises TimeoutError where for so long no reply came at all; the connection is then of no
+    use. Raises OSError, which names the path or HOST:PORT, where nobody listens.
+    """
+    place = os.fspath(where)
+    refuse_port(port)
+    try:
+        async with asyncio.timeout(timeout):
+            if port is not None:
+                return Connection(*await asyncio.open_connection(place, port, limit=_MOST_REPLY), timeout)
+            return Connection(*await asyncio.open_unix_connection(place, limit=_MOST_REPLY), timeout)
+    except OSError as error:
+        raise named(error, place, port) from None
+
+
+class Connection:
+    """Lines that go out and replies that come in, in order; any number of coroutines may share it."""
+
+    def __init__(self, reader: asyncio.StreamReader, writer: asyncio.StreamWriter, timeout: float | None = None) -> None:
+        self._reader = reader
+        self._writer = writer
+        self._timeout = timeout
+        # How many replies came.
+        self._count = 0
+        self._is_told = False
+        self._waiting: deque[tuple[bytes, asyncio.Future[bytes]]] = deque()
+        # Why the connection is lost.
+        self._lost: str | None = None
+        self._reading = asyncio.create_task(self._read())
+
+    async def __aenter__(self) -> Connection:
+        return self
+
+    async def __aexit__(self, *_: object) -> None:
+        await self.close()
+
+    @property
+    def is_lost(self) -> bool:
+        """Whether a caller has been told that the connection is lost, or that a reply took too long."""
+        return self._is_told
+
+    def session(
+        self, team: str, *, retries: int = 0, microns: bool = False, per_micron: int | None = None, openaccess: bool = False
+    ) -> Session:
+        """A session of the team, opened by `async with`; the arguments are those of `lefence.client.Connection.session`."""
+        return Session(self, team, Wishes(retries, microns or per_micron is not None, per_micron, openaccess))
+
+    async def ask_line(self, line: bytes) -> bytes:
+        """The whole reply to a line, given without its line feed; one of `def` with its text."""
+        if b"\n" in line:
+            raise ValueError("a line has no line feed in it")
+        try:
+            return await self._ask_line(line)
+        except (ConnectionLost, TimeoutError, ProtocolError):
+            self._is_told = True
+            raise
+
+    async def _ask_line(self, line: bytes) -> bytes:
+        # (that a sender waits for its reply bounds what is unsent)
+        reply = self._send(line)
+        try:
+            return await self._within(reply)
+        except BaseException:
+            if not reply.cancel() and not reply.cancelled() and not reply.exception():
+                # (it came when its caller was cancelled already)
+                self._close_unheard(line, reply.result())
+            raise
+
+    def _send(self, line: bytes) -> asyncio.Future[bytes]:
+        if self._lost:
+            raise ConnectionLost(self._lost)
+        reply: asyncio.Future[bytes] = asyncio.get_running_loop().create_future()
+        self._waiting.append((line, reply))
+        self._writer.write(line + b"\n")
+        return reply
+
+    def send_unheard(self, line: bytes) -> None:
+        """Sends a line to whose reply nobody listens, where the connection is not lost."""
+        if not self._lost:
+            self._send(line).cancel()
+
+    async def _within(self, reply: asyncio.Future[bytes]) -> bytes:
+        """The reply, as long as some reply comes within the timeout."""
+        while self._timeout is not None:
+            count = self._count
+            done, _ = await asyncio.wait([reply], timeout=self._timeout)
+            if done:
+                break
+            if count == self._count:
+                raise TimeoutError(f"no reply for {self._timeout} seconds")
+        return await reply
+
+    async def ask(self, request: Request[T]) -> T:
+        """What the reply to a request says; raises its refusal."""
+        return answer_of(request, await self.ask_line(request.line))
+
+    async def export(self, path: str) -> None:
+        """Has a hub write the committed places of all teams to a file of its machine; the operator's socket alone."""
+        await self.ask(Request(f"export {verbs.name(path)}".encode(), lambda words, text: None))
+
+    async def bye(self) -> None:
+        """Ends the connection, after a last reply."""
+        await self.ask(Request(b"bye", lambda words, text: None))
+        await self.close()
+
+    async def close(self) -> None:
+        """Ends the connection; a hub then frees its sessions."""
+        self._reading.cancel()
+        if self._lost or self._is_told or self._writer.transport.get_write_buffer_size():
+            # (nobody may be there who reads the rest)
+            self._writer.transport.abort()
+        self._writer.close()
+        try:
+            await self._writer.wait_closed()
+        except OSError:
+            pass
+        self._lose("the connection is closed")
+
+    async def _read(self) -> None:
+        """Gives each reply to the line that it is of."""
+        try:
+            while reply := await self._reader.readline():
+                if not reply.endswith(b"\n") or not self._waiting:
+                    break
+                line, waits = self._waiting[0]
+                reply += await self._reader.readexactly(text_length(line, reply))
+                self._waiting.popleft()
+                self._count += 1
+                if not waits.done():
+                    waits.set_result(reply)
+                else:
+                    self._close_unheard(line, reply)
+            self._lose("the connection was ended by the other end")
+        except ProtocolError as error:
+            _, waits = self._waiting.popleft()
+            if not waits.done():
+                waits.set_exception(error)
+            self._lose(f"the connection is lost: {error}")
+        except Exception as error:
+            self._lose(f"the connection is lost: {error}")
+
+    def _close_unheard(self, line: bytes, reply: bytes) -> None:
+        """Closes a session whose opener was cancelled, so that its slot is free again."""
+        words, told = line.split(), reply.split()
+        if words[:1] == [b"open"] and len(words) == 2 and is_accepted(reply) and len(told) > 1:
+            self.send_unheard(b"close %b %b" % (words[1], told[1]))
+
+    def _lose(self, text: str) -> None:
+        self._lost = self._lost or text
+        while self._waiting:
+            _, waits = self._waiting.popleft()
+            if not waits.done():
+                waits.set_exception(ConnectionLost(self._lost))
+
+
+class Session(BaseSession[Connection]):
+    """A session of a team: each method is a coroutine that sends a verb and returns what its reply says, or raises its refusal."""
+
+    async def open(self) -> Session:
+        """Opens the session, which is not open. Refused by NoTeam, SessionsFull."""
+        self._refuse_open()
+        number, self.first_revision = await self.connection.ask(verbs.open_session(self.team))
+        self._begin(number)
+        try:
+            if self._lacks_units:
+                self._per_micron = await self._units()
+                self._begin(number)
+        except BaseException:
+            scope, self._scope = self.scope, None
+            self.connection.send_unheard(verbs.close_session(scope).line)
+            raise
+        return self
+
+    async def _units(self) -> int:
+        try:
+            return await self.connection.ask(verbs.units())
+        except BadRequest:
+            return verbs.units_in(await self.def_text())
+
+    async def close(self) -> None:
+        """Frees the session. Refused by NoSession."""
+        scope, self._scope = self.scope, None
+        await self.connection.ask(verbs.close_session(scope))
+
+    async def cells(self, *libraries: str | os.PathLike[str]) -> list[Cell]:
+        """The team's cells, as `lefence.Session.cells` has them."""
+        return cells_in(await self.def_text(), self.scope, libraries)
+
+    async def __aenter__(self) -> Session:
+        return await self.open()
+
+    async def __aexit__(self, kind: type[BaseException] | None, error: BaseException | None, trace: TracebackType | None) -> None:
+        if self._scope is None or self.connection.is_lost:
+            # (the block was told that the connection is lost, and a session goes with it)
+            self._scope = None
+            return
+        try:
+            await self.close()
+        except (Refusal, OSError, ProtocolError):
+            # What went wrong in the block counts more than that the session is gone already.
+            if kind is None:
+                raise
+
+    async def ask(self, request: Request[T]) -> T:
+        """What the reply to a request says; a stale one is synced and asked again, where the caller said so."""
+        for _ in range(self.retries):
+            try:
+                return await self.connection.ask(request)
+            except Stale:
+                await self.connection.ask(verbs.sync(self.scope))
+        return await self.connection.ask(request)

@@ -1,0 +1,410 @@
+"""The client library, without asyncio: connections, sessions and pipelines.
+
+    import lefence
+
+    with lefence.connect("/run/lefence/A.sock") as connection, connection.session("A") as session:
+        session.place("u1", 400, 0, "N")
+        print(session.legalize("u2", 1500, 300).place)
+
+A connection is for one thread at a time.
+"""
+
+from __future__ import annotations
+
+import os
+import selectors
+import socket
+import time
+from collections import deque
+from dataclasses import dataclass
+from types import TracebackType
+from typing import Any, Generic, TypeVar
+
+from ..base.protocol import ProtocolError, text_length
+from . import verbs
+from .cells import Cell, cells_in
+from .refusals import BadRequest, Refusal, Stale, refusal_of
+from .session import BaseSession, Verbs, Wishes
+from .verbs import Request, Scope, read_reply
+
+T = TypeVar("T")
+
+# Bytes that are read at a time, and that may wait to be sent before a sender reads what came.
+_PIECE = 1 << 16
+_MOST_PORT = 65535
+
+
+class ConnectionLost(ConnectionError):
+    """The other end is gone; whether the lines in flight were carried out is not known, the team's revision tells."""
+
+
+def connect(where: str | os.PathLike[str], port: int | None = None, timeout: float | None = None) -> Connection:
+    """A connection to a Unix socket at a path or, with a port, to a host by TCP.
+
+    With a timeout in seconds, a reply that takes longer raises TimeoutError, after which the connection is of no use. Raises
+    OSError, which names the path or HOST:PORT, where nobody listens.
+    """
+    refuse_port(port)
+    try:
+        return Connection(_end_at(os.fspath(where), port, timeout), timeout)
+    except OSError as error:
+        raise named(error, os.fspath(where), port) from None
+
+
+def refuse_port(port: int | None) -> None:
+    """ValueError of a number that is no port: the system would take another one for it."""
+    if port is not None and not 0 <= port <= _MOST_PORT:
+        raise ValueError(f"{port} is no port, which is a number up to {_MOST_PORT}")
+
+
+def _end_at(where: str, port: int | None, timeout: float | None) -> socket.socket:
+    if port is not None:
+        end = socket.create_connection((where, port), timeout=timeout)
+        end.setsockopt(socket.IPPROTO_TCP, socket.TCP_NODELAY, 1)
+        return end
+    end = socket.socket(socket.AF_UNIX)
+    try:
+        end.settimeout(timeout)
+        end.connect(where)
+    except OSError:
+        end.close()
+        raise
+    return end
+
+
+def named(error: OSError, where: str, port: int | None) -> OSError:
+    """The error with what was tried."""
+    tried = where if port is None else f"{where}:{port}"
+    if error.errno is None:
+        return type(error)(f"{tried}: {str(error) or 'timed out'}")
+    error.filename = tried
+    return error
+
+
+@dataclass
+class Sent:
+    """A line that was sent or waits to be, and its whole reply, once it has been read."""
+
+    line: bytes
+    reply: bytes | None = None
+
+
+class Connection:
+    """Lines that go out and replies that come in, in order; any number may be in flight."""
+
+    def __init__(self, end: socket.socket, timeout: float | None = None) -> None:
+        """A connection over a socket, which it then owns."""
+        self._end = end
+        self._end.setblocking(False)
+        self._timeout = timeout
+        self._selector = selectors.DefaultSelector()
+        self._events = selectors.EVENT_READ
+        self._selector.register(end, self._events)
+        self._out = bytearray()
+        self._in = bytearray()
+        self._unanswered: deque[Sent] = deque()
+        self._is_open, self._is_lost = True, False
+
+    def __enter__(self) -> Connection:
+        return self
+
+    def __exit__(self, *_: object) -> None:
+        self.close()
+
+    @property
+    def is_lost(self) -> bool:
+        """Whether a caller has been told that the connection is lost, or that a reply took too long."""
+        return self._is_lost
+
+    def session(
+        self, team: str, *, retries: int = 0, microns: bool = False, per_micron: int | None = None, openaccess: bool = False
+    ) -> Session:
+        """A session of the team, which is opened by `with` and closed at its end.
+
+        A change that is refused as Stale is sent again behind a sync, `retries` times: a caller who asks for that says that his
+        change is right whatever others changed. With `microns`, lengths are microns; how many database units are one a hub
+        tells, `lefence serve` with the team's DEF text, or `per_micron`. With `openaccess`, orientations are R0, MX and so on.
+        """
+        return Session(self, team, Wishes(retries, microns or per_micron is not None, per_micron, openaccess))
+
+    def ask_line(self, line: bytes) -> bytes:
+        """The whole reply to a line, given without its line feed; one of `def` with its text."""
+        return self.wait(self.send(line))
+
+    def export(self, path: str) -> None:
+        """Has a hub write the committed places of all teams to a file of its machine; the operator's socket alone.
+
+        Refused by NotExported, and by BadRequest anywhere else. The path is made of the bytes 33 to 126.
+        """
+        self.ask(Request(f"export {verbs.name(path)}".encode(), lambda words, text: None))
+
+    def bye(self) -> None:
+        """Ends the connection, after a last reply."""
+        self.ask(Request(b"bye", lambda words, text: None))
+        self.close()
+
+    def close(self) -> None:
+        """Ends the connection; a hub then frees its sessions."""
+        if self._is_open:
+            self._is_open = False
+            self._selector.close()
+            self._end.close()
+
+    def ask(self, request: Request[T]) -> T:
+        """What the reply to a request says; raises its refusal."""
+        return answer_of(request, self.ask_line(request.line))
+
+    def send(self, line: bytes) -> Sent:
+        """Queues a line and waits for nothing; it goes out once somebody waits or flushes, or many are queued. `wait` gives its reply."""
+        if b"\n" in line:
+            raise ValueError("a line has no line feed in it")
+        sent = Sent(line)
+        self._unanswered.append(sent)
+        self._out += line + b"\n"
+        if len(self._out) >= _PIECE:
+            self._turn(waits=False)
+        return sent
+
+    def flush(self) -> None:
+        """Sends all lines that are queued."""
+        last = self._deadline()
+        while self._out:
+            self._turn(last)
+
+    def wait(self, sent: Sent) -> bytes:
+        """The whole reply to a line that was sent; those to earlier ones come before it and are kept."""
+        while sent.reply is None:
+            first = self._unanswered[0]
+            try:
+                first.reply = self._next_reply(first.line, self._deadline())
+            except ProtocolError:
+                # (where the next reply begins is not known)
+                self._is_lost = True
+                raise
+            self._unanswered.popleft()
+        return sent.reply
+
+    def _deadline(self) -> float | None:
+        """By when a reply must be there."""
+        return None if self._timeout is None else time.monotonic() + self._timeout
+
+    def _next_reply(self, line: bytes, last: float | None) -> bytes:
+        begin = 0
+        while (end := self._in.find(b"\n", begin)) < 0:
+            begin = len(self._in)
+            self._turn(last)
+        end += 1
+        length = text_length(line, bytes(self._in[:end])) if line.lstrip().startswith(b"def") else 0
+        while len(self._in) < end + length:
+            self._turn(last)
+        reply = bytes(self._in[: end + length])
+        del self._in[: end + length]
+        return reply
+
+    def _turn(self, last: float | None = None, waits: bool = True) -> None:
+        """Sends and reads what goes; both, so that neither end waits for the other."""
+        if not self._is_open:
+            raise ConnectionLost("the connection is closed")
+        try:
+            self._exchange(last, waits)
+        except (TimeoutError, ConnectionLost):
+            self._is_lost = True
+            raise
+
+    def _exchange(self, last: float | None, waits: bool) -> None:
+        events = selectors.EVENT_READ | (selectors.EVENT_WRITE if self._out else 0)
+        if events != self._events:
+            self._selector.modify(self._end, events)
+            self._events = events
+        left = None if last is None else max(0, last - time.monotonic())
+        ready = self._selector.select(left if waits else 0)
+        if not ready and waits:
+            raise TimeoutError(f"no reply for {self._timeout} seconds")
+        try:
+            # (what came is read first: where the other end is gone, nothing can be sent, and its last replies are there all the same)
+            if ready and ready[0][1] & selectors.EVENT_READ:
+                piece = self._end.recv(_PIECE)
+                if not piece:
+                    raise ConnectionLost("the connection was ended by the other end")
+                self._in += piece
+            elif ready:
+                del self._out[: self._end.send(self._out[:_PIECE])]
+        except BlockingIOError:
+            pass
+        except (BrokenPipeError, ConnectionResetError) as error:
+            raise ConnectionLost(f"the connection is lost: {error.strerror}") from None
+
+
+def answer_of(request: Request[T], reply: bytes) -> T:
+    """What the reply to a request says; raises its refusal."""
+    first, _, text = reply.partition(b"\n")
+    if first == b"ok" or first.startswith(b"ok "):
+        return read_reply(request, first.decode("ascii", "backslashreplace").split()[1:], text)
+    refusal = refusal_of(first)
+    if refusal is None:
+        raise ProtocolError(f"{request.line!r} was answered {first!r}")
+    raise refusal
+
+
+class Pending(Generic[T]):
+    """A request that was sent, or is queued behind others."""
+
+    def __init__(self, pipeline: Pipeline, request: Request[T]) -> None:
+        self.request = request
+        # Whether somebody was told what its reply says, and how often it was sent.
+        self.is_told, self.times_sent = False, 0
+        self._pipeline = pipeline
+        self.send()
+
+    def send(self) -> None:
+        """Sends it, once more where its reply is there."""
+        self._sent = self._pipeline.connection.send(self.request.line)
+        self.times_sent += 1
+
+    def wait(self) -> bytes:
+        """The reply to what was sent last."""
+        return self._pipeline.connection.wait(self._sent)
+
+    def result(self) -> T:
+        """What its reply says, which is waited for; raises its refusal."""
+        return answer_of(self.request, self._reply())
+
+    @property
+    def refusal(self) -> Refusal | None:
+        """Its refusal, if its reply is one; the reply is waited for."""
+        try:
+            self.result()
+        except Refusal as refusal:
+            return refusal
+        return None
+
+    def _reply(self) -> bytes:
+        reply = self._pipeline.settled(self)
+        self.is_told = True
+        return reply
+
+
+class Session(BaseSession[Connection]):
+    """A session of a team: each method sends a verb, waits for its reply and returns what it says, or raises its refusal."""
+
+    def open(self) -> Session:
+        """Opens the session, which is not open. Refused by NoTeam, SessionsFull."""
+        self._refuse_open()
+        number, self.first_revision = self.connection.ask(verbs.open_session(self.team))
+        self._begin(number)
+        try:
+            if self._lacks_units:
+                self._per_micron = self._units()
+                self._begin(number)
+        except Exception as error:
+            self.__exit__(type(error), error, None)
+            raise
+        return self
+
+    def _units(self) -> int:
+        try:
+            return self.connection.ask(verbs.units())
+        except BadRequest:
+            return verbs.units_in(self.def_text())
+
+    def cells(self, *libraries: str | os.PathLike[str]) -> list[Cell]:
+        """The team's cells in loading order, with their macros and working places; with the LEF texts also their sizes.
+
+        Lengths are in the session's unit. Refused by NoSession, OutOfMemory.
+        """
+        return cells_in(self.def_text(), self.scope, libraries)
+
+    def close(self) -> None:
+        """Frees the session. Refused by NoSession."""
+        scope, self._scope = self.scope, None
+        self.connection.ask(verbs.close_session(scope))
+
+    def __enter__(self) -> Session:
+        return self.open()
+
+    def __exit__(self, kind: type[BaseException] | None, error: BaseException | None, trace: TracebackType | None) -> None:
+        if self._scope is None or self.connection.is_lost:
+            # (the block was told that the connection is lost, and a session goes with it)
+            self._scope = None
+            return
+        try:
+            self.close()
+        except (Refusal, OSError, ProtocolError):
+            # What went wrong in the block counts more than that the session is gone already.
+            if kind is None:
+                raise
+
+    def ask(self, request: Request[T]) -> T:
+        """What the reply to a request says; a stale one is synced and asked again, where the caller said so."""
+        for _ in range(self.retries):
+            try:
+                return self.connection.ask(request)
+            except Stale:
+                self.connection.ask(verbs.sync(self.scope))
+        return self.connection.ask(request)
+
+    def pipeline(self, *, raises: bool = True) -> Pipeline:
+        """Many lines in flight: in its block each method of the pipeline queues its verb and returns a `Pending` at once.
+
+        The end of the block waits for all replies and raises the first refusal of which the block was not told; with `raises`
+        False none, so that the caller asks each `Pending`.
+        """
+        return Pipeline(self, raises)
+
+
+class Pipeline(Verbs):
+    """Requests of one session in flight; their replies come in their order.
+
+    Where the session has retries, those that are refused as stale are sent again behind a sync, in their order, once somebody
+    asks for one of them.
+    """
+
+    def __init__(self, session: Session, raises: bool) -> None:
+        self._session = session
+        self._raises = raises
+        self._begun: list[Pending[Any]] = []
+
+    @property
+    def connection(self) -> Connection:
+        """The session's connection."""
+        return self._session.connection
+
+    def settled(self, pending: Pending[Any]) -> bytes:
+        """The reply to a request, which is sent again as often as the session says while it is stale."""
+        most = self._session.retries + 1
+        while _is_stale(reply := pending.wait()) and pending.times_sent < most:
+            stale = [each for each in self._begun if each.times_sent < most and _is_stale(each.wait())]
+            self.connection.ask(verbs.sync(self.scope))
+            for each in stale:
+                each.send()
+        return reply
+
+    @property
+    def scope(self) -> Scope:
+        """The session."""
+        return self._session.scope
+
+    def __enter__(self) -> Pipeline:
+        return self
+
+    def __exit__(self, kind: type[BaseException] | None, error: BaseException | None, trace: TracebackType | None) -> None:
+        untold = [pending for pending in self._begun if not pending.is_told]
+        try:
+            refusals = [pending.refusal for pending in untold]
+        except (OSError, ProtocolError):
+            if kind is None:
+                raise
+            return
+        first = next((refusal for refusal in refusals if refusal), None)
+        if first and self._raises and kind is None:
+            raise first
+
+    def ask(self, request: Request[T]) -> Pending[T]:
+        """Queues a request, which goes out as `Connection.send` says, and waits for nothing."""
+        pending = Pending(self, request)
+        self._begun.append(pending)
+        return pending
+
+
+def _is_stale(reply: bytes) -> bool:
+    return reply.startswith(b"no %d " % Stale.number)

@@ -1,0 +1,91 @@
+"""Where a tool connects to: a socket's path, HOST:PORT, or a program of its own over a design."""
+
+from __future__ import annotations
+
+import os
+import re
+import socket
+import subprocess
+from dataclasses import dataclass
+from pathlib import Path
+
+from ..base.description import take_team
+from ..base.faults import FAILED, REFUSED, USAGE, Fault
+from ..base.program import Program, Run, find_program
+from ..base.protocol import GROUND, team_of_socket
+from .blocking import Connection, connect
+
+_PORT = re.compile(r"([^/]+):(\d{1,5})")
+
+
+@dataclass
+class Endpoint:
+    """A connection, the teams that are known to be served by it, and the program behind it, if it is this tool's own."""
+
+    connection: Connection
+    teams: list[str]
+    process: subprocess.Popen[bytes] | None = None
+
+    def close(self) -> None:
+        """Ends the connection, and the program with it."""
+        self.connection.close()
+        if self.process is not None:
+            self.process.wait()
+
+
+def connect_to(where: str) -> Endpoint:
+    """A connection to a Unix socket or to HOST:PORT; a fault where nobody listens there."""
+    found = _PORT.fullmatch(where)
+    try:
+        if found and not Path(where).exists():
+            return Endpoint(connect(found[1], int(found[2])), [])
+        return Endpoint(connect(where), _teams_at(Path(where)))
+    except ValueError as error:
+        raise Fault(USAGE, f"{where}: {error}") from None
+    except OSError as error:
+        reason = "it is no socket" if os.path.isfile(where) else error.strerror
+        raise Fault(FAILED, f"{where}: {reason or error}") from None
+
+
+def _teams_at(path: Path) -> list[str]:
+    """The teams that a hub's socket serves, by the names of the sockets: one for a team's, all for the operator's."""
+    if path.name != "operator.sock":
+        return [team] if (team := team_of_socket(path.name)) else []
+    return sorted(team for each in path.parent.iterdir() if (team := team_of_socket(each.name)))
+
+
+def start_program(given: str | None, paths: list[Path]) -> Endpoint:
+    """A program of one's own over a design, and a connection to it; a fault where it refuses the design."""
+    program = Program(find_program(given), paths)
+    near, far = socket.socketpair()
+    with far:
+        process = program.replay_on(far)
+    connection = Connection(near)
+    try:
+        # (the design is loaded twice at once)
+        with program.describe() as telling:
+            _wait_loaded(connection, process)
+            return Endpoint(connection, _teams_of(telling, program.path), process)
+    except BaseException:
+        # Whereupon the program ends, if it has not; Ctrl-C does not wait for it.
+        connection.close()
+        raise
+
+
+def _wait_loaded(connection: Connection, process: subprocess.Popen[bytes]) -> None:
+    try:
+        connection.ask_line(b"")
+    except OSError:
+        status = process.wait()
+        raise Fault(REFUSED if status == 1 else FAILED, "the program does not start; its own line tells why") from None
+
+
+def _teams_of(telling: Run, path: str) -> list[str]:
+    """The teams that a description tells, which is read no further than to its cells."""
+    teams: list[str] = []
+    try:
+        while all(take_team(line, teams) for line in telling.lines()):
+            pass
+    except EOFError:
+        raise telling.fault(f"{path} does not tell the teams of the design") from None
+    return [*teams, GROUND]

@@ -1,0 +1,227 @@
+"""The refusals of the program as exceptions, each with its number, its name and what it names.
+
+After a refusal everything is as it was. docs/PROTOCOL.md says when each comes.
+"""
+
+from __future__ import annotations
+
+from collections.abc import Sequence
+from typing import ClassVar
+
+from ..base.protocol import RULES
+
+# What a cell that breaks a rule does, by the rule's number; rule 8 is said of two cells.
+_BROKEN = {
+    1: "{} is not from 1 to 8 core sites high",
+    2: "{} {stand} on no core row, off its x grid or beyond its ends",
+    3: "{} {lack} rows under all of its height, with rails that alternate",
+    4: "{} may not be turned so there",
+    5: "{} {stand} with its bottom rail on the other rail of the row",
+    6: "{} {leave} the team's ground",
+    7: "{} {stand} in an obstacle: a FIXED component or a placement blockage",
+    8: "{} {overlap} {}",
+}
+# The same of rule 8 where the team may have a padding.
+_NEAR = "{} {overlap} {} or {be} too near to it"
+
+
+def broken_in_words(rule: int, cell: str, other: str | None = None, is_there: bool = False, is_padded: bool = False) -> str:
+    """Which rule a cell breaks at its place or, if it is not there yet, would break; its team may have a padding, or has none."""
+    verbs = {verb: f"{verb}s" if is_there else f"would {verb}" for verb in ("stand", "lack", "leave", "overlap")}
+    words = _NEAR if rule == 8 and is_padded else _BROKEN.get(rule, f"{{}} breaks rule {rule}")
+    return words.format(cell, other or "another cell", be="is" if is_there else "be", **verbs)
+
+
+class Refusal(Exception):
+    """A reply `no NUMBER NAME ..`; `fields` are the words behind the name."""
+
+    number: ClassVar[int] = 0
+
+    def __init__(self, fields: Sequence[str] = ()) -> None:
+        self.fields = tuple(fields)
+        super().__init__(f"{self.number} {self.name}: {self.words()}")
+
+    def __reduce__(self) -> tuple[type[Refusal], tuple[tuple[str, ...]]]:
+        return type(self), (self.fields,)
+
+    @property
+    def name(self) -> str:
+        """The refusal's name, as the protocol has it."""
+        return type(self).__name__
+
+    def words(self) -> str:
+        """What the refusal says, in words."""
+        return " ".join(self.fields) or "refused"
+
+    def _field(self, at: int) -> str:
+        return self.fields[at] if at < len(self.fields) else ""
+
+    def _number(self, at: int) -> int:
+        return int(self._field(at)) if self._field(at).isdecimal() else 0
+
+
+class BadRequest(Refusal):
+    """1: the line is no request; a number out of range is one way to it."""
+
+    number = 1
+
+    def words(self) -> str:
+        return "that is no request"
+
+
+class NoTeam(Refusal):
+    """2: no team has that name, or this socket is another team's."""
+
+    number = 2
+
+    def words(self) -> str:
+        return "there is no such team here"
+
+
+class NoSession(Refusal):
+    """3: no open session of the team has that number; another client may have closed it."""
+
+    number = 3
+
+    def words(self) -> str:
+        return "the session is not open"
+
+
+class Stale(Refusal):
+    """4: a change by a session that has not seen the team's present revision; a sync shows it."""
+
+    number = 4
+
+    @property
+    def revision(self) -> int:
+        """The team's present revision."""
+        return self._number(0)
+
+    def words(self) -> str:
+        return f"somebody else has changed the team, which is at revision {self.revision}: sync first"
+
+
+class NoCell(Refusal):
+    """5: the cell is none of the team's own."""
+
+    number = 5
+
+    def words(self) -> str:
+        return "the team has no such cell"
+
+
+class Unplaced(Refusal):
+    """6: a cell has no place."""
+
+    number = 6
+
+    @property
+    def cell(self) -> str:
+        """The cell without a place."""
+        return self._field(0)
+
+    def words(self) -> str:
+        return f"{self.cell} has no place"
+
+
+class Illegal(Refusal):
+    """7: the place breaks a rule."""
+
+    number = 7
+
+    @property
+    def rule(self) -> int:
+        """The number of the first rule that is broken, 1 to 8."""
+        return self._number(0)
+
+    @property
+    def rule_name(self) -> str:
+        """Its name, as `Overlap`."""
+        return RULES.get(self.rule, "")
+
+    @property
+    def cell(self) -> str:
+        """The cell whose place breaks it."""
+        return self._field(1)
+
+    @property
+    def other(self) -> str | None:
+        """For rule 8, the first cell of the team that the place overlaps, or is nearer to than the padding; else None."""
+        return self._field(2) or None
+
+    def words(self) -> str:
+        return broken_in_words(self.rule, self.cell, self.other, is_padded=True)
+
+
+class NoPlace(Refusal):
+    """8: there is no legal place for a cell off soft blockages."""
+
+    number = 8
+
+    @property
+    def cell(self) -> str:
+        """The cell without a best place."""
+        return self._field(0)
+
+    def words(self) -> str:
+        return f"there is no legal place for {self.cell}"
+
+
+class NothingToUndo(Refusal):
+    """9: `undo`, and no change is kept."""
+
+    number = 9
+
+    def words(self) -> str:
+        return "there is nothing to undo"
+
+
+class SessionsFull(Refusal):
+    """10: `open`, and the team has no free session."""
+
+    number = 10
+
+    def words(self) -> str:
+        return "the team has no free session"
+
+
+class RevisionsSpent(Refusal):
+    """11: the team has made as many changes as can be counted."""
+
+    number = 11
+
+    def words(self) -> str:
+        return "the team can make no more changes"
+
+
+class OutOfMemory(Refusal):
+    """12: no memory; of a hub also: its disk is full. Nothing has changed, and a later try may pass."""
+
+    number = 12
+
+    def words(self) -> str:
+        return "there is no memory for it, or no room on the disk of the hub"
+
+
+class NotExported(Refusal):
+    """13, of a hub alone: the file could not be written; the fields are the reason in words."""
+
+    number = 13
+
+    def words(self) -> str:
+        return f"the file was not written: {' '.join(self.fields) or 'the hub gives no reason'}"
+
+
+_KINDS: dict[int, type[Refusal]] = {kind.number: kind for kind in Refusal.__subclasses__()}
+
+
+def refusal_of(reply: bytes) -> Refusal | None:
+    """The refusal that a reply is; None where it is none."""
+    if not reply.startswith(b"no "):
+        # (of a text of a team not one word is looked at)
+        return None
+    words = reply.decode("ascii", "backslashreplace").split()
+    if len(words) < 3 or words[0] != "no" or not words[1].isdecimal():
+        return None
+    kind = _KINDS.get(int(words[1]))
+    return kind(words[3:]) if kind else Refusal(words[1:])

@@ -1,0 +1,126 @@
+"""What sessions and pipelines share: their team, their scope while they are open, and a method for each verb."""
+
+from __future__ import annotations
+
+import functools
+from collections.abc import Awaitable, Callable
+from dataclasses import dataclass
+from typing import TYPE_CHECKING, Any, Concatenate, Generic, ParamSpec, Protocol, TypeVar, overload
+
+from . import verbs
+from .verbs import Request, Scope
+
+if TYPE_CHECKING:
+    from . import aio
+    from . import blocking as client
+
+C = TypeVar("C")
+P = ParamSpec("P")
+T = TypeVar("T")
+
+
+class Asks(Protocol):
+    """Whatever has verbs: an open session, and a way to ask."""
+
+    @property
+    def scope(self) -> Scope: ...
+
+    def ask(self, request: Request[Any]) -> Any: ...
+
+
+class Method(Generic[P, T]):
+    """The method of a verb: it takes the verb's fields and asks for it.
+
+    It returns what `ask` does: of a plain session what the reply says, of a pipeline a `Pending`, of asyncio what is to be awaited.
+    """
+
+    def __init__(self, build: Callable[Concatenate[Scope, P], Request[T]]) -> None:
+        @functools.wraps(build)
+        def method(self: Asks, /, *args: P.args, **kwargs: P.kwargs) -> Any:
+            return self.ask(build(self.scope, *args, **kwargs))
+
+        self._method = method
+
+    @overload
+    def __get__(self, asks: client.Session, kind: type) -> Callable[P, T]: ...
+    @overload
+    def __get__(self, asks: client.Pipeline, kind: type) -> Callable[P, client.Pending[T]]: ...
+    @overload
+    def __get__(self, asks: aio.Session, kind: type) -> Callable[P, Awaitable[T]]: ...
+    @overload
+    def __get__(self, asks: None, kind: type[client.Session]) -> Callable[Concatenate[client.Session, P], T]: ...
+    @overload
+    def __get__(self, asks: None, kind: type[client.Pipeline]) -> Callable[Concatenate[client.Pipeline, P], client.Pending[T]]: ...
+    @overload
+    def __get__(self, asks: None, kind: type[aio.Session]) -> Callable[Concatenate[aio.Session, P], Awaitable[T]]: ...
+    def __get__(self, asks: Any, kind: type) -> Any:
+        return self._method.__get__(asks, kind)
+
+
+class Verbs:
+    """A method for each verb but those that open and close a session; what it takes and says is told in `lefence.verbs`."""
+
+    sync = Method(verbs.sync)
+    check = Method(verbs.check)
+    def_text = Method(verbs.def_text)
+    where = Method(verbs.where)
+    find = Method(verbs.find)
+    place = Method(verbs.place)
+    legalize = Method(verbs.legalize)
+    tidy = Method(verbs.tidy)
+    unplace = Method(verbs.unplace)
+    swap = Method(verbs.swap)
+    undo = Method(verbs.undo)
+    commit = Method(verbs.commit)
+    revert = Method(verbs.revert)
+    pad = Method(verbs.pad)
+
+
+@dataclass(frozen=True)
+class Wishes:
+    """What a session is opened with: how often a stale change is sent again, and how lengths and orientations are spelled."""
+
+    retries: int = 0
+    microns: bool = False
+    per_micron: int | None = None
+    openaccess: bool = False
+
+
+class BaseSession(Verbs, Generic[C]):
+    """A session of a team over a connection; it is open inside its block."""
+
+    def __init__(self, connection: C, team: str, wishes: Wishes) -> None:
+        self.connection = connection
+        self.team = team
+        self.retries = wishes.retries
+        # The team's revision when the session was opened.
+        self.first_revision = 0
+        self._scope: Scope | None = None
+        self._wishes = wishes
+        self._per_micron = wishes.per_micron
+
+    @property
+    def scope(self) -> Scope:
+        """The open session; ValueError outside its block."""
+        if self._scope is None:
+            raise ValueError("the session is not open: its block opens it")
+        return self._scope
+
+    @property
+    def number(self) -> int:
+        """The number of the session's slot."""
+        return self.scope.number
+
+    @property
+    def _lacks_units(self) -> bool:
+        """Whether lengths are microns, and how many database units one has is not known."""
+        return self._wishes.microns and self._per_micron is None
+
+    def _refuse_open(self) -> None:
+        """ValueError where the session is open: its slot would be forgotten."""
+        if self._scope is not None:
+            raise ValueError("the session is open already")
+
+    def _begin(self, number: int) -> None:
+        """The session is open, with all that its wishes need."""
+        self._scope = Scope(self.team, number, self._per_micron, self._wishes.openaccess)

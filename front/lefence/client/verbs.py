@@ -1,0 +1,284 @@
+"""What a session can be asked: a request for each verb, with the fields' names, and what its reply says.
+
+These are the methods of the sessions of `lefence.client` and `lefence.aio`, and of pipelines. Lengths are whole database
+units, or microns where the session was opened so (the session's unit); a length in microns must be a whole number of database
+units, else ValueError. A name must be made of the bytes 33 to 126, else ValueError. On a full disk a hub refuses every change as
+`OutOfMemory`. Refusals: `lefence.refusals`.
+"""
+
+from __future__ import annotations
+
+import json
+import re
+from collections.abc import Callable
+from dataclasses import dataclass
+from decimal import Decimal, InvalidOperation
+from typing import Generic, TypeVar
+
+from ..base import design
+from ..base.protocol import OPENACCESS, ProtocolError
+
+T = TypeVar("T")
+Length = int | float | Decimal
+
+_NAME = re.compile(r"[!-~]+")
+_OPENACCESS_OF = {orient: other for other, orient in reversed(OPENACCESS.items())}
+
+
+@dataclass(frozen=True)
+class Place:
+    """Where a cell stands: the lower left corner of its box in the session's unit, and its orientation (N, S, FN, FS ..)."""
+
+    x: Length
+    y: Length
+    orient: str
+
+
+@dataclass(frozen=True)
+class Legalized:
+    """The team's revision after a legalize, and where the cell went."""
+
+    revision: int
+    place: Place
+
+
+@dataclass(frozen=True)
+class Tidied:
+    """The team's revision after a tidy, and how many cells moved."""
+
+    revision: int
+    moved: int
+
+
+@dataclass(frozen=True)
+class Violation:
+    """A placed cell, the number of the first rule that it breaks, and for rule 8 the first cell that it overlaps or is too near to."""
+
+    cell: str
+    rule: int
+    other: str | None = None
+
+
+@dataclass(frozen=True)
+class Report:
+    """How many cells a team has, how many have no place, and which of the others break a rule, in loading order."""
+
+    cells: int
+    unplaced: int
+    violations: tuple[Violation, ...]
+
+    @property
+    def is_clean(self) -> bool:
+        """Whether every cell has a place and none breaks a rule."""
+        return not self.unplaced and not self.violations
+
+
+@dataclass(frozen=True)
+class Request(Generic[T]):
+    """A line without its line feed, and how its accepted reply is read: from the words behind `ok`, and the text of a `def`."""
+
+    line: bytes
+    read: Callable[[list[str], bytes], T]
+
+
+@dataclass(frozen=True)
+class Scope:
+    """A session: its team, its number, the database units in a micron where its lengths are microns, else None, and whether its
+    orientations are spelled as OpenAccess has them (R0, MX ..)."""
+
+    team: str
+    number: int
+    per_micron: int | None = None
+    openaccess: bool = False
+
+    def line(self, verb: str, *fields: str) -> bytes:
+        return " ".join((verb, name(self.team), str(self.number), *fields)).encode()
+
+    def dbu(self, length: Length) -> str:
+        """A length of the caller's in whole database units."""
+        try:
+            exact = Decimal(str(length)) * (self.per_micron or 1)
+        except InvalidOperation:
+            raise ValueError(f"{length!r} is no length") from None
+        if not exact.is_finite() or exact != exact.to_integral_value():
+            raise ValueError(f"{length} is no whole number of database units")
+        return str(int(exact))
+
+    def length(self, dbu: str) -> Length:
+        """A length of a reply in the session's unit."""
+        return int(dbu) if self.per_micron is None else int(dbu) / self.per_micron
+
+    def orient(self, orient: str) -> str:
+        """An orientation of the caller's as DEF spells it."""
+        if orient not in OPENACCESS:
+            return name(orient)
+        if not self.openaccess:
+            raise ValueError(f"{orient} is no orientation of DEF, which calls it {OPENACCESS[orient]}")
+        return OPENACCESS[orient]
+
+    def place(self, words: list[str]) -> Place:
+        orient = _OPENACCESS_OF.get(words[2], words[2]) if self.openaccess else words[2]
+        return Place(self.length(words[0]), self.length(words[1]), orient)
+
+
+def name(word: str) -> str:
+    """The word, if it can be a field of a line."""
+    if not _NAME.fullmatch(word):
+        raise ValueError(f"{word!r} can be no field of a line: it is empty or has other bytes than 33 to 126")
+    return word
+
+
+def read_reply(request: Request[T], words: list[str], text: bytes) -> T:
+    """What an accepted reply says, by the words behind `ok`."""
+    try:
+        return request.read(words, text)
+    except (ValueError, LookupError, TypeError) as error:
+        raise ProtocolError(f"{request.line!r} was answered {words!r}: {error}") from error
+
+
+def _revision(words: list[str], text: bytes) -> int:
+    return int(words[0])
+
+
+def _report(words: list[str], text: bytes) -> Report:
+    said = json.loads(" ".join(words))
+    violations = tuple(Violation(each["cell"], each["rule"], each.get("other")) for each in said["violations"])
+    return Report(said["cells"], said["unplaced"], violations)
+
+
+def open_session(team: str) -> Request[tuple[int, int]]:
+    """The number of a new session and the team's revision. Refused by NoTeam, SessionsFull."""
+    return Request(f"open {name(team)}".encode(), lambda words, text: (int(words[0]), int(words[1])))
+
+
+def units() -> Request[int]:
+    """The database units in a micron; of a hub alone, and BadRequest of all others."""
+    return Request(b"units", _revision)
+
+
+def close_session(scope: Scope) -> Request[None]:
+    """Frees the session."""
+    return Request(scope.line("close"), lambda words, text: None)
+
+
+def units_in(text: bytes) -> int:
+    """The database units in a micron, from a team's DEF text."""
+    units = design.units_in(text)
+    if not units.isdigit() or not int(units):
+        raise ProtocolError("the team's DEF text has no UNITS")
+    return int(units)
+
+
+def sync(scope: Scope) -> Request[int]:
+    """The session has seen the team's present revision, which is returned.
+
+    Refused by NoSession.
+    """
+    return Request(scope.line("sync"), _revision)
+
+
+def check(scope: Scope) -> Request[Report]:
+    """The team's report; changes nothing.
+
+    Refused by NoSession, OutOfMemory.
+    """
+    return Request(scope.line("check"), _report)
+
+
+def def_text(scope: Scope) -> Request[bytes]:
+    """The team's DEF text, its cells at their working places in database units; changes nothing.
+
+    Refused by NoSession, OutOfMemory.
+    """
+    return Request(scope.line("def"), lambda words, text: text)
+
+
+def where(scope: Scope, cell: str) -> Request[Place]:
+    """The cell's working place, its lower left corner in the session's unit.
+
+    Refused by NoSession, NoCell, Unplaced.
+    """
+    return Request(scope.line("where", name(cell)), lambda words, text: scope.place(words))
+
+
+def find(scope: Scope, cell: str, x: Length, y: Length) -> Request[Place]:
+    """The cell's best place for the target (x, y), in the session's unit; changes nothing.
+
+    Refused by NoSession, NoCell, NoPlace, OutOfMemory.
+    """
+    return Request(scope.line("find", name(cell), scope.dbu(x), scope.dbu(y)), lambda words, text: scope.place(words))
+
+
+def place(scope: Scope, cell: str, x: Length, y: Length, orient: str) -> Request[int]:
+    """Sets the cell's working place: its lower left corner (x, y) in the session's unit, and N, S, FN or FS; the team's revision.
+
+    Refused by NoSession, Stale, RevisionsSpent, NoCell, Illegal, OutOfMemory.
+    """
+    return Request(scope.line("place", name(cell), scope.dbu(x), scope.dbu(y), scope.orient(orient)), _revision)
+
+
+def legalize(scope: Scope, cell: str, x: Length, y: Length) -> Request[Legalized]:
+    """Moves the cell to its best place for the target (x, y), in the session's unit.
+
+    Refused by NoSession, Stale, RevisionsSpent, NoCell, NoPlace, OutOfMemory.
+    """
+    line = scope.line("legalize", name(cell), scope.dbu(x), scope.dbu(y))
+    return Request(line, lambda words, text: Legalized(int(words[0]), scope.place(words[1:])))
+
+
+def tidy(scope: Scope) -> Request[Tidied]:
+    """Moves every cell that is unplaced or illegal to its best place, in loading order.
+
+    Refused by NoSession, Stale, RevisionsSpent, OutOfMemory, and NoPlace of a cell without one: then none has moved.
+    """
+    return Request(scope.line("tidy"), lambda words, text: Tidied(int(words[0]), int(words[1])))
+
+
+def unplace(scope: Scope, cell: str) -> Request[int]:
+    """The cell becomes unplaced; the team's revision.
+
+    Refused by NoSession, Stale, RevisionsSpent, NoCell, Unplaced, OutOfMemory.
+    """
+    return Request(scope.line("unplace", name(cell)), _revision)
+
+
+def swap(scope: Scope, cell: str, other: str) -> Request[int]:
+    """The two cells exchange their whole places; the team's revision.
+
+    Refused by NoSession, Stale, RevisionsSpent, NoCell, Unplaced, Illegal, OutOfMemory.
+    """
+    return Request(scope.line("swap", name(cell), name(other)), _revision)
+
+
+def undo(scope: Scope) -> Request[int]:
+    """Brings back the places before the newest change that is kept, unchecked; the team's revision.
+
+    Refused by NoSession, Stale, RevisionsSpent, NothingToUndo.
+    """
+    return Request(scope.line("undo"), _revision)
+
+
+def commit(scope: Scope) -> Request[int]:
+    """The working places become the committed ones; the team's revision.
+
+    Refused by NoSession, Stale, RevisionsSpent, OutOfMemory, Unplaced and Illegal of the first cell that is not legal.
+    """
+    return Request(scope.line("commit"), _revision)
+
+
+def revert(scope: Scope) -> Request[int]:
+    """The committed places become the working ones, unchecked; the team's revision.
+
+    Refused by NoSession, Stale, RevisionsSpent, OutOfMemory.
+    """
+    return Request(scope.line("revert"), _revision)
+
+
+def pad(scope: Scope, padding: int) -> Request[int]:
+    """Sets how far apart the team keeps its own cells along x, in core sites (0 to 16); the team's revision. No cell moves.
+
+    Refused by NoSession, Stale, RevisionsSpent, and BadRequest of more than 16.
+    """
+    if not float(padding).is_integer():
+        raise ValueError(f"{padding} is no whole number of core sites")
+    return Request(scope.line("pad", str(int(padding))), _revision)

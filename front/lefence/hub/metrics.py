@@ -1,0 +1,113 @@
+"""What a hub counts while it serves, as an object of JSON and as metrics in the text form of Prometheus."""
+
+from __future__ import annotations
+
+import time
+from collections import deque
+from collections.abc import Iterable, Iterator
+from pathlib import Path
+from typing import Any
+
+from ..base.protocol import REVISIONS, is_accepted
+
+# Of how many batches the figures are.
+_BATCHES = 4096
+_KIB = 1024
+# Commands behind which a team's working places are its committed ones.
+_LEVEL = (b"commit", b"revert")
+
+
+class TeamFigures:
+    """A team's revision, and how many changes it made since it committed or reverted last."""
+
+    def __init__(self) -> None:
+        self.revision = self.uncommitted = 0
+
+
+class Figures:
+    """Counts of one hub."""
+
+    def __init__(self) -> None:
+        self.begun = time.time()
+        self.teams: dict[bytes, TeamFigures] = {}
+        # How often the program was started again.
+        self.restores = 0
+        self.lines = 0
+        # Seconds of syncs, and lines of batches, the last ones.
+        self.syncs: deque[float] = deque(maxlen=_BATCHES)
+        self.batches: deque[int] = deque(maxlen=_BATCHES)
+
+    def note(self, fields: list[bytes], reply: bytes) -> None:
+        """Takes account of an answered line."""
+        if fields and fields[0] in REVISIONS and is_accepted(reply):
+            team = self.teams.setdefault(fields[1], TeamFigures())
+            team.revision = int(reply.split()[1])
+            team.uncommitted = 0 if fields[0] in _LEVEL else team.uncommitted + 1
+
+    def count(self, lines: int) -> None:
+        """Takes account of a batch."""
+        self.lines += lines
+        self.batches.append(lines)
+
+
+def share(values: Iterable[float], part: float) -> float:
+    """What that part of the values does not exceed; 0 of none."""
+    found = sorted(values)
+    return found[min(len(found) - 1, int(len(found) * part))] if found else 0
+
+
+def memory_of(pid: int | None) -> int:
+    """The bytes that a process has in memory; 0 where there is none."""
+    try:
+        lines = Path(f"/proc/{pid}/status").read_text().splitlines()
+        return next(int(line.split()[1]) * _KIB for line in lines if line.startswith("VmRSS:"))
+    except (OSError, StopIteration, ValueError):
+        return 0
+
+
+_METRICS = {
+    "uptime_seconds": ("gauge", "Seconds since this start."),
+    "clients": ("gauge", "Connections."),
+    "unread_bytes": ("gauge", "Bytes of replies that clients have not read."),
+    "lines_total": ("counter", "Lines answered since this start."),
+    "restores_total": ("counter", "How often the program was started again."),
+    "changes_total": ("counter", "Changes in the journal."),
+    "states_total": ("counter", "States that were made since this start."),
+    "journal_bytes": ("gauge", "Bytes of the journal's last segment."),
+    "past_bytes": ("gauge", "Bytes of the segments before it, and of the states."),
+    "journal_age_seconds": ("gauge", "Seconds since the last change."),
+    "sync_seconds_p50": ("gauge", "Seconds of a sync of the journal, median of the last ones."),
+    "sync_seconds_p99": ("gauge", "The same, 99 of 100."),
+    "batch_lines_p50": ("gauge", "Lines of a batch, median of the last ones."),
+    "batch_lines_p99": ("gauge", "The same, 99 of 100."),
+    "program_bytes": ("gauge", "Memory of the program."),
+    "hub_bytes": ("gauge", "Memory of the hub."),
+}
+_TEAM_METRICS = {
+    "clients": ("gauge", "Connections of the team's socket."),
+    "sessions": ("gauge", "Open sessions of the team."),
+    "revision": ("counter", "The team's revision."),
+    "uncommitted": ("gauge", "Changes of the team since it committed or reverted last."),
+}
+
+
+def prometheus(status: dict[str, Any]) -> str:
+    """The same as a status tells, as Prometheus reads it."""
+    lines: list[str] = []
+    for name, (kind, told) in _METRICS.items():
+        lines += [*_head(f"lefence_{name}", kind, told), f"lefence_{name} {status[name]}"]
+    for name, (kind, told) in _TEAM_METRICS.items():
+        lines += _head(f"lefence_team_{name}", kind, told)
+        lines += (f'lefence_team_{name}{{team="{team}"}} {value}' for team, value in _of_teams(status, name))
+    return "".join(f"{line}\n" for line in lines)
+
+
+def _head(name: str, kind: str, told: str) -> list[str]:
+    return [f"# HELP {name} {told}", f"# TYPE {name} {kind}"]
+
+
+def _of_teams(status: dict[str, Any], name: str) -> Iterator[tuple[str, int]]:
+    for team in status["teams"]:
+        value = team[name]
+        quoted = team["team"].replace("\\", "\\\\").replace('"', '\\"')
+        yield quoted, len(value) if isinstance(value, list) else value

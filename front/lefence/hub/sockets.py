@@ -1,0 +1,90 @@
+"""The sockets of a hub: their folder, their modes and their groups."""
+
+from __future__ import annotations
+
+import grp
+import os
+import socket
+import stat
+from pathlib import Path
+
+from ..base.faults import FAILED, REFUSED, USAGE, Fault
+from ..journal.journal import lock
+
+# The most bytes of a socket's path that the system takes.
+_MOST_PATH = 107
+
+
+def take_folder(path: Path) -> None:
+    """Makes the folder of the sockets if it is missing, and takes its lock until this process ends.
+
+    A fault where another user may write to it, and so could put sockets of his own in the places of these.
+    """
+    path.mkdir(mode=0o755, exist_ok=True)
+    folder = os.open(path, os.O_RDONLY | os.O_DIRECTORY | os.O_CLOEXEC)
+    found = os.fstat(folder)
+    if found.st_mode & (stat.S_IWGRP | stat.S_IWOTH):
+        raise Fault(REFUSED, f"{path}: others may write to this folder (mode {stat.S_IMODE(found.st_mode):o}); `chmod go-w` mends it")
+    if found.st_uid not in (0, os.geteuid()):
+        raise Fault(REFUSED, f"{path}: a folder of another user (uid {found.st_uid})")
+    lock(folder, path)
+
+
+def groups_of(words: list[str]) -> dict[str, int]:
+    """The group of each team that `TEAM=GROUP` words tell; a fault where there is no such group."""
+    found = {}
+    for word in words:
+        team, sign, name = word.rpartition("=")
+        try:
+            found[team] = int(name) if name.isdecimal() else grp.getgrnam(name).gr_gid
+        except KeyError:
+            raise Fault(USAGE, f"{word}: there is no group {name}") from None
+        if not (team and sign):
+            raise Fault(USAGE, f"{word}: --group takes TEAM=GROUP")
+    return found
+
+
+def bound_socket(path: Path, mode: int, keeps_mode: bool, group: int | None) -> socket.socket:
+    """A socket at the path that does not listen yet, of that group.
+
+    A dead one of this user that stood there hands on its group where none is given, and its mode where that is to be kept. A
+    fault where the group cannot be set.
+    """
+    if len(os.fsencode(path)) > _MOST_PATH:
+        raise Fault(FAILED, f"{path}: longer than {_MOST_PATH} bytes; use a shorter --sockets, or serve other teams by --team")
+    former = _dead_socket(path)
+    if former:
+        path.unlink()
+    if former and former.st_uid == os.geteuid():
+        group = former.st_gid if group is None else group
+        mode = former.st_mode & 0o777 if keeps_mode else mode
+    listener = socket.socket(socket.AF_UNIX)
+    try:
+        listener.bind(str(path))
+        _set_group(path, group)
+        path.chmod(mode)
+    except OSError as error:
+        listener.close()
+        raise Fault(FAILED, f"{path}: {error.strerror or error}") from None
+    except Fault:
+        listener.close()
+        raise
+    return listener
+
+
+def _set_group(path: Path, group: int | None) -> None:
+    try:
+        if group is not None and group != path.lstat().st_gid:
+            os.chown(path, -1, group)
+    except OSError as error:
+        path.unlink()
+        raise Fault(FAILED, f"{path}: the group {group} cannot be set, is this user in it? {error.strerror}") from None
+
+
+def _dead_socket(path: Path) -> os.stat_result | None:
+    """What stands at the path, if it is a socket and no link to one."""
+    try:
+        found = path.lstat()
+    except FileNotFoundError:
+        return None
+    return found if stat.S_ISSOCK(found.st_mode) else None

@@ -1,0 +1,91 @@
+"""What the operator of a hub is told of it: a line of JSON, and the question for it."""
+
+from __future__ import annotations
+
+import json
+import os
+import time
+from collections import Counter
+from collections.abc import Iterator
+from pathlib import Path
+from typing import TYPE_CHECKING, Any
+
+from ..base.faults import FAILED, Fault
+from ..client.blocking import connect
+from .metrics import TeamFigures, memory_of, share
+
+if TYPE_CHECKING:
+    from .hub import Hub
+
+# Teams that a line of the log names.
+_MOST_TEAMS = 50
+# Seconds for which a hub may say nothing when it is asked.
+_PATIENCE = 10
+
+
+def status_text(hub: Hub) -> bytes:
+    """One line of JSON without a line feed."""
+    return json.dumps(_status(hub), separators=(",", ":")).encode()
+
+
+def _status(hub: Hub) -> dict[str, Any]:
+    figures, journal, now = hub.figures, hub.journal, time.time()
+    return {
+        "uptime_seconds": round(now - figures.begun, 1),
+        "clients": len(hub.crowd.clients),
+        "unread_bytes": hub.crowd.unread(),
+        "lines_total": figures.lines,
+        "restores_total": figures.restores,
+        "changes_total": journal.changes,
+        "states_total": hub.checkpoints.count,
+        "journal_bytes": journal.end,
+        "past_bytes": journal.past.size(),
+        "journal_age_seconds": round(now - (journal.last or now), 1),
+        **{f"sync_seconds_p{part}": round(share(figures.syncs, part / 100), 6) for part in (50, 99)},
+        **{f"batch_lines_p{part}": share(figures.batches, part / 100) for part in (50, 99)},
+        "program_bytes": memory_of(hub.server.pid),
+        "hub_bytes": memory_of(os.getpid()),
+        "teams": list(_teams(hub)),
+    }
+
+
+def _teams(hub: Hub) -> Iterator[dict[str, Any]]:
+    clients, sessions = Counter(client.team for client in hub.crowd.clients), _sessions(hub)
+    for team in hub.teams:
+        name = team.encode()
+        counts = hub.figures.teams.get(name, TeamFigures())
+        own = {"clients": clients[name], "revision": counts.revision, "uncommitted": counts.uncommitted}
+        yield {"team": team, **own, "sessions": sessions.get(name, [])}
+
+
+def _sessions(hub: Hub) -> dict[bytes, list[dict[str, Any]]]:
+    """Of each team the sessions whose clients are there."""
+    found: dict[bytes, list[dict[str, Any]]] = {}
+    for (team, number), holder in sorted(hub.crowd.holders.items(), key=lambda item: item[0]):
+        if who := holder.client:
+            told = {"number": number, "uid": who.uid, "pid": who.pid, "since": round(holder.since, 1)}
+            found.setdefault(team, []).append(told)
+    return found
+
+
+def uncommitted_text(hub: Hub) -> str | None:
+    """Of which teams an export lacks work; None where it lacks nothing."""
+    counts = sorted((team.decode(), each.uncommitted) for team, each in hub.figures.teams.items() if each.uncommitted)
+    if not counts:
+        return None
+    more = f" and {len(counts) - _MOST_TEAMS} teams more" if len(counts) > _MOST_TEAMS else ""
+    return "changes that are not committed: " + ", ".join(f"{count} of {team}" for team, count in counts[:_MOST_TEAMS]) + more
+
+
+def ask_status(folder: Path) -> dict[str, Any]:
+    """The status of the hub that has its sockets in a folder; a fault where none listens there."""
+    path = folder / "operator.sock"
+    try:
+        with connect(path, timeout=_PATIENCE) as connection:
+            words = connection.ask_line(b"status")
+    except OSError as error:
+        raise Fault(FAILED, f"{path}: {error.strerror or error}") from None
+    if not words.startswith(b"ok {"):
+        raise Fault(FAILED, f"{path}: answered {words.decode(errors='backslashreplace').strip()}")
+    found: dict[str, Any] = json.loads(words[3:])
+    return found

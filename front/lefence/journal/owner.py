@@ -1,0 +1,95 @@
+"""Whose a journal is: the host, the kernel's boot and the process that append to it, as a note of the journal tells."""
+
+from __future__ import annotations
+
+import os
+import re
+import socket
+from dataclasses import dataclass
+from pathlib import Path
+
+from .. import __version__
+from ..base.faults import FAILED, Fault
+from .frames import sum_of
+
+# The note of a hub that has ended, behind which the journal is nobody's.
+ENDED = b"ended"
+_OWNER = re.compile(r"owner (\S+) (\S+) (\d+) (\d+) front (\S+) program (\S+)")
+_BOOT = Path("/proc/sys/kernel/random/boot_id")
+
+
+@dataclass(frozen=True)
+class Owner:
+    """A hub: host and boot on which it runs, its process and when that began (in ticks of the boot), its version and program.
+
+    The program is told by the first 16 digits of its SHA-256.
+    """
+
+    host: str
+    boot: str
+    pid: int
+    began: int
+    front: str
+    program: str
+
+    def note(self) -> bytes:
+        """The line of the journal that says so."""
+        return f"owner {self.host} {self.boot} {self.pid} {self.began} front {self.front} program {self.program}".encode()
+
+    def __str__(self) -> str:
+        return f"process {self.pid} of host {self.host}"
+
+
+class Succession:
+    """Whose a journal is, by its notes in order."""
+
+    def __init__(self) -> None:
+        # The last hub that it tells, and whether that has not ended.
+        self.last: Owner | None = None
+        self.is_open = False
+
+    def take(self, note: bytes) -> None:
+        """Takes account of the next note."""
+        self.last = owner_of(note) or self.last
+        self.is_open = note != ENDED
+
+    def refuse_claim(self, me: Owner, path: Path) -> None:
+        """A fault where the last hub may be at work."""
+        if self.last and self.is_open and (reason := claim(self.last, me)):
+            raise Fault(FAILED, f"{path}: {reason}; --takeover takes the journal from a hub that is gone")
+
+
+def owner_of(note: bytes) -> Owner | None:
+    """The owner that a note tells, if it is of that kind."""
+    found = _OWNER.fullmatch(note.decode("ascii", "replace"))
+    return Owner(found[1], found[2], int(found[3]), int(found[4]), found[5], found[6]) if found else None
+
+
+def own(program: str | None = None) -> Owner:
+    """This process, with the program at that path."""
+    host = re.sub(r"[^!-~]", "?", socket.gethostname()) or "?"
+    return Owner(host, _boot(), os.getpid(), _began(os.getpid()) or 0, __version__, sum_of(Path(program))[:16] if program else "-")
+
+
+def claim(owner: Owner, me: Owner) -> str | None:
+    """Why a journal may still be that owner's; None where its process is gone for certain."""
+    if owner.host != me.host:
+        return f"{owner}, which did not end it, may be at work"
+    if owner.boot != me.boot or owner.pid == me.pid:
+        return None
+    return f"{owner} is at work" if _began(owner.pid) == owner.began else None
+
+
+def _boot() -> str:
+    try:
+        return _BOOT.read_text().strip()
+    except OSError:
+        return "-"
+
+
+def _began(pid: int) -> int | None:
+    """When a process began; None where there is none."""
+    try:
+        return int(Path(f"/proc/{pid}/stat").read_text().rpartition(")")[2].split()[19])
+    except (OSError, IndexError, ValueError):
+        return None

@@ -1,0 +1,102 @@
+"""The texts of a design, kept beside the journal by their sums: without them what was acknowledged tells nothing.
+
+A copy is `JOURNAL.texts/SHA256/NAME`. The hub runs the program over the copies alone, so that whoever writes a text anew changes
+nothing for it.
+"""
+
+from __future__ import annotations
+
+import contextlib
+import fcntl
+import os
+import re
+import shutil
+from collections.abc import Callable
+from pathlib import Path
+from typing import BinaryIO
+
+from ..base.atomic_file import sync_folder, whole_file
+from ..base.faults import FAILED, REFUSED, Fault, words_of
+from .frames import Text, sum_of
+from .journal import texts_in
+
+# The end of the name of a copy that was not made to its end.
+_PARTIAL = re.compile(r"(\.partial\d+)+$")
+# Has a file share the bytes of another one, where the file system can do so.
+_FICLONE = 0x40049409
+
+
+def texts_folder(journal: Path) -> Path:
+    """Where the texts of a journal are kept."""
+    return Path(os.path.realpath(journal) + ".texts")
+
+
+def kept_text(journal: Path, text: Text) -> Path | None:
+    """The kept copy of a text; None where there is none, or one of other bytes."""
+    with contextlib.suppress(FileNotFoundError):
+        for path in sorted((texts_folder(journal) / text.sum).iterdir()):
+            if path.is_file() and not _PARTIAL.search(path.name) and sum_of(path) == text.sum:
+                return path
+    return None
+
+
+def settle_texts(journal: Path, given: list[Path], say: Callable[[str], None]) -> tuple[list[Text], list[Path]]:
+    """The texts of a journal that is or will be at the path, and their kept copies, which are made where they are missing.
+
+    A journal that has changes keeps its texts, whatever stands by now at the paths from which they came. Raises a fault where
+    other files are given than those.
+    """
+    texts = texts_in(journal)
+    if texts is None:
+        texts = [Text(sum_of(path), path.absolute()) for path in given]
+    if len(texts) != len(given):
+        raise Fault(REFUSED, f"{journal}: a journal of another design, which has {len(texts)} texts")
+    return texts, [_settle_text(journal, text, path, say) for text, path in zip(texts, given)]
+
+
+def _settle_text(journal: Path, text: Text, given: Path, say: Callable[[str], None]) -> Path:
+    try:
+        is_same = sum_of(given) == text.sum
+    except OSError as error:
+        is_same = False
+        say(words_of(error))
+    kept = kept_text(journal, text)
+    if is_same:
+        return kept or _keep(journal, text, given)
+    if kept is None:
+        raise Fault(REFUSED, f"{journal}: a journal of another design: {given} is not its text, of which no copy is kept")
+    if given.absolute() != text.path:
+        raise Fault(REFUSED, f"{journal}: a journal of another design: its text came from {text.path}, and {given} has other bytes")
+    say(f"{given} is not what it was when the journal was begun: what counts is the copy {kept}")
+    return kept
+
+
+def remove_partial_texts(journal: Path) -> None:
+    """Removes copies that were not made to their end, once the journal is held, so that no other hub goes on with it."""
+    for path in texts_folder(journal).glob("*/*"):
+        if _PARTIAL.search(path.name):
+            path.unlink(missing_ok=True)
+
+
+def _keep(journal: Path, text: Text, given: Path) -> Path:
+    """Makes the copy of a text, which is on the disk when this returns."""
+    folder = texts_folder(journal)
+    path = folder / text.sum / _PARTIAL.sub("", given.name)
+    folder.mkdir(mode=0o700, exist_ok=True)
+    path.parent.mkdir(mode=0o700, exist_ok=True)
+    with open(given, "rb") as source, whole_file(path) as copy:
+        _copy(source, copy)
+        copy.flush()
+        if sum_of(Path(f"/dev/fd/{copy.fileno()}")) != text.sum:
+            raise Fault(FAILED, f"{given} was written to while it was read")
+    path.chmod(0o400)
+    sync_folder(folder)
+    sync_folder(folder.parent)
+    return path
+
+
+def _copy(source: BinaryIO, copy: BinaryIO) -> None:
+    try:
+        fcntl.ioctl(copy.fileno(), _FICLONE, source.fileno())
+    except OSError:
+        shutil.copyfileobj(source, copy, 1 << 20)

@@ -1,0 +1,251 @@
+"""A farm's folder: which teams have work to do, the work of one of them over its slice, and all of it in one design at the end.
+
+`WORK/farm.json` is the plan. Team number I, from 1, has the folder `WORK/I`: its `slice.def`, the `journal` of a hub over it (with copies
+of its texts until the team is done) or the `lines` of a repair, `new.def` with its committed places, a `log`, and in the end `done`, or
+`failed` with the reason. Nothing but these files goes from one machine to another.
+"""
+
+from __future__ import annotations
+
+import contextlib
+import json
+import os
+import shutil
+import signal
+import subprocess
+import sys
+import tempfile
+import time
+from collections.abc import Iterator
+from dataclasses import asdict, dataclass
+from pathlib import Path
+from types import FrameType
+from typing import BinaryIO
+
+from ..base.atomic_file import whole_file
+from ..base.design import Design, shown
+from ..base.faults import DONE, FAILED, REFUSED, USAGE, Fault, log, words_of
+from ..base.program import Program
+from ..base.progress import Progress
+from ..base.protocol import GROUND, socket_name
+from ..client.blocking import connect
+from ..journal.frames import sum_of
+from ..journal.texts import texts_folder
+from .merge import merge
+from .push import Record, is_as_told, records_of
+from .slice import slices_of
+
+TOOL = "lefence-farm"
+# The status where the others' work is in the design, and some team's is not.
+LACKING = 4
+_MARK = b"# a slice of the text %b\n"
+# Seconds between two looks whether a hub serves.
+_NAP = 0.05
+# Seconds that a hub has for its end, and a command for what it does before its first session: the engine has bounds of its own.
+_BOUNDS = ("--grace", "1e7", "--idle", "1e7", "--keep", "0")
+
+
+@dataclass
+class Plan:
+    """What a farm is to do: the texts with the SHA-256 of the DEF text, the teams, the command (none: a repair), and where it is run."""
+
+    design: str
+    libraries: list[str]
+    sum: str
+    teams: list[str]
+    command: list[str]
+    folder: str
+    program: str
+    export: str
+    is_merged: bool
+
+    def save(self, work: Path) -> None:
+        with whole_file(work / "farm.json") as file:
+            file.write(json.dumps(asdict(self), indent=1).encode())
+
+    @staticmethod
+    def load(work: Path) -> Plan:
+        path = work / "farm.json"
+        try:
+            return Plan(**json.loads(path.read_bytes()))
+        except (TypeError, ValueError):
+            raise Fault(REFUSED, f"{path} is no plan of this version of {TOOL}: give another folder, or remove {work}") from None
+
+    def numbers_left(self, work: Path) -> list[int]:
+        """The numbers of the teams that are not done."""
+        return [at for at in range(1, len(self.teams) + 1) if not (work / str(at) / "done").exists()]
+
+    def refuse_another_text(self) -> None:
+        """A fault where the DEF text is another one than the slices were made of."""
+        if sum_of(Path(self.design)) != self.sum:
+            raise Fault(REFUSED, f"{self.design} is another text than the slices were made of")
+
+
+def teams_of(design: Design) -> list[str]:
+    """The teams of a design: those of its fences, and the team of the ground."""
+    return [*map(shown, design.fences), GROUND]
+
+
+def begin(work: Path, plan: Plan, design: Design) -> None:
+    """Makes a folder for each team, with its slice; a folder that was begun with another text is refused."""
+    if (work / "farm.json").exists() and Plan.load(work).sum != plan.sum:
+        raise Fault(REFUSED, f"{work} is of another text than {plan.design}: give another folder, or remove it")
+    names = [os.fsencode(team) for team in plan.teams]
+    lacking = [at for at in range(1, len(names) + 1) if not (work / str(at) / "slice.def").exists()]
+    for at, text in zip(lacking, slices_of(design, [names[at - 1] for at in lacking]), strict=True):
+        (work / str(at)).mkdir(parents=True, exist_ok=True)
+        with whole_file(work / str(at) / "slice.def") as file:
+            file.write(_MARK % plan.sum.encode())
+            file.writelines(text)
+    plan.save(work)
+
+
+def run_team(work: Path, number: int) -> int:
+    """The work of one team: the command beside a hub over the slice, or a repair of it. Its status, which is kept in `done` or `failed`."""
+    plan, own = Plan.load(work), work / str(number)
+    if not 1 <= number <= len(plan.teams):
+        raise Fault(USAGE, f"{work} has no team number {number}: they are 1 to {len(plan.teams)}")
+    if (own / "done").exists():
+        return DONE
+    (own / "failed").unlink(missing_ok=True)
+    try:
+        signal.signal(signal.SIGTERM, _end_by_signal)
+        refuse_another_slice(own, plan)
+        (_run_command if plan.command else _repair)(plan, own, plan.teams[number - 1])
+    except (Fault, OSError) as fault:
+        why = words_of(fault)
+        (own / "failed").write_text(f"{why}\n", errors="backslashreplace")
+        raise Fault(fault.status if isinstance(fault, Fault) else FAILED, f"team {plan.teams[number - 1]}: {why}") from None
+    with whole_file(own / "done") as file:
+        file.write(b"done\n")
+    _remove_texts(own / "journal")
+    return DONE
+
+
+def _end_by_signal(number: int, frame: FrameType | None) -> None:
+    raise Fault(FAILED, f"ended by signal {number}")
+
+
+def refuse_another_slice(own: Path, plan: Plan) -> None:
+    """A fault where the slice is of another text than the plan."""
+    mark = _MARK % plan.sum.encode()
+    with open(own / "slice.def", "rb") as file:
+        if file.read(len(mark)) != mark:
+            raise Fault(REFUSED, f"{own / 'slice.def'} is a slice of another text")
+
+
+def _repair(plan: Plan, own: Path, team: str) -> None:
+    """Repairs the team on its slice; a fault where a cell is left."""
+    program = Program(plan.program, [own / "slice.def", *map(Path, plan.libraries)])
+    every = program.repair([f"--team={team}"], own / "lines", own / "new.def", Progress(TOOL, "the program repairs"))[-1]
+    print(json.dumps(every), flush=True)
+    if every["left_cells"]:
+        raise Fault(LACKING, f"the repair left {every['left_cells']} cells")
+
+
+def _run_command(plan: Plan, own: Path, team: str) -> None:
+    """Runs the command, which finds the team's socket by LEFENCE_SOCKET, and its name by LEFENCE_TEAM; a fault where it fails.
+
+    The engine gives a task to one machine at a time: a hub of another one that did not end the journal is gone.
+    """
+    (own / "lines").unlink(missing_ok=True)
+    words = ["--team", team, "--journal", str(own / "journal"), "--takeover", "--export", str(own / "new.def")]
+    with _hub(plan, own / "slice.def", words, socket_name(team)) as socket:
+        environment = {**os.environ, "LEFENCE_SOCKET": str(socket), "LEFENCE_TEAM": team, "LEFENCE_WORK": str(own)}
+        with subprocess.Popen(plan.command, cwd=plan.folder, env=environment, stdin=subprocess.DEVNULL) as command:
+            try:
+                status = command.wait()
+            except BaseException:
+                command.terminate()
+                raise
+    if status:
+        raise Fault(status if 0 < status < 128 else FAILED, f"the command ended with {status}")
+
+
+@contextlib.contextmanager
+def _hub(plan: Plan, design: Path, words: list[str], name: str) -> Iterator[Path]:
+    """A hub over a design, whose socket of that name belongs to this machine; at the end of the block it exports and ends."""
+    code = "import sys; from lefence.tools.hub import main; sys.exit(main())"
+    path = os.pathsep.join([str(Path(__file__).resolve().parents[2]), *filter(None, [os.environ.get("PYTHONPATH")])])
+    with tempfile.TemporaryDirectory(prefix="lefence-farm") as folder:
+        command = [sys.executable, "-c", code, str(design), *plan.libraries, "--program", plan.program, *_BOUNDS, "--sockets", folder, *words]
+        with subprocess.Popen(command, env={**os.environ, "PYTHONPATH": path}, stdin=subprocess.DEVNULL) as hub:
+            try:
+                _wait_served(hub, Path(folder) / name)
+                yield Path(folder) / name
+            finally:
+                hub.terminate()
+                hub.wait()
+    if hub.returncode:
+        raise Fault(hub.returncode if hub.returncode in (1, 2, 3) else FAILED, f"the hub over {design} ended with {hub.returncode}")
+
+
+def _wait_served(hub: subprocess.Popen[bytes], socket: Path) -> None:
+    """Waits until somebody listens at the socket, or a fault where the hub ends before."""
+    while hub.poll() is None:
+        with contextlib.suppress(OSError):
+            connect(socket).close()
+            return
+        time.sleep(_NAP)
+    raise Fault(hub.returncode if hub.returncode in (1, 2, 3) else FAILED, f"the hub did not start: it ended with {hub.returncode}")
+
+
+def collect(work: Path) -> int:
+    """Brings the work of all teams that are done into one design; the others are named."""
+    plan = Plan.load(work)
+    plan.refuse_another_text()
+    left = set(plan.numbers_left(work))
+    done = [number for number in range(1, len(plan.teams) + 1) if number not in left]
+    for number in done:
+        refuse_another_slice(work / str(number), plan)
+    for number in sorted(left):
+        reason = work / str(number) / "failed"
+        why = reason.read_text().strip() if reason.exists() else "it did not end"
+        log(TOOL, f"team {plan.teams[number - 1]} is not in it: {why}; {work / str(number) / 'log'} has more")
+    if plan.is_merged:
+        _merge(work, plan, done)
+    else:
+        with whole_file(Path(plan.export)) as file:
+            _answer(work, plan, done, file)
+    log(TOOL, f"{plan.export}: the work of {len(done)} of {len(plan.teams)} teams")
+    return LACKING if left else DONE
+
+
+def _merge(work: Path, plan: Plan, done: list[int]) -> None:
+    with whole_file(Path(plan.export)) as file:
+        count = merge(Path(plan.design), [work / str(number) / "new.def" for number in done], file)
+    log(TOOL, f"{count} components are as the teams' slices have them")
+
+
+def _answer(work: Path, plan: Plan, done: list[int], output: BinaryIO) -> None:
+    """Has the program answer over the whole design what it answered over the slices, and writes its export.
+
+    A fault tells the first reply that differs.
+    """
+    program = Program(plan.program, [Path(plan.design), *map(Path, plan.libraries)])
+    lines = (line + b"\n" for number in done for _, line, _ in _records_in(work / str(number)))
+    with tempfile.TemporaryDirectory(prefix="whole", dir=work) as folder, tempfile.TemporaryFile() as replies:
+        exported = Path(folder) / "new.def"
+        program.answer(lines, replies, exported)
+        replies.seek(0)
+        for number in done:
+            count = 0
+            for count, line, told in _records_in(work / str(number)):
+                reply = replies.readline()
+                if not is_as_told(reply, told):
+                    answers = f"{shown(told).strip()!r}, and over the whole {shown(reply).strip()!r}"
+                    differs = f"line {count}, {shown(line)!r}, was answered {answers}"
+                    raise Fault(REFUSED, f"team {plan.teams[number - 1]}: {differs}")
+            log(TOOL, f"team {plan.teams[number - 1]}: {count} lines answered as over its slice")
+        with open(exported, "rb") as file:
+            shutil.copyfileobj(file, output)
+
+
+def _records_in(own: Path) -> Iterator[Record]:
+    """The commands of a team that is done, and their replies."""
+    return records_of(own / "lines" if (own / "lines").exists() else own / "journal")
+
+
+def _remove_texts(journal: Path) -> None:
+    """Removes the copies of the texts of a journal on which no hub is to go on."""
+    shutil.rmtree(texts_folder(journal), ignore_errors=True)

@@ -1,0 +1,272 @@
+"""lefence-hub: many clients at once over one program, a socket for each team, and a journal."""
+
+from __future__ import annotations
+
+import argparse
+import asyncio
+import functools
+import json
+import os
+import resource
+import signal
+import sys
+import threading
+import traceback
+from pathlib import Path
+from typing import Any
+
+from ..base.faults import DONE, FAILED, REFUSED, Fault, Parser, log, run_tool
+from ..base.program import Program, find_program
+from ..base.protocol import MOST_SLOTS, socket_name
+from ..hub.checkpoints import Limits
+from ..hub.clients import MOST_CLIENTS
+from ..hub.hub import Bounds, Hub
+from ..hub.hub_client import Client
+from ..hub.metrics import prometheus
+from ..hub.notify import notify
+from ..hub.server import Server
+from ..hub.sockets import bound_socket, groups_of, take_folder
+from ..hub.status import ask_status, uncommitted_text
+from ..journal.journal import Journal
+from ..journal.owner import own
+from ..journal.texts import remove_partial_texts, settle_texts
+
+TOOL = "lefence-hub"
+# Connections of a socket that may wait to be taken in, and how many asyncio takes in at a time: where no descriptor is left, it
+# says so that often.
+_QUEUE, _AT_ONCE = 1024, 16
+# Seconds that clients have at the end to read what they were told.
+_LAST = 5
+
+
+def say(text: str) -> None:
+    log(TOOL, text)
+
+
+async def listen(hub: Hub, folder: Path, groups: dict[str, int]) -> list[asyncio.AbstractServer]:
+    """Serves the operator's socket and one for each team."""
+    loop = asyncio.get_running_loop()
+    create = functools.partial(loop.create_unix_server, backlog=_AT_ONCE)
+    if sys.version_info >= (3, 13):
+        create = functools.partial(create, cleanup_socket=False)
+    listeners: list[asyncio.AbstractServer] = []
+    for team in (None, *hub.teams):
+        mode, group = (0o600, None) if team is None else (0o660, groups.get(team))
+        bound = bound_socket(folder / socket_name(team), mode, team is not None, group)
+        client = functools.partial(Client, hub, None if team is None else team.encode())
+        listeners.append(await create(client, sock=bound))
+        # (asyncio has one number for both)
+        bound.listen(_QUEUE)
+    return listeners
+
+
+async def serve(hub: Hub, options: argparse.Namespace, stopped: asyncio.Event) -> None:
+    """Starts and serves until a fault or a signal to stop; then reads no more, but answers what was read."""
+    groups = groups_of(options.group)
+    stop, watch = asyncio.create_task(stopped.wait()), asyncio.create_task(hub.watch())
+    start = asyncio.create_task(hub.start([*options.team]))
+    tasks = [stop, watch, start]
+    try:
+        await asyncio.wait({start, stop, watch}, return_when=asyncio.FIRST_COMPLETED)
+        if not start.done():
+            start.cancel()
+            await asyncio.gather(start, return_exceptions=True)
+            return None if stop.done() else watch.result()
+        teams = start.result()
+        if missing := [team for team in groups if team not in teams]:
+            raise Fault(REFUSED, f"no team: {', '.join(missing)}")
+        files = resource.getrlimit(resource.RLIMIT_NOFILE)[0]
+        if options.roll:
+            return None
+        hub.crowd.most_clients = max(1, min(MOST_CLIENTS, (files - 64) // (len(teams) + 1) - 1))
+        # (the first turn of the pump closes sessions that were left open, which are changes too)
+        ready = f"ready: {len(teams)} teams, {hub.journal.changes} changes restored"
+        pump = asyncio.create_task(hub.pump())
+        tasks.append(pump)
+        listeners = await listen(hub, options.sockets, groups)
+        say(ready)
+        notify("READY=1", f"STATUS={ready}")
+        await asyncio.wait({pump, stop, watch}, return_when=asyncio.FIRST_COMPLETED)
+        for listener in listeners:
+            listener.close()
+        if watch.done():
+            watch.result()
+        hub.stop()
+        await pump
+        await part(hub)
+    finally:
+        # (after a fault nothing more is acknowledged)
+        for task in tasks:
+            task.cancel()
+
+
+async def part(hub: Hub) -> None:
+    """Ends the connections once the clients have read what they were told, or have had the time for it."""
+    for client in list(hub.crowd.clients):
+        client.part()
+    loop = asyncio.get_running_loop()
+    last = loop.time() + _LAST
+    while hub.crowd.clients and loop.time() < last:
+        await asyncio.sleep(0.02)
+
+
+def end_by_signals(hub: Hub, stopped: asyncio.Event, grace: float) -> None:
+    """Has signals set the event; after so many seconds more, or at a second signal, this process ends as it stands."""
+
+    def give_up() -> None:
+        say(f"given up: not ended within {grace:g} seconds, or asked twice; nothing acknowledged is lost")
+        hub.strike()
+        os._exit(FAILED)
+
+    def stop() -> None:
+        if stopped.is_set():
+            give_up()
+        notify("STOPPING=1")
+        stopped.set()
+        last = threading.Timer(grace, give_up)
+        last.daemon = True
+        last.start()
+
+    for number in (signal.SIGTERM, signal.SIGINT, signal.SIGHUP):
+        # (by `nohup` it passes over SIGHUP)
+        if number != signal.SIGHUP or signal.getsignal(number) != signal.SIG_IGN:
+            asyncio.get_running_loop().add_signal_handler(number, stop)
+
+
+def tell_calmly(hub: Hub) -> None:
+    """Has what the event loop says of itself told once a minute, as that no descriptor is left."""
+
+    def handle(loop: asyncio.AbstractEventLoop, context: dict[str, Any]) -> None:
+        error = context.get("exception")
+        told = context["message"] if isinstance(error, OSError) or not error else "".join(traceback.format_exception(error))
+        hub.calm(str(context["message"]), f"{told}: {error}")
+
+    asyncio.get_running_loop().set_exception_handler(handle)
+
+
+async def run(options: argparse.Namespace) -> None:
+    """The hub from its locks to its last export."""
+    stopped = asyncio.Event()
+    paths = [options.design, *options.library]
+    program = find_program(options.program)
+    take_folder(options.sockets)
+    texts, kept = settle_texts(options.journal, paths, say)
+    journal = Journal(options.journal, texts, say, own(program), options.takeover, options.sessions)
+    journal.is_synced = not options.no_sync
+    remove_partial_texts(options.journal)
+    bounds = Bounds(options.patience, options.idle, options.deadline, Limits(options.tail_bytes, options.tail_seconds, options.keep))
+    hub = Hub(Server(Program(program, kept, journal.header.slots), [text.sum for text in texts]), journal, bounds, say)
+    hub.exporter.given = paths
+    if journal.former and journal.former.program != journal.owner.program:
+        which = f"{journal.former.program} of front {journal.former.front}"
+        say(f"the journal was written with another program, {which}; where this one answers otherwise, --roll with that one makes a state first")
+    end_by_signals(hub, stopped, options.grace)
+    tell_calmly(hub)
+    try:
+        if options.export:
+            hub.exporter.refuse(options.export)
+        await serve(hub, options, stopped)
+        await hub.server.kill()
+        if hub.teams:
+            # (a start that was cut short knows no more than a part of who has a session)
+            if told := uncommitted_text(hub):
+                say(told)
+            await hub.checkpoints.make_last(hub.crowd, hub.figures, options.roll)
+        if options.roll and journal.tail_changes:
+            raise Fault(FAILED, "the state that --roll is for is not made")
+        if options.export and await hub.exporter.write(options.export, journal.place) is not None:
+            raise Fault(FAILED, f"{options.export}: not exported")
+    finally:
+        await hub.server.kill()
+        journal.close()
+    say("ended")
+
+
+class Ask(argparse.Action):
+    """An option that asks a hub for its status, prints it and ends."""
+
+    def __call__(self, parser: argparse.ArgumentParser, _: object, value: Any, option: str | None = None) -> None:
+        def work() -> int:
+            status = ask_status(value)
+            sys.stdout.write(prometheus(status) if option == "--metrics" else json.dumps(status) + "\n")
+            return DONE
+
+        parser.exit(run_tool(TOOL, work))
+
+
+def parser() -> Parser:
+    made = Parser(
+        TOOL,
+        "Serves many clients at once over one design. Each team has a socket DIR/TEAM.sock, the operator has\n"
+        "DIR/operator.sock; accepted changes are in the journal before they are answered, and are there again\n"
+        "at the next start. SIGTERM ends it. docs/FRONT.md says more.",
+        f"{TOOL} chip.def tech.lef cells.lef --sockets /run/lefence --journal chip.journal --export new.def",
+    )
+    add = made.add_argument
+    add("design", metavar="DEF", type=Path, help="the design")
+    add("library", metavar="LEF", type=Path, nargs="+", help="its libraries, in order")
+    add("--sockets", metavar="DIR", type=Path, required=True, help="the folder for the sockets, made if it is missing")
+    add("--journal", metavar="FILE", type=Path, required=True, help="where accepted changes are kept, made if it is missing")
+    add("--export", metavar="FILE", help="where the committed places are exported at the end")
+    add("--team", metavar="NAME", action="append", default=[], help="a team to serve, and no others than those so named")
+    add("--group", metavar="TEAM=GROUP", action="append", default=[], help="the group of a team's socket")
+    add("--patience", metavar="S", type=second_count, default=60.0, help="seconds for which a client may read nothing (60)")
+    add("--idle", metavar="S", type=second_count, default=900.0, help="seconds for which one without a session may say nothing (900)")
+    add("--deadline", metavar="S", type=second_count, default=600.0, help="seconds of silence after which the program hangs (600)")
+    add("--grace", metavar="S", type=second_count, default=240.0, help="seconds within which SIGTERM ends it, exports and all (240)")
+    add("--tail-bytes", metavar="B", type=byte_count, default=16 << 20, help="bytes of changes behind which a state is made (16777216; 0: none)")
+    add("--tail-seconds", metavar="S", type=second_count, default=20.0, help="seconds of the program's work behind which one is made (20)")
+    add("--keep", metavar="N", type=state_count, default=2, help="how many states are kept, with the journal from the first on (2; 0: all)")
+    add("--sessions", metavar="N", type=slot_count, help="session slots of each team, 1 to 64 (those of the journal; 8 in a new one)")
+    add("--roll", action="store_true", help="make a state of the journal, serve nobody, and end")
+    add("--takeover", action="store_true", help="take the journal from a hub of another host, which is gone for certain")
+    add("--no-sync", action="store_true", help="do not wait for the disk: a crash of the machine may lose changes")
+    made.add_program()
+    asked = {"--status": "print what the hub of a folder of sockets tells of itself, as JSON", "--metrics": "the same for Prometheus"}
+    for option, told in asked.items():
+        add(option, metavar="DIR", type=Path, action=Ask, help=told)
+    return made
+
+
+def state_count(word: str) -> int:
+    """The value of --keep: one state is too few, since a program may be on its way from it while the next is made."""
+    number = int(word)
+    if number < 0 or number == 1:
+        raise argparse.ArgumentTypeError(f"{word}: 0, or 2 or more")
+    return number
+
+
+def slot_count(word: str) -> int:
+    """The value of --sessions, as the program takes it."""
+    number = int(word)
+    if not 1 <= number <= MOST_SLOTS:
+        raise argparse.ArgumentTypeError(f"{word}: 1 to {MOST_SLOTS}")
+    return number
+
+
+def byte_count(word: str) -> int:
+    """The value of an option in bytes."""
+    number = int(word)
+    if number < 0:
+        raise argparse.ArgumentTypeError(f"{word}: 0 or more")
+    return number
+
+
+def second_count(word: str) -> float:
+    """The value of an option in seconds, for which the system can wait."""
+    number = float(word)
+    if not 0 <= number <= threading.TIMEOUT_MAX:
+        raise argparse.ArgumentTypeError(f"{word}: a number of seconds, 0 or more")
+    return number
+
+
+def main() -> int:
+    options = parser().parse_args()
+    files = resource.getrlimit(resource.RLIMIT_NOFILE)[1]
+    resource.setrlimit(resource.RLIMIT_NOFILE, (files, files))
+
+    def work() -> int:
+        asyncio.run(run(options))
+        return DONE
+
+    return run_tool(TOOL, work)

@@ -1,0 +1,264 @@
+"""lefence-journal: what a journal holds, whether it is whole, and a way on where it is not."""
+
+from __future__ import annotations
+
+import argparse
+import asyncio
+import datetime
+import itertools
+import os
+import shutil
+import sys
+from collections.abc import Iterator
+from dataclasses import dataclass
+from pathlib import Path
+
+from ..base.atomic_file import refuse_inputs, sync_folder, whole_file
+from ..base.faults import DONE, FAILED, REFUSED, Fault, Parser, log, run_tool
+from ..base.program import Program, find_program
+from ..base.protocol import SLOTS
+from ..hub.server import Server, ServerLost
+from ..journal.frames import Frame, Reader, Record, body_of, frame_of, header_of
+from ..journal.journal import lock
+from ..journal.owner import Succession, own
+from ..journal.segments import Past, opened, records_in, way_to_end
+from ..journal.texts import kept_text
+
+TOOL = "lefence-journal"
+
+
+@dataclass
+class Stretch:
+    """Frames that follow each other, of which the first one begins at `start`, and what stands between the last one and the next."""
+
+    start: int
+    end: int
+    frames: int = 0
+    changes: int = 0
+
+
+def stretches(reader: Reader) -> Iterator[Stretch]:
+    """The stretches of a segment; behind each but the last one is damage."""
+    start: int | None = reader.header().length
+    while start is not None:
+        found = Stretch(start, start)
+        for frame in reader.frames(start):
+            found.end, found.frames, found.changes = frame.end, found.frames + 1, found.changes + frame.changes
+        yield found
+        start = reader.next_start(found.end)
+
+
+def whole_frames(reader: Reader, start: int = 0) -> Iterator[Frame]:
+    """All whole frames of a segment from a byte on, also those behind damage."""
+    for stretch in stretches(reader):
+        for frame in reader.frames(stretch.start):
+            if frame.start >= start:
+                yield frame
+
+
+def check(path: Path, readers: list[Reader]) -> int:
+    """Tells what is whole, and whether the texts are kept; refused where anything is damaged or a text lacks."""
+    status, first = DONE, readers[0].header()
+    for text in first.texts:
+        kept = kept_text(path, text)
+        status = status if kept else REFUSED
+        print(f"text {text.sum} of {text.path}: {'kept' if kept else 'not kept'}")
+    if first.slots != SLOTS:
+        print(f"each team has {first.slots} session slots")
+    if first.number > 1:
+        print(f"the first {first.changes} changes are in a state alone")
+    for reader, behind in zip(readers, [*readers[1:], None]):
+        if len(readers) > 1 or first.number > 1:
+            header = reader.header()
+            print(f"segment {header.number}, behind {header.changes} changes: {reader.path}")
+            state = Past(path).state_named(header.number, reader.notes())
+            if state:
+                told = state.in_a_word()
+                print(f"it begins with the state {state.path}: {told}")
+                status = status if told == "whole" else REFUSED
+        status = max(status, _check_segment(reader, path, behind.header().bytes if behind else None))
+    return status
+
+
+def _check_segment(reader: Reader, path: Path, size: int | None) -> int:
+    """The same of a segment, which had this size when another followed it, None of the last one."""
+    status, found = DONE, list(stretches(reader))
+    copied = "" if size is None else f"copied to {path}, "
+    for stretch, behind in zip(found, [*found[1:], None]):
+        print(f"whole from byte {stretch.start} to {stretch.end}: {stretch.changes} changes in {stretch.frames} batches")
+        if behind:
+            status = REFUSED
+            way = f"{copied}`cut --at {stretch.end}` makes a journal of what stands before"
+            print(f"damaged from byte {stretch.end} to {behind.start}: {way}")
+    end = found[-1].end
+    if size is not None and end != size:
+        status = REFUSED
+        print(f"damaged from byte {end} to {size}, where it ended when the next segment was begun: {copied}it ends there")
+    elif tail := reader.tail(end):
+        print(f"torn: {tail} bytes at byte {end} are no whole batch (a write that was cut off); a start removes them")
+    return status
+
+
+def list_changes(readers: list[Reader], team: str | None) -> int:
+    """Tells of each change its number, time, uid, pid, line and reply, and of each note its time."""
+    number = readers[0].header().changes
+    for frame in itertools.chain.from_iterable(map(whole_frames, readers)):
+        when = _time_of(frame)
+        if team is None:
+            for note in frame.notes():
+                _print("-", when, "-", "-", note.decode("ascii", "backslashreplace"))
+        for record in frame.records():
+            number += 1
+            if is_of(record, team):
+                uid, _, pid = record.who.decode().partition(" ")
+                _print(str(number), when, uid, pid or "-", record.line.decode(), record.reply.decode().rstrip("\n"))
+    return DONE
+
+
+def _time_of(frame: Frame) -> str:
+    when = datetime.datetime.fromtimestamp(float(frame.time), datetime.UTC)
+    return when.isoformat(timespec="milliseconds").replace("+00:00", "Z")
+
+
+def _print(*words: str) -> None:
+    sys.stdout.write("\t".join(words) + "\n")
+
+
+def is_of(record: Record, team: str | None) -> bool:
+    """Whether the change is that of a team, or of any."""
+    return team is None or record.line.split()[1] == os.fsencode(team)
+
+
+def cut(path: Path, at: int | None, takes_over: bool) -> int:
+    """Cuts a journal off at the end of a batch, or before its first damage; the whole of it is kept beside it first."""
+    with open(path, "r+b") as file:
+        lock(file.fileno(), path)
+        reader = Reader(file.fileno(), path)
+        if not takes_over:
+            _refuse_claim(reader)
+        first = next(stretches(reader))
+        at = first.end if at is None else at
+        if at not in (first.start, *(frame.end for frame in reader.frames(first.start))):
+            raise Fault(REFUSED, f"{path}: no batch of its first whole stretch, from byte {first.start} to {first.end}, ends at byte {at}")
+        aside = path.with_name(f"{path.name}.before-cut-at-{at}")
+        if aside.exists():
+            raise Fault(FAILED, f"{aside} is there already")
+        with whole_file(aside, 0o600) as copy:
+            shutil.copyfileobj(file, copy, 1 << 20)
+        os.ftruncate(file.fileno(), at)
+        os.fsync(file.fileno())
+        sync_folder(path.absolute().parent)
+    log(TOOL, f"{path}: cut off at byte {at}; as it was it is {aside}")
+    return DONE
+
+
+def _refuse_claim(reader: Reader) -> None:
+    """A fault where a hub may be at work on the journal."""
+    succession = Succession()
+    for frame in whole_frames(reader):
+        for note in frame.notes():
+            succession.take(note)
+    succession.refuse_claim(own(), reader.path)
+
+
+def export(path: Path, readers: list[Reader], team: str | None, start: int, output: Path | None) -> int:
+    """Writes the lines of the changes for `lefence replay`, or, with a file, a journal of them for `lefence-push`.
+
+    From a byte on they are those of the last segment alone.
+    """
+    first = readers[-1 if start else 0].header()
+    frames = whole_frames(readers[-1], start) if start else itertools.chain.from_iterable(map(whole_frames, readers))
+    if first.number > 1:
+        way = "" if start else f"; its lines are for a replay with --state {Past(path).state(first.number)}"
+        log(TOOL, f"{path}: the first {first.changes} changes are not in it{way}")
+    if first.slots != SLOTS:
+        log(TOOL, f"{path}: its lines are for a program with --sessions {first.slots}")
+    if output is None:
+        for frame in frames:
+            sys.stdout.write("".join(f"{record.line.decode()}\n" for record in frame.records() if is_of(record, team)))
+        return DONE
+    refuse_inputs(output, [reader.path for reader in readers])
+    with whole_file(output) as file:
+        at = file.write(header_of(first.texts, first.number, first.changes, slots=first.slots))
+        for frame in frames:
+            if records := [record for record in frame.records() if is_of(record, team)]:
+                at += file.write(frame_of(at, body_of(records), frame.time))
+    return DONE
+
+
+def verify(path: Path, given: list[Path], wanted: str | None, is_all: bool) -> int:
+    """Has the program answer the changes behind the last state, over the kept texts or those given, and compares each reply."""
+    with opened(path) as readers:
+        header = readers[0].header()
+        texts = header.texts
+        kept = [kept_text(path, text) for text in texts]
+        paths = given or [found for found in kept if found]
+        if len(paths) != len(texts):
+            raise Fault(REFUSED, f"{path}: {len(texts)} texts, of which {len(paths)} are {'given' if given else 'kept beside it'}")
+        server = Server(Program(find_program(wanted), paths, header.slots), [text.sum for text in texts])
+        state, behind = way_to_end(path, readers, is_all)
+        before = behind[0].header().changes
+
+        async def replay() -> int:
+            try:
+                await server.start(state)
+                return await server.restore(records_in(behind), None, before)
+            except ServerLost as lost:
+                raise Fault(FAILED, f"{path}: {lost}") from None
+            finally:
+                await server.kill()
+
+        told = f"{asyncio.run(replay()) - before} changes" + (f" behind a state of {before}" if state else "")
+        log(TOOL, f"{path}: {told} are answered as recorded")
+    return DONE
+
+
+def parser() -> Parser:
+    made = Parser(
+        TOOL,
+        "Tells what a journal of lefence-hub holds, and makes one that a hub takes of one that is damaged. `check` tells what\n"
+        "is whole (status 1 where anything is damaged), `list` who changed what when, `cut` cuts it off, `export` writes\n"
+        "lines for `lefence replay` or a journal for lefence-push, and `verify` compares each reply with the program's.",
+        f"{TOOL} check chip.journal\n{TOOL} list chip.journal --team A\n{TOOL} verify chip.journal",
+    )
+    verbs = made.add_subparsers(dest="verb", metavar="VERB", required=True, parser_class=argparse.ArgumentParser)
+
+    def verb(name: str, told: str) -> argparse.ArgumentParser:
+        added = verbs.add_parser(name, help=told, description=told)
+        added.add_argument("journal", metavar="JOURNAL", type=Path, help="a journal of lefence-hub")
+        return added
+
+    one_team = "the changes of this team alone"
+    verb("check", "tell what is whole, torn or damaged, and whether the texts are kept")
+    added = verb("list", "tell number, time (UTC), uid, pid, line and reply of each change")
+    added.add_argument("--team", metavar="NAME", help=one_team)
+    added = verb("cut", "cut its last segment off at the end of a batch; as it was it is kept beside it")
+    added.add_argument("--at", metavar="BYTE", type=int, help="where (before the first damage)")
+    added.add_argument("--takeover", action="store_true", help="also that of a hub of another host, which is gone for certain")
+    added = verb("export", "write the lines of all whole batches")
+    added.add_argument("--team", metavar="NAME", help=one_team)
+    added.add_argument("--from", dest="start", metavar="BYTE", type=int, default=0, help="from the batch on that begins there")
+    added.add_argument("-o", "--output", metavar="FILE", type=Path, help="write a journal of them for lefence-push")
+    added = verb("verify", "have the program answer the changes behind the last state, and compare each reply")
+    added.add_argument("texts", metavar="TEXT", type=Path, nargs="*", help="DEF and LEF texts (those that are kept)")
+    added.add_argument("--all", action="store_true", help="the changes behind the first state that is kept, or all")
+    added.add_argument("--program", metavar="PATH", help="the lefence program (that of the search path, or of this repository)")
+    return made
+
+
+def main() -> int:
+    options = parser().parse_args()
+
+    def work() -> int:
+        if options.verb == "cut":
+            return cut(options.journal, options.at, options.takeover)
+        if options.verb == "verify":
+            return verify(options.journal, options.texts, options.program, options.all)
+        with opened(options.journal) as readers:
+            if options.verb == "list":
+                return list_changes(readers, options.team)
+            if options.verb == "check":
+                return check(options.journal, readers)
+            return export(options.journal, readers, options.team, options.start, options.output)
+
+    return run_tool(TOOL, work)

@@ -1,0 +1,175 @@
+"""lefence-markers: the violations of a design as a report database of KLayout, which shows each as a marker over the layout."""
+
+from __future__ import annotations
+
+import math
+import struct
+from collections.abc import Iterable, Iterator
+from decimal import Decimal
+from pathlib import Path
+from typing import NamedTuple
+from xml.sax.saxutils import escape
+
+from ..base.atomic_file import refuse_inputs, whole_file
+from ..base.description import Box, Cell, Description, Facts
+from ..base.faults import DONE, FAILED, USAGE, Fault, Parser, log, run_tool
+from ..base.program import find_program
+from ..base.progress import Progress
+from ..base.protocol import RULES
+
+TOOL = "lefence-markers"
+# What KLayout shows in front of each value of an item; a value without one is the cell's box.
+_TAGS = ("cell", "team", "other")
+_BOX = struct.Struct("<4q")
+
+_HEAD = """<?xml version="1.0" encoding="utf-8"?>
+<report-database>
+<generator>{tool}</generator>
+<top-cell>{top}</top-cell>
+<tags>{tags}</tags>
+<categories>{categories}</categories>
+<cells><cell><name>{top}</name></cell></cells>
+<items>
+"""
+_TAIL = """</items>
+<description>{description}</description>
+</report-database>
+"""
+# A technology by which KLayout reads a DEF text with these LEF texts, and draws what they have of a macro.
+_TECHNOLOGY = """<?xml version="1.0" encoding="utf-8"?>
+<technology>
+<name>{name}</name>
+<reader-options><lefdef>
+<dbu>{dbu}</dbu>
+{libraries}<read-lef-with-def>false</read-lef-with-def>
+<macro-resolution-mode>always-lef</macro-resolution-mode>
+</lefdef></reader-options>
+</technology>
+"""
+
+
+class Violation(NamedTuple):
+    """A cell that breaks a rule; for rule 8 the cell that it meets, with its box."""
+
+    name: str
+    team: str
+    rule: int
+    box: Box
+    other: str | None = None
+    other_box: Box | None = None
+
+
+def violations_of(cells: Iterable[Cell]) -> Iterator[Violation]:
+    """The violations, each once the box of the other cell is known.
+
+    Two boxes that share a point do so both ways, so the other cell breaks a rule too: no cell is kept that breaks none.
+    """
+    boxes: dict[str, bytes] = {}
+    waiting: dict[str, list[tuple[str, str, int]]] = {}
+    for cell in cells:
+        if cell.rule is None or cell.box is None:
+            continue
+        boxes[cell.name] = _BOX.pack(*cell.box)
+        for name, team, rule in waiting.pop(cell.name, ()):
+            yield Violation(name, team, rule, _box(boxes[name]), cell.name, cell.box)
+        if cell.other is None:
+            yield Violation(cell.name, cell.team, cell.rule, cell.box)
+        elif cell.other in boxes:
+            yield Violation(cell.name, cell.team, cell.rule, cell.box, cell.other, _box(boxes[cell.other]))
+        else:
+            waiting.setdefault(cell.other, []).append((cell.name, cell.team, cell.rule))
+    for other, (first, *_) in waiting.items():
+        raise Fault(FAILED, f"the program says that {first[0]} overlaps {other}, and tells of no such violation of {other}")
+
+
+def _box(packed: bytes) -> Box:
+    return Box(*_BOX.unpack(packed))
+
+
+def database_of(description: Description) -> Iterator[str]:
+    """The report database, piece by piece, while the description is being read."""
+    facts = description.frame.facts
+    top = escape(facts.name)
+    categories = "".join(f"<category><name>{number} {name}</name></category>" for number, name in RULES.items())
+    tags = "".join(f"<tag><name>{tag}</name></tag>" for tag in _TAGS)
+    yield _HEAD.format(tool=TOOL, top=top, tags=tags, categories=categories)
+    for violation in violations_of(Progress(TOOL, "cells").over(description.cells())):
+        yield _item(violation, top, facts)
+    yield _TAIL.format(description=escape(said_of(description)))
+
+
+def said_of(description: Description) -> str:
+    """The totals in words, once the cells were read."""
+    total = description.total
+    return f"{total.illegal} of {total.cells} cells break a rule; {total.unplaced} without a place have no marker"
+
+
+def _item(violation: Violation, top: str, facts: Facts) -> str:
+    units = Decimal(facts.units)
+    values = [_text("cell", violation.name), _text("team", violation.team), _value(violation.box, units)]
+    if violation.other is not None and violation.other_box is not None:
+        values += [_text("other", violation.other), f"[#other] {_value(violation.other_box, units)}"]
+    category = f"'{violation.rule} {RULES[violation.rule]}'"
+    shown = "".join(f"<value>{value}</value>" for value in values)
+    return f"<item><category>{category}</category><cell>{top}</cell><values>{shown}</values></item>\n"
+
+
+def _text(tag: str, text: str) -> str:
+    quoted = text.replace("\\", "\\\\").replace("'", "\\'")
+    return f"[#{tag}] text: '{escape(quoted)}'"
+
+
+def _value(box: Box, units: Decimal) -> str:
+    """The box in microns, exactly where these are finite decimals."""
+    left, bottom, right, top = (format(Decimal(length) / units, "f") for length in box)
+    return f"box: ({left},{bottom};{right},{top})"
+
+
+def technology_of(facts: Facts, libraries: Iterable[Path]) -> bytes:
+    """A technology of KLayout for the DEF text with these LEF texts, wherever they are.
+
+    Its database unit divides that of the DEF text, and a nanometer, which the shapes of LEF texts need.
+    """
+    files = "".join(f"<lef-files>{escape(str(path.resolve()))}</lef-files>\n" for path in libraries)
+    unit = 1 / Decimal(math.lcm(facts.units, 1000))
+    try:
+        return _TECHNOLOGY.format(name=TOOL, dbu=format(unit, "f"), libraries=files).encode()
+    except UnicodeEncodeError:
+        raise Fault(USAGE, "a technology can name no LEF text whose path is not in UTF-8") from None
+
+
+def parser() -> Parser:
+    made = Parser(
+        TOOL,
+        "Writes the violations of a design as a report database of KLayout: a category for each rule, and a marker for each\n"
+        "violation, with the boxes and the names of the cell and of the one that it overlaps.",
+        f"{TOOL} chip.def tech.lef cells.lef --output chip.lyrdb --technology chip.lyt\n"
+        "klayout -nn chip.lyt chip.def -m chip.lyrdb",
+    )
+    made.add_design()
+    add = made.add_argument
+    add("-o", "--output", metavar="FILE", type=Path, required=True, help="where the report database is written (.lyrdb)")
+    add("--technology", metavar="FILE", type=Path, help="also writes a technology, by which KLayout finds the LEF texts (.lyt)")
+    made.add_program()
+    return made
+
+
+def main() -> int:
+    options = parser().parse_args()
+
+    def work() -> int:
+        inputs = (options.design, *options.libraries)
+        program = find_program(options.program)
+        for output in (options.output, options.technology):
+            if output is not None:
+                refuse_inputs(output, inputs)
+        with whole_file(options.output) as file, Description(program, options.design, options.libraries) as description:
+            for piece in database_of(description):
+                file.write(piece.encode())
+            if options.technology is not None:
+                with whole_file(options.technology) as technology:
+                    technology.write(technology_of(description.frame.facts, options.libraries))
+        log(TOOL, said_of(description))
+        return DONE
+
+    return run_tool(TOOL, work)

@@ -1,0 +1,241 @@
+"""lefence-prepare: from a DEF text without rows or fences to one that the program loads."""
+
+from __future__ import annotations
+
+import argparse
+import functools
+import tempfile
+from collections import Counter
+from dataclasses import dataclass
+from pathlib import Path
+
+from ..base.atomic_file import refuse_inputs, whole_file
+from ..base.description import Box, Description, Facts, Total
+from ..base.design import refuse_other_text, shown
+from ..base.faults import DONE, REFUSED, USAGE, Fault, Parser, log, run_tool
+from ..base.lef import Site, sites_of
+from ..base.program import find_program
+from ..base.progress import Progress
+from ..base.protocol import RULES
+from .preparation import Preparation, Wanted, whole_units
+from .skipped import Remark, line_of, remarks_of
+
+TOOL = "lefence-prepare"
+# The status where every cell breaks a rule, or where a look has something to tell.
+NOT_LEGAL = 4
+_BOX_WORDS = ("X1", "Y1", "X2", "Y2")
+
+
+def prepare(preparation: Preparation, wanted: Wanted, libraries: list[bytes], site: str | None) -> None:
+    """Makes what is asked for; rows are made where the text has none."""
+    if wanted.replaces_rows or not preparation.has_rows:
+        preparation.add_rows(_core_site(libraries, site), wanted)
+    elif site is not None or wanted.core is not None or wanted.margin:
+        raise Fault(USAGE, "the text has rows; --rows makes others in their place")
+    if wanted.fillers:
+        preparation.remove_fillers(wanted.fillers)
+    if wanted.fences:
+        preparation.add_fences(wanted.fences)
+    if wanted.groups:
+        preparation.add_groups(wanted.groups, list(wanted.fences))
+
+
+def _core_site(libraries: list[bytes], name: str | None) -> Site:
+    """The site of that name; without one the first with CLASS CORE and a size. Of two with one name the first counts."""
+    sites: dict[bytes, Site] = {}
+    for library in libraries:
+        for site in sites_of(library):
+            sites.setdefault(site.name, site)
+    usable = [site for site in sites.values() if site.is_core and site.width > 0 and site.height > 0]
+    wanted = [site for site in usable if name is None or site.name == name.encode(errors="surrogateescape")]
+    if not wanted:
+        found = ", ".join(shown(site.name) for site in usable) or "none"
+        what = "a site" if name is None else f"a site {name}"
+        raise Fault(REFUSED, f"no LEF text has {what} with CLASS CORE and a SIZE; found: {found}")
+    return wanted[0]
+
+
+@dataclass
+class Told:
+    """What the program tells of a text, with the cells of each team, how many break each rule, and how high how many are."""
+
+    facts: Facts
+    total: Total
+    teams: Counter[str]
+    rules: Counter[int]
+    heights: Counter[int]
+
+    @property
+    def fits_rows(self) -> bool:
+        """Whether a cell is as high as from 1 to 8 rows, without which no place can be legal, or there is no cell at all."""
+        site = self.facts.site_height
+        return not self.heights or any(height % site == 0 and height <= 8 * site for height in self.heights)
+
+    @property
+    def is_all_illegal(self) -> bool:
+        """Whether there are cells and each of them breaks a rule."""
+        return 0 < self.total.cells == self.total.illegal
+
+    def in_words(self) -> str:
+        """The totals."""
+        broken = ", ".join(f"{many} by rule {rule} {RULES.get(rule, '')}" for rule, many in sorted(self.rules.items()))
+        illegal = f"{self.total.illegal} illegal ({broken})" if broken else "0 illegal"
+        return f"it loads: {self.total.cells} cells, {self.total.unplaced} unplaced, {illegal}"
+
+
+def told_of(program: str, text: bytes, libraries: list[Path], name: str) -> Told:
+    """What the program tells of a text; a fault, which calls it by this name, where it does not load."""
+    with tempfile.NamedTemporaryFile(suffix=".def") as file:
+        file.write(text)
+        file.flush()
+        teams: Counter[str] = Counter()
+        rules: Counter[int] = Counter()
+        heights: Counter[int] = Counter()
+        try:
+            with Description(program, Path(file.name), libraries) as description:
+                for cell in Progress(TOOL, "cells").over(description.cells()):
+                    teams[cell.team] += 1
+                    heights[cell.height] += 1
+                    if cell.rule is not None:
+                        rules[cell.rule] += 1
+                return Told(description.frame.facts, description.total, teams, rules, heights)
+        except Fault as fault:
+            raise Fault(fault.status, str(fault).replace(f"DEF file {file.name}", name)) from None
+
+
+def wanted_of(options: argparse.Namespace, units: int) -> Wanted:
+    """What the command line asks for, in database units."""
+    margin = whole_units(options.margin, units) if options.margin else 0
+    fences: dict[str, list[Box]] = {}
+    for name, *corners in options.fence:
+        fences.setdefault(name, []).append(_box(corners, units))
+    groups: dict[str, list[str]] = {}
+    for name, *patterns in options.group:
+        if not patterns:
+            raise Fault(USAGE, f"--group {name} names no component")
+        groups.setdefault(name, []).extend(patterns)
+    core = _box(options.core, units) if options.core else None
+    return Wanted(options.rows, margin, core, options.fillers, fences, groups)
+
+
+def _box(corners: list[str], units: int) -> Box:
+    box = Box(*(whole_units(corner, units) for corner in corners))
+    if box.width <= 0 or box.height <= 0:
+        raise Fault(USAGE, f"{' '.join(corners)} is no rectangle: {' '.join(_BOX_WORDS)} are left, bottom, right and top")
+    return box
+
+
+def parser() -> Parser:
+    made = Parser(
+        TOOL,
+        "Makes a DEF text loadable: puts in rows where it has none, and fences and groups, and takes out fillers. The\n"
+        "other bytes stay. The program reads the result, which is written if it loads. Lengths are microns.",
+        f"{TOOL} chip.def tech.lef cells.lef --look\n"
+        f"{TOOL} chip.def tech.lef cells.lef --output ready.def --fillers 'FILL*' \\\n"
+        "    --fence A 0 0 100 50 --group A 'u1/*' 'u2/*'",
+    )
+    made.add_design()
+    add = made.add_argument
+    add("-o", "--output", metavar="FILE", type=Path, help="where the prepared text is written")
+    add("--look", action="store_true", help="tells what in the text is passed over or odd, and writes nothing")
+    add("--rows", action="store_true", help="makes rows also where the text has some, in their place")
+    add("--site", metavar="NAME", help="the site of the rows (the first of the LEF texts with CLASS CORE)")
+    add("--core", metavar=_BOX_WORDS, nargs=4, help="where rows are made (DIEAREA)")
+    add("--margin", metavar="M", help="how far rows stay from the sides of the core (0)")
+    add_many = functools.partial(add, action="append", default=[])
+    add_many("--fillers", metavar="PATTERN", help="takes out components by name or macro, as FILL*; again for more")
+    add_many("--fence", metavar=("NAME", *_BOX_WORDS), nargs=5, help="adds a fence; again with its name for more rectangles")
+    add_many("--group", metavar=("NAME", "PATTERN"), nargs="+", help="binds components to the fence of that name")
+    add("--force", action="store_true", help="writes the text even if it does not load")
+    made.add_program()
+    return made
+
+
+def main() -> int:
+    options = parser().parse_args()
+
+    def work() -> int:
+        program = find_program(options.program)
+        if options.look:
+            return look(program, options)
+        if options.output is None:
+            raise Fault(USAGE, "--output FILE says where the prepared text is written; --look writes none")
+        refuse_inputs(options.output, (options.design, *options.libraries))
+        text = options.design.read_bytes()
+        refuse_other_text(options.design, text)
+        preparation = Preparation(text)
+        wanted = wanted_of(options, preparation.units)
+        prepare(preparation, wanted, [path.read_bytes() for path in options.libraries], options.site)
+        for line in preparation.said:
+            log(TOOL, line)
+        text = preparation.result()
+        status = _tell(program, preparation, text, options, wanted)
+        if status in (DONE, NOT_LEGAL) or options.force:
+            with whole_file(options.output) as file:
+                file.write(text)
+        else:
+            log(TOOL, "nothing is written; --force writes it even so")
+        return status
+
+    return run_tool(TOOL, work)
+
+
+def look(program: str, options: argparse.Namespace) -> int:
+    """Tells of the text as it is, on standard output."""
+    if options.output or options.rows or options.site or options.core or options.margin or options.fillers or options.fence or options.group:
+        raise Fault(USAGE, "--look tells of the text as it is: it goes with no option that prepares or writes one")
+    text = options.design.read_bytes()
+    refuse_other_text(options.design, text)
+    judged = judge(program, text, options.libraries, str(options.design))
+    lines = [_located(options.design, text, remark.place, remark.text) for remark in judged.remarks]
+    if not Preparation(text).has_rows:
+        lines.append("there is no ROW; a run with --output makes rows")
+    print("\n".join([*lines, *judged.lines]).encode("utf-8", "backslashreplace").decode())
+    return judged.status or (NOT_LEGAL if lines else DONE)
+
+
+@dataclass
+class Judged:
+    """What there is to say of a text, and the status to end with: 0, 4 where every cell breaks a rule, or why it is not sound."""
+
+    status: int
+    lines: list[str]
+    remarks: list[Remark]
+    teams: Counter[str]
+
+
+def judge(program: str, text: bytes, libraries: list[Path], name: str) -> Judged:
+    """What the program makes of a text, and what it passes over in it; its fault calls the text by this name."""
+    try:
+        told = told_of(program, text, libraries, name)
+    except Fault as fault:
+        return Judged(fault.status, [f"it does not load: {fault}"], remarks_of(text, None), Counter())
+    lines, status = [told.in_words()], DONE
+    if not told.fits_rows:
+        heights = ", ".join(f"{height / told.facts.units:g}" for height in sorted(told.heights)[:5])
+        site = f"{told.facts.site}, {told.facts.site_height / told.facts.units:g} microns high"
+        lines.append(f"no cell fits the rows of site {site}: the cells are {heights} microns high; --rows --site NAME takes another site")
+        status = REFUSED
+    elif told.is_all_illegal:
+        lines.append("every cell breaks a rule; lefence-repair looks for places")
+        status = NOT_LEGAL
+    return Judged(status, lines, remarks_of(text, told.facts), told.teams)
+
+
+def _located(path: Path, text: bytes, place: int | None, said: str) -> str:
+    """What is said of a place of a text, with its line."""
+    return said if place is None else f"{path}, line {line_of(text, place)}: {said}"
+
+
+def _tell(program: str, preparation: Preparation, text: bytes, options: argparse.Namespace, wanted: Wanted) -> int:
+    """Says what the program makes of the text, and what it passes over, by the lines of the text that was read; the status."""
+    judged = judge(program, text, options.libraries, "the prepared text")
+    for remark in judged.remarks:
+        place = None if remark.place is None else preparation.place_before(remark.place)
+        log(TOOL, _located(options.design, preparation.text, place, remark.text))
+    for name in wanted.groups:
+        if judged.teams[name]:
+            log(TOOL, f"team {name} has {judged.teams[name]} cells")
+    for line in judged.lines:
+        log(TOOL, line)
+    return judged.status

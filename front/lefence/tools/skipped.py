@@ -1,0 +1,183 @@
+"""What the program passes over in a DEF text without a word, though whoever wrote it may have meant something by it.
+
+The text loads with all of this (docs/PROTOCOL.md, "LEF and DEF texts" and "Loading"); nothing here is a rule of the program.
+"""
+
+from __future__ import annotations
+
+import re
+from collections import Counter, defaultdict
+from collections.abc import Iterable, Iterator
+from itertools import chain
+from typing import NamedTuple
+
+from ..base.description import Facts
+from ..base.design import STAR, TOKENS, Design, Entry, pattern_of, section_parts, shown, words_in
+from ..base.protocol import GROUND
+
+# Of remarks of one kind so many are told one by one.
+MOST_ALIKE = 5
+# The words that may stand behind `+` in DEF 5.8, by the section.
+CLAUSES = {
+    b"COMPONENTS": frozenset(b"EEQMASTER SOURCE FIXED COVER PLACED UNPLACED MASKSHIFT HALO ROUTEHALO WEIGHT REGION PROPERTY".split()),
+    b"REGIONS": frozenset(b"TYPE PROPERTY".split()),
+    b"GROUPS": frozenset(b"REGION PROPERTY".split()),
+    b"BLOCKAGES": frozenset(
+        b"SLOTS FILLS PUSHDOWN EXCEPTPGNET COMPONENT SPACING DESIGNRULEWIDTH MASK SOFT PARTIAL".split()
+    ),
+}
+_PLUS = re.compile(rb"\+[ \t\r\n]+([^ \t\r\n]+)")
+_PLACEMENTS = (b"PLACED", b"UNPLACED", b"FIXED", b"COVER")
+# What an entry of a section is called.
+_CALLED = {b"COMPONENTS": "component", b"REGIONS": "region", b"GROUPS": "group", b"BLOCKAGES": "blockage"}
+
+
+class Remark(NamedTuple):
+    """What is told, of which kind it is, and where in the text that stands; None where it is said of no one place."""
+
+    kind: str
+    text: str
+    place: int | None = None
+
+
+def remarks_of(text: bytes, facts: Facts | None) -> list[Remark]:
+    """The remarks on a text; with what the program told of the design, also those on its rows. Of many alike the first are told."""
+    design = Design(text)
+    return list(_few(chain(_of_sections(design), _of_teams(design), _of_rows(design, facts.site) if facts else ())))
+
+
+def _few(remarks: Iterable[Remark]) -> Iterator[Remark]:
+    """The first of each kind, and how many more there are."""
+    kinds: defaultdict[str, list[Remark]] = defaultdict(list)
+    counts: Counter[str] = Counter()
+    for remark in remarks:
+        counts[remark.kind] += 1
+        if counts[remark.kind] <= MOST_ALIKE:
+            kinds[remark.kind].append(remark)
+    for kind, first in kinds.items():
+        yield from first
+        if counts[kind] > MOST_ALIKE:
+            yield Remark(kind, f"and {counts[kind] - MOST_ALIKE} more: {kind}")
+
+
+def _of_sections(design: Design) -> Iterator[Remark]:
+    """Sections that announce another number of entries than they have, and words behind `+` that DEF 5.8 does not have."""
+    for statement in design.statements:
+        if statement.keyword in CLAUSES:
+            before, _, entries = section_parts(design.text, statement)
+            many = 0
+            for many, entry in enumerate(entries, 1):
+                yield from _of_words(statement.keyword, entry)
+            place = statement.start + len(before)
+            told = next(words_in(design.text[place : place + 20]), b"")
+            if told != b"%d" % many:
+                text = f"{shown(statement.keyword)} {shown(told)}, and there are {many}"
+                yield Remark("counts that are wrong", text, place)
+
+
+def _of_words(section: bytes, entry: Entry) -> Iterator[Remark]:
+    known = CLAUSES[section]
+    # (of most entries this tells that there is nothing to tell; a comment or a quoted text may have a plus too)
+    if known.issuperset(_PLUS.findall(entry.text)):
+        return
+    clauses = [word for plus, word in zip(entry.words, entry.words[1:]) if plus == b"+"]
+    for word in clauses:
+        if word not in known:
+            text = f"+ {shown(word)} of {_CALLED[section]} {shown(entry.name)} is no word of DEF 5.8, and is passed over"
+            if section == b"COMPONENTS" and not any(clause in _PLACEMENTS for clause in clauses):
+                text += ": it has no place"
+            yield Remark(f"+ {shown(word)} in {shown(section)}", text, _place_of(entry))
+
+
+def _of_teams(design: Design) -> Iterator[Remark]:
+    """Names and patterns of groups that match no component, fences without cells, and what binds no component to a fence."""
+    patterns = _Patterns(design)
+    cells: Counter[bytes] = Counter()
+    fences = set(design.fences)
+    for component in design.entries(b"COMPONENTS"):
+        patterns.see(component.name)
+        team = design.team_of(component)
+        if team is not None:
+            cells[team] += 1
+            region = component.behind(b"REGION") if b"REGION" in component.text else None
+            if region in fences and region != team:
+                text = f"+ REGION {shown(region)} of component {shown(component.name)} binds it to no fence, as a group would: it is of"
+                yield Remark("+ REGION of components", f"{text} team {shown(team)}", _place_of(component))
+    yield from patterns.unmatched()
+    for group in design.entries(b"GROUPS"):
+        if (region := group.behind(b"REGION")) is not None and region not in fences:
+            text = f"group {shown(group.name)} is bound to {shown(region)}, which is no fence: its cells are of team {GROUND}"
+            yield Remark("groups without a fence", text, _place_of(group))
+    for region_entry in design.entries(b"REGIONS"):
+        if region_entry.name in fences and not cells[region_entry.name]:
+            text = f"fence {shown(region_entry.name)} has no cells"
+            yield Remark("fences without cells", text, _place_of(region_entry))
+
+
+class _Patterns:
+    """The names and patterns of the groups that are bound to a fence, less those that have been met."""
+
+    def __init__(self, design: Design) -> None:
+        self._names: defaultdict[bytes, list[Entry]] = defaultdict(list)
+        # Patterns with a star by the bytes before it.
+        self._starred: defaultdict[bytes, list[tuple[re.Pattern[bytes], bytes, Entry]]] = defaultdict(list)
+        for group in design.entries(b"GROUPS"):
+            if design.fence_of(group) is not None:
+                for word in _members(group):
+                    first, *more = STAR.split(word)
+                    if more:
+                        self._starred[first].append((pattern_of(word), word, group))
+                    else:
+                        self._names[word].append(group)
+        self._lengths = {len(first) for first in self._starred}
+
+    def see(self, name: bytes) -> None:
+        """A component's name."""
+        self._names.pop(name, None)
+        for length in self._lengths if self._starred else ():
+            first = name[:length]
+            if first in self._starred:
+                left = [each for each in self._starred[first] if not each[0].fullmatch(name)]
+                if left:
+                    self._starred[first] = left
+                else:
+                    del self._starred[first]
+
+    def unmatched(self) -> Iterator[Remark]:
+        """Those that no component has, in the order of the text."""
+        left = [(group, word) for word, groups in self._names.items() for group in groups]
+        left += [(group, word) for pairs in self._starred.values() for _, word, group in pairs]
+        for group, word in sorted(left, key=lambda pair: pair[0].start):
+            yield Remark("names of groups", f"{shown(word)} of group {shown(group.name)} matches no component", _place_of(group))
+
+
+def _members(group: Entry) -> Iterator[bytes]:
+    """The names and patterns of a group."""
+    for word in group.words[1:]:
+        if word == b"+":
+            return
+        yield word
+
+
+def _of_rows(design: Design, site: str) -> Iterator[Remark]:
+    """Rows of other sites than the core site."""
+    others: dict[str, list[int]] = {}
+    for statement in design.statements:
+        if statement.keyword == b"ROW":
+            words = list(words_in(design.text[statement.start : statement.stop]))
+            if len(words) > 2 and (name := shown(words[2])) != site:
+                others.setdefault(name, []).append(statement.stop - 1)
+    for name, places in others.items():
+        rows = "1 row" if len(places) == 1 else f"{len(places)} rows"
+        yield Remark("rows of other sites", f"{rows} of site {name} passed over: the core site is {site}", places[0])
+
+
+def _place_of(entry: Entry) -> int:
+    """Where an entry begins, behind white space and comments."""
+    dash = TOKENS.match(entry.text)
+    return entry.start + (dash.start(1) if dash else 0)
+
+
+def line_of(text: bytes, place: int) -> int:
+    """The number of the line in which a place of a text lies."""
+    return text.count(b"\n", 0, place) + 1

@@ -1,0 +1,167 @@
+"""lefence-slice: a DEF text with the frame and one team's cells alone.
+
+On it the program answers that team's commands byte for byte as on the whole design, since its replies are the same from any
+other design with the same frame and the same cells and commands of that team.
+"""
+
+from __future__ import annotations
+
+import os
+import sys
+import tempfile
+from array import array
+from collections.abc import Iterator
+from itertools import zip_longest
+from pathlib import Path
+
+from ..base.atomic_file import refuse_inputs, whole_file
+from ..base.description import Cell, Description
+from ..base.design import Design, Entry, Statement, section_parts, whole_design
+from ..base.faults import DONE, REFUSED, Fault, Parser, log, run_tool
+from ..base.program import find_program
+from ..base.protocol import GROUND
+
+TOOL = "lefence-slice"
+# Sections of which a slice has the entries of a team.
+_SLICED = (b"COMPONENTS", b"GROUPS")
+# What speaks of components or nets that a slice lacks, and plays no part in legality.
+_DROPPED = frozenset(b"PINS PINPROPERTIES SLOTS FILLS SPECIALNETS NETS SCANCHAINS BEGINEXT".split())
+
+
+def slice_of(text: bytes, team: str) -> bytes:
+    """The slice of a DEF text for a team; a fault where it has no such team."""
+    return part_of(Design(text), team)
+
+
+def part_of(design: Design, team: str) -> bytes:
+    """The same of a design.
+
+    The rows, regions, blockages, FIXED and COVER components and the small statements stay as they are, byte for byte.
+    """
+    name = os.fsencode(team)
+    if team != GROUND and name not in design.fences:
+        raise Fault(REFUSED, f"no team: {team}")
+    return b"".join(next(slices_of(design, [name])))
+
+
+def slices_of(design: Design, teams: list[bytes]) -> Iterator[Iterator[bytes]]:
+    """The slices of a design for these teams of its own, in one pass, each piece by piece."""
+    sections = {statement.start: _Entries(design, statement, teams) for statement in design.statements if statement.keyword in _SLICED}
+    for team in teams:
+        yield _pieces(design, team, sections)
+
+
+def _pieces(design: Design, team: bytes, sections: dict[int, _Entries]) -> Iterator[bytes]:
+    for statement in design.statements:
+        if statement.keyword in _SLICED:
+            yield from sections[statement.start].of(team)
+        elif statement.keyword not in _DROPPED:
+            yield design.text[statement.start : statement.stop]
+    yield b"\n"
+
+
+class _Entries:
+    """The entries of COMPONENTS or GROUPS by the team that they concern; those of no team concern all, or none if they are groups.
+
+    Kept are their places in the text, neighbours as one.
+    """
+
+    def __init__(self, design: Design, section: Statement, teams: list[bytes]) -> None:
+        self._text, self._keyword = design.text, section.keyword
+        self._before, self._behind, entries = section_parts(design.text, section)
+        # Where entries begin and end in turn, and how many they are.
+        self._spans = {team: array("Q") for team in teams}
+        self._counts = dict.fromkeys(teams, 0)
+        is_groups = section.keyword == b"GROUPS"
+        for entry in entries:
+            team = design.fence_of(entry) if is_groups else design.team_of(entry)
+            if team in self._spans:
+                self._take(team, entry)
+            elif team is None and not is_groups:
+                for each in teams:
+                    self._take(each, entry)
+
+    def _take(self, team: bytes, entry: Entry) -> None:
+        spans, stop = self._spans[team], entry.start + len(entry.text)
+        self._counts[team] += 1
+        if spans and spans[-1] == entry.start:
+            spans[-1] = stop
+        else:
+            spans.extend((entry.start, stop))
+
+    def of(self, team: bytes) -> Iterator[bytes]:
+        """The section with the entries of a team alone, and their number as the count, piece by piece."""
+        yield self._before + b"%d" % self._counts[team] + self._behind
+        spans = self._spans[team]
+        for start, stop in zip(spans[::2], spans[1::2]):
+            yield self._text[start:stop]
+        yield b"\nEND " + self._keyword
+
+
+def refuse_difference(program: str, whole: Path, part: bytes, libraries: list[Path], team: str) -> None:
+    """A fault where the program does not find in the slice the frame and that team's cells of the whole design, and no others."""
+    with tempfile.NamedTemporaryFile(suffix=".def") as file:
+        file.write(part)
+        file.flush()
+        with Description(program, whole, libraries) as first, _described(program, Path(file.name), libraries) as second:
+            if first.frame != second.frame:
+                raise Fault(REFUSED, "the program finds another frame in the slice than in the whole design; nothing is written")
+            own = [_without_rule(cell) for cell in first.cells_of(team)]
+            found = [_without_rule(cell) for cell in second.cells()]
+    if own != found:
+        pair = next(pair for pair in zip_longest(own, found) if pair[0] != pair[1])
+        counts = f"the program finds {len(own)} cells of team {team} in the whole design, and {len(found)} cells in the slice"
+        names = " and ".join(f"{cell.name} {place}" for cell, place in zip(pair, ("there", "here")) if cell)
+        raise Fault(REFUSED, f"{counts}; the first that differ are {names}; nothing is written")
+
+
+def _described(program: str, part: Path, libraries: list[Path]) -> Description:
+    try:
+        return Description(program, part, libraries)
+    except Fault as fault:
+        raise Fault(fault.status, f"the program refuses the slice, which is not written: {fault}") from None
+
+
+def _without_rule(cell: Cell) -> Cell:
+    """The cell without the rule that it breaks, which may be due to cells of other teams."""
+    return cell._replace(rule=None, other=None)
+
+
+def parser() -> Parser:
+    made = Parser(
+        TOOL,
+        "Writes a DEF text with the frame and one team's cells alone. The program answers that team's commands on\n"
+        "it byte for byte as on the whole design. With the LEF texts, the slice is compared with what the program\n"
+        "reads in the whole design, and not written where it differs.",
+        f"{TOOL} chip.def tech.lef cells.lef --team A --output A.def\nlefence replay A.def tech.lef cells.lef < session.txt",
+    )
+    made.add_argument("design", metavar="DEF", type=Path, help="the whole design")
+    made.add_argument("libraries", metavar="LEF", type=Path, nargs="*", default=[], help="its LEF texts; without them nothing is compared")
+    made.add_argument("--team", metavar="NAME", required=True, help="a FENCE region, or - for the ground outside all fences")
+    made.add_argument("-o", "--output", metavar="FILE", type=Path, help="where the slice is written (standard output)")
+    made.add_program()
+    return made
+
+
+def main() -> int:
+    options = parser().parse_args()
+
+    def work() -> int:
+        if options.output is not None:
+            refuse_inputs(options.output, [options.design, *options.libraries])
+        text = options.design.read_bytes()
+        made = part_of(whole_design(options.design, text), options.team)
+        if options.libraries:
+            refuse_difference(find_program(options.program), options.design, made, options.libraries, options.team)
+        else:
+            log(TOOL, "no LEF texts are given: the slice is not compared with what the program reads")
+        if options.output is None:
+            sys.stdout.buffer.write(made)
+            sys.stdout.buffer.flush()
+        else:
+            with whole_file(options.output) as file:
+                file.write(made)
+        log(TOOL, f"team {options.team}: {len(made)} of {len(text)} bytes")
+        return DONE
+
+    return run_tool(TOOL, work)
