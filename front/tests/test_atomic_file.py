@@ -13,20 +13,20 @@ from unittest import mock
 
 from support import PATIENCE, PROGRAM, FrontCase, tool_words
 
-from lefence.base.atomic_file import whole_file
+from lefence.base.atomic_file import atomic_file
 
 
 class WholeFiles(FrontCase):
     def test_it_takes_the_name_at_the_end(self) -> None:
         target, link = self.folder / "x", self.folder / "link"
         link.symlink_to(target)
-        with whole_file(link, 0o600) as file:
+        with atomic_file(link, 0o600) as file:
             self.assertEqual((self.folder / "x.partial0").stat().st_mode & 0o777, 0o600)
             file.write(b"one")
             self.assertFalse(target.exists())
         target.chmod(0o640)
         (self.folder / "x.partial0").write_bytes(b"another's")
-        with whole_file(link) as file:
+        with atomic_file(link) as file:
             file.write(b"two")
             self.assertEqual((target.read_bytes(), (self.folder / "x.partial1").stat().st_mode & 0o777), (b"one", 0o600))
         self.assertEqual((target.read_bytes(), target.stat().st_mode & 0o777, link.is_symlink()), (b"two", 0o640, True))
@@ -36,7 +36,7 @@ class WholeFiles(FrontCase):
         steps, sizes = mock.Mock(), []
         steps.replace.side_effect = os.rename
         steps.fsync.side_effect = lambda end: sizes.append(os.fstat(end).st_size)
-        with mock.patch("os.fsync", steps.fsync), mock.patch("os.replace", steps.replace), whole_file(self.folder / "x") as file:
+        with mock.patch("os.fsync", steps.fsync), mock.patch("os.replace", steps.replace), atomic_file(self.folder / "x") as file:
             file.write(b"one")
         self.assertEqual(([call[0] for call in steps.mock_calls], sizes[0]), (["fsync", "replace", "fsync"], 3))
 
@@ -44,7 +44,7 @@ class WholeFiles(FrontCase):
         target = self.folder / "x"
         listings: tuple[list[str], ...] = ([], ["x"])
         for before in listings:
-            with self.assertRaises(KeyError), whole_file(target) as file:
+            with self.assertRaises(KeyError), atomic_file(target) as file:
                 file.write(b"half")
                 raise KeyError
             self.assertEqual(sorted(os.listdir(self.folder)), ["t.def", "t.lef", *before])
@@ -73,7 +73,7 @@ class WholeFiles(FrontCase):
 
     def test_a_device_is_written_to_as_it_is(self) -> None:
         reader, writer = os.pipe()
-        with whole_file(Path(f"/dev/fd/{writer}")) as file:
+        with atomic_file(Path(f"/dev/fd/{writer}")) as file:
             file.write(b"x")
         os.close(writer)
         self.assertEqual(os.read(reader, 9), b"x")

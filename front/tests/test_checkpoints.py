@@ -20,11 +20,11 @@ from support import CELLS, FRONT, LEF, PATIENCE, PROGRAM, TEAMS, Hub, HubCase, S
 
 from lefence.base.faults import Fault
 from lefence.base.protocol import text_length
-from lefence.hub.checkpoints import Checkpoints as Checkpointer, Limits, _synced
+from lefence.hub.checkpoints import Checkpoints as Checkpointer, TailLimits, _sync_and_hash
 from lefence.hub.status import ask_status
 from lefence.journal.frames import Reader, Record, Text, frame_of, header_of
 from lefence.journal.journal import Journal
-from lefence.journal.segments import Past, read_records
+from lefence.journal.segments import Archive, read_records
 
 TEXTS = [Text("0" * 64, Path("/a.def")), Text("f" * 64, Path("/b.lef"))]
 
@@ -95,7 +95,7 @@ class Segments(unittest.TestCase):
 
     def lines_of(self, journal: Journal) -> list[bytes]:
         """What the state and the tail come to."""
-        with journal.tail(journal.place) as tail:
+        with journal.tail(journal.position) as tail:
             return (tail.state.path.read_bytes().splitlines() if tail.state else []) + [record.line for record in tail.records]
 
     def found(self) -> list[bytes]:
@@ -112,11 +112,11 @@ class Segments(unittest.TestCase):
 
     def keep(self, journal: Journal) -> None:
         """Makes the state of all before the last segment."""
-        path = journal.past.unmade(journal.header.number)
+        path = journal.archive.temporary_state(journal.header.number)
         lines = self.lines_of(journal)[: journal.header.changes]
         path.write_bytes(b"".join(b"%b\n" % line for line in lines))
-        journal.keep_state(path, *_synced(path))
-        journal.past.prune(2)
+        journal.keep_state(path, *_sync_and_hash(path))
+        journal.archive.prune(2)
 
     def fill(self, rounds: int, tell: Callable[[], object] = lambda: None) -> None:
         """A change, a new segment, a change that others make meanwhile, and the state, so many times."""
@@ -134,7 +134,7 @@ class Segments(unittest.TestCase):
         return [b"pad A 0 %d" % number for number in range(count)]
 
     def names(self) -> list[str]:
-        return sorted(path.name for path in Past(self.path).folder.iterdir())
+        return sorted(path.name for path in Archive(self.path).folder.iterdir())
 
     def end_at(self, step: int, is_cut: bool) -> int | None:
         """How many changes were acknowledged by a process that ends at that step; None where it comes to its end."""
@@ -168,10 +168,10 @@ class Segments(unittest.TestCase):
                     self.assertEqual(self.found(), self.lines(len(lines) + 2))
                 shutil.rmtree(self.folder / "saved")
                 self.path.unlink(missing_ok=True)
-                shutil.rmtree(Past(self.path).folder, ignore_errors=True)
+                shutil.rmtree(Archive(self.path).folder, ignore_errors=True)
             shutil.rmtree(self.folder / "saved")
             self.path.unlink()
-            shutil.rmtree(Past(self.path).folder)
+            shutil.rmtree(Archive(self.path).folder)
 
     def test_two_states_are_kept_with_the_journal_from_the_first_on(self) -> None:
         self.fill(4)
@@ -183,7 +183,7 @@ class Segments(unittest.TestCase):
 
     def test_a_state_that_is_spoilt_is_made_up_for_by_the_one_before(self) -> None:
         self.fill(3)
-        past = Past(self.path)
+        past = Archive(self.path)
         past.state(4).write_bytes(b"pad A 0 7\n" * 5)
         self.assertEqual(self.found(), self.lines(6))
         self.assertIn("4.state is not the state that the journal names", self.said[0])
@@ -197,7 +197,7 @@ class Segments(unittest.TestCase):
 
     def test_damage_to_a_segment_counts_where_no_state_behind_it_is_whole(self) -> None:
         self.fill(1)
-        past = Past(self.path)
+        past = Archive(self.path)
         whole = past.segment(1).read_bytes()
         for spoilt in (whole[:-9], whole[:-9] + b"x" + whole[-8:]):
             past.segment(1).write_bytes(spoilt)
@@ -261,7 +261,7 @@ class Checkpoints(HubCase):
     def wait_states(self, count: int) -> None:
         """Waits until a state is kept with which a segment of that number or a later one begins."""
         last = time.monotonic() + PATIENCE
-        while max(Past(self.journal).numbers("state"), default=0) < count:
+        while max(Archive(self.journal).numbers("state"), default=0) < count:
             self.assertLess(time.monotonic(), last, self.hub.told())
             time.sleep(0.01)
 
@@ -315,7 +315,7 @@ class Checkpoints(HubCase):
             self.start(*words)
             self.assertEqual(self.talk("f0").ask("open f0", *self.places(40))[-1][:2], "ok")
             self.assertEqual(self.hub.end(), 0)
-            self.assertEqual(Past(self.journal).numbers("state") != [], is_made)
+            self.assertEqual(Archive(self.journal).numbers("state") != [], is_made)
         self.assertIn("ready", self.start())
         self.assertEqual(self.talk("f0").ask("open f0", "where f0 0 f0c9"), ["ok 0 120", f"ok {spot(0, 39)}"])
 
@@ -326,8 +326,8 @@ class Checkpoints(HubCase):
         self.assertEqual(talker.ask("open f0", *self.places(50))[-1], "ok 50")
         self.hub.wait_for("no state is made")
         self.assertEqual(talker.ask(*self.places(50, 50))[-1], "ok 100")
-        self.assertEqual((self.hub.end(), Past(self.journal).numbers("state")), (0, []))
-        self.assertFalse(list(Past(self.journal).folder.glob("*.making-*")))
+        self.assertEqual((self.hub.end(), Archive(self.journal).numbers("state")), (0, []))
+        self.assertFalse(list(Archive(self.journal).folder.glob("*.making-*")))
         self.program = PROGRAM
         self.assertIn("ready", self.start(*self.OFTEN))
         self.assertEqual(self.talk("f0").ask("open f0", "where f0 0 f0c9"), ["ok 0 100", f"ok {spot(0, 99)}"])
@@ -368,7 +368,7 @@ class Limited(unittest.TestCase):
     def test_a_checkpoint_is_due_by_bytes_or_seconds_and_after_a_failure_later(self) -> None:
         journal = mock.Mock(tail_changes=1, tail_bytes=1001)
         journal.roll.side_effect = OSError(28, "x")
-        made = Checkpointer(mock.Mock(), journal, Limits(1000, 10), mock.Mock())
+        made = Checkpointer(mock.Mock(), journal, TailLimits(1000, 10), mock.Mock())
         self.assertTrue(made.is_due())
         made.begin(mock.Mock(holders={}), mock.Mock(teams={}))
         self.assertFalse(made.is_due())
@@ -378,7 +378,7 @@ class Limited(unittest.TestCase):
         self.assertEqual((made.is_due(), made.is_due(1.1)), (True, False))
         journal.tail_changes = 0
         self.assertFalse(made.is_due())
-        never = Checkpointer(mock.Mock(), mock.Mock(tail_changes=1, tail_bytes=1 << 40), Limits(0), mock.Mock())
+        never = Checkpointer(mock.Mock(), mock.Mock(tail_changes=1, tail_bytes=1 << 40), TailLimits(0), mock.Mock())
         self.assertFalse(never.is_due())
 
 

@@ -13,8 +13,8 @@ from collections.abc import Callable
 
 from support import CELLS, PATIENCE, PROGRAM, TURNS, Hub, HubCase, Talker, spot, wait_gone
 
-from lefence.hub.clients import Crowd
-from lefence.journal.segments import Past
+from lefence.hub.clients import ClientPool
+from lefence.journal.segments import Archive
 
 # Changes that each of four teams has in flight at a crash.
 MANY = 2000
@@ -111,7 +111,7 @@ class Crashes(HubCase):
     def test_kill_9_amid_checkpoints(self) -> None:
         self.extra = ("--tail-bytes", "1")
         self.under_load(self.kill_9_of_both)
-        self.assertTrue(Past(self.journal).numbers("state"))
+        self.assertTrue(Archive(self.journal).numbers("state"))
 
     def test_kill_9_of_a_program_amid_checkpoints_is_not_noticed(self) -> None:
         self.extra = ("--tail-bytes", "1")
@@ -183,13 +183,13 @@ class Programs(HubCase):
             self.addCleanup(hub.kill)
             while not (self.folder / "starts").exists():
                 time.sleep(0.01)
-            self.assertEqual((hub.end(), Past(self.journal).numbers("state")), (status, []))
+            self.assertEqual((hub.end(), Archive(self.journal).numbers("state")), (status, []))
         self.program = PROGRAM
         # The sessions of the killed hub are known, and closed.
         self.start()
         self.assertEqual(self.talk("f0").ask("open f0", "close f0 1", "sync f0 0"), ["ok 0 1", "no 3 NoSession", "ok 1"])
         # One of which a journal does not tell who had it may be closed too.
-        Crowd(8).note([b"close", b"f0", b"0"], b"ok\n", None)
+        ClientPool(8).note([b"close", b"f0", b"0"], b"ok\n", None)
 
 
 if __name__ == "__main__":

@@ -18,7 +18,7 @@ from support import CELLS, FRONT, PATIENCE, PROGRAM, FrontCase, tool_words
 from lefence.base.design import Design
 from lefence.base.faults import Fault
 from lefence.journal.journal import Journal, texts_in
-from lefence.journal.owner import own
+from lefence.journal.owner import this_process
 from lefence.tools.farm import ranges_of
 from lefence.tools.farm_runs import teams_of
 from lefence.tools.merge import merge
@@ -128,7 +128,7 @@ class Farms(FarmCase):
         (self.folder / "B.fails").unlink()
         # As if the task had been at work on another machine, which is gone.
         journal = self.work / "2/journal"
-        os.close(Journal(journal, texts_in(journal) or [], self.fail, owner=replace(own(), host="farm2"))._fd)
+        os.close(Journal(journal, texts_in(journal) or [], self.fail, owner=replace(this_process(), host="farm2"))._fd)
         done = self.farm("--export", "new.def")
         self.assertEqual(done.returncode, 0, done.stderr)
         self.assertEqual([*self.work.glob("whole*"), *self.work.rglob("*.texts")], [])

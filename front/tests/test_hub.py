@@ -264,7 +264,7 @@ class Disk(HubCase):
         for error in (None, OSError(5, "the disk")):
             steps = mock.Mock(**{"sync.side_effect": error})
             server = mock.Mock(ask=mock.AsyncMock(return_value=[b"ok 0 0\n"]))
-            hub = hub_module.Hub(server, Journal(self.folder / str(error), [], mock.Mock()), hub_module.Bounds(), mock.Mock())
+            hub = hub_module.Hub(server, Journal(self.folder / str(error), [], mock.Mock()), hub_module.HubLimits(), mock.Mock())
             client = Client(hub, b"f0")
             client.transport = mock.Mock(**{"is_closing.return_value": False, "write": steps.write})
             client.get_buffer(8)[:8] = b"open f0\n"
@@ -273,7 +273,7 @@ class Disk(HubCase):
                 stack.enter_context(mock.patch("os.fdatasync", steps.sync))
                 if error:
                     stack.enter_context(self.assertRaises(Fault))
-                asyncio.run(hub.answer(hub.take()))
+                asyncio.run(hub.answer(hub.next_batch()))
             self.assertEqual([call[0] for call in steps.mock_calls], ["sync"] if error else ["sync", "write"])
 
 

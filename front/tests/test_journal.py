@@ -17,7 +17,7 @@ from support import FRONT, SEED
 from lefence.base.faults import Fault
 from lefence.journal.frames import Record, Text
 from lefence.journal.journal import Journal, texts_in
-from lefence.journal.owner import own
+from lefence.journal.owner import this_process
 from lefence.journal.segments import read_records
 
 TEXTS = [Text("0" * 64, Path("/a b\n.def")), Text("f" * 64, Path("/b.lef"))]
@@ -40,7 +40,7 @@ class Journals(unittest.TestCase):
 
     def found(self) -> list[Record]:
         journal = self.open()
-        with journal.tail(journal.place) as tail:
+        with journal.tail(journal.position) as tail:
             records = list(tail.records)
         self.assertEqual(len(records), journal.changes)
         journal.close()
@@ -141,7 +141,7 @@ class Journals(unittest.TestCase):
             journal.roll([])
             self.assertEqual(journal.header.slots, 9)
             journal.close()
-            for file in journal.past.files():
+            for file in journal.archive.files():
                 file.unlink()
         before = self.path.read_bytes()
         for slots in (8, 10):
@@ -195,7 +195,7 @@ class Journals(unittest.TestCase):
             self.path.unlink(missing_ok=True)
 
     def test_a_hub_that_may_be_at_work_keeps_it(self) -> None:
-        me, parent = own(), Path(f"/proc/{os.getppid()}/stat").read_text().rpartition(")")[2].split()[19]
+        me, parent = this_process(), Path(f"/proc/{os.getppid()}/stat").read_text().rpartition(")")[2].split()[19]
         elsewhere, dead, alive = replace(me, host="farm2"), replace(me, pid=1, began=7), replace(me, pid=os.getppid(), began=int(parent))
         for owner, is_refused in ((elsewhere, True), (alive, True), (dead, False), (replace(alive, boot="x"), False)):
             os.close(Journal(self.path, TEXTS, self.said.append, owner=owner)._fd)

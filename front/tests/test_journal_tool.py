@@ -13,8 +13,8 @@ from support import PROGRAM, HubCase
 
 from lefence.journal.frames import Reader
 from lefence.journal.journal import Journal, texts_in
-from lefence.journal.owner import own
-from lefence.journal.segments import Past, read_records
+from lefence.journal.owner import this_process
+from lefence.journal.segments import Archive, read_records
 
 
 class JournalTool(HubCase):
@@ -85,7 +85,7 @@ class JournalTool(HubCase):
 
     def test_one_that_another_host_may_have_is_cut_when_that_is_said(self) -> None:
         texts = texts_in(self.journal) or []
-        os.close(Journal(self.journal, texts, self.fail, owner=replace(own(), host="farm2"))._fd)
+        os.close(Journal(self.journal, texts, self.fail, owner=replace(this_process(), host="farm2"))._fd)
         self.told("cut", self.journal, status=3)
         self.told("cut", self.journal, "--takeover")
 
@@ -127,7 +127,7 @@ class Segments(HubCase):
             self.start()
             self.assertEqual({reply[:2] for reply in self.talk("operator").ask(*lines)}, {"ok"})
             self.hub.kill()
-        self.past = Past(self.journal)
+        self.archive = Archive(self.journal)
 
     def told(self, *words: str | Path, status: int = 0) -> tuple[str, str]:
         done = self.tool("lefence-journal", *words)
@@ -143,7 +143,7 @@ class Segments(HubCase):
         told, _ = self.told("check", self.journal)
         for number, before in ((1, 0), (2, 4), (3, 7)):
             self.assertIn(f"segment {number}, behind {before} changes: ", told)
-        states = [f"it begins with the state {self.past.state(number)}: whole" in told for number in (1, 2, 3)]
+        states = [f"it begins with the state {self.archive.state(number)}: whole" in told for number in (1, 2, 3)]
         self.assertEqual(states, [False, True, True])
         listed = [line.split("\t") for line in self.told("list", self.journal)[0].splitlines() if not line.startswith("-")]
         self.assertEqual([(int(words[0]), words[4]) for words in listed], list(enumerate(self.changes(), 1)))
@@ -154,33 +154,33 @@ class Segments(HubCase):
         self.assertEqual([record.line.decode() for record in read_records(self.journal)], self.changes())
 
     def test_what_is_not_kept_is_told_and_the_rest_goes_on_from_its_state(self) -> None:
-        self.past.prune(1)
+        self.archive.prune(1)
         told, said = self.told("export", self.journal)
         self.assertEqual(told.splitlines(), self.changes()[7:])
-        self.assertIn(f"the first 7 changes are not in it; its lines are for a replay with --state {self.past.state(3)}", said)
-        self.assertEqual(self.direct(told.encode(), "--state", str(self.past.state(3))), b"ok\nok 0 3\n")
+        self.assertIn(f"the first 7 changes are not in it; its lines are for a replay with --state {self.archive.state(3)}", said)
+        self.assertEqual(self.direct(told.encode(), "--state", str(self.archive.state(3))), b"ok\nok 0 3\n")
         self.assertIn("the first 7 changes are in a state alone", self.told("check", self.journal)[0])
         self.assertTrue(self.told("list", self.journal, "--team", "f0")[0].startswith("9\t"))
         self.assertIn("its first 7 changes are in a state alone", self.tool("lefence-push", self.journal, "s/f0.sock").stderr.decode())
 
     def test_damage_to_any_of_it_is_told(self) -> None:
-        whole = self.past.segment(1).read_bytes()
-        self.past.segment(1).write_bytes(whole.replace(b"place f0 0 f0c1 0 0 N", b"place f0 0 f0c1 9 0 N"))
+        whole = self.archive.segment(1).read_bytes()
+        self.archive.segment(1).write_bytes(whole.replace(b"place f0 0 f0c1 0 0 N", b"place f0 0 f0c1 9 0 N"))
         told = r"damaged from byte \d+ to \d+: copied to \S*/journal, `cut --at \d+`"
         self.assertRegex(self.told("check", self.journal, status=1)[0], told)
         self.assertIn("1.journal: damaged at byte", self.told("verify", self.journal, "--program", PROGRAM, "--all", status=1)[1])
         self.told("verify", self.journal, "--program", PROGRAM)
-        self.past.segment(1).write_bytes(whole[:-20])
+        self.archive.segment(1).write_bytes(whole[:-20])
         self.assertIn(f"to {len(whole)}, where it ended when the next segment was begun", self.told("check", self.journal, status=1)[0])
-        self.past.state(3).write_bytes(b"x")
-        self.assertIn(f"{self.past.state(3)}: damaged", self.told("check", self.journal, status=1)[0])
+        self.archive.state(3).write_bytes(b"x")
+        self.assertIn(f"{self.archive.state(3)}: damaged", self.told("check", self.journal, status=1)[0])
         self.assertIn("5 changes behind a state of 4 are answered", self.told("verify", self.journal, "--program", PROGRAM)[1])
-        self.past.state(2).unlink()
-        self.assertIn(f"{self.past.state(2)}: not there", self.told("check", self.journal, status=1)[0])
+        self.archive.state(2).unlink()
+        self.assertIn(f"{self.archive.state(2)}: not there", self.told("check", self.journal, status=1)[0])
         said = self.start()
-        self.assertIn(f"{self.past.state(2)} is not there; what stands before it is answered again", said)
+        self.assertIn(f"{self.archive.state(2)} is not there; what stands before it is answered again", said)
         self.assertEqual(("1.journal: damaged at byte" in said, self.hub.process.wait()), (True, 1))
-        shutil.copy(self.past.segment(1), self.journal)
+        shutil.copy(self.archive.segment(1), self.journal)
         # (what was cut off at its end were notes)
         self.assertIn("ready: 9 teams, 4 changes restored", self.start())
 

@@ -11,7 +11,7 @@ from xml.etree import ElementTree
 from support import PATIENCE, TEAMS, FrontCase, tool_words
 
 from lefence.base.description import Box, Description
-from lefence.tools.drawing import WAYS, Drawing, Move, shortened, text_of
+from lefence.tools.drawing import MOVE_COLOURS, Drawing, Move, shortened, text_of
 from lefence.tools.scene import Scene, colour_of
 
 SVG = "{http://www.w3.org/2000/svg}"
@@ -63,7 +63,7 @@ class Pictures(FrontCase):
         self.assertEqual(boxes(groups["fixed"]) + boxes(groups["blockages"]), [obstacle.box for obstacle in frame.obstacles])
         self.assertEqual(boxes(groups["soft"]), frame.soft)
         legal = {cell.name: cell.box for cell in cells if cell.box and cell.rule is None}
-        drawn = {rect.findtext(f"{SVG}title"): boxes(around)[0] for around, rect in self.alone(groups["cells"])}
+        drawn = {rect.findtext(f"{SVG}title"): boxes(bounding_box)[0] for bounding_box, rect in self.alone(groups["cells"])}
         self.assertEqual(drawn, legal)
         self.assertEqual(boxes(groups["broken"]), [cell.box for cell in cells if cell.name in ("one", "two")])
         self.assertEqual(len(titled(groups["broken"], "two overlaps one")), 1)
@@ -75,9 +75,9 @@ class Pictures(FrontCase):
         """The rectangles of a group, each in a group of its own too."""
         found = []
         for rect in group.iter(f"{SVG}rect"):
-            around = ElementTree.Element("g")
-            around.append(rect)
-            found.append((around, rect))
+            bounding_box = ElementTree.Element("g")
+            bounding_box.append(rect)
+            found.append((bounding_box, rect))
         return found
 
     def test_up_is_up(self) -> None:
@@ -129,8 +129,8 @@ class Pictures(FrontCase):
         self.design.write_text(text.replace("- far", near.format(66000) + far.format(16000) + "- far"))
         (self.folder / "old.def").write_text(text.replace("- far", near.format(65800) + far.format(40000) + "- far"))
         groups = self.picture("--before", "old.def")
-        told = {around.attrib["stroke"]: [arrow.findtext(f"{SVG}title") for arrow in around] for around in groups["moves"]}
-        self.assertEqual(told, {WAYS[0][1]: ["near"], WAYS[3][1]: ["away"]})
+        told = {bounding_box.attrib["stroke"]: [arrow.findtext(f"{SVG}title") for arrow in bounding_box] for bounding_box in groups["moves"]}
+        self.assertEqual(told, {MOVE_COLOURS[0][1]: ["near"], MOVE_COLOURS[3][1]: ["away"]})
         legend = "".join(groups["legend"].itertext())
         self.assertIn("→ 2 moved\nup to 2 rows 1\nup to 20 rows 1\n", legend)
 

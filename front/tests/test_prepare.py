@@ -11,7 +11,7 @@ from support import PROGRAM, FrontCase
 from lefence.base.description import Box
 from lefence.base.faults import Fault
 from lefence.base.lef import sites_of
-from lefence.tools.preparation import Preparation, Wanted
+from lefence.tools.preparation import Preparation, PreparationOptions
 from lefence.tools.prepare import prepare
 
 LEF = """VERSION 5.8 ;
@@ -98,8 +98,8 @@ class Preparations(FrontCase):
             (TEXT.replace("( 50 4040 )", "( 3 77 )"), "less than half of the 5 placed cells agree on a grid"),
         ):
             preparation = Preparation(text.encode())
-            prepare(preparation, Wanted(), [LEF.encode()], None)
-            self.assertEqual(preparation.said[1], f"{told}: the rows begin at the core's corner with N")
+            prepare(preparation, PreparationOptions(), [LEF.encode()], None)
+            self.assertEqual(preparation.messages[1], f"{told}: the rows begin at the core's corner with N")
             rows = b"\nROW ROW_0 core -100 -300 N DO 21 BY 1 STEP 200 0 ;\nROW ROW_1 core -100 1700 FS "
             self.assertIn(rows, preparation.result())
 
@@ -161,7 +161,7 @@ class Preparations(FrontCase):
                 at = self.rng.randrange(len(text))
                 odd = self.rng.choice([b"", b";", b"\xff", b" - ", b" END ", b'"', b"9" * 30, b"#"])
                 text[at : at + self.rng.randrange(30)] = odd
-            wanted = Wanted(fillers=["F*"], fences={"A": [Box(0, 0, 1, 1)]}, groups={"A": ["*"]})
+            wanted = PreparationOptions(fillers=["F*"], fences={"A": [Box(0, 0, 1, 1)]}, groups={"A": ["*"]})
             try:
                 preparation = Preparation(bytes(text))
                 self.assertIsInstance(preparation.units, int)

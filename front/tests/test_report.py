@@ -114,11 +114,11 @@ class Reports(ReportCase):
     def test_cells_near_a_huge_one_are_bounded(self) -> None:
         huge = Cell("huge", "-", "M", 10**9, 10**9, Box(0, 0, 10**9, 10**9), "N", 1, None)
         near = Near([huge], 2000)
-        beside = Cell("a", "-", "M", 400, 2000, Box(0, 0, 400, 2000), "N", None, None)
-        far = beside._replace(name="b", box=Box(9**9, 0, 9**9 + 400, 2000))
-        self.assertEqual([near.has(cell) for cell in (huge, beside, far)], [False, True, False])
-        self.assertTrue(near.has(beside._replace(name="x" * 3_000_000)))
-        self.assertFalse(near.has(beside))
+        partial_file = Cell("a", "-", "M", 400, 2000, Box(0, 0, 400, 2000), "N", None, None)
+        far = partial_file._replace(name="b", box=Box(9**9, 0, 9**9 + 400, 2000))
+        self.assertEqual([near.has(cell) for cell in (huge, partial_file, far)], [False, True, False])
+        self.assertTrue(near.has(partial_file._replace(name="x" * 3_000_000)))
+        self.assertFalse(near.has(partial_file))
 
     def test_when_and_by_what_it_was_made(self) -> None:
         self.assertRegex(self.page(), rf"<dd>\d{{4}}-\d\d-\d\d \d\d:\d\d UTC, by lefence-report {re.escape(lefence.__version__)}</dd>")

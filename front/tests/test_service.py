@@ -30,14 +30,14 @@ from support import FRONT, PATIENCE, PROGRAM, FrontCase, Hub as RunningHub, HubC
 from lefence.base import atomic_file
 from lefence.base.faults import Fault
 from lefence.hub import clients, exporter, status
-from lefence.hub.hub import Bounds, Hub
+from lefence.hub.hub import Hub, HubLimits
 from lefence.hub.hub_client import Client
-from lefence.hub.log_limit import Calm
+from lefence.hub.log_limit import RateLimitedLog
 from lefence.hub.notify import notify_alive
-from lefence.hub.sockets import bound_socket, groups_of, take_folder
+from lefence.hub.sockets import bind_socket, claim_folder, groups_of
 from lefence.journal.frames import sum_of
 from lefence.journal.journal import Journal
-from lefence.journal.texts import settle_texts
+from lefence.journal.texts import resolve_texts
 from lefence.tools import hub as hub_tool
 
 
@@ -124,7 +124,7 @@ class Texts(HubCase):
         journal, steps = self.folder / "j", ("fsync", "replace", "pwrite", "ftruncate", "mkdir", "fdatasync")
 
         def start() -> list[Path]:
-            texts, kept = settle_texts(journal, [self.design, self.lef], self.fail)
+            texts, kept = resolve_texts(journal, [self.design, self.lef], self.fail)
             Journal(journal, texts, self.fail).close()
             return [path for text, path in zip(texts, kept) if sum_of(path) == text.sum]
 
@@ -136,10 +136,10 @@ class Texts(HubCase):
             for name in steps:
                 step = getattr(os, name)
 
-                def take(*words: Any, step: Callable[..., Any] = step, **more: Any) -> Any:
+                def limited(*words: Any, step: Callable[..., Any] = step, **more: Any) -> Any:
                     return step(*words, **more) if next(count) < last else os._exit(7)
 
-                setattr(os, name, take)
+                setattr(os, name, limited)
             start()
             os._exit(0)
 
@@ -174,7 +174,7 @@ class Sockets(FrontCase):
 
     def bound(self, *words: Any) -> tuple[int, int]:
         path = self.folder / "A.sock"
-        bound_socket(path, 0o660, True, *words).close()
+        bind_socket(path, 0o660, True, *words).close()
         found = path.lstat()
         return found.st_mode & 0o777, found.st_gid
 
@@ -213,16 +213,16 @@ class Sockets(FrontCase):
         for mode in (0o777, 0o775, 0o757, 0o1777):
             folder.chmod(mode)
             with self.assertRaises(Fault) as caught:
-                take_folder(folder)
+                claim_folder(folder)
             self.assertEqual(caught.exception.status, 1)
         folder.chmod(0o755)
         if os.geteuid() == 0:
             os.chown(folder, 12345, 12345)
             with self.assertRaises(Fault):
-                take_folder(folder)
+                claim_folder(folder)
         before = os.umask(0o002)
         self.addCleanup(os.umask, before)
-        take_folder(self.folder / "made")
+        claim_folder(self.folder / "made")
 
 
 class Shares(unittest.TestCase):
@@ -235,10 +235,10 @@ class Shares(unittest.TestCase):
 
         self.asked: list[bytes] = []
         self.said: list[str] = []
-        server = mock.Mock(**{"ask": mock.AsyncMock(side_effect=ask), "pid": None})
+        server = mock.Mock(**{"execute": mock.AsyncMock(side_effect=execute), "pid": None})
         journal = Journal(Path(self.enterContext(tempfile.TemporaryDirectory())) / "j", [], self.said.append)
-        self.hub = Hub(server, journal, Bounds(), self.said.append)
-        self.hub.teams, self.hub.nobody, self.hub.crowd.most_clients = ["f0", "f1"], b"~", 8
+        self.hub = Hub(server, journal, HubLimits(), self.said.append)
+        self.hub.teams, self.hub.unused_name, self.hub.pool.most_clients = ["f0", "f1"], b"~", 8
 
     def client(self, team: bytes, uid: int = 4242) -> Client:
         made = Client(self.hub, team)
@@ -256,7 +256,7 @@ class Shares(unittest.TestCase):
         self.asked.clear()
 
         async def answer() -> None:
-            while batch := self.hub.take():
+            while batch := self.hub.next_batch():
                 await self.hub.answer(batch)
 
         asyncio.run(answer())
@@ -283,18 +283,18 @@ class Shares(unittest.TestCase):
     def test_long_replies_wait_for_those_that_are_not_read(self) -> None:
         first, second, third, other = (self.client(team) for team in (b"f0", b"f0", b"f0", b"f1"))
         for client in (first, second):
-            client.is_clogged = True
-            self.hub.clog(client)
+            client.is_slow = True
+            self.hub.mark_slow(client)
         self.send(third, b"where f0 0 x\ncheck f0 0\nwhere f0 0 y\n")
         self.send(other, b"def f1 0\n")
         self.assertEqual(self.answer_all(), [b"where f0 0 x", b"def f1 0"])
-        first.is_clogged = False
-        self.hub.unclog(first)
+        first.is_slow = False
+        self.hub.unmark_slow(first)
         self.assertEqual(self.answer_all(), [b"check f0 0", b"where f0 0 y"])
         with mock.patch.object(clients, "_MOST_UNREAD", 50000):
             self.send(other, b"def f1 0\n")
             self.assertEqual(self.answer_all(), [])
-            self.hub.leave(second)
+            self.hub.remove(second)
             self.assertEqual(self.answer_all(), [b"def f1 0"])
 
     def test_an_export_is_told_when_the_disk_has_its_name(self) -> None:
@@ -303,7 +303,7 @@ class Shares(unittest.TestCase):
         second.end = mock.AsyncMock(side_effect=lambda: [steps.end(), 0][1])
         self.hub.server.program.texts = []
         with mock.patch.object(exporter, "Server", return_value=second), mock.patch.object(atomic_file, "sync_folder", steps.sync):
-            self.assertIsNone(asyncio.run(self.hub.exporter.write(str(target), self.hub.journal.place)))
+            self.assertIsNone(asyncio.run(self.hub.exporter.write(str(target), self.hub.journal.position)))
         self.assertEqual([str(call) for call in steps.mock_calls], ["call.end()", f"call.sync({target.parent!r})"])
 
     def test_a_slow_reader_is_not_dropped_and_one_that_reads_nothing_is(self) -> None:
@@ -334,7 +334,7 @@ class Shares(unittest.TestCase):
     def test_who_goes_and_reads_no_more_is_dropped(self) -> None:
         self.hub.patience = 0.1
 
-        async def part(unread: int, read: int) -> None:
+        async def disconnect(unread: int, read: int) -> None:
             near, far = socket.socketpair()
             near.setsockopt(socket.SOL_SOCKET, socket.SO_SNDBUF, 4096)
             near.setblocking(False)
@@ -346,25 +346,25 @@ class Shares(unittest.TestCase):
                 _, client = await asyncio.get_running_loop().connect_accepted_socket(lambda: Client(self.hub, b"f0"), near)
                 client.replies.append(bytes(unread))
                 client.flush()
-                client.part()
-                while client.is_clogged and read:
+                client.disconnect()
+                while client.is_slow and read:
                     with contextlib.suppress(BlockingIOError):
                         far.recv(read)
                     await asyncio.sleep(0)
                 async with asyncio.timeout(PATIENCE):
-                    while self.hub.crowd.clients:
+                    while self.hub.pool.clients:
                         await asyncio.sleep(0.01)
 
         # What is left is little from the first on, or once the client has read some of it.
-        asyncio.run(part(1000, 0))
-        asyncio.run(part(100_000, 1 << 12))
+        asyncio.run(disconnect(1000, 0))
+        asyncio.run(disconnect(100_000, 1 << 12))
 
 
 class Faults(FrontCase):
     def test_behind_a_fault_nothing_more_is_answered(self) -> None:
         ended = []
 
-        async def pump() -> None:
+        async def wait_forever() -> None:
             try:
                 await asyncio.Event().wait()
             finally:
@@ -376,7 +376,7 @@ class Faults(FrontCase):
             raise Fault(3, "the journal is lost")
 
         async def run() -> None:
-            hub = mock.Mock(teams=[], clients=set(), start=mock.AsyncMock(return_value=[]), pump=pump, watch=watch)
+            hub = mock.Mock(teams=[], clients=set(), start=mock.AsyncMock(return_value=[]), run=wait_forever, watch=watch)
             with self.assertRaisesRegex(Fault, "is lost"), mock.patch.object(hub_tool, "say"):
                 await hub_tool.serve(hub, argparse.Namespace(group=[], team=[], sockets=self.folder, roll=False), asyncio.Event())
             await asyncio.sleep(0)
@@ -388,7 +388,7 @@ class Faults(FrontCase):
 class Floods(unittest.TestCase):
     def test_a_line_of_each_kind_is_said_once_a_minute(self) -> None:
         said: list[str] = []
-        calm = Calm(said.append)
+        calm = RateLimitedLog(said.append)
         with mock.patch("time.monotonic", side_effect=[0, 1, 2, 3, 61, 61.5]):
             for kind in "aabaab":
                 calm(kind, kind)
@@ -431,13 +431,13 @@ class Operator(HubCase):
             talker = self.talk("f0")
             talker.ask("open f0", "place f0 0 f0c1 0 0 N", "place f0 0 f0c2 2000 0 N")
             self.talk("f1").ask("open f1", "tidy f1 0", "commit f1 0")
-            told_of = json.loads(self.ask_hub("--status"))
-            teams = {each["team"]: each for each in told_of["teams"]}
+            text_summary_of = json.loads(self.ask_hub("--status"))
+            teams = {each["team"]: each for each in text_summary_of["teams"]}
             self.assertEqual([teams["f0"][key] for key in ("revision", "uncommitted", "clients")], [2, 2, 1])
             [session] = teams["f0"]["sessions"]
             self.assertEqual((session["number"], session["uid"], session["pid"]), (0, os.geteuid(), os.getpid()))
-            self.assertEqual((teams["f1"]["revision"], teams["f1"]["uncommitted"], told_of["changes_total"]), (2, 0, 6))
-            self.assertTrue(told_of["sync_seconds_p99"] > 0 and told_of["program_bytes"] > 1 << 20 and told_of["journal_bytes"] > 300)
+            self.assertEqual((teams["f1"]["revision"], teams["f1"]["uncommitted"], text_summary_of["changes_total"]), (2, 0, 6))
+            self.assertTrue(text_summary_of["sync_seconds_p99"] > 0 and text_summary_of["program_bytes"] > 1 << 20 and text_summary_of["journal_bytes"] > 300)
             metrics = self.ask_hub("--metrics")
             self.assertIn('lefence_team_revision{team="f0"} 2\n', metrics)
             for line in metrics.splitlines():

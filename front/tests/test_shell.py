@@ -13,8 +13,8 @@ from support import PATIENCE, PROGRAM, TEAMS, HubCase, tool_words
 
 from lefence.base.protocol import RULES
 from lefence.client.endpoint import start_program
-from lefence.client.refusals import broken_in_words
-from lefence.tools.shell import OWN, Shell
+from lefence.client.refusals import violation_text
+from lefence.tools.shell import SHELL_COMMANDS, Shell
 
 
 class Words(HubCase):
@@ -68,9 +68,9 @@ class Words(HubCase):
         head = ["10 cells, 8 without a place, 2 break a rule", "cell  rule  what"]
         near = "overlaps {} or is too near to it"
         self.assertEqual(said[-4:], [*head, f"f0c1     8  f0c1 {near.format('f0c2')}", f"f0c2     8  f0c2 {near.format('f0c1')}"])
-        self.assertEqual(broken_in_words(8, "a", "b", is_there=True), "a overlaps b")
+        self.assertEqual(violation_text(8, "a", "b", is_there=True), "a overlaps b")
         for rule in RULES:
-            self.assertTrue(broken_in_words(rule, "a", "b").startswith("a "))
+            self.assertTrue(violation_text(rule, "a", "b").startswith("a "))
 
     def test_where_tidy_finds_no_place_the_way_out_is_told(self) -> None:
         # Four rows of forty sites have room for eighty cells of two sites; of three, less.
@@ -85,7 +85,7 @@ class Words(HubCase):
         said = self.say("help", "help place", "help nonsense")
         place = ["place CELL X Y O", "  sets the cell's working place, if the place breaks no rule"]
         self.assertEqual(said[-3:], [*place, "no such command: nonsense"])
-        self.assertTrue(all(any(line.startswith(word) for line in said) for word in OWN))
+        self.assertTrue(all(any(line.startswith(word) for line in said) for word in SHELL_COMMANDS))
 
     def test_any_bytes_are_answered(self) -> None:
         lines = [b"\xff\xfe", b"team f0", b"place \xff 0 0 N", b"\x00", b"raw \xff\x01", b"x" * 9000, b"help \xff", b"def", b"\r"]

@@ -16,33 +16,33 @@ from .program import PIECE, fault_of
 _LONGEST = 1 << 30
 
 
-async def start_run(words: list[str], is_asked: bool) -> AsyncRun:
+async def start_run(words: list[str], has_input: bool) -> AsyncRun:
     """Starts the program with these words. One that is asked has an input, and says what it has to say on standard error."""
     pipe, nothing = asyncio.subprocess.PIPE, asyncio.subprocess.DEVNULL
-    said = None if is_asked else tempfile.TemporaryFile()
+    errors = None if has_input else tempfile.TemporaryFile()
     # A session of its own, so that the terminal's Ctrl-C is for the caller alone; its input ends when the caller does.
     process = await asyncio.create_subprocess_exec(
         *words,
-        stdin=pipe if is_asked else nothing,
+        stdin=pipe if has_input else nothing,
         stdout=pipe,
-        stderr=said,
+        stderr=errors,
         start_new_session=True,
         # (a file that it writes is private until it takes its mode)
         umask=0o077,
-        limit=PIECE if is_asked else _LONGEST,
+        limit=PIECE if has_input else _LONGEST,
     )
-    return AsyncRun(process, said)
+    return AsyncRun(process, errors)
 
 
 class AsyncRun:
     """A run in a session of its own; whoever starts it ends it by `kill`."""
 
-    def __init__(self, process: asyncio.subprocess.Process, said: IO[bytes] | None) -> None:
+    def __init__(self, process: asyncio.subprocess.Process, errors: IO[bytes] | None) -> None:
         """A run over a process, and the file in which is what it says on standard error, if that is kept."""
         assert process.stdout
         self.reader = process.stdout
         self._process = process
-        self._said = said
+        self._errors = errors
 
     @property
     def pid(self) -> int:
@@ -66,10 +66,10 @@ class AsyncRun:
 
     async def fault(self, otherwise: str) -> Fault:
         """The fault of a run that has ended, or is about to, and whose words are kept."""
-        assert self._said
-        return fault_of(await self._process.wait(), self._said, otherwise)
+        assert self._errors
+        return fault_of(await self._process.wait(), self._errors, otherwise)
 
-    def strike(self) -> None:
+    def send_kill(self) -> None:
         """Kills the program with its whole session, and waits for nothing."""
         with contextlib.suppress(ProcessLookupError):
             if self._process.returncode is None:
@@ -78,7 +78,7 @@ class AsyncRun:
     async def kill(self) -> None:
         """Ends the program, where it runs, with its whole session: one that is a script goes with what it runs."""
         if self._process.returncode is None:
-            self.strike()
+            self.send_kill()
             await self._process.wait()
-        if self._said:
-            self._said.close()
+        if self._errors:
+            self._errors.close()

@@ -13,7 +13,7 @@ from .faults import FAILED, USAGE, Fault
 
 
 @contextlib.contextmanager
-def whole_file(path: Path, mode: int = 0o666) -> Iterator[BinaryIO]:
+def atomic_file(path: Path, mode: int = 0o666) -> Iterator[BinaryIO]:
     """A new file beside, which takes the name and the mode at the end of the block, as `beside` says.
 
     The disk has it before it has the name. What is no regular file, as a pipe, is written to as it is.
@@ -22,14 +22,14 @@ def whole_file(path: Path, mode: int = 0o666) -> Iterator[BinaryIO]:
         with open(path, "wb") as file:
             yield file
         return
-    with beside(path, mode) as partial, open(partial, "wb") as file:
+    with partial_file(path, mode) as partial, open(partial, "wb") as file:
         yield file
         file.flush()
         os.fsync(file.fileno())
 
 
 @contextlib.contextmanager
-def beside(path: Path, mode: int = 0o666) -> Iterator[Path]:
+def partial_file(path: Path, mode: int = 0o666) -> Iterator[Path]:
     """A new file beside (`FILE.partial0`, or the next free number), which takes the name and the mode at the end of the block.
 
     Where there is no file yet it has the mode given; else nobody else may read it before the end.
@@ -38,7 +38,7 @@ def beside(path: Path, mode: int = 0o666) -> Iterator[Path]:
     """
     target = Path(os.path.realpath(path))
     try:
-        partial = _made_beside(target, 0o600 if target.exists() else mode)
+        partial = _create_partial(target, 0o600 if target.exists() else mode)
     except OSError as error:
         why = error.strerror if target.parent.exists() else "there is no such folder"
         raise Fault(FAILED, f"{path} cannot be written: {why}") from None
@@ -68,7 +68,7 @@ def sync_folder(path: Path) -> None:
         os.close(folder)
 
 
-def _made_beside(target: Path, mode: int) -> Path:
+def _create_partial(target: Path, mode: int) -> Path:
     """A new file in the same folder."""
     for number in count():
         partial = Path(f"{target}.partial{number}")

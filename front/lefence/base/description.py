@@ -16,7 +16,7 @@ from pathlib import Path
 from typing import Any, NamedTuple
 
 from .faults import Fault
-from .program import NAP, Program
+from .program import PAUSE, Program
 
 # The exit statuses of a description that was written: the design is fully legal, or it is not.
 _WRITTEN = (0, 4)
@@ -127,10 +127,10 @@ class Frame:
         """The least box around the rows, the fences and the obstacles."""
         boxes = [row.box for row in self.rows] + [rect for fence in self.fences for rect in fence.rects]
         boxes += [obstacle.box for obstacle in self.obstacles]
-        return around(boxes)
+        return bounding_box(boxes)
 
 
-def around(boxes: list[Box]) -> Box:
+def bounding_box(boxes: list[Box]) -> Box:
     """The least box around these, of which there is one at least."""
     return Box(
         min(box.left for box in boxes),
@@ -155,7 +155,7 @@ class Description:
         self._run = Program(program, [design, *libraries]).describe()
         self._batches = self._read_batches()
         # Lines behind the frame that were read with it.
-        self._ahead: list[bytes] = []
+        self._read_ahead: list[bytes] = []
         try:
             self.frame = self._read_frame()
         except BaseException:
@@ -182,7 +182,7 @@ class Description:
         return self._cells(lambda lines: [line for line in lines if own in line or _TOTAL in line])
 
     def _cells(self, wanted: Callable[[list[bytes]], list[bytes]]) -> Iterator[Cell]:
-        for lines in itertools.chain([self._ahead], self._batches):
+        for lines in itertools.chain([self._read_ahead], self._batches):
             # One call for many lines: half the time of a call for each.
             for line in json.loads(b"[" + b",".join(wanted(lines)) + b"]"):
                 if line["kind"] == "cell":
@@ -201,7 +201,7 @@ class Description:
             except EOFError:
                 raise self._fault() from None
             yield lines
-            time.sleep(NAP)
+            time.sleep(PAUSE)
 
     def _fault(self) -> Fault:
         return self._run.fault("the program ended without its last line")
@@ -221,17 +221,17 @@ class Description:
                 case "soft":
                     frame.soft.append(Box(*line["box"]))
                 case "cell" | "total":
-                    self._ahead = batch[at:]
+                    self._read_ahead = batch[at:]
                     break
         return frame
 
 
-def take_team(line: bytes, teams: list[str]) -> bool:
+def add_team(line: bytes, teams: list[str]) -> bool:
     """Puts the team to these where the line tells a fence; whether more may come, behind the design, a row or a fence."""
-    said = json.loads(line)
-    if said["kind"] == "fence":
-        teams.append(said["name"])
-    return said["kind"] in ("design", "row", "fence")
+    record = json.loads(line)
+    if record["kind"] == "fence":
+        teams.append(record["name"])
+    return record["kind"] in ("design", "row", "fence")
 
 
 def _cell(line: dict[str, Any]) -> Cell:

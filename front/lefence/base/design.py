@@ -90,7 +90,7 @@ class Entry:
         """Its words, from the one behind `-` up to the semicolon."""
         return TOKENS.findall(self.text)[1:-1]
 
-    def behind(self, clause: bytes) -> bytes | None:
+    def value_after(self, clause: bytes) -> bytes | None:
         """The word behind the first `+` and this word; None where there is none."""
         for at in range(len(self.words) - 2):
             if self.words[at] == b"+" and self.words[at + 1] == clause:
@@ -107,7 +107,7 @@ def pattern_of(word: bytes) -> re.Pattern[bytes]:
     return re.compile(rb".*".join(map(re.escape, STAR.split(word))), re.S)
 
 
-def mapped(path: Path, stack: ExitStack) -> bytes:
+def map_file(path: Path, stack: ExitStack) -> bytes:
     """A file's bytes until the stack ends, which the system reads as they are needed; what is taken of them are bytes."""
     with open(path, "rb") as file:
         if not os.fstat(file.fileno()).st_size:
@@ -184,7 +184,7 @@ def fences_in(text: bytes) -> list[str]:
 
 def fences_of(text: bytes, found: list[Statement]) -> list[bytes]:
     """The names of the FENCE regions, in the order of the text."""
-    return list(dict.fromkeys(entry.name for entry in entries(text, found, b"REGIONS") if entry.behind(b"TYPE") == b"FENCE"))
+    return list(dict.fromkeys(entry.name for entry in entries(text, found, b"REGIONS") if entry.value_after(b"TYPE") == b"FENCE"))
 
 
 class Design:
@@ -200,13 +200,13 @@ class Design:
         self._starred: dict[bytes, list[tuple[re.Pattern[bytes], bytes]]] = {}
         self._prefixes: set[int] = set()
         for group in self.entries(b"GROUPS"):
-            self._claim(group)
+            self._add_group(group)
 
     def entries(self, keyword: bytes) -> Iterator[Entry]:
         """The entries of all sections of that keyword."""
         return entries(self.text, self.statements, keyword)
 
-    def _claim(self, group: Entry) -> None:
+    def _add_group(self, group: Entry) -> None:
         fence = self.fence_of(group)
         if fence is None:
             return
@@ -222,7 +222,7 @@ class Design:
 
     def fence_of(self, group: Entry) -> bytes | None:
         """The FENCE region that a group is bound to, if it is."""
-        region = group.behind(b"REGION")
+        region = group.value_after(b"REGION")
         return region if region in self._fences else None
 
     def team_of(self, component: Entry) -> bytes | None:
@@ -243,16 +243,16 @@ class Design:
         return [component.name for component in self.entries(b"COMPONENTS") if self.team_of(component) == team]
 
 
-def refuse_other_text(path: Path, text: bytes) -> None:
+def refuse_no_design(path: Path, text: bytes) -> None:
     """A fault where the text of a file is no DEF text."""
     if not any(statement.keyword == b"DESIGN" for statement in statements_in(text)):
         compressed = ", but compressed by gzip" if text[:2] == b"\x1f\x8b" else ""
         raise Fault(REFUSED, f"{path} has no DESIGN: it is no DEF text{compressed}")
 
 
-def whole_design(path: Path, text: bytes) -> Design:
+def complete_design(path: Path, text: bytes) -> Design:
     """The design of the text of a file; a fault where that is no DEF text, or is cut off."""
-    refuse_other_text(path, text)
+    refuse_no_design(path, text)
     design = Design(text)
     last = design.statements[-1]
     if [*words_in(text[last.start : last.stop])] != [b"END", b"DESIGN"]:

@@ -41,8 +41,8 @@ class Parser(argparse.ArgumentParser):
 
     def add_program(self) -> None:
         """The option for another program."""
-        told = "the lefence program (that of the search path, or of this repository)"
-        self.add_argument("--program", metavar="PATH", help=told)
+        text = "the lefence program (that of the search path, or of this repository)"
+        self.add_argument("--program", metavar="PATH", help=text)
 
 
 def printable(text: str) -> str:
@@ -52,7 +52,7 @@ def printable(text: str) -> str:
     return "".join(sign if sign.isprintable() or sign in "\n\t" else sign.encode("unicode_escape").decode() for sign in text)
 
 
-def words_of(error: Exception) -> str:
+def reason_of(error: Exception) -> str:
     """What an exception says; of one of the system the file's name and the reason, without its number."""
     if not isinstance(error, OSError) or error.strerror is None:
         return str(error)
@@ -87,7 +87,7 @@ def run_tool(tool: str, work: Callable[[], int]) -> int:
         os.dup2(os.open(os.devnull, os.O_WRONLY), 1)
         return FAILED
     except OSError as error:
-        log(tool, words_of(error))
+        log(tool, reason_of(error))
         return FAILED
     except KeyboardInterrupt:
         return 130

@@ -23,7 +23,7 @@ if TYPE_CHECKING:
 
 # Bytes that are read of the program at a time, and seconds in which they come together: it writes line by line, and whoever wakes
 # for each of a million lines is slow.
-PIECE, NAP = 1 << 20, 0.002
+PIECE, PAUSE = 1 << 20, 0.002
 
 # What a repair ends with that is done: the design is fully legal, or is not.
 REPAIRED = (0, 4)
@@ -63,19 +63,19 @@ class Program:
     def answer(self, lines: Iterable[bytes], replies: IO[bytes], export: Path | None = None) -> None:
         """Has the program answer lines, pieces of a text, on a file, and export; a fault where it fails."""
         words = self._replay_words(export)
-        with tempfile.TemporaryFile() as said:
-            with subprocess.Popen(words, stdin=subprocess.PIPE, stdout=replies, stderr=said) as process:
+        with tempfile.TemporaryFile() as errors:
+            with subprocess.Popen(words, stdin=subprocess.PIPE, stdout=replies, stderr=errors) as process:
                 assert process.stdin
                 try:
                     # (a program that reads no more has failed, or who looks at the replies sees that some lack)
-                    with contextlib.suppress(BrokenPipeError), process.stdin as asked:
-                        asked.writelines(lines)
+                    with contextlib.suppress(BrokenPipeError), process.stdin as input_pipe:
+                        input_pipe.writelines(lines)
                     status = process.wait()
                 except BaseException:
                     process.kill()
                     raise
             if status:
-                raise fault_of(status, said, lost(status))
+                raise fault_of(status, errors, lost_text(status))
 
     def repair(self, options: Iterable[str], lines: Path, export: Path | None, progress: Progress) -> list[dict[str, Any]]:
         """Has the program repair teams, as its options ask for: its report, an object for each team and one for all.
@@ -84,19 +84,19 @@ class Program:
         """
         words = [self.path, "repair", *self._words, *options, "--lines", os.path.abspath(lines)]
         words += ["--export", os.path.abspath(export)] if export else []
-        with tempfile.TemporaryFile() as said:
-            with subprocess.Popen(words, stdin=subprocess.DEVNULL, stdout=subprocess.PIPE, stderr=said) as process:
+        with tempfile.TemporaryFile() as errors:
+            with subprocess.Popen(words, stdin=subprocess.DEVNULL, stdout=subprocess.PIPE, stderr=errors) as process:
                 try:
-                    told = progress.output_of(process, lambda: how_far(said))
+                    output = progress.output_of(process, lambda: progress_line(errors))
                 except BaseException:
                     process.kill()
                     raise
             if process.returncode in REPAIRED:
                 with contextlib.suppress(ValueError):
-                    report = [json.loads(line) for line in told.splitlines()]
+                    report = [json.loads(line) for line in output.splitlines()]
                     if report and "legal" in report[-1]:
                         return report
-            raise fault_of(process.returncode, said, lost(process.returncode))
+            raise fault_of(process.returncode, errors, lost_text(process.returncode))
 
     def replay_on(self, end: socket.socket) -> subprocess.Popen[bytes]:
         """A run that answers lines of a socket; the terminal's Ctrl-C is not for it, and what it says is on standard error."""
@@ -116,13 +116,13 @@ class Program:
         words = self._replay_words(export)
         for option, path in (("--state", state), ("--save", save)):
             words += [option, *path_words([path])] if path else []
-        return await start_run(words, is_asked=True)
+        return await start_run(words, has_input=True)
 
     async def describe_async(self) -> AsyncRun:
         """As `describe`."""
         from .async_run import start_run
 
-        return await start_run(self._describe_words(), is_asked=False)
+        return await start_run(self._describe_words(), has_input=False)
 
     def _replay_words(self, export: str | Path | None = None) -> list[str]:
         words = [self.path, "replay", *self._words, "--lines", str(MOST_LINES), *self._slots]
@@ -137,11 +137,11 @@ class Run:
 
     def __init__(self, words: list[str]) -> None:
         """Starts the program with these words, without an input."""
-        self._said: IO[bytes] = tempfile.TemporaryFile()
+        self._errors: IO[bytes] = tempfile.TemporaryFile()
         nothing, pipe = subprocess.DEVNULL, subprocess.PIPE
-        self._process = subprocess.Popen(words, stdin=nothing, stdout=pipe, stderr=self._said, bufsize=0)
+        self._process = subprocess.Popen(words, stdin=nothing, stdout=pipe, stderr=self._errors, bufsize=0)
         assert self._process.stdout
-        self._output = _widened(self._process.stdout.fileno())
+        self._output = _enlarged(self._process.stdout.fileno())
         self._rest = b""
 
     def __enter__(self) -> Run:
@@ -154,7 +154,7 @@ class Run:
         """Ends the program, if it is still at it."""
         self._process.kill()
         self._process.wait()
-        for end in (self._process.stdout, self._said):
+        for end in (self._process.stdout, self._errors):
             if end:
                 end.close()
 
@@ -172,7 +172,7 @@ class Run:
 
     def fault(self, otherwise: str) -> Fault:
         """The fault of a run that has ended, or is about to."""
-        return fault_of(self._process.wait(), self._said, otherwise)
+        return fault_of(self._process.wait(), self._errors, otherwise)
 
 
 def path_words(paths: Iterable[Path]) -> list[str]:
@@ -185,29 +185,29 @@ def path_words(paths: Iterable[Path]) -> list[str]:
     return words
 
 
-def lost(status: int) -> str:
+def lost_text(status: int) -> str:
     """What is said of a program that ended with this status, and said nothing itself."""
     return f"the program was lost: it ended with {status}"
 
 
-def lines_said(said: IO[bytes]) -> list[str]:
+def output_lines(errors: IO[bytes]) -> list[str]:
     """The lines that a program has written to this file so far, which it may still write to."""
-    return os.pread(said.fileno(), os.fstat(said.fileno()).st_size, 0).decode(errors="backslashreplace").splitlines()
+    return os.pread(errors.fileno(), os.fstat(errors.fileno()).st_size, 0).decode(errors="backslashreplace").splitlines()
 
 
-def how_far(said: IO[bytes]) -> str | None:
+def progress_line(errors: IO[bytes]) -> str | None:
     """How far a repair is that tells it in this file, if it has."""
-    told = [line for line in lines_said(said) if line.startswith(REPAIRING)]
-    return told[-1].removeprefix("lefence: ") if told else None
+    output = [line for line in output_lines(errors) if line.startswith(REPAIRING)]
+    return output[-1].removeprefix("lefence: ") if output else None
 
 
-def fault_of(status: int, said: IO[bytes], otherwise: str) -> Fault:
+def fault_of(status: int, errors: IO[bytes], otherwise: str) -> Fault:
     """The fault of a program that ended with this status, and wrote to this file what it had to say, or nothing."""
-    text = "\n".join(line for line in lines_said(said) if not line.startswith(REPAIRING)).strip() or otherwise
+    text = "\n".join(line for line in output_lines(errors) if not line.startswith(REPAIRING)).strip() or otherwise
     return Fault(status if status in (1, 2, 3) else FAILED, text.removeprefix("lefence: ").replace("\nlefence: ", "; "))
 
 
-def _widened(pipe: int) -> int:
+def _enlarged(pipe: int) -> int:
     """The pipe, with room for as many bytes as the system gives."""
     with contextlib.suppress(AttributeError, OSError):
         fcntl.fcntl(pipe, fcntl.F_SETPIPE_SZ, PIECE)

@@ -32,13 +32,13 @@ class Progress:
                 self._say(f"{done} {self._what}")
             yield thing
 
-    def output_of(self, process: subprocess.Popen[bytes], how_far: Callable[[], str | None]) -> bytes:
+    def output_of(self, process: subprocess.Popen[bytes], progress_line: Callable[[], str | None]) -> bytes:
         """What a process writes on its standard output, once it has ended; meanwhile how far it is, if it tells."""
         while True:
             try:
                 return process.communicate(timeout=max(0, self._next - time.monotonic()))[0]
             except subprocess.TimeoutExpired:
-                self._say(how_far() or self._what)
+                self._say(progress_line() or self._what)
 
     def _say(self, text: str) -> None:
         now = time.monotonic()

@@ -17,10 +17,10 @@ from typing import TypeVar
 
 from ..base.protocol import ProtocolError, is_accepted, text_length
 from . import verbs
-from .blocking import ConnectionLost, answer_of, named, refuse_port
+from .blocking import ConnectionLost, refuse_port, result_of, with_endpoint
 from .cells import Cell, cells_in
 from .refusals import BadRequest, Refusal, Stale
-from .session import BaseSession, Wishes
+from .session import BaseSession, SessionOptions
 from .verbs import Request
 
 T = TypeVar("T")
@@ -35,15 +35,15 @@ async def connect(where: str | os.PathLike[str], port: int | None = None, timeou
     With a timeout in seconds, a line raises TimeoutError where for so long no reply came at all; the connection is then of no
     use. Raises OSError, which names the path or HOST:PORT, where nobody listens.
     """
-    place = os.fspath(where)
+    address = os.fspath(where)
     refuse_port(port)
     try:
         async with asyncio.timeout(timeout):
             if port is not None:
-                return Connection(*await asyncio.open_connection(place, port, limit=_MOST_REPLY), timeout)
-            return Connection(*await asyncio.open_unix_connection(place, limit=_MOST_REPLY), timeout)
+                return Connection(*await asyncio.open_connection(address, port, limit=_MOST_REPLY), timeout)
+            return Connection(*await asyncio.open_unix_connection(address, limit=_MOST_REPLY), timeout)
     except OSError as error:
-        raise named(error, place, port) from None
+        raise with_endpoint(error, address, port) from None
 
 
 class Connection:
@@ -55,7 +55,7 @@ class Connection:
         self._timeout = timeout
         # How many replies came.
         self._count = 0
-        self._is_told = False
+        self._is_reported = False
         self._waiting: deque[tuple[bytes, asyncio.Future[bytes]]] = deque()
         # Why the connection is lost.
         self._lost: str | None = None
@@ -70,13 +70,13 @@ class Connection:
     @property
     def is_lost(self) -> bool:
         """Whether a caller has been told that the connection is lost, or that a reply took too long."""
-        return self._is_told
+        return self._is_reported
 
     def session(
         self, team: str, *, retries: int = 0, microns: bool = False, per_micron: int | None = None, openaccess: bool = False
     ) -> Session:
         """A session of the team, opened by `async with`; the arguments are those of `lefence.client.Connection.session`."""
-        return Session(self, team, Wishes(retries, microns or per_micron is not None, per_micron, openaccess))
+        return Session(self, team, SessionOptions(retries, microns or per_micron is not None, per_micron, openaccess))
 
     async def ask_line(self, line: bytes) -> bytes:
         """The whole reply to a line, given without its line feed; one of `def` with its text."""
@@ -85,18 +85,18 @@ class Connection:
         try:
             return await self._ask_line(line)
         except (ConnectionLost, TimeoutError, ProtocolError):
-            self._is_told = True
+            self._is_reported = True
             raise
 
     async def _ask_line(self, line: bytes) -> bytes:
         # (that a sender waits for its reply bounds what is unsent)
         reply = self._send(line)
         try:
-            return await self._within(reply)
+            return await self._wait_for(reply)
         except BaseException:
             if not reply.cancel() and not reply.cancelled() and not reply.exception():
                 # (it came when its caller was cancelled already)
-                self._close_unheard(line, reply.result())
+                self._close_abandoned(line, reply.result())
             raise
 
     def _send(self, line: bytes) -> asyncio.Future[bytes]:
@@ -107,12 +107,12 @@ class Connection:
         self._writer.write(line + b"\n")
         return reply
 
-    def send_unheard(self, line: bytes) -> None:
+    def send_unawaited(self, line: bytes) -> None:
         """Sends a line to whose reply nobody listens, where the connection is not lost."""
         if not self._lost:
             self._send(line).cancel()
 
-    async def _within(self, reply: asyncio.Future[bytes]) -> bytes:
+    async def _wait_for(self, reply: asyncio.Future[bytes]) -> bytes:
         """The reply, as long as some reply comes within the timeout."""
         while self._timeout is not None:
             count = self._count
@@ -125,7 +125,7 @@ class Connection:
 
     async def ask(self, request: Request[T]) -> T:
         """What the reply to a request says; raises its refusal."""
-        return answer_of(request, await self.ask_line(request.line))
+        return result_of(request, await self.ask_line(request.line))
 
     async def export(self, path: str) -> None:
         """Has a hub write the committed places of all teams to a file of its machine; the operator's socket alone."""
@@ -139,7 +139,7 @@ class Connection:
     async def close(self) -> None:
         """Ends the connection; a hub then frees its sessions."""
         self._reading.cancel()
-        if self._lost or self._is_told or self._writer.transport.get_write_buffer_size():
+        if self._lost or self._is_reported or self._writer.transport.get_write_buffer_size():
             # (nobody may be there who reads the rest)
             self._writer.transport.abort()
         self._writer.close()
@@ -147,7 +147,7 @@ class Connection:
             await self._writer.wait_closed()
         except OSError:
             pass
-        self._lose("the connection is closed")
+        self._mark_lost("the connection is closed")
 
     async def _read(self) -> None:
         """Gives each reply to the line that it is of."""
@@ -155,35 +155,35 @@ class Connection:
             while reply := await self._reader.readline():
                 if not reply.endswith(b"\n") or not self._waiting:
                     break
-                line, waits = self._waiting[0]
+                line, future = self._waiting[0]
                 reply += await self._reader.readexactly(text_length(line, reply))
                 self._waiting.popleft()
                 self._count += 1
-                if not waits.done():
-                    waits.set_result(reply)
+                if not future.done():
+                    future.set_result(reply)
                 else:
-                    self._close_unheard(line, reply)
-            self._lose("the connection was ended by the other end")
+                    self._close_abandoned(line, reply)
+            self._mark_lost("the connection was ended by the other end")
         except ProtocolError as error:
-            _, waits = self._waiting.popleft()
-            if not waits.done():
-                waits.set_exception(error)
-            self._lose(f"the connection is lost: {error}")
+            _, future = self._waiting.popleft()
+            if not future.done():
+                future.set_exception(error)
+            self._mark_lost(f"the connection is lost: {error}")
         except Exception as error:
-            self._lose(f"the connection is lost: {error}")
+            self._mark_lost(f"the connection is lost: {error}")
 
-    def _close_unheard(self, line: bytes, reply: bytes) -> None:
+    def _close_abandoned(self, line: bytes, reply: bytes) -> None:
         """Closes a session whose opener was cancelled, so that its slot is free again."""
-        words, told = line.split(), reply.split()
-        if words[:1] == [b"open"] and len(words) == 2 and is_accepted(reply) and len(told) > 1:
-            self.send_unheard(b"close %b %b" % (words[1], told[1]))
+        words, words = line.split(), reply.split()
+        if words[:1] == [b"open"] and len(words) == 2 and is_accepted(reply) and len(words) > 1:
+            self.send_unawaited(b"close %b %b" % (words[1], words[1]))
 
-    def _lose(self, text: str) -> None:
+    def _mark_lost(self, text: str) -> None:
         self._lost = self._lost or text
         while self._waiting:
-            _, waits = self._waiting.popleft()
-            if not waits.done():
-                waits.set_exception(ConnectionLost(self._lost))
+            _, future = self._waiting.popleft()
+            if not future.done():
+                future.set_exception(ConnectionLost(self._lost))
 
 
 class Session(BaseSession[Connection]):
@@ -200,7 +200,7 @@ class Session(BaseSession[Connection]):
                 self._begin(number)
         except BaseException:
             scope, self._scope = self.scope, None
-            self.connection.send_unheard(verbs.close_session(scope).line)
+            self.connection.send_unawaited(verbs.close_session(scope).line)
             raise
         return self
 

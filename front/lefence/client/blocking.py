@@ -24,7 +24,7 @@ from ..base.protocol import ProtocolError, text_length
 from . import verbs
 from .cells import Cell, cells_in
 from .refusals import BadRequest, Refusal, Stale, refusal_of
-from .session import BaseSession, Verbs, Wishes
+from .session import BaseSession, SessionOptions, Verbs
 from .verbs import Request, Scope, read_reply
 
 T = TypeVar("T")
@@ -48,7 +48,7 @@ def connect(where: str | os.PathLike[str], port: int | None = None, timeout: flo
     try:
         return Connection(_end_at(os.fspath(where), port, timeout), timeout)
     except OSError as error:
-        raise named(error, os.fspath(where), port) from None
+        raise with_endpoint(error, os.fspath(where), port) from None
 
 
 def refuse_port(port: int | None) -> None:
@@ -72,7 +72,7 @@ def _end_at(where: str, port: int | None, timeout: float | None) -> socket.socke
     return end
 
 
-def named(error: OSError, where: str, port: int | None) -> OSError:
+def with_endpoint(error: OSError, where: str, port: int | None) -> OSError:
     """The error with what was tried."""
     tried = where if port is None else f"{where}:{port}"
     if error.errno is None:
@@ -82,7 +82,7 @@ def named(error: OSError, where: str, port: int | None) -> OSError:
 
 
 @dataclass
-class Sent:
+class SentLine:
     """A line that was sent or waits to be, and its whole reply, once it has been read."""
 
     line: bytes
@@ -102,7 +102,7 @@ class Connection:
         self._selector.register(end, self._events)
         self._out = bytearray()
         self._in = bytearray()
-        self._unanswered: deque[Sent] = deque()
+        self._unanswered: deque[SentLine] = deque()
         self._is_open, self._is_lost = True, False
 
     def __enter__(self) -> Connection:
@@ -125,7 +125,7 @@ class Connection:
         change is right whatever others changed. With `microns`, lengths are microns; how many database units are one a hub
         tells, `lefence serve` with the team's DEF text, or `per_micron`. With `openaccess`, orientations are R0, MX and so on.
         """
-        return Session(self, team, Wishes(retries, microns or per_micron is not None, per_micron, openaccess))
+        return Session(self, team, SessionOptions(retries, microns or per_micron is not None, per_micron, openaccess))
 
     def ask_line(self, line: bytes) -> bytes:
         """The whole reply to a line, given without its line feed; one of `def` with its text."""
@@ -152,26 +152,26 @@ class Connection:
 
     def ask(self, request: Request[T]) -> T:
         """What the reply to a request says; raises its refusal."""
-        return answer_of(request, self.ask_line(request.line))
+        return result_of(request, self.ask_line(request.line))
 
-    def send(self, line: bytes) -> Sent:
+    def send(self, line: bytes) -> SentLine:
         """Queues a line and waits for nothing; it goes out once somebody waits or flushes, or many are queued. `wait` gives its reply."""
         if b"\n" in line:
             raise ValueError("a line has no line feed in it")
-        sent = Sent(line)
+        sent = SentLine(line)
         self._unanswered.append(sent)
         self._out += line + b"\n"
         if len(self._out) >= _PIECE:
-            self._turn(waits=False)
+            self._transfer(waits=False)
         return sent
 
     def flush(self) -> None:
         """Sends all lines that are queued."""
         last = self._deadline()
         while self._out:
-            self._turn(last)
+            self._transfer(last)
 
-    def wait(self, sent: Sent) -> bytes:
+    def wait(self, sent: SentLine) -> bytes:
         """The whole reply to a line that was sent; those to earlier ones come before it and are kept."""
         while sent.reply is None:
             first = self._unanswered[0]
@@ -192,16 +192,16 @@ class Connection:
         begin = 0
         while (end := self._in.find(b"\n", begin)) < 0:
             begin = len(self._in)
-            self._turn(last)
+            self._transfer(last)
         end += 1
         length = text_length(line, bytes(self._in[:end])) if line.lstrip().startswith(b"def") else 0
         while len(self._in) < end + length:
-            self._turn(last)
+            self._transfer(last)
         reply = bytes(self._in[: end + length])
         del self._in[: end + length]
         return reply
 
-    def _turn(self, last: float | None = None, waits: bool = True) -> None:
+    def _transfer(self, last: float | None = None, waits: bool = True) -> None:
         """Sends and reads what goes; both, so that neither end waits for the other."""
         if not self._is_open:
             raise ConnectionLost("the connection is closed")
@@ -216,8 +216,8 @@ class Connection:
         if events != self._events:
             self._selector.modify(self._end, events)
             self._events = events
-        left = None if last is None else max(0, last - time.monotonic())
-        ready = self._selector.select(left if waits else 0)
+        remaining = None if last is None else max(0, last - time.monotonic())
+        ready = self._selector.select(remaining if waits else 0)
         if not ready and waits:
             raise TimeoutError(f"no reply for {self._timeout} seconds")
         try:
@@ -235,7 +235,7 @@ class Connection:
             raise ConnectionLost(f"the connection is lost: {error.strerror}") from None
 
 
-def answer_of(request: Request[T], reply: bytes) -> T:
+def result_of(request: Request[T], reply: bytes) -> T:
     """What the reply to a request says; raises its refusal."""
     first, _, text = reply.partition(b"\n")
     if first == b"ok" or first.startswith(b"ok "):
@@ -252,7 +252,7 @@ class Pending(Generic[T]):
     def __init__(self, pipeline: Pipeline, request: Request[T]) -> None:
         self.request = request
         # Whether somebody was told what its reply says, and how often it was sent.
-        self.is_told, self.times_sent = False, 0
+        self.is_read, self.times_sent = False, 0
         self._pipeline = pipeline
         self.send()
 
@@ -267,7 +267,7 @@ class Pending(Generic[T]):
 
     def result(self) -> T:
         """What its reply says, which is waited for; raises its refusal."""
-        return answer_of(self.request, self._reply())
+        return result_of(self.request, self._reply())
 
     @property
     def refusal(self) -> Refusal | None:
@@ -279,8 +279,8 @@ class Pending(Generic[T]):
         return None
 
     def _reply(self) -> bytes:
-        reply = self._pipeline.settled(self)
-        self.is_told = True
+        reply = self._pipeline.final_reply(self)
+        self.is_read = True
         return reply
 
 
@@ -362,18 +362,18 @@ class Pipeline(Verbs):
     def __init__(self, session: Session, raises: bool) -> None:
         self._session = session
         self._raises = raises
-        self._begun: list[Pending[Any]] = []
+        self._requests: list[Pending[Any]] = []
 
     @property
     def connection(self) -> Connection:
         """The session's connection."""
         return self._session.connection
 
-    def settled(self, pending: Pending[Any]) -> bytes:
+    def final_reply(self, pending: Pending[Any]) -> bytes:
         """The reply to a request, which is sent again as often as the session says while it is stale."""
         most = self._session.retries + 1
         while _is_stale(reply := pending.wait()) and pending.times_sent < most:
-            stale = [each for each in self._begun if each.times_sent < most and _is_stale(each.wait())]
+            stale = [each for each in self._requests if each.times_sent < most and _is_stale(each.wait())]
             self.connection.ask(verbs.sync(self.scope))
             for each in stale:
                 each.send()
@@ -388,9 +388,9 @@ class Pipeline(Verbs):
         return self
 
     def __exit__(self, kind: type[BaseException] | None, error: BaseException | None, trace: TracebackType | None) -> None:
-        untold = [pending for pending in self._begun if not pending.is_told]
+        unread = [pending for pending in self._requests if not pending.is_read]
         try:
-            refusals = [pending.refusal for pending in untold]
+            refusals = [pending.refusal for pending in unread]
         except (OSError, ProtocolError):
             if kind is None:
                 raise
@@ -402,7 +402,7 @@ class Pipeline(Verbs):
     def ask(self, request: Request[T]) -> Pending[T]:
         """Queues a request, which goes out as `Connection.send` says, and waits for nothing."""
         pending = Pending(self, request)
-        self._begun.append(pending)
+        self._requests.append(pending)
         return pending
 
 

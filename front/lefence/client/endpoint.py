@@ -9,7 +9,7 @@ import subprocess
 from dataclasses import dataclass
 from pathlib import Path
 
-from ..base.description import take_team
+from ..base.description import add_team
 from ..base.faults import FAILED, REFUSED, USAGE, Fault
 from ..base.program import Program, Run, find_program
 from ..base.protocol import GROUND, team_of_socket
@@ -63,9 +63,9 @@ def start_program(given: str | None, paths: list[Path]) -> Endpoint:
     connection = Connection(near)
     try:
         # (the design is loaded twice at once)
-        with program.describe() as telling:
+        with program.describe() as description:
             _wait_loaded(connection, process)
-            return Endpoint(connection, _teams_of(telling, program.path), process)
+            return Endpoint(connection, _described_teams(description, program.path), process)
     except BaseException:
         # Whereupon the program ends, if it has not; Ctrl-C does not wait for it.
         connection.close()
@@ -80,12 +80,12 @@ def _wait_loaded(connection: Connection, process: subprocess.Popen[bytes]) -> No
         raise Fault(REFUSED if status == 1 else FAILED, "the program does not start; its own line tells why") from None
 
 
-def _teams_of(telling: Run, path: str) -> list[str]:
+def _described_teams(description: Run, path: str) -> list[str]:
     """The teams that a description tells, which is read no further than to its cells."""
     teams: list[str] = []
     try:
-        while all(take_team(line, teams) for line in telling.lines()):
+        while all(add_team(line, teams) for line in description.lines()):
             pass
     except EOFError:
-        raise telling.fault(f"{path} does not tell the teams of the design") from None
+        raise description.fault(f"{path} does not tell the teams of the design") from None
     return [*teams, GROUND]

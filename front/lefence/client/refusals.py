@@ -11,7 +11,7 @@ from typing import ClassVar
 from ..base.protocol import RULES
 
 # What a cell that breaks a rule does, by the rule's number; rule 8 is said of two cells.
-_BROKEN = {
+_VIOLATIONS = {
     1: "{} is not from 1 to 8 core sites high",
     2: "{} {stand} on no core row, off its x grid or beyond its ends",
     3: "{} {lack} rows under all of its height, with rails that alternate",
@@ -22,13 +22,13 @@ _BROKEN = {
     8: "{} {overlap} {}",
 }
 # The same of rule 8 where the team may have a padding.
-_NEAR = "{} {overlap} {} or {be} too near to it"
+_TOO_NEAR = "{} {overlap} {} or {be} too near to it"
 
 
-def broken_in_words(rule: int, cell: str, other: str | None = None, is_there: bool = False, is_padded: bool = False) -> str:
+def violation_text(rule: int, cell: str, other: str | None = None, is_there: bool = False, is_padded: bool = False) -> str:
     """Which rule a cell breaks at its place or, if it is not there yet, would break; its team may have a padding, or has none."""
     verbs = {verb: f"{verb}s" if is_there else f"would {verb}" for verb in ("stand", "lack", "leave", "overlap")}
-    words = _NEAR if rule == 8 and is_padded else _BROKEN.get(rule, f"{{}} breaks rule {rule}")
+    words = _TOO_NEAR if rule == 8 and is_padded else _VIOLATIONS.get(rule, f"{{}} breaks rule {rule}")
     return words.format(cell, other or "another cell", be="is" if is_there else "be", **verbs)
 
 
@@ -150,7 +150,7 @@ class Illegal(Refusal):
         return self._field(2) or None
 
     def words(self) -> str:
-        return broken_in_words(self.rule, self.cell, self.other, is_padded=True)
+        return violation_text(self.rule, self.cell, self.other, is_padded=True)
 
 
 class NoPlace(Refusal):

@@ -19,7 +19,7 @@ P = ParamSpec("P")
 T = TypeVar("T")
 
 
-class Asks(Protocol):
+class Requester(Protocol):
     """Whatever has verbs: an open session, and a way to ask."""
 
     @property
@@ -36,25 +36,25 @@ class Method(Generic[P, T]):
 
     def __init__(self, build: Callable[Concatenate[Scope, P], Request[T]]) -> None:
         @functools.wraps(build)
-        def method(self: Asks, /, *args: P.args, **kwargs: P.kwargs) -> Any:
+        def method(self: Requester, /, *args: P.args, **kwargs: P.kwargs) -> Any:
             return self.ask(build(self.scope, *args, **kwargs))
 
         self._method = method
 
     @overload
-    def __get__(self, asks: client.Session, kind: type) -> Callable[P, T]: ...
+    def __get__(self, requester: client.Session, kind: type) -> Callable[P, T]: ...
     @overload
-    def __get__(self, asks: client.Pipeline, kind: type) -> Callable[P, client.Pending[T]]: ...
+    def __get__(self, requester: client.Pipeline, kind: type) -> Callable[P, client.Pending[T]]: ...
     @overload
-    def __get__(self, asks: aio.Session, kind: type) -> Callable[P, Awaitable[T]]: ...
+    def __get__(self, requester: aio.Session, kind: type) -> Callable[P, Awaitable[T]]: ...
     @overload
-    def __get__(self, asks: None, kind: type[client.Session]) -> Callable[Concatenate[client.Session, P], T]: ...
+    def __get__(self, requester: None, kind: type[client.Session]) -> Callable[Concatenate[client.Session, P], T]: ...
     @overload
-    def __get__(self, asks: None, kind: type[client.Pipeline]) -> Callable[Concatenate[client.Pipeline, P], client.Pending[T]]: ...
+    def __get__(self, requester: None, kind: type[client.Pipeline]) -> Callable[Concatenate[client.Pipeline, P], client.Pending[T]]: ...
     @overload
-    def __get__(self, asks: None, kind: type[aio.Session]) -> Callable[Concatenate[aio.Session, P], Awaitable[T]]: ...
-    def __get__(self, asks: Any, kind: type) -> Any:
-        return self._method.__get__(asks, kind)
+    def __get__(self, requester: None, kind: type[aio.Session]) -> Callable[Concatenate[aio.Session, P], Awaitable[T]]: ...
+    def __get__(self, requester: Any, kind: type) -> Any:
+        return self._method.__get__(requester, kind)
 
 
 class Verbs:
@@ -77,7 +77,7 @@ class Verbs:
 
 
 @dataclass(frozen=True)
-class Wishes:
+class SessionOptions:
     """What a session is opened with: how often a stale change is sent again, and how lengths and orientations are spelled."""
 
     retries: int = 0
@@ -89,15 +89,15 @@ class Wishes:
 class BaseSession(Verbs, Generic[C]):
     """A session of a team over a connection; it is open inside its block."""
 
-    def __init__(self, connection: C, team: str, wishes: Wishes) -> None:
+    def __init__(self, connection: C, team: str, options: SessionOptions) -> None:
         self.connection = connection
         self.team = team
-        self.retries = wishes.retries
+        self.retries = options.retries
         # The team's revision when the session was opened.
         self.first_revision = 0
         self._scope: Scope | None = None
-        self._wishes = wishes
-        self._per_micron = wishes.per_micron
+        self._options = options
+        self._per_micron = options.per_micron
 
     @property
     def scope(self) -> Scope:
@@ -114,7 +114,7 @@ class BaseSession(Verbs, Generic[C]):
     @property
     def _lacks_units(self) -> bool:
         """Whether lengths are microns, and how many database units one has is not known."""
-        return self._wishes.microns and self._per_micron is None
+        return self._options.microns and self._per_micron is None
 
     def _refuse_open(self) -> None:
         """ValueError where the session is open: its slot would be forgotten."""
@@ -123,4 +123,4 @@ class BaseSession(Verbs, Generic[C]):
 
     def _begin(self, number: int) -> None:
         """The session is open, with all that its wishes need."""
-        self._scope = Scope(self.team, number, self._per_micron, self._wishes.openaccess)
+        self._scope = Scope(self.team, number, self._per_micron, self._options.openaccess)

@@ -141,9 +141,9 @@ def _revision(words: list[str], text: bytes) -> int:
 
 
 def _report(words: list[str], text: bytes) -> Report:
-    said = json.loads(" ".join(words))
-    violations = tuple(Violation(each["cell"], each["rule"], each.get("other")) for each in said["violations"])
-    return Report(said["cells"], said["unplaced"], violations)
+    report = json.loads(" ".join(words))
+    violations = tuple(Violation(each["cell"], each["rule"], each.get("other")) for each in report["violations"])
+    return Report(report["cells"], report["unplaced"], violations)
 
 
 def open_session(team: str) -> Request[tuple[int, int]]:

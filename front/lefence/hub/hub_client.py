@@ -46,21 +46,21 @@ class Host(Protocol):
 
     patience: float
     # A team name that no team has.
-    nobody: bytes
+    unused_name: bytes
     # The database units in a micron.
     units: bytes
 
     def admit(self, client: Client) -> bool: ...
 
-    def wake(self, client: Client) -> None: ...
+    def enqueue(self, client: Client) -> None: ...
 
-    def leave(self, client: Client) -> None: ...
+    def remove(self, client: Client) -> None: ...
 
-    def clog(self, client: Client) -> None: ...
+    def mark_slow(self, client: Client) -> None: ...
 
-    def unclog(self, client: Client) -> None: ...
+    def unmark_slow(self, client: Client) -> None: ...
 
-    def calm(self, kind: str, text: str) -> None: ...
+    def log_limited(self, kind: str, text: str) -> None: ...
 
 
 class Client(asyncio.BufferedProtocol):
@@ -73,7 +73,7 @@ class Client(asyncio.BufferedProtocol):
         self.waiting: deque[bytes | None] = deque()
         self.replies: list[bytes] = []
         # Much is unread; it waits for an export; nothing more will be asked.
-        self.is_clogged = self.is_busy = self.is_done = False
+        self.is_slow = self.is_exporting = self.is_ended = False
         self.transport: asyncio.Transport
         self._buffer = bytearray(_BUFFER)
         # A line that has not ended.
@@ -84,7 +84,7 @@ class Client(asyncio.BufferedProtocol):
         self.who = b"-"
         self.uid = self.pid = -1
         # When it was heard or told something last.
-        self.heard = time.monotonic()
+        self.last_heard = time.monotonic()
 
     def connection_made(self, transport: asyncio.BaseTransport) -> None:
         assert isinstance(transport, asyncio.Transport)
@@ -96,28 +96,28 @@ class Client(asyncio.BufferedProtocol):
         team = "operator" if self.team is None else self.team.decode()
         self.name = f"{team} pid {self.pid} uid {self.uid}"
         if not self.host.admit(self):
-            self.host.calm(f"crowd {team}", f"{self.name}: one client too many")
+            self.host.log_limited(f"crowd {team}", f"{self.name}: one client too many")
             transport.abort()
 
     def get_buffer(self, sizehint: int) -> bytearray:
         return self._buffer
 
     def buffer_updated(self, count: int) -> None:
-        self.heard = time.monotonic()
+        self.last_heard = time.monotonic()
         *lines, rest = (self._partial + self._buffer[:count]).split(b"\n")
         # What is longer is too long all the same.
         self._partial = bytes(rest[: MOST_LINE + 1])
         self.waiting.extend(lines)
         if len(self.waiting) > WAITING_LINES:
             self.transport.pause_reading()
-        self.host.wake(self)
+        self.host.enqueue(self)
 
     def eof_received(self) -> bool:
         if self._partial:
             # A carriage return is no part of a line's end where no line feed follows, and makes a bad request.
             self.waiting.append(b"\0" if self._partial.endswith(b"\r") else self._partial)
         self.waiting.append(None)
-        self.host.wake(self)
+        self.host.enqueue(self)
         return True
 
     def is_unbounded(self) -> bool:
@@ -125,37 +125,37 @@ class Client(asyncio.BufferedProtocol):
         words = (self.waiting[0] or b"").split(None, 1)
         return bool(words) and words[0] in UNBOUNDED
 
-    def next_entry(self, reads_on: bool) -> Entry:
+    def next_entry(self, keeps_reading: bool) -> Entry:
         """The next of the waiting lines, as the program is to read it; `reads_on` says whether more may be read.
 
         A line of a team's client that names another team is asked with a name that no team has.
         """
         line = self.waiting.popleft()
-        if reads_on and len(self.waiting) <= WAITING_LINES:
+        if keeps_reading and len(self.waiting) <= WAITING_LINES:
             self.transport.resume_reading()
         fields = fields_of(line) if line is not None else []
         if line is None or fields == [b"bye"]:
-            self.is_done = True
+            self.is_ended = True
             return Entry(self, [], b"" if line is None else b"ok\n", is_last=True)
         if fields == [b"units"]:
             return Entry(self, fields, b"ok %b\n" % self.host.units)
         if self.team is not None and len(fields) > 1 and fields[1] != self.team:
-            fields[1] = self.host.nobody
+            fields[1] = self.host.unused_name
         return Entry(self, fields)
 
     def flush(self) -> None:
         """Sends the replies."""
-        self.heard = time.monotonic()
+        self.last_heard = time.monotonic()
         if not self.transport.is_closing():
             self.transport.write(b"".join(self.replies))
         self.replies.clear()
 
-    def part(self) -> None:
+    def disconnect(self) -> None:
         """Ends the connection behind the last reply.
 
         What the client has sent beyond it is read and dropped: left unread, it would make the end a reset.
         """
-        self.is_done = True
+        self.is_ended = True
         with contextlib.suppress(OSError):
             for _ in range(_MOST_READS):
                 if not os.read(self.transport.get_extra_info("socket").fileno(), _BUFFER):
@@ -163,20 +163,20 @@ class Client(asyncio.BufferedProtocol):
         self.transport.close()
         if self._timer is None and self.transport.get_write_buffer_size():
             # (the transport waits for ever for one that reads nothing)
-            self._judge(sys.maxsize)
+            self._drop_if_slow(sys.maxsize)
 
     def pause_writing(self) -> None:
-        self.is_clogged = True
-        self.host.clog(self)
-        self._judge(sys.maxsize)
+        self.is_slow = True
+        self.host.mark_slow(self)
+        self._drop_if_slow(sys.maxsize)
 
-    def _judge(self, before: int) -> None:
+    def _drop_if_slow(self, unread_before: int) -> None:
         """Drops the client if it has read nothing since this was asked last."""
         unread = self.transport.get_write_buffer_size() + self._unread_of_system()
-        if unread < before:
-            self._timer = asyncio.get_running_loop().call_later(self.host.patience, self._judge, unread)
+        if unread < unread_before:
+            self._timer = asyncio.get_running_loop().call_later(self.host.patience, self._drop_if_slow, unread)
         else:
-            self.host.calm("dropped", f"{self.name}: dropped, leaves {unread} bytes unread")
+            self.host.log_limited("dropped", f"{self.name}: dropped, leaves {unread} bytes unread")
             self.transport.abort()
 
     def _unread_of_system(self) -> int:
@@ -185,16 +185,16 @@ class Client(asyncio.BufferedProtocol):
         return int(struct.unpack("i", held)[0])
 
     def resume_writing(self) -> None:
-        self.is_clogged = False
-        self.host.unclog(self)
+        self.is_slow = False
+        self.host.unmark_slow(self)
         # (what is left for one that is done must be read to its end)
-        if self._timer is not None and not self.is_done:
+        if self._timer is not None and not self.is_ended:
             self._timer.cancel()
             self._timer = None
-        self.host.wake(self)
+        self.host.enqueue(self)
 
     def connection_lost(self, error: Exception | None) -> None:
-        self.is_done = True
+        self.is_ended = True
         if self._timer is not None:
             self._timer.cancel()
-        self.host.leave(self)
+        self.host.remove(self)

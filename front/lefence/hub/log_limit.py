@@ -6,7 +6,7 @@ import time
 from collections.abc import Callable
 
 
-class Calm:
+class RateLimitedLog:
     """Says one line of each kind a minute, and then how many more there were meanwhile."""
 
     def __init__(self, say: Callable[[str], None], seconds: float = 60) -> None:

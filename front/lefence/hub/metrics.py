@@ -14,22 +14,22 @@ from ..base.protocol import REVISIONS, is_accepted
 _BATCHES = 4096
 _KIB = 1024
 # Commands behind which a team's working places are its committed ones.
-_LEVEL = (b"commit", b"revert")
+_EVEN = (b"commit", b"revert")
 
 
-class TeamFigures:
+class TeamMetrics:
     """A team's revision, and how many changes it made since it committed or reverted last."""
 
     def __init__(self) -> None:
         self.revision = self.uncommitted = 0
 
 
-class Figures:
+class Metrics:
     """Counts of one hub."""
 
     def __init__(self) -> None:
-        self.begun = time.time()
-        self.teams: dict[bytes, TeamFigures] = {}
+        self.started = time.time()
+        self.teams: dict[bytes, TeamMetrics] = {}
         # How often the program was started again.
         self.restores = 0
         self.lines = 0
@@ -40,9 +40,9 @@ class Figures:
     def note(self, fields: list[bytes], reply: bytes) -> None:
         """Takes account of an answered line."""
         if fields and fields[0] in REVISIONS and is_accepted(reply):
-            team = self.teams.setdefault(fields[1], TeamFigures())
+            team = self.teams.setdefault(fields[1], TeamMetrics())
             team.revision = int(reply.split()[1])
-            team.uncommitted = 0 if fields[0] in _LEVEL else team.uncommitted + 1
+            team.uncommitted = 0 if fields[0] in _EVEN else team.uncommitted + 1
 
     def count(self, lines: int) -> None:
         """Takes account of a batch."""
@@ -50,7 +50,7 @@ class Figures:
         self.batches.append(lines)
 
 
-def share(values: Iterable[float], part: float) -> float:
+def percentile(values: Iterable[float], part: float) -> float:
     """What that part of the values does not exceed; 0 of none."""
     found = sorted(values)
     return found[min(len(found) - 1, int(len(found) * part))] if found else 0
@@ -94,16 +94,16 @@ _TEAM_METRICS = {
 def prometheus(status: dict[str, Any]) -> str:
     """The same as a status tells, as Prometheus reads it."""
     lines: list[str] = []
-    for name, (kind, told) in _METRICS.items():
-        lines += [*_head(f"lefence_{name}", kind, told), f"lefence_{name} {status[name]}"]
-    for name, (kind, told) in _TEAM_METRICS.items():
-        lines += _head(f"lefence_team_{name}", kind, told)
+    for name, (kind, help_text) in _METRICS.items():
+        lines += [*_head(f"lefence_{name}", kind, help_text), f"lefence_{name} {status[name]}"]
+    for name, (kind, help_text) in _TEAM_METRICS.items():
+        lines += _head(f"lefence_team_{name}", kind, help_text)
         lines += (f'lefence_team_{name}{{team="{team}"}} {value}' for team, value in _of_teams(status, name))
     return "".join(f"{line}\n" for line in lines)
 
 
-def _head(name: str, kind: str, told: str) -> list[str]:
-    return [f"# HELP {name} {told}", f"# TYPE {name} {kind}"]
+def _head(name: str, kind: str, help_text: str) -> list[str]:
+    return [f"# HELP {name} {help_text}", f"# TYPE {name} {kind}"]
 
 
 def _of_teams(status: dict[str, Any], name: str) -> Iterator[tuple[str, int]]:

@@ -9,7 +9,7 @@ from collections.abc import Callable, Iterator
 from pathlib import Path
 
 from ..base.async_run import AsyncRun
-from ..base.description import take_team
+from ..base.description import add_team
 from ..base.faults import FAILED, REFUSED, Fault
 from ..base.program import PIECE, Program
 from ..base.protocol import GROUND, text_length
@@ -43,14 +43,14 @@ class Server:
         """The process of the program, where it runs."""
         return self._run.pid if self._run else None
 
-    def silence(self) -> float:
+    def seconds_silent(self) -> float:
         """For how many seconds the program has said nothing, while it has something to answer or to write."""
         return 0 if self._since is None else time.monotonic() - self._since
 
-    def strike(self) -> None:
+    def send_kill(self) -> None:
         """Kills a program that hangs; whoever waits for it is told that it is lost."""
         if self._run:
-            self._run.strike()
+            self._run.send_kill()
 
     async def start(self, state: State | None = None) -> None:
         """Starts the program, and waits until it has loaded the design, and the state with which it is to begin.
@@ -60,7 +60,7 @@ class Server:
         await self.kill()
         self._run = await self.program.replay_async(self._export, state.path if state else None, self._save)
         try:
-            await self.ask([b""])
+            await self.execute([b""])
         except ServerLost:
             status = await self._run.wait()
             if status in (1, 2):
@@ -72,7 +72,7 @@ class Server:
         if state and not await asyncio.to_thread(state.is_whole):
             raise Fault(REFUSED, f"{state.path} has changed")
 
-    async def ask(self, lines: list[bytes]) -> list[bytes]:
+    async def execute(self, lines: list[bytes]) -> list[bytes]:
         """The reply to each line with all its bytes; a `def` may only be the last. Raises ServerLost where the program dies."""
         if not lines:
             return []
@@ -89,35 +89,35 @@ class Server:
     async def _replies(self, lines: list[bytes]) -> list[bytes]:
         assert self._run
         reader = self._run.reader
-        pieces, feeds = [], 0
-        while feeds < len(lines):
+        pieces, line_feeds = [], 0
+        while line_feeds < len(lines):
             piece = await reader.read(PIECE)
             if not piece:
                 raise ConnectionResetError("end of its replies")
             pieces.append(piece)
             self._since = time.monotonic()
-            feeds += piece.count(b"\n")
+            line_feeds += piece.count(b"\n")
         *texts, rest = b"".join(pieces).split(b"\n", len(lines))
         replies = [text + b"\n" for text in texts]
         if length := text_length(lines[-1], replies[-1]):
             replies[-1] += rest + await reader.readexactly(length - len(rest))
         return replies
 
-    async def restore(self, records: Iterator[Record], note: Note | None = None, count: int = 0) -> int:
+    async def restore(self, records: Iterator[Record], on_record: Note | None = None, count: int = 0) -> int:
         """Has the lines of a journal answered, and compares each reply; `note` is told of each. How many they are with `count` before.
 
         Raises a fault at the first reply that is another; ServerLost where the program dies or lacks memory.
         """
         while chunk := list(itertools.islice(records, _CHUNK)):
-            for record, reply in zip(chunk, await self.ask([record.line for record in chunk])):
+            for record, reply in zip(chunk, await self.execute([record.line for record in chunk])):
                 count += 1
                 if reply.startswith(b"no 12 "):
                     raise ServerLost("the program has no memory to restore its state")
                 if reply != record.reply:
                     place = f"change {count}: the journal has {record.reply!r} for {record.line!r}"
                     raise Fault(REFUSED, f"{place}, and the program answers {reply!r}")
-                if note:
-                    note(record.line.split(), reply)
+                if on_record:
+                    on_record(record.line.split(), reply)
         return count
 
     async def end(self) -> int:
@@ -136,14 +136,14 @@ class Server:
         self._run = None
 
 
-async def teams_told(program: Program) -> list[str]:
+async def described_teams(program: Program) -> list[str]:
     """The teams that the program finds in a design: `lefence describe` tells them before its cells, and is ended there."""
     run = await program.describe_async()
     teams = [GROUND]
     try:
         # (the last line of one that dies may be a part)
         while (line := await run.reader.readline()).endswith(b"\n"):
-            if not take_team(line, teams):
+            if not add_team(line, teams):
                 return teams
         raise await run.fault(f"{program.path} does not tell the teams of the design")
     finally:

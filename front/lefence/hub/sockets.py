@@ -15,36 +15,36 @@ from ..journal.journal import lock
 _MOST_PATH = 107
 
 
-def take_folder(path: Path) -> None:
+def claim_folder(path: Path) -> None:
     """Makes the folder of the sockets if it is missing, and takes its lock until this process ends.
 
     A fault where another user may write to it, and so could put sockets of his own in the places of these.
     """
     path.mkdir(mode=0o755, exist_ok=True)
     folder = os.open(path, os.O_RDONLY | os.O_DIRECTORY | os.O_CLOEXEC)
-    found = os.fstat(folder)
-    if found.st_mode & (stat.S_IWGRP | stat.S_IWOTH):
-        raise Fault(REFUSED, f"{path}: others may write to this folder (mode {stat.S_IMODE(found.st_mode):o}); `chmod go-w` mends it")
-    if found.st_uid not in (0, os.geteuid()):
-        raise Fault(REFUSED, f"{path}: a folder of another user (uid {found.st_uid})")
+    info = os.fstat(folder)
+    if info.st_mode & (stat.S_IWGRP | stat.S_IWOTH):
+        raise Fault(REFUSED, f"{path}: others may write to this folder (mode {stat.S_IMODE(info.st_mode):o}); `chmod go-w` mends it")
+    if info.st_uid not in (0, os.geteuid()):
+        raise Fault(REFUSED, f"{path}: a folder of another user (uid {info.st_uid})")
     lock(folder, path)
 
 
 def groups_of(words: list[str]) -> dict[str, int]:
     """The group of each team that `TEAM=GROUP` words tell; a fault where there is no such group."""
-    found = {}
+    info = {}
     for word in words:
         team, sign, name = word.rpartition("=")
         try:
-            found[team] = int(name) if name.isdecimal() else grp.getgrnam(name).gr_gid
+            info[team] = int(name) if name.isdecimal() else grp.getgrnam(name).gr_gid
         except KeyError:
             raise Fault(USAGE, f"{word}: there is no group {name}") from None
         if not (team and sign):
             raise Fault(USAGE, f"{word}: --group takes TEAM=GROUP")
-    return found
+    return info
 
 
-def bound_socket(path: Path, mode: int, keeps_mode: bool, group: int | None) -> socket.socket:
+def bind_socket(path: Path, mode: int, keeps_mode: bool, group: int | None) -> socket.socket:
     """A socket at the path that does not listen yet, of that group.
 
     A dead one of this user that stood there hands on its group where none is given, and its mode where that is to be kept. A
@@ -52,12 +52,12 @@ def bound_socket(path: Path, mode: int, keeps_mode: bool, group: int | None) -> 
     """
     if len(os.fsencode(path)) > _MOST_PATH:
         raise Fault(FAILED, f"{path}: longer than {_MOST_PATH} bytes; use a shorter --sockets, or serve other teams by --team")
-    former = _dead_socket(path)
-    if former:
+    previous = _dead_socket(path)
+    if previous:
         path.unlink()
-    if former and former.st_uid == os.geteuid():
-        group = former.st_gid if group is None else group
-        mode = former.st_mode & 0o777 if keeps_mode else mode
+    if previous and previous.st_uid == os.geteuid():
+        group = previous.st_gid if group is None else group
+        mode = previous.st_mode & 0o777 if keeps_mode else mode
     listener = socket.socket(socket.AF_UNIX)
     try:
         listener.bind(str(path))
@@ -84,7 +84,7 @@ def _set_group(path: Path, group: int | None) -> None:
 def _dead_socket(path: Path) -> os.stat_result | None:
     """What stands at the path, if it is a socket and no link to one."""
     try:
-        found = path.lstat()
+        info = path.lstat()
     except FileNotFoundError:
         return None
-    return found if stat.S_ISSOCK(found.st_mode) else None
+    return info if stat.S_ISSOCK(info.st_mode) else None

@@ -12,7 +12,7 @@ from typing import TYPE_CHECKING, Any
 
 from ..base.faults import FAILED, Fault
 from ..client.blocking import connect
-from .metrics import TeamFigures, memory_of, share
+from .metrics import TeamMetrics, memory_of, percentile
 
 if TYPE_CHECKING:
     from .hub import Hub
@@ -29,20 +29,20 @@ def status_text(hub: Hub) -> bytes:
 
 
 def _status(hub: Hub) -> dict[str, Any]:
-    figures, journal, now = hub.figures, hub.journal, time.time()
+    metrics, journal, now = hub.metrics, hub.journal, time.time()
     return {
-        "uptime_seconds": round(now - figures.begun, 1),
-        "clients": len(hub.crowd.clients),
-        "unread_bytes": hub.crowd.unread(),
-        "lines_total": figures.lines,
-        "restores_total": figures.restores,
+        "uptime_seconds": round(now - metrics.started, 1),
+        "clients": len(hub.pool.clients),
+        "unread_bytes": hub.pool.unread_bytes(),
+        "lines_total": metrics.lines,
+        "restores_total": metrics.restores,
         "changes_total": journal.changes,
         "states_total": hub.checkpoints.count,
         "journal_bytes": journal.end,
-        "past_bytes": journal.past.size(),
+        "past_bytes": journal.archive.size(),
         "journal_age_seconds": round(now - (journal.last or now), 1),
-        **{f"sync_seconds_p{part}": round(share(figures.syncs, part / 100), 6) for part in (50, 99)},
-        **{f"batch_lines_p{part}": share(figures.batches, part / 100) for part in (50, 99)},
+        **{f"sync_seconds_p{part}": round(percentile(metrics.syncs, part / 100), 6) for part in (50, 99)},
+        **{f"batch_lines_p{part}": percentile(metrics.batches, part / 100) for part in (50, 99)},
         "program_bytes": memory_of(hub.server.pid),
         "hub_bytes": memory_of(os.getpid()),
         "teams": list(_teams(hub)),
@@ -50,27 +50,27 @@ def _status(hub: Hub) -> dict[str, Any]:
 
 
 def _teams(hub: Hub) -> Iterator[dict[str, Any]]:
-    clients, sessions = Counter(client.team for client in hub.crowd.clients), _sessions(hub)
+    clients, sessions = Counter(client.team for client in hub.pool.clients), _sessions(hub)
     for team in hub.teams:
         name = team.encode()
-        counts = hub.figures.teams.get(name, TeamFigures())
-        own = {"clients": clients[name], "revision": counts.revision, "uncommitted": counts.uncommitted}
-        yield {"team": team, **own, "sessions": sessions.get(name, [])}
+        counts = hub.metrics.teams.get(name, TeamMetrics())
+        counted = {"clients": clients[name], "revision": counts.revision, "uncommitted": counts.uncommitted}
+        yield {"team": team, **counted, "sessions": sessions.get(name, [])}
 
 
 def _sessions(hub: Hub) -> dict[bytes, list[dict[str, Any]]]:
     """Of each team the sessions whose clients are there."""
     found: dict[bytes, list[dict[str, Any]]] = {}
-    for (team, number), holder in sorted(hub.crowd.holders.items(), key=lambda item: item[0]):
-        if who := holder.client:
-            told = {"number": number, "uid": who.uid, "pid": who.pid, "since": round(holder.since, 1)}
-            found.setdefault(team, []).append(told)
+    for (team, number), owner in sorted(hub.pool.owners.items(), key=lambda item: item[0]):
+        if who := owner.client:
+            session = {"number": number, "uid": who.uid, "pid": who.pid, "since": round(owner.since, 1)}
+            found.setdefault(team, []).append(session)
     return found
 
 
 def uncommitted_text(hub: Hub) -> str | None:
     """Of which teams an export lacks work; None where it lacks nothing."""
-    counts = sorted((team.decode(), each.uncommitted) for team, each in hub.figures.teams.items() if each.uncommitted)
+    counts = sorted((team.decode(), each.uncommitted) for team, each in hub.metrics.teams.items() if each.uncommitted)
     if not counts:
         return None
     more = f" and {len(counts) - _MOST_TEAMS} teams more" if len(counts) > _MOST_TEAMS else ""

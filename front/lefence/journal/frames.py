@@ -109,37 +109,37 @@ def header_of(texts: Iterable[Text], number: int = 1, changes: int = 0, size: in
     return TITLE + "".join([*lines, f"segment {number} {changes} {size}\n"]).encode() + END_OF_HEADER
 
 
-def header_in(found: bytes) -> Header | None:
+def header_in(data: bytes) -> Header | None:
     """The header that these bytes begin with; None where they begin with none that is whole."""
-    if not found.startswith((TITLE, _OLD_TITLE)):
+    if not data.startswith((TITLE, _OLD_TITLE)):
         return None
     texts, at = [], len(TITLE)
-    while match := _TEXT.match(found, at):
+    while match := _TEXT.match(data, at):
         texts.append(Text(match[1].decode(), Path(os.fsdecode(unquote_to_bytes(match[2])))))
         at = match.end()
     number, changes, size, slots = 1, 0, 0, SLOTS
-    if found.startswith(TITLE):
-        if named := _SLOTS.match(found, at):
+    if data.startswith(TITLE):
+        if named := _SLOTS.match(data, at):
             slots, at = int(named[1]), named.end()
-        if not (place := _SEGMENT.match(found, at)):
+        if not (place := _SEGMENT.match(data, at)):
             return None
         (number, changes, size), at = map(int, place.groups()), place.end()
-    return Header(texts, number, changes, size, at + len(END_OF_HEADER), slots) if found.startswith(END_OF_HEADER, at) else None
+    return Header(texts, number, changes, size, at + len(END_OF_HEADER), slots) if data.startswith(END_OF_HEADER, at) else None
 
 
-def other_title(found: bytes) -> str:
+def wrong_title_text(data: bytes) -> str:
     """What a file is that begins with these bytes and with no header of this version."""
-    title = found.split(b"\n")[0]
+    title = data.split(b"\n")[0]
     if re.fullmatch(rb"lefence-hub journal \d{1,9}", title) and title + b"\n" not in (TITLE, _OLD_TITLE):
         return f"`{title.decode()}`, the journal of another version, which this one does not read"
     return "no journal of lefence-hub, or one whose header is damaged"
 
 
-def is_begun(found: bytes) -> bool:
+def is_partial_header(data: bytes) -> bool:
     """Whether these bytes are a header that was not written to its end."""
-    if len(found) >= MOST_HEADER:
+    if len(data) >= MOST_HEADER:
         return False
-    *lines, last = found.rstrip(b"\0").split(b"\n")
+    *lines, last = data.rstrip(b"\0").split(b"\n")
     if not lines:
         return TITLE.startswith(last) or _OLD_TITLE.startswith(last)
     return lines[0] + b"\n" in (TITLE, _OLD_TITLE) and all(
@@ -170,7 +170,7 @@ class Reader:
         self._fd = descriptor
         self._window, self._at = b"", 0
 
-    def _see(self, offset: int, count: int) -> int:
+    def _load(self, offset: int, count: int) -> int:
         """Has so many bytes from the offset on in the window, or those that are there; where in it they begin."""
         if not self._at <= offset <= offset + count <= self._at + len(self._window):
             self._window, self._at = os.pread(self._fd, max(count, _WINDOW), offset), offset
@@ -178,23 +178,23 @@ class Reader:
 
     def header(self) -> Header:
         """The header; a fault where the file is no journal."""
-        found = header_in(os.pread(self._fd, MOST_HEADER, 0))
-        if found is None:
-            raise Fault(REFUSED, f"{self.path}: {other_title(os.pread(self._fd, MOST_HEAD, 0))}")
-        return found
+        data = header_in(os.pread(self._fd, MOST_HEADER, 0))
+        if data is None:
+            raise Fault(REFUSED, f"{self.path}: {wrong_title_text(os.pread(self._fd, MOST_HEAD, 0))}")
+        return data
 
     def frame(self, offset: int) -> Frame | None:
         """The whole frame at the offset, if one stands there."""
-        at = self._see(offset, MOST_HEAD)
+        at = self._load(offset, MOST_HEAD)
         head = _FRAME.match(self._window, at)
         if not head:
             return None
         when, length = head[1], int(head[2])
         start = offset + len(head[0])
-        at = self._see(start, length)
+        at = self._load(start, length)
         body = self._window[at : at + length]
-        is_whole = len(body) == length and int(head[3], 16) == _sum(offset, when, body)
-        return Frame(offset, start + length, when, body) if is_whole else None
+        is_intact = len(body) == length and int(head[3], 16) == _sum(offset, when, body)
+        return Frame(offset, start + length, when, body) if is_intact else None
 
     def frames(self, offset: int) -> Iterator[Frame]:
         """The whole frames that follow each other from the offset on."""
@@ -227,13 +227,13 @@ class Reader:
         size = os.fstat(self._fd).st_size
         while offset < size:
             piece = os.pread(self._fd, _WINDOW + MOST_HEAD, offset)
-            for found in _FRAME.finditer(piece):
-                if found.start() < _WINDOW and self.frame(offset + found.start()):
-                    return offset + found.start()
+            for data in _FRAME.finditer(piece):
+                if data.start() < _WINDOW and self.frame(offset + data.start()):
+                    return offset + data.start()
             offset += _WINDOW
         return None
 
-    def tail(self, offset: int) -> int:
+    def trailing_bytes(self, offset: int) -> int:
         """How many bytes stand behind the offset, but for zeros at the end of the file."""
         size = os.fstat(self._fd).st_size
         while size > offset:
@@ -247,5 +247,5 @@ class Reader:
 def refuse_damage(reader: Reader, end: int) -> None:
     """A fault where whole frames stand behind the end of those that follow each other."""
     if reader.next_start(end) is not None:
-        ways = f"`lefence-journal check {reader.path}` tells more, and `lefence-journal cut` makes it one that a hub takes"
-        raise Fault(REFUSED, f"{reader.path}: damaged at byte {end}, and whole batches follow; {ways}")
+        remedies = f"`lefence-journal check {reader.path}` tells more, and `lefence-journal cut` makes it one that a hub takes"
+        raise Fault(REFUSED, f"{reader.path}: damaged at byte {end}, and whole batches follow; {remedies}")

@@ -28,12 +28,12 @@ from .frames import (
     frame_of,
     header_in,
     header_of,
-    is_begun,
-    other_title,
+    is_partial_header,
+    wrong_title_text,
     refuse_damage,
 )
-from .owner import ENDED, Owner, Succession, own
-from .segments import Past, Place, Segment, State, Tail
+from .owner import ENDED, Owner, OwnerHistory, this_process
+from .segments import Archive, Position, Segment, State, Tail
 
 # Bytes that are set aside on the disk at a time, so that a sync has no length of the file to store.
 _STEP = 1 << 18
@@ -62,7 +62,7 @@ def texts_in(path: Path) -> list[Text] | None:
     except FileNotFoundError:
         return None
     with file:
-        if is_begun(file.read(MOST_HEADER)):
+        if is_partial_header(file.read(MOST_HEADER)):
             return None
         reader = Reader(file.fileno(), path)
         header = reader.header()
@@ -102,11 +102,11 @@ class Journal:
         """
         self.path = path
         self.is_synced = True
-        self.past = Past(path)
+        self.archive = Archive(path)
         # How long the disk took for the last frame, and when the last change was made, in seconds since 1970.
         self.seconds = self.last = 0.0
         # Whose it is, and whose it was before, if that is told.
-        self.owner = owner or own()
+        self.owner = owner or this_process()
         self.former: Owner | None = None
         self._say = say
         # The disk has failed; the file is another's.
@@ -116,12 +116,12 @@ class Journal:
         self._closed: list[Segment] = []
         self._fd = os.open(path, os.O_RDWR | os.O_CREAT | os.O_CLOEXEC, 0o600)
         try:
-            self._take(texts, takes_over, slots)
+            self._claim(texts, takes_over, slots)
         except BaseException:
             self._close_all()
             raise
 
-    def _take(self, texts: list[Text], takes_over: bool, slots: int | None) -> None:
+    def _claim(self, texts: list[Text], takes_over: bool, slots: int | None) -> None:
         """Makes it this hub's."""
         lock(self._fd, self.path)
         if not os.path.samestat(os.stat(self.path), os.fstat(self._fd)):
@@ -134,15 +134,15 @@ class Journal:
         self._notes: list[bytes] = []
         self.end = self.changes = 0
         last = self._find_end(takes_over)
-        if self._is_of(texts, slots):
-            spoilt = self._find_state()
+        if self._belongs_to(texts, slots):
+            unusable = self._find_state()
         else:
-            if self.past.numbers("journal"):
-                raise Fault(REFUSED, f"{self.path} holds no change, and {self.past.folder} does; who means to begin anew moves that away")
+            if self.archive.numbers("journal"):
+                raise Fault(REFUSED, f"{self.path} holds no change, and {self.archive.folder} does; who means to begin anew moves that away")
             self._begin(texts, slots or SLOTS)
-            last, spoilt = None, []
+            last, unusable = None, []
         self._cut(last)
-        self.past.settle(self.header.number, self._fd, spoilt)
+        self.archive.clean_up(self.header.number, self._fd, unusable)
         self._note(self.owner.note())
 
     @property
@@ -152,14 +152,14 @@ class Journal:
         return self._header
 
     @property
-    def place(self) -> Place:
+    def position(self) -> Position:
         """Its end."""
-        return Place(self.header.number, self.end)
+        return Position(self.header.number, self.end)
 
     @property
-    def begin(self) -> Place:
+    def begin(self) -> Position:
         """Where the last segment begins."""
-        return Place(self.header.number, self.header.length)
+        return Position(self.header.number, self.header.length)
 
     @property
     def has_changes(self) -> bool:
@@ -185,7 +185,7 @@ class Journal:
         if not self._header:
             return None
         self.changes, self.end = self._header.changes, self._header.length
-        last, succession = None, Succession()
+        last, succession = None, OwnerHistory()
         for last in self._reader.frames(self.end):
             self.changes += last.changes
             # (a segment is begun behind a change)
@@ -193,13 +193,13 @@ class Journal:
             self.end = last.end
             self._notes += last.notes()
         for note in self._notes:
-            succession.take(note)
+            succession.add_note(note)
         self.former = succession.last
         if not takes_over:
-            succession.refuse_claim(self.owner, self.path)
+            succession.refuse_owner(self.owner, self.path)
         return last
 
-    def _is_of(self, texts: list[Text], slots: int | None) -> bool:
+    def _belongs_to(self, texts: list[Text], slots: int | None) -> bool:
         """Whether it is the journal of these texts, with so many slots; False where it is to be begun. A fault where it is of others."""
         if self._header and [text.sum for text in self._header.texts] == [text.sum for text in texts]:
             refuse_damage(self._reader, self.end)
@@ -209,29 +209,29 @@ class Journal:
                 ways = f"start without --sessions or with --sessions {self._header.slots}, or begin a new journal"
                 raise Fault(REFUSED, f"{self.path}: begun with {self._header.slots} session slots of each team, not {slots}: {ways}")
         found = os.pread(self._fd, MOST_HEADER, 0)
-        if is_begun(found) or self._header and not _has_changes(self._reader, self._header):
+        if is_partial_header(found) or self._header and not _has_changes(self._reader, self._header):
             return False
-        raise Fault(REFUSED, f"{self.path}: {'a journal of another design' if self._header else other_title(found)}")
+        raise Fault(REFUSED, f"{self.path}: {'a journal of another design' if self._header else wrong_title_text(found)}")
 
     def _find_state(self) -> list[int]:
         """Finds the last state that is as it was made, and the segments behind it; the numbers of states that are no use.
 
         A fault where one of these segments is missing or damaged.
         """
-        useless: list[int] = []
+        unusable: list[int] = []
         while True:
             first = self._segments()[0]
-            state = self.past.state_named(first.number, first.notes)
+            state = self.archive.state_named(first.number, first.notes)
             if state and state.is_whole():
                 self._state = state
-                return useless
+                return unusable
             if state:
-                what = "is not the state that the journal names" if state.path.exists() else "is not there"
-                self._say(f"{state.path} {what}; what stands before it is answered again")
-            useless.append(first.number)
+                problem = "is not the state that the journal names" if state.path.exists() else "is not there"
+                self._say(f"{state.path} {problem}; what stands before it is answered again")
+            unusable.append(first.number)
             if first.number == 1:
-                return useless
-            self._closed.insert(0, self.past.open_before(first))
+                return unusable
+            self._closed.insert(0, self.archive.open_before(first))
 
     def _begin(self, texts: list[Text], slots: int) -> None:
         """Writes the header."""
@@ -245,7 +245,7 @@ class Journal:
 
     def _cut(self, last: Frame | None) -> None:
         """Cuts off what stands behind the last whole frame."""
-        if tail := self._reader.tail(self.end):
+        if tail := self._reader.trailing_bytes(self.end):
             self._say(f"{self.path}: a torn batch of {tail} bytes (a write that was cut off) removed at byte {self.end}")
         if last:
             # Its hub may not have synced it, or in vain, after which the system takes the page for written: it is written anew.
@@ -255,16 +255,16 @@ class Journal:
         self._reserved = self.end
 
     @contextlib.contextmanager
-    def tail(self, place: Place) -> Iterator[Tail]:
+    def tail(self, position: Position) -> Iterator[Tail]:
         """What stands before the place, which may be read up to the end of the block, whatever becomes of the files."""
-        segments = [segment for segment in self._segments() if segment.number <= place.number]
+        segments = [segment for segment in self._segments() if segment.number <= position.number]
         first = segments[0]
         with contextlib.ExitStack() as stack:
             readers = []
             for segment in segments:
                 descriptor = os.dup(segment.descriptor)
                 stack.callback(os.close, descriptor)
-                end = place.byte if segment.number == place.number else segment.end
+                end = position.byte if segment.number == position.number else segment.end
                 readers.append((Reader(descriptor, segment.path), segment.header.length, end))
             frames = (frame for reader, start, end in readers for frame in reader.frames_to(start, end))
             records = (record for frame in frames for record in frame.records())
@@ -277,31 +277,31 @@ class Journal:
         """
         self.refuse_loss()
         path, number = Path(os.path.realpath(self.path)), self.header.number
-        beside = path.with_name(f"{path.name}.next")
+        next_path = path.with_name(f"{path.name}.next")
         header = header_of(self.header.texts, number + 1, self.changes, self.end, self.header.slots)
         frame = frame_of(len(header), b"".join(b"%b\n" % note for note in [*notes, self.owner.note()]))
-        self.past.make()
-        descriptor = os.open(beside, os.O_RDWR | os.O_CREAT | os.O_TRUNC | os.O_CLOEXEC, 0o600)
+        self.archive.make()
+        descriptor = os.open(next_path, os.O_RDWR | os.O_CREAT | os.O_TRUNC | os.O_CLOEXEC, 0o600)
         try:
-            lock(descriptor, beside)
+            lock(descriptor, next_path)
             os.fchmod(descriptor, os.fstat(self._fd).st_mode & 0o777)
             if os.pwrite(descriptor, header + frame, 0) != len(header + frame):
                 raise OSError(errno.ENOSPC, "written in part")
             os.fsync(descriptor)
             self._seal()
             with contextlib.suppress(FileExistsError):
-                os.link(path, self.past.segment(number))
-            sync_folder(self.past.folder)
-            os.replace(beside, path)
+                os.link(path, self.archive.segment(number))
+            sync_folder(self.archive.folder)
+            os.replace(next_path, path)
         except BaseException:
             os.close(descriptor)
             with contextlib.suppress(OSError):
-                beside.unlink()
+                next_path.unlink()
             raise
-        self._closed.append(Segment(self._fd, self.past.segment(number), self.header, self.end, self._notes))
+        self._closed.append(Segment(self._fd, self.archive.segment(number), self.header, self.end, self._notes))
         self._fd, self._header, self._notes, self.end = descriptor, header_in(header), notes, len(header + frame)
         self._reader, self._reserved = Reader(descriptor, self.path), self.end
-        self._must(lambda: sync_folder(path.parent))
+        self._write_step(lambda: sync_folder(path.parent))
 
     def _seal(self) -> None:
         """Has the last segment on the disk, with nothing behind its frames."""
@@ -310,21 +310,21 @@ class Journal:
             os.ftruncate(self._fd, self.end)
             os.fsync(self._fd)
 
-        self._must(seal)
+        self._write_step(seal)
         self._reserved = self.end
 
-    def keep_state(self, made: Path, size: int, total: str) -> None:
+    def keep_state(self, source: Path, size: int, digest: str) -> None:
         """Takes the state that was written to a path, of so many bytes with this sum, for that with which the last segment begins.
 
         When this returns the disk has it, and its name in the journal. An OSError says that it is none.
         """
-        state = State(self.past.state(self.header.number), size, total)
+        state = State(self.archive.state(self.header.number), size, digest)
         # (a batch that is under way has its room besides)
         if not self.has_room(_MOST_REST):
             raise OSError(errno.ENOSPC, "the journal has no room for the name of the state")
         try:
-            os.replace(made, state.path)
-            sync_folder(self.past.folder)
+            os.replace(source, state.path)
+            sync_folder(self.archive.folder)
             if not self._note(state.note(self.owner)):
                 raise OSError(errno.ENOSPC, "the journal has no room for the name of the state")
         except OSError:
@@ -336,20 +336,20 @@ class Journal:
 
     def refuse_loss(self) -> None:
         """A fault where the file is not at its path any more, is shorter than it was, or another has written behind its end."""
-        self._refuse_brokenness()
+        self._refuse_broken()
         if reason := self._loss():
             self._is_lost = True
             raise Fault(FAILED, f"{self.path}: {reason}; what was acknowledged since is in the file that the hub has open")
 
     def _loss(self) -> str | None:
-        mine = os.fstat(self._fd)
+        ours = os.fstat(self._fd)
         try:
-            there = os.stat(self.path)
+            found = os.stat(self.path)
         except OSError as error:
             return f"the journal is not there: {error.strerror}"
-        if not os.path.samestat(there, mine):
+        if not os.path.samestat(found, ours):
             return "another file stands where the journal was"
-        is_written = mine.st_size < self.end or os.pread(self._fd, 1, self.end).strip(b"\0")
+        is_written = ours.st_size < self.end or os.pread(self._fd, 1, self.end).strip(b"\0")
         return "another process has written to the journal" if is_written else None
 
     def has_room(self, count: int) -> bool:
@@ -371,16 +371,16 @@ class Journal:
 
         After a fault the journal may lack what the program has done, and what the disk holds is unknown: it must end the hub.
         """
-        self._refuse_brokenness()
+        self._refuse_broken()
         frame = frame_of(self.end, body_of(records))
         begin = time.monotonic()
-        self._must(lambda: self._write(frame))
+        self._write_step(lambda: self._write(frame))
         self.seconds = time.monotonic() - begin
         self.last = time.time()
         self.end += len(frame)
         self.changes += len(records)
 
-    def _must(self, step: Callable[[], object]) -> None:
+    def _write_step(self, step: Callable[[], object]) -> None:
         """Takes a step of the disk, after whose failure nothing more is known of it."""
         try:
             step()
@@ -388,7 +388,7 @@ class Journal:
             self._is_broken = True
             raise Fault(FAILED, f"{self.path}: {error.strerror}; nothing of this was acknowledged") from error
 
-    def _refuse_brokenness(self) -> None:
+    def _refuse_broken(self) -> None:
         if self._is_broken:
             raise Fault(FAILED, f"{self.path}: the disk has failed; nothing since was acknowledged")
 

@@ -28,19 +28,19 @@ class Owner:
     host: str
     boot: str
     pid: int
-    began: int
+    started: int
     front: str
     program: str
 
     def note(self) -> bytes:
         """The line of the journal that says so."""
-        return f"owner {self.host} {self.boot} {self.pid} {self.began} front {self.front} program {self.program}".encode()
+        return f"owner {self.host} {self.boot} {self.pid} {self.started} front {self.front} program {self.program}".encode()
 
     def __str__(self) -> str:
         return f"process {self.pid} of host {self.host}"
 
 
-class Succession:
+class OwnerHistory:
     """Whose a journal is, by its notes in order."""
 
     def __init__(self) -> None:
@@ -48,14 +48,14 @@ class Succession:
         self.last: Owner | None = None
         self.is_open = False
 
-    def take(self, note: bytes) -> None:
+    def add_note(self, note: bytes) -> None:
         """Takes account of the next note."""
         self.last = owner_of(note) or self.last
         self.is_open = note != ENDED
 
-    def refuse_claim(self, me: Owner, path: Path) -> None:
+    def refuse_owner(self, own: Owner, path: Path) -> None:
         """A fault where the last hub may be at work."""
-        if self.last and self.is_open and (reason := claim(self.last, me)):
+        if self.last and self.is_open and (reason := reason_in_use(self.last, own)):
             raise Fault(FAILED, f"{path}: {reason}; --takeover takes the journal from a hub that is gone")
 
 
@@ -65,19 +65,19 @@ def owner_of(note: bytes) -> Owner | None:
     return Owner(found[1], found[2], int(found[3]), int(found[4]), found[5], found[6]) if found else None
 
 
-def own(program: str | None = None) -> Owner:
+def this_process(program: str | None = None) -> Owner:
     """This process, with the program at that path."""
     host = re.sub(r"[^!-~]", "?", socket.gethostname()) or "?"
-    return Owner(host, _boot(), os.getpid(), _began(os.getpid()) or 0, __version__, sum_of(Path(program))[:16] if program else "-")
+    return Owner(host, _boot(), os.getpid(), _start_time(os.getpid()) or 0, __version__, sum_of(Path(program))[:16] if program else "-")
 
 
-def claim(owner: Owner, me: Owner) -> str | None:
+def reason_in_use(owner: Owner, own: Owner) -> str | None:
     """Why a journal may still be that owner's; None where its process is gone for certain."""
-    if owner.host != me.host:
+    if owner.host != own.host:
         return f"{owner}, which did not end it, may be at work"
-    if owner.boot != me.boot or owner.pid == me.pid:
+    if owner.boot != own.boot or owner.pid == own.pid:
         return None
-    return f"{owner} is at work" if _began(owner.pid) == owner.began else None
+    return f"{owner} is at work" if _start_time(owner.pid) == owner.started else None
 
 
 def _boot() -> str:
@@ -87,7 +87,7 @@ def _boot() -> str:
         return "-"
 
 
-def _began(pid: int) -> int | None:
+def _start_time(pid: int) -> int | None:
     """When a process began; None where there is none."""
     try:
         return int(Path(f"/proc/{pid}/stat").read_text().rpartition(")")[2].split()[19])

@@ -45,12 +45,12 @@ class State(NamedTuple):
             return self.path.stat().st_size == self.size and sum_of(self.path) == self.sum
         return False
 
-    def in_a_word(self) -> str:
+    def condition(self) -> str:
         """Whether they are, in words."""
         return "whole" if self.is_whole() else "damaged" if self.path.exists() else "not there"
 
 
-class Place(NamedTuple):
+class Position(NamedTuple):
     """The end of a frame: the number of its segment, and the byte."""
 
     number: int
@@ -86,7 +86,7 @@ class Tail(NamedTuple):
     records: Iterator[Record]
 
 
-class Past:
+class Archive:
     """The folder of a journal with the segments before its last one, and with its states."""
 
     def __init__(self, journal: Path) -> None:
@@ -100,7 +100,7 @@ class Past:
         """Where the state is with which the segment of that number begins."""
         return self.folder / f"{number}.state"
 
-    def unmade(self, number: int) -> Path:
+    def temporary_state(self, number: int) -> Path:
         """Where that state is written at first: at a path of its own, since a program whose hub was killed may still write."""
         return self.folder / f"{number}.making-{time.time_ns()}"
 
@@ -136,26 +136,26 @@ class Past:
             return os.listdir(self.folder)
         return []
 
-    def open_before(self, behind: Segment) -> Segment:
+    def open_before(self, following: Segment) -> Segment:
         """The segment before another one; a fault where it is missing or damaged."""
-        number = behind.number - 1
+        number = following.number - 1
         path = self.segment(number)
         try:
             descriptor = os.open(path, os.O_RDONLY | os.O_CLOEXEC)
         except FileNotFoundError:
-            raise Fault(REFUSED, f"no state is whole with which segment {behind.number} begins, and {path} is not there") from None
+            raise Fault(REFUSED, f"no state is whole with which segment {following.number} begins, and {path} is not there") from None
         try:
             reader = Reader(descriptor, path)
             header, notes, end = reader.header(), reader.notes(), reader.end_of_frames()
-            if (header.number, header.texts, header.slots) != (number, behind.header.texts, behind.header.slots):
-                raise Fault(REFUSED, f"{path}: not the segment before {behind.path}")
-            refuse_shortness(reader, end, behind.header.bytes)
+            if (header.number, header.texts, header.slots) != (number, following.header.texts, following.header.slots):
+                raise Fault(REFUSED, f"{path}: not the segment before {following.path}")
+            refuse_short_segment(reader, end, following.header.bytes)
             return Segment(descriptor, path, header, end, notes)
         except BaseException:
             os.close(descriptor)
             raise
 
-    def settle(self, number: int, descriptor: int, spoilt: list[int]) -> None:
+    def clean_up(self, number: int, descriptor: int, unusable: list[int]) -> None:
         """Clears up behind a hub that was killed, where the last segment has this number, and these states are spoilt or not named.
 
         What a later journal has left there, as where this one is a copy of an earlier day, is put aside.
@@ -168,12 +168,12 @@ class Past:
             if found == number and os.path.samestat(path.stat(), os.fstat(descriptor)):
                 path.unlink()
             elif found >= number:
-                _put_aside(path)
+                _move_aside(path)
         for found in self.numbers("state"):
-            if found in spoilt:
+            if found in unusable:
                 self.state(found).unlink()
             elif found > number:
-                _put_aside(self.state(found))
+                _move_aside(self.state(found))
 
     def prune(self, keep: int) -> None:
         """Removes all but so many of the last states, and the segments before these; none where that is 0."""
@@ -188,18 +188,18 @@ class Past:
         sync_folder(self.folder)
 
 
-def _put_aside(path: Path) -> None:
+def _move_aside(path: Path) -> None:
     os.replace(path, f"{path}.aside")
 
 
 @contextlib.contextmanager
-def opened(path: Path) -> Iterator[list[Reader]]:
+def open_segments(path: Path) -> Iterator[list[Reader]]:
     """The segments of a journal that are kept, in order; the last one is the file at the path."""
     with contextlib.ExitStack() as stack:
         readers = [Reader(stack.enter_context(open(path, "rb")).fileno(), path)]
         header = readers[0].header()
         for number in range(header.number - 1, 0, -1):
-            before = Past(path).segment(number)
+            before = Archive(path).segment(number)
             try:
                 file = stack.enter_context(open(before, "rb"))
             except FileNotFoundError:
@@ -211,20 +211,20 @@ def opened(path: Path) -> Iterator[list[Reader]]:
         yield readers[::-1]
 
 
-def way_to_end(path: Path, readers: list[Reader], is_all: bool) -> tuple[State | None, list[Reader]]:
+def last_state(path: Path, readers: list[Reader], is_all: bool) -> tuple[State | None, list[Reader]]:
     """The last state of a journal that is whole, or with `is_all` the first, and the segments behind it.
 
     None stands for the design as it is loaded. A fault where there is neither.
     """
     for at in [0] if is_all else reversed(range(len(readers))):
         number = readers[at].header().number
-        state = Past(path).state_named(number, readers[at].notes())
+        state = Archive(path).state_named(number, readers[at].notes())
         if number == 1 or state and state.is_whole():
             return state, readers[at:]
     raise Fault(REFUSED, f"{path}: no state is whole with which its segment {readers[0].header().number} begins")
 
 
-def refuse_shortness(reader: Reader, end: int, size: int) -> None:
+def refuse_short_segment(reader: Reader, end: int, size: int) -> None:
     """A fault where the whole frames of a segment end before those that it had when the next one was begun."""
     if end != size:
         raise Fault(REFUSED, f"{reader.path}: damaged at byte {end}, before the {size} bytes that it had when the next segment was begun")
@@ -236,19 +236,19 @@ def read_records(path: Path) -> Iterator[Record]:
     A torn end is passed over. Raises a fault where the file is no journal, its first segment is not kept, or damage has whole
     frames behind it; OSError where it cannot be read.
     """
-    with opened(path) as readers:
+    with open_segments(path) as readers:
         first = readers[0].header()
         if first.number > 1:
-            told = f"{path}: its first {first.changes} changes are in a state alone"
-            raise Fault(REFUSED, f"{told}; for a push the hub needs --keep 0 from the first line on")
+            message = f"{path}: its first {first.changes} changes are in a state alone"
+            raise Fault(REFUSED, f"{message}; for a push the hub needs --keep 0 from the first line on")
         yield from records_in(readers)
 
 
 def records_in(readers: list[Reader]) -> Iterator[Record]:
     """Each change of these segments, once it is seen that none is damaged."""
     ends = [reader.end_of_frames() for reader in readers]
-    for reader, end, behind in zip(readers, ends, readers[1:]):
-        refuse_shortness(reader, end, behind.header().bytes)
+    for reader, end, following in zip(readers, ends, readers[1:]):
+        refuse_short_segment(reader, end, following.header().bytes)
     refuse_damage(readers[-1], ends[-1])
     for reader, end in zip(readers, ends):
         for frame in reader.frames_to(reader.header().length, end):

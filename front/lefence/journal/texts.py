@@ -15,8 +15,8 @@ from collections.abc import Callable
 from pathlib import Path
 from typing import BinaryIO
 
-from ..base.atomic_file import sync_folder, whole_file
-from ..base.faults import FAILED, REFUSED, Fault, words_of
+from ..base.atomic_file import atomic_file, sync_folder
+from ..base.faults import FAILED, REFUSED, Fault, reason_of
 from .frames import Text, sum_of
 from .journal import texts_in
 
@@ -40,7 +40,7 @@ def kept_text(journal: Path, text: Text) -> Path | None:
     return None
 
 
-def settle_texts(journal: Path, given: list[Path], say: Callable[[str], None]) -> tuple[list[Text], list[Path]]:
+def resolve_texts(journal: Path, given: list[Path], say: Callable[[str], None]) -> tuple[list[Text], list[Path]]:
     """The texts of a journal that is or will be at the path, and their kept copies, which are made where they are missing.
 
     A journal that has changes keeps its texts, whatever stands by now at the paths from which they came. Raises a fault where
@@ -51,18 +51,18 @@ def settle_texts(journal: Path, given: list[Path], say: Callable[[str], None]) -
         texts = [Text(sum_of(path), path.absolute()) for path in given]
     if len(texts) != len(given):
         raise Fault(REFUSED, f"{journal}: a journal of another design, which has {len(texts)} texts")
-    return texts, [_settle_text(journal, text, path, say) for text, path in zip(texts, given)]
+    return texts, [_resolve_text(journal, text, path, say) for text, path in zip(texts, given)]
 
 
-def _settle_text(journal: Path, text: Text, given: Path, say: Callable[[str], None]) -> Path:
+def _resolve_text(journal: Path, text: Text, given: Path, say: Callable[[str], None]) -> Path:
     try:
         is_same = sum_of(given) == text.sum
     except OSError as error:
         is_same = False
-        say(words_of(error))
+        say(reason_of(error))
     kept = kept_text(journal, text)
     if is_same:
-        return kept or _keep(journal, text, given)
+        return kept or _make_copy(journal, text, given)
     if kept is None:
         raise Fault(REFUSED, f"{journal}: a journal of another design: {given} is not its text, of which no copy is kept")
     if given.absolute() != text.path:
@@ -78,13 +78,13 @@ def remove_partial_texts(journal: Path) -> None:
             path.unlink(missing_ok=True)
 
 
-def _keep(journal: Path, text: Text, given: Path) -> Path:
+def _make_copy(journal: Path, text: Text, given: Path) -> Path:
     """Makes the copy of a text, which is on the disk when this returns."""
     folder = texts_folder(journal)
     path = folder / text.sum / _PARTIAL.sub("", given.name)
     folder.mkdir(mode=0o700, exist_ok=True)
     path.parent.mkdir(mode=0o700, exist_ok=True)
-    with open(given, "rb") as source, whole_file(path) as copy:
+    with open(given, "rb") as source, atomic_file(path) as copy:
         _copy(source, copy)
         copy.flush()
         if sum_of(Path(f"/dev/fd/{copy.fileno()}")) != text.sum:

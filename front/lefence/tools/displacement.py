@@ -88,10 +88,10 @@ class Team:
                 setattr(self, name, getattr(self, name) + getattr(other, name))
 
 
-class Far(NamedTuple):
+class FarCell(NamedTuple):
     """A cell that moved, how far, and from where to where."""
 
-    way: int
+    distance: int
     name: str
     team: str
     before: _Place
@@ -103,18 +103,18 @@ class _Farthest:
 
     def __init__(self, most: int) -> None:
         self._most = most
-        self._found: list[Far] = []
+        self._found: list[FarCell] = []
         # A cell that went less far is none of them.
         self._least = 0
 
-    def take(self, far: Far) -> None:
-        if far.way >= self._least and self._most:
-            self._found.append(far)
+    def take(self, cell: FarCell) -> None:
+        if cell.distance >= self._least and self._most:
+            self._found.append(cell)
             if len(self._found) >= 2 * self._most + 100:
-                self._least = self.cells()[-1].way
+                self._least = self.cells()[-1].distance
 
-    def cells(self) -> list[Far]:
-        self._found.sort(key=lambda far: (-far.way, far.name))
+    def cells(self) -> list[FarCell]:
+        self._found.sort(key=lambda cell: (-cell.distance, cell.name))
         del self._found[self._most :]
         return self._found
 
@@ -132,7 +132,7 @@ class Summary:
     only_before: list[str]
     only_after: list[str]
     notes: list[str]
-    farthest: list[Far]
+    farthest: list[FarCell]
 
 
 def summary_of(before: Iterable[Cell], after: Iterable[Cell], frame: Frame, most_far: int = MOST_FAR) -> Summary:
@@ -144,9 +144,9 @@ def summary_of(before: Iterable[Cell], after: Iterable[Cell], frame: Frame, most
     early, late = _Waiting(), _Waiting()
     for first, second in zip_longest(before, after):
         if first is not None:
-            count.see_before(first)
+            count.add_before(first)
         if second is not None:
-            count.see_after(second)
+            count.add_after(second)
         if first is not None and second is not None and first.name == second.name:
             count.compare(first.name, (first.team, _place_of(first)), (second.team, _place_of(second)))
             continue
@@ -177,7 +177,7 @@ class _Waiting:
         """The team and the place of the cell of that name here, which waits no longer; else the cell waits among its own."""
         state = self._states.pop(cell.name, None)
         if state is None:
-            own._put(cell)
+            own._store(cell)
             return None
         return self._opened(state)
 
@@ -185,7 +185,7 @@ class _Waiting:
         """The name and the team of each cell that waits still."""
         return [(name, self._opened(state)[0]) for name, state in self._states.items()]
 
-    def _put(self, cell: Cell) -> None:
+    def _store(self, cell: Cell) -> None:
         if cell.team not in self._numbers:
             self._numbers[cell.team] = len(self._teams)
             self._teams.append(cell.team)
@@ -211,12 +211,12 @@ class _Count:
         """The team of that name, which only the design before may have."""
         return self._teams.get(name) or self._teams.setdefault(name, Team(name))
 
-    def see_before(self, cell: Cell) -> None:
+    def add_before(self, cell: Cell) -> None:
         team = self._team(cell.team)
         team.illegal_before += cell.rule is not None
         team.placeless_before += cell.box is None
 
-    def see_after(self, cell: Cell) -> None:
+    def add_after(self, cell: Cell) -> None:
         team = self._team(cell.team)
         team.cells += 1
         team.cell_area += cell.width * cell.height
@@ -234,9 +234,9 @@ class _Count:
             team.unplaced += 1
         elif before[:2] != after[:2]:
             team.moved += 1
-            way = abs(after.x - before.x) + abs(after.y - before.y)
-            team.moves.append(way)
-            self._farthest.take(Far(way, name, team_after, before, after))
+            distance = abs(after.x - before.x) + abs(after.y - before.y)
+            team.moves.append(distance)
+            self._farthest.take(FarCell(distance, name, team_after, before, after))
         elif before.orient != after.orient:
             team.turned += 1
         else:
@@ -249,11 +249,11 @@ class _Count:
         for _, team in late:
             self._team(team).added += 1
         notes = [f"cells of another team than before: {self._changed_team}"] if self._changed_team else []
-        every = Team("all")
+        total = Team("all")
         for each in self._teams.values():
-            every.add(each)
+            total.add(each)
         names = [name for name, _ in early], [name for name, _ in late]
-        return Summary(self._frame, list(self._teams.values()), every, *names, notes, self._farthest.cells())
+        return Summary(self._frame, list(self._teams.values()), total, *names, notes, self._farthest.cells())
 
 
 def notes_of(before: Frame, after: Frame) -> list[str]:

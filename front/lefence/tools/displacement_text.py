@@ -4,7 +4,7 @@ from __future__ import annotations
 
 from collections.abc import Iterable
 
-from .displacement import BINS, Far, Summary, Team
+from .displacement import BINS, FarCell, Summary, Team
 
 # How many of the cells that are in one design alone are named, and how long the longest bar is.
 _NAMED, _BAR = 10, 40
@@ -30,16 +30,16 @@ def object_of(summary: Summary) -> dict[str, object]:
         "all": _team_object(summary, summary.all),
         "only_before": summary.only_before,
         "only_after": summary.only_after,
-        "farthest": [_far_object(summary, far) for far in summary.farthest],
+        "farthest": [_far_object(summary, cell) for cell in summary.farthest],
         "notes": summary.notes,
     }
 
 
-def _far_object(summary: Summary, far: Far) -> dict[str, object]:
+def _far_object(summary: Summary, cell: FarCell) -> dict[str, object]:
     facts = summary.frame.facts
-    before, after = ([place.x / facts.units, place.y / facts.units, place.orient] for place in (far.before, far.after))
-    ways = {"displacement": far.way / facts.units, "displacement_rows": far.way / facts.site_height}
-    return {"name": far.name, "team": far.team, "before": before, "after": after, **ways}
+    before, after = ([place.x / facts.units, place.y / facts.units, place.orient] for place in (cell.before, cell.after))
+    lengths = {"displacement": cell.distance / facts.units, "displacement_rows": cell.distance / facts.site_height}
+    return {"name": cell.name, "team": cell.team, "before": before, "after": after, **lengths}
 
 
 def _team_object(summary: Summary, team: Team) -> dict[str, object]:
@@ -75,12 +75,12 @@ def text_of(summary: Summary) -> str:
         _table(["team", "violations", "unplaced", "ground taken"], map(_states, teams)),
         _table(
             ["displacement", "mean", "median", "largest", "total", "in rows:  mean", "median", "largest"],
-            (_ways(team, facts.units, height) for team in teams),
+            (_displacements(team, facts.units, height) for team in teams),
         ),
         _bars(summary.all.histogram(height)),
     ]
     if summary.farthest:
-        parts.append(_table(["farthest", "team", "from", "to", "way", "in rows"], (_far(far, facts.units, height) for far in summary.farthest)))
+        parts.append(_table(["farthest", "team", "from", "to", "way", "in rows"], (_far_row(cell, facts.units, height) for cell in summary.farthest)))
     parts += _alone(summary.only_before, "before") + _alone(summary.only_after, "after")
     # What differs beside the places comes first, since it may mean that these are two designs.
     parts[1:1] = [f"note: {note}" for note in summary.notes]
@@ -97,7 +97,7 @@ def _states(team: Team) -> list[str]:
     return [team.name, violations, f"{team.placeless_before} -> {team.placeless_after}", used]
 
 
-def _ways(team: Team, units: int, row_height: int) -> list[str]:
+def _displacements(team: Team, units: int, row_height: int) -> list[str]:
     if not team.moves:
         return [team.name, *("-" for _ in range(7))]
     three = (team.mean, team.median, team.largest)
@@ -105,9 +105,9 @@ def _ways(team: Team, units: int, row_height: int) -> list[str]:
     return [team.name, *microns, *(f"{length / row_height:.2f}" for length in three)]
 
 
-def _far(far: Far, units: int, row_height: int) -> list[str]:
-    places = (f"{place.x / units:g} {place.y / units:g} {place.orient}" for place in (far.before, far.after))
-    return [far.name, far.team, *places, f"{far.way / units:.3f}", f"{far.way / row_height:.2f}"]
+def _far_row(cell: FarCell, units: int, row_height: int) -> list[str]:
+    places = (f"{place.x / units:g} {place.y / units:g} {place.orient}" for place in (cell.before, cell.after))
+    return [cell.name, cell.team, *places, f"{cell.distance / units:.3f}", f"{cell.distance / row_height:.2f}"]
 
 
 def _table(head: list[str], rows: Iterable[list[str]]) -> str:

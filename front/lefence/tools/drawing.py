@@ -10,8 +10,8 @@ from typing import NamedTuple
 
 from ..base.description import Box, Cell, Obstacle
 from ..base.protocol import GROUND
-from ..client.refusals import broken_in_words
-from .scene import BROKEN, OBSTACLES, SHADES, Bins, Scene, colour_of, darker, meet, row_blocks
+from ..client.refusals import violation_text
+from .scene import BROKEN, OBSTACLES, SHADES, Bins, Scene, colour_of, darker, intersection, row_blocks
 
 # The longer side of the chip, the space around it, and the width of the legend, in pixels.
 CHIP, SPACE, LEGEND, HEAD = 760, 24, 216, 76
@@ -23,7 +23,7 @@ MOST_NAMES, LONGEST_NAME = 20, 24
 # What XML has no place for.
 _NO_TEXT = re.compile("[^\t\n\r\x20-\ud7ff\ue000-\ufffd\U00010000-\U0010ffff]")
 # The colours of arrows up to so many rows long, and of longer ones.
-WAYS = ((2, "#20124d"), (5, "#5b1a8b"), (10, "#a3158f"), (20, "#e0457b"), (50, "#ff7f3f"), (math.inf, "#ffb000"))
+MOVE_COLOURS = ((2, "#20124d"), (5, "#5b1a8b"), (10, "#a3158f"), (20, "#e0457b"), (50, "#ff7f3f"), (math.inf, "#ffb000"))
 # Characters that are as wide as high in most fonts; the others are some two thirds of that.
 _WIDE = re.compile(r"[mwMWQ%@&]|[^\x00-\x7f]")
 _INK, _FAINT, _OBSTACLE, _BLOCKAGE, _SOFT = "#1d232b", "#667080", "#59626e", "#aab2bd", "#8a6a2f"
@@ -67,7 +67,7 @@ def number(count: int, one: str, many: str | None = None) -> str:
 def by_length(moves: list[Move], row_height: int) -> Iterator[tuple[str, str, list[Move]]]:
     """The moves by their lengths, the shortest first: how far, the colour of their arrows, and which they are."""
     least = 0.0
-    for most, colour in WAYS:
+    for most, colour in MOVE_COLOURS:
         label = f"up to {most} rows" if most < math.inf else f"over {least:g} rows"
         yield label, colour, [move for move in moves if least < move.length / row_height <= most]
         least = most
@@ -98,8 +98,8 @@ class Drawing:
         yield "</g>\n"
         yield from self._names()
         # What is drawn beside the chip, as arrows from afar, is covered.
-        around = f"M0 0h{width:.2f}v{height:.2f}h-{width:.2f}zM{SPACE} {HEAD}h{self.wide:.2f}v{self.high:.2f}h-{self.wide:.2f}z"
-        yield f'<path fill="#ffffff" fill-rule="evenodd" d="{around}"/>\n'
+        bounding_box = f"M0 0h{width:.2f}v{height:.2f}h-{width:.2f}zM{SPACE} {HEAD}h{self.wide:.2f}v{self.high:.2f}h-{self.wide:.2f}z"
+        yield f'<path fill="#ffffff" fill-rule="evenodd" d="{bounding_box}"/>\n'
         heading = text_of(shortened(facts.name, 60))
         yield f'<text x="{SPACE}" y="38" font-size="20" font-weight="bold" fill="{_INK}">{heading}</text>\n'
         yield f'<text x="{SPACE}" y="60" font-size="13" fill="{_FAINT}">{self._summary()}</text>\n'
@@ -118,7 +118,7 @@ class Drawing:
 
     def _box(self, box: Box, name: str | None = None) -> str:
         """A rectangle as far as the view goes."""
-        part = meet(box, self.view)
+        part = intersection(box, self.view)
         if part is None:
             return ""
         end = "/>" if name is None else f"><title>{text_of(name)}</title></rect>"
@@ -204,13 +204,13 @@ class Drawing:
         return f'transform="matrix({bins.side} 0 0 {bins.side} {bins.view.left} {bins.view.bottom})"'
 
     def _broken(self, cell: Cell) -> str:
-        told = broken_in_words(cell.rule or 0, cell.name, cell.other, is_there=True)
-        return self._box(cell.box, told) if cell.box else ""
+        text = violation_text(cell.rule or 0, cell.name, cell.other, is_there=True)
+        return self._box(cell.box, text) if cell.box else ""
 
     def _fixed(self, obstacle: Obstacle) -> str:
         """A FIXED component, with a cross where it is large."""
         box = self._box(obstacle.box, obstacle.name)
-        part = meet(obstacle.box, self.view)
+        part = intersection(obstacle.box, self.view)
         if part and min(part.width, part.height) * self.scale > 10:
             left, bottom, right, top = part
             cross = f"M{left} {bottom}L{right} {top}M{left} {top}L{right} {bottom}"
@@ -231,7 +231,7 @@ class Drawing:
         """The teams' names in the largest rectangles of their fences, where they have room."""
         yield '<g id="names" text-anchor="middle" font-weight="bold">\n'
         for at, fence in enumerate(self.scene.frame.fences):
-            parts = [part for rect in fence.rects if (part := meet(rect, self.view))]
+            parts = [part for rect in fence.rects if (part := intersection(rect, self.view))]
             if not parts:
                 continue
             part = max(parts, key=lambda box: box.width * box.height)

@@ -14,7 +14,7 @@ from pathlib import Path
 from typing import NamedTuple
 
 from ..base.atomic_file import refuse_inputs
-from ..base.design import Design, mapped, whole_design
+from ..base.design import Design, complete_design, map_file
 from ..base.faults import DONE, FAILED, USAGE, Fault, Parser, log, run_tool
 from ..base.program import find_program
 from ..journal.frames import sum_of
@@ -66,8 +66,8 @@ def local(farm: Farm, numbers: list[int]) -> int:
 
     def run(number: int) -> int:
         words = task_words(farm.work, "--task", str(number))
-        with open(farm.work / str(number) / "log", "ab") as told:
-            task = subprocess.Popen(words, stdin=subprocess.DEVNULL, stdout=told, stderr=subprocess.STDOUT)
+        with open(farm.work / str(number) / "log", "ab") as log_file:
+            task = subprocess.Popen(words, stdin=subprocess.DEVNULL, stdout=log_file, stderr=subprocess.STDOUT)
         running.append(task)
         return task.wait()
 
@@ -127,17 +127,17 @@ def _submitted(words: list[str], pattern: str) -> str:
 
 def _submit_last(farm: Farm, numbers: list[int], words: list[str], pattern: str) -> int:
     """Submits the last job; its status, and what it told, where it is waited for."""
-    told = farm.work / "collect.log"
+    log_file = farm.work / "collect.log"
     if not farm.waits:
         end = _submitted(words, pattern)
-        log(TOOL, f"{len(numbers)} teams are submitted; job {end} collects what they did, and tells so in {told}")
+        log(TOOL, f"{len(numbers)} teams are submitted; job {end} collects what they did, and tells so in {log_file}")
         return DONE
     log(TOOL, f"{len(numbers)} teams are submitted; the job that collects what they did is waited for")
-    told.unlink(missing_ok=True)
+    log_file.unlink(missing_ok=True)
     status = subprocess.run(words, stdin=subprocess.DEVNULL, stdout=subprocess.DEVNULL).returncode
-    if not told.exists():
-        raise Fault(FAILED, f"{words[0]} ended with {status}, and {told} is not there")
-    sys.stderr.write(told.read_text(errors="backslashreplace"))
+    if not log_file.exists():
+        raise Fault(FAILED, f"{words[0]} ended with {status}, and {log_file} is not there")
+    sys.stderr.write(log_file.read_text(errors="backslashreplace"))
     return status
 
 
@@ -206,12 +206,12 @@ def main() -> int:
         if options.export:
             refuse_inputs(options.export, options.texts)
         with ExitStack() as stack:
-            design = whole_design(options.texts[0], mapped(options.texts[0], stack))
+            design = complete_design(options.texts[0], map_file(options.texts[0], stack))
             plan = plan_of(options, command, design)
             options.work.mkdir(parents=True, exist_ok=True)
             begin(options.work, plan, design)
             del design
-        numbers = plan.numbers_left(options.work)
+        numbers = plan.unfinished_numbers(options.work)
         log(TOOL, f"{len(numbers)} of {len(plan.teams)} teams have work to do")
         return ENGINES[options.engine](Farm(options.work, options.option, max(0, options.processes), options.wait), numbers)
 

@@ -22,9 +22,9 @@ from pathlib import Path
 from types import FrameType
 from typing import BinaryIO
 
-from ..base.atomic_file import whole_file
+from ..base.atomic_file import atomic_file
 from ..base.design import Design, shown
-from ..base.faults import DONE, FAILED, REFUSED, USAGE, Fault, log, words_of
+from ..base.faults import DONE, FAILED, REFUSED, USAGE, Fault, log, reason_of
 from ..base.program import Program
 from ..base.progress import Progress
 from ..base.protocol import GROUND, socket_name
@@ -32,17 +32,17 @@ from ..client.blocking import connect
 from ..journal.frames import sum_of
 from ..journal.texts import texts_folder
 from .merge import merge
-from .push import Record, is_as_told, records_of
+from .push import Record, is_recorded_reply, records_of
 from .slice import slices_of
 
 TOOL = "lefence-farm"
 # The status where the others' work is in the design, and some team's is not.
-LACKING = 4
+INCOMPLETE = 4
 _MARK = b"# a slice of the text %b\n"
 # Seconds between two looks whether a hub serves.
-_NAP = 0.05
+_POLL = 0.05
 # Seconds that a hub has for its end, and a command for what it does before its first session: the engine has bounds of its own.
-_BOUNDS = ("--grace", "1e7", "--idle", "1e7", "--keep", "0")
+_HUB_OPTIONS = ("--grace", "1e7", "--idle", "1e7", "--keep", "0")
 
 
 @dataclass
@@ -60,7 +60,7 @@ class Plan:
     is_merged: bool
 
     def save(self, work: Path) -> None:
-        with whole_file(work / "farm.json") as file:
+        with atomic_file(work / "farm.json") as file:
             file.write(json.dumps(asdict(self), indent=1).encode())
 
     @staticmethod
@@ -71,11 +71,11 @@ class Plan:
         except (TypeError, ValueError):
             raise Fault(REFUSED, f"{path} is no plan of this version of {TOOL}: give another folder, or remove {work}") from None
 
-    def numbers_left(self, work: Path) -> list[int]:
+    def unfinished_numbers(self, work: Path) -> list[int]:
         """The numbers of the teams that are not done."""
         return [at for at in range(1, len(self.teams) + 1) if not (work / str(at) / "done").exists()]
 
-    def refuse_another_text(self) -> None:
+    def refuse_changed_design(self) -> None:
         """A fault where the DEF text is another one than the slices were made of."""
         if sum_of(Path(self.design)) != self.sum:
             raise Fault(REFUSED, f"{self.design} is another text than the slices were made of")
@@ -91,10 +91,10 @@ def begin(work: Path, plan: Plan, design: Design) -> None:
     if (work / "farm.json").exists() and Plan.load(work).sum != plan.sum:
         raise Fault(REFUSED, f"{work} is of another text than {plan.design}: give another folder, or remove it")
     names = [os.fsencode(team) for team in plan.teams]
-    lacking = [at for at in range(1, len(names) + 1) if not (work / str(at) / "slice.def").exists()]
-    for at, text in zip(lacking, slices_of(design, [names[at - 1] for at in lacking]), strict=True):
+    missing = [at for at in range(1, len(names) + 1) if not (work / str(at) / "slice.def").exists()]
+    for at, text in zip(missing, slices_of(design, [names[at - 1] for at in missing]), strict=True):
         (work / str(at)).mkdir(parents=True, exist_ok=True)
-        with whole_file(work / str(at) / "slice.def") as file:
+        with atomic_file(work / str(at) / "slice.def") as file:
             file.write(_MARK % plan.sum.encode())
             file.writelines(text)
     plan.save(work)
@@ -102,23 +102,23 @@ def begin(work: Path, plan: Plan, design: Design) -> None:
 
 def run_team(work: Path, number: int) -> int:
     """The work of one team: the command beside a hub over the slice, or a repair of it. Its status, which is kept in `done` or `failed`."""
-    plan, own = Plan.load(work), work / str(number)
+    plan, folder = Plan.load(work), work / str(number)
     if not 1 <= number <= len(plan.teams):
         raise Fault(USAGE, f"{work} has no team number {number}: they are 1 to {len(plan.teams)}")
-    if (own / "done").exists():
+    if (folder / "done").exists():
         return DONE
-    (own / "failed").unlink(missing_ok=True)
+    (folder / "failed").unlink(missing_ok=True)
     try:
         signal.signal(signal.SIGTERM, _end_by_signal)
-        refuse_another_slice(own, plan)
-        (_run_command if plan.command else _repair)(plan, own, plan.teams[number - 1])
+        refuse_foreign_slice(folder, plan)
+        (_run_command if plan.command else _repair)(plan, folder, plan.teams[number - 1])
     except (Fault, OSError) as fault:
-        why = words_of(fault)
-        (own / "failed").write_text(f"{why}\n", errors="backslashreplace")
-        raise Fault(fault.status if isinstance(fault, Fault) else FAILED, f"team {plan.teams[number - 1]}: {why}") from None
-    with whole_file(own / "done") as file:
+        reason = reason_of(fault)
+        (folder / "failed").write_text(f"{reason}\n", errors="backslashreplace")
+        raise Fault(fault.status if isinstance(fault, Fault) else FAILED, f"team {plan.teams[number - 1]}: {reason}") from None
+    with atomic_file(folder / "done") as file:
         file.write(b"done\n")
-    _remove_texts(own / "journal")
+    _remove_texts(folder / "journal")
     return DONE
 
 
@@ -126,32 +126,32 @@ def _end_by_signal(number: int, frame: FrameType | None) -> None:
     raise Fault(FAILED, f"ended by signal {number}")
 
 
-def refuse_another_slice(own: Path, plan: Plan) -> None:
+def refuse_foreign_slice(folder: Path, plan: Plan) -> None:
     """A fault where the slice is of another text than the plan."""
     mark = _MARK % plan.sum.encode()
-    with open(own / "slice.def", "rb") as file:
+    with open(folder / "slice.def", "rb") as file:
         if file.read(len(mark)) != mark:
-            raise Fault(REFUSED, f"{own / 'slice.def'} is a slice of another text")
+            raise Fault(REFUSED, f"{folder / 'slice.def'} is a slice of another text")
 
 
-def _repair(plan: Plan, own: Path, team: str) -> None:
+def _repair(plan: Plan, folder: Path, team: str) -> None:
     """Repairs the team on its slice; a fault where a cell is left."""
-    program = Program(plan.program, [own / "slice.def", *map(Path, plan.libraries)])
-    every = program.repair([f"--team={team}"], own / "lines", own / "new.def", Progress(TOOL, "the program repairs"))[-1]
-    print(json.dumps(every), flush=True)
-    if every["left_cells"]:
-        raise Fault(LACKING, f"the repair left {every['left_cells']} cells")
+    program = Program(plan.program, [folder / "slice.def", *map(Path, plan.libraries)])
+    total = program.repair([f"--team={team}"], folder / "lines", folder / "new.def", Progress(TOOL, "the program repairs"))[-1]
+    print(json.dumps(total), flush=True)
+    if total["left_cells"]:
+        raise Fault(INCOMPLETE, f"the repair left {total['left_cells']} cells")
 
 
-def _run_command(plan: Plan, own: Path, team: str) -> None:
+def _run_command(plan: Plan, folder: Path, team: str) -> None:
     """Runs the command, which finds the team's socket by LEFENCE_SOCKET, and its name by LEFENCE_TEAM; a fault where it fails.
 
     The engine gives a task to one machine at a time: a hub of another one that did not end the journal is gone.
     """
-    (own / "lines").unlink(missing_ok=True)
-    words = ["--team", team, "--journal", str(own / "journal"), "--takeover", "--export", str(own / "new.def")]
-    with _hub(plan, own / "slice.def", words, socket_name(team)) as socket:
-        environment = {**os.environ, "LEFENCE_SOCKET": str(socket), "LEFENCE_TEAM": team, "LEFENCE_WORK": str(own)}
+    (folder / "lines").unlink(missing_ok=True)
+    words = ["--team", team, "--journal", str(folder / "journal"), "--takeover", "--export", str(folder / "new.def")]
+    with _hub(plan, folder / "slice.def", words, socket_name(team)) as socket:
+        environment = {**os.environ, "LEFENCE_SOCKET": str(socket), "LEFENCE_TEAM": team, "LEFENCE_WORK": str(folder)}
         with subprocess.Popen(plan.command, cwd=plan.folder, env=environment, stdin=subprocess.DEVNULL) as command:
             try:
                 status = command.wait()
@@ -168,7 +168,7 @@ def _hub(plan: Plan, design: Path, words: list[str], name: str) -> Iterator[Path
     code = "import sys; from lefence.tools.hub import main; sys.exit(main())"
     path = os.pathsep.join([str(Path(__file__).resolve().parents[2]), *filter(None, [os.environ.get("PYTHONPATH")])])
     with tempfile.TemporaryDirectory(prefix="lefence-farm") as folder:
-        command = [sys.executable, "-c", code, str(design), *plan.libraries, "--program", plan.program, *_BOUNDS, "--sockets", folder, *words]
+        command = [sys.executable, "-c", code, str(design), *plan.libraries, "--program", plan.program, *_HUB_OPTIONS, "--sockets", folder, *words]
         with subprocess.Popen(command, env={**os.environ, "PYTHONPATH": path}, stdin=subprocess.DEVNULL) as hub:
             try:
                 _wait_served(hub, Path(folder) / name)
@@ -186,33 +186,33 @@ def _wait_served(hub: subprocess.Popen[bytes], socket: Path) -> None:
         with contextlib.suppress(OSError):
             connect(socket).close()
             return
-        time.sleep(_NAP)
+        time.sleep(_POLL)
     raise Fault(hub.returncode if hub.returncode in (1, 2, 3) else FAILED, f"the hub did not start: it ended with {hub.returncode}")
 
 
 def collect(work: Path) -> int:
     """Brings the work of all teams that are done into one design; the others are named."""
     plan = Plan.load(work)
-    plan.refuse_another_text()
-    left = set(plan.numbers_left(work))
-    done = [number for number in range(1, len(plan.teams) + 1) if number not in left]
+    plan.refuse_changed_design()
+    unfinished = set(plan.unfinished_numbers(work))
+    done = [number for number in range(1, len(plan.teams) + 1) if number not in unfinished]
     for number in done:
-        refuse_another_slice(work / str(number), plan)
-    for number in sorted(left):
-        reason = work / str(number) / "failed"
-        why = reason.read_text().strip() if reason.exists() else "it did not end"
-        log(TOOL, f"team {plan.teams[number - 1]} is not in it: {why}; {work / str(number) / 'log'} has more")
+        refuse_foreign_slice(work / str(number), plan)
+    for number in sorted(unfinished):
+        failure = work / str(number) / "failed"
+        reason = failure.read_text().strip() if failure.exists() else "it did not end"
+        log(TOOL, f"team {plan.teams[number - 1]} is not in it: {reason}; {work / str(number) / 'log'} has more")
     if plan.is_merged:
         _merge(work, plan, done)
     else:
-        with whole_file(Path(plan.export)) as file:
+        with atomic_file(Path(plan.export)) as file:
             _answer(work, plan, done, file)
     log(TOOL, f"{plan.export}: the work of {len(done)} of {len(plan.teams)} teams")
-    return LACKING if left else DONE
+    return INCOMPLETE if unfinished else DONE
 
 
 def _merge(work: Path, plan: Plan, done: list[int]) -> None:
-    with whole_file(Path(plan.export)) as file:
+    with atomic_file(Path(plan.export)) as file:
         count = merge(Path(plan.design), [work / str(number) / "new.def" for number in done], file)
     log(TOOL, f"{count} components are as the teams' slices have them")
 
@@ -230,10 +230,10 @@ def _answer(work: Path, plan: Plan, done: list[int], output: BinaryIO) -> None:
         replies.seek(0)
         for number in done:
             count = 0
-            for count, line, told in _records_in(work / str(number)):
+            for count, line, recorded in _records_in(work / str(number)):
                 reply = replies.readline()
-                if not is_as_told(reply, told):
-                    answers = f"{shown(told).strip()!r}, and over the whole {shown(reply).strip()!r}"
+                if not is_recorded_reply(reply, recorded):
+                    answers = f"{shown(recorded).strip()!r}, and over the whole {shown(reply).strip()!r}"
                     differs = f"line {count}, {shown(line)!r}, was answered {answers}"
                     raise Fault(REFUSED, f"team {plan.teams[number - 1]}: {differs}")
             log(TOOL, f"team {plan.teams[number - 1]}: {count} lines answered as over its slice")
@@ -241,9 +241,9 @@ def _answer(work: Path, plan: Plan, done: list[int], output: BinaryIO) -> None:
             shutil.copyfileobj(file, output)
 
 
-def _records_in(own: Path) -> Iterator[Record]:
+def _records_in(folder: Path) -> Iterator[Record]:
     """The commands of a team that is done, and their replies."""
-    return records_of(own / "lines" if (own / "lines").exists() else own / "journal")
+    return records_of(folder / "lines" if (folder / "lines").exists() else folder / "journal")
 
 
 def _remove_texts(journal: Path) -> None:

@@ -18,18 +18,18 @@ from typing import Any
 from ..base.faults import DONE, FAILED, REFUSED, Fault, Parser, log, run_tool
 from ..base.program import Program, find_program
 from ..base.protocol import MOST_SLOTS, socket_name
-from ..hub.checkpoints import Limits
+from ..hub.checkpoints import TailLimits
 from ..hub.clients import MOST_CLIENTS
-from ..hub.hub import Bounds, Hub
+from ..hub.hub import Hub, HubLimits
 from ..hub.hub_client import Client
 from ..hub.metrics import prometheus
 from ..hub.notify import notify
 from ..hub.server import Server
-from ..hub.sockets import bound_socket, groups_of, take_folder
+from ..hub.sockets import bind_socket, claim_folder, groups_of
 from ..hub.status import ask_status, uncommitted_text
 from ..journal.journal import Journal
-from ..journal.owner import own
-from ..journal.texts import remove_partial_texts, settle_texts
+from ..journal.owner import this_process
+from ..journal.texts import remove_partial_texts, resolve_texts
 
 TOOL = "lefence-hub"
 # Connections of a socket that may wait to be taken in, and how many asyncio takes in at a time: where no descriptor is left, it
@@ -52,7 +52,7 @@ async def listen(hub: Hub, folder: Path, groups: dict[str, int]) -> list[asyncio
     listeners: list[asyncio.AbstractServer] = []
     for team in (None, *hub.teams):
         mode, group = (0o600, None) if team is None else (0o660, groups.get(team))
-        bound = bound_socket(folder / socket_name(team), mode, team is not None, group)
+        bound = bind_socket(folder / socket_name(team), mode, team is not None, group)
         client = functools.partial(Client, hub, None if team is None else team.encode())
         listeners.append(await create(client, sock=bound))
         # (asyncio has one number for both)
@@ -78,35 +78,35 @@ async def serve(hub: Hub, options: argparse.Namespace, stopped: asyncio.Event) -
         files = resource.getrlimit(resource.RLIMIT_NOFILE)[0]
         if options.roll:
             return None
-        hub.crowd.most_clients = max(1, min(MOST_CLIENTS, (files - 64) // (len(teams) + 1) - 1))
+        hub.pool.most_clients = max(1, min(MOST_CLIENTS, (files - 64) // (len(teams) + 1) - 1))
         # (the first turn of the pump closes sessions that were left open, which are changes too)
         ready = f"ready: {len(teams)} teams, {hub.journal.changes} changes restored"
-        pump = asyncio.create_task(hub.pump())
-        tasks.append(pump)
+        run = asyncio.create_task(hub.run())
+        tasks.append(run)
         listeners = await listen(hub, options.sockets, groups)
         say(ready)
         notify("READY=1", f"STATUS={ready}")
-        await asyncio.wait({pump, stop, watch}, return_when=asyncio.FIRST_COMPLETED)
+        await asyncio.wait({run, stop, watch}, return_when=asyncio.FIRST_COMPLETED)
         for listener in listeners:
             listener.close()
         if watch.done():
             watch.result()
         hub.stop()
-        await pump
-        await part(hub)
+        await run
+        await disconnect_all(hub)
     finally:
         # (after a fault nothing more is acknowledged)
         for task in tasks:
             task.cancel()
 
 
-async def part(hub: Hub) -> None:
+async def disconnect_all(hub: Hub) -> None:
     """Ends the connections once the clients have read what they were told, or have had the time for it."""
-    for client in list(hub.crowd.clients):
-        client.part()
+    for client in list(hub.pool.clients):
+        client.disconnect()
     loop = asyncio.get_running_loop()
-    last = loop.time() + _LAST
-    while hub.crowd.clients and loop.time() < last:
+    timer = loop.time() + _LAST
+    while hub.pool.clients and loop.time() < timer:
         await asyncio.sleep(0.02)
 
 
@@ -115,7 +115,7 @@ def end_by_signals(hub: Hub, stopped: asyncio.Event, grace: float) -> None:
 
     def give_up() -> None:
         say(f"given up: not ended within {grace:g} seconds, or asked twice; nothing acknowledged is lost")
-        hub.strike()
+        hub.kill_programs()
         os._exit(FAILED)
 
     def stop() -> None:
@@ -123,9 +123,9 @@ def end_by_signals(hub: Hub, stopped: asyncio.Event, grace: float) -> None:
             give_up()
         notify("STOPPING=1")
         stopped.set()
-        last = threading.Timer(grace, give_up)
-        last.daemon = True
-        last.start()
+        timer = threading.Timer(grace, give_up)
+        timer.daemon = True
+        timer.start()
 
     for number in (signal.SIGTERM, signal.SIGINT, signal.SIGHUP):
         # (by `nohup` it passes over SIGHUP)
@@ -133,13 +133,13 @@ def end_by_signals(hub: Hub, stopped: asyncio.Event, grace: float) -> None:
             asyncio.get_running_loop().add_signal_handler(number, stop)
 
 
-def tell_calmly(hub: Hub) -> None:
+def limit_loop_errors(hub: Hub) -> None:
     """Has what the event loop says of itself told once a minute, as that no descriptor is left."""
 
     def handle(loop: asyncio.AbstractEventLoop, context: dict[str, Any]) -> None:
         error = context.get("exception")
-        told = context["message"] if isinstance(error, OSError) or not error else "".join(traceback.format_exception(error))
-        hub.calm(str(context["message"]), f"{told}: {error}")
+        text = context["message"] if isinstance(error, OSError) or not error else "".join(traceback.format_exception(error))
+        hub.log_limited(str(context["message"]), f"{text}: {error}")
 
     asyncio.get_running_loop().set_exception_handler(handle)
 
@@ -149,19 +149,19 @@ async def run(options: argparse.Namespace) -> None:
     stopped = asyncio.Event()
     paths = [options.design, *options.library]
     program = find_program(options.program)
-    take_folder(options.sockets)
-    texts, kept = settle_texts(options.journal, paths, say)
-    journal = Journal(options.journal, texts, say, own(program), options.takeover, options.sessions)
+    claim_folder(options.sockets)
+    texts, kept = resolve_texts(options.journal, paths, say)
+    journal = Journal(options.journal, texts, say, this_process(program), options.takeover, options.sessions)
     journal.is_synced = not options.no_sync
     remove_partial_texts(options.journal)
-    bounds = Bounds(options.patience, options.idle, options.deadline, Limits(options.tail_bytes, options.tail_seconds, options.keep))
-    hub = Hub(Server(Program(program, kept, journal.header.slots), [text.sum for text in texts]), journal, bounds, say)
-    hub.exporter.given = paths
+    limits = HubLimits(options.patience, options.idle, options.deadline, TailLimits(options.tail_bytes, options.tail_seconds, options.keep))
+    hub = Hub(Server(Program(program, kept, journal.header.slots), [text.sum for text in texts]), journal, limits, say)
+    hub.exporter.protected = paths
     if journal.former and journal.former.program != journal.owner.program:
         which = f"{journal.former.program} of front {journal.former.front}"
         say(f"the journal was written with another program, {which}; where this one answers otherwise, --roll with that one makes a state first")
     end_by_signals(hub, stopped, options.grace)
-    tell_calmly(hub)
+    limit_loop_errors(hub)
     try:
         if options.export:
             hub.exporter.refuse(options.export)
@@ -169,12 +169,12 @@ async def run(options: argparse.Namespace) -> None:
         await hub.server.kill()
         if hub.teams:
             # (a start that was cut short knows no more than a part of who has a session)
-            if told := uncommitted_text(hub):
-                say(told)
-            await hub.checkpoints.make_last(hub.crowd, hub.figures, options.roll)
+            if text := uncommitted_text(hub):
+                say(text)
+            await hub.checkpoints.make_last(hub.pool, hub.metrics, options.roll)
         if options.roll and journal.tail_changes:
             raise Fault(FAILED, "the state that --roll is for is not made")
-        if options.export and await hub.exporter.write(options.export, journal.place) is not None:
+        if options.export and await hub.exporter.write(options.export, journal.position) is not None:
             raise Fault(FAILED, f"{options.export}: not exported")
     finally:
         await hub.server.kill()
@@ -182,7 +182,7 @@ async def run(options: argparse.Namespace) -> None:
     say("ended")
 
 
-class Ask(argparse.Action):
+class StatusAction(argparse.Action):
     """An option that asks a hub for its status, prints it and ends."""
 
     def __call__(self, parser: argparse.ArgumentParser, _: object, value: Any, option: str | None = None) -> None:
@@ -222,9 +222,9 @@ def parser() -> Parser:
     add("--takeover", action="store_true", help="take the journal from a hub of another host, which is gone for certain")
     add("--no-sync", action="store_true", help="do not wait for the disk: a crash of the machine may lose changes")
     made.add_program()
-    asked = {"--status": "print what the hub of a folder of sockets tells of itself, as JSON", "--metrics": "the same for Prometheus"}
-    for option, told in asked.items():
-        add(option, metavar="DIR", type=Path, action=Ask, help=told)
+    queries = {"--status": "print what the hub of a folder of sockets tells of itself, as JSON", "--metrics": "the same for Prometheus"}
+    for option, text in queries.items():
+        add(option, metavar="DIR", type=Path, action=StatusAction, help=text)
     return made
 
 

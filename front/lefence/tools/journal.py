@@ -13,22 +13,22 @@ from collections.abc import Iterator
 from dataclasses import dataclass
 from pathlib import Path
 
-from ..base.atomic_file import refuse_inputs, sync_folder, whole_file
+from ..base.atomic_file import atomic_file, refuse_inputs, sync_folder
 from ..base.faults import DONE, FAILED, REFUSED, Fault, Parser, log, run_tool
 from ..base.program import Program, find_program
 from ..base.protocol import SLOTS
 from ..hub.server import Server, ServerLost
 from ..journal.frames import Frame, Reader, Record, body_of, frame_of, header_of
 from ..journal.journal import lock
-from ..journal.owner import Succession, own
-from ..journal.segments import Past, opened, records_in, way_to_end
+from ..journal.owner import OwnerHistory, this_process
+from ..journal.segments import Archive, last_state, open_segments, records_in
 from ..journal.texts import kept_text
 
 TOOL = "lefence-journal"
 
 
 @dataclass
-class Stretch:
+class ByteRange:
     """Frames that follow each other, of which the first one begins at `start`, and what stands between the last one and the next."""
 
     start: int
@@ -37,11 +37,11 @@ class Stretch:
     changes: int = 0
 
 
-def stretches(reader: Reader) -> Iterator[Stretch]:
+def intact_ranges(reader: Reader) -> Iterator[ByteRange]:
     """The stretches of a segment; behind each but the last one is damage."""
     start: int | None = reader.header().length
     while start is not None:
-        found = Stretch(start, start)
+        found = ByteRange(start, start)
         for frame in reader.frames(start):
             found.end, found.frames, found.changes = frame.end, found.frames + 1, found.changes + frame.changes
         yield found
@@ -50,8 +50,8 @@ def stretches(reader: Reader) -> Iterator[Stretch]:
 
 def whole_frames(reader: Reader, start: int = 0) -> Iterator[Frame]:
     """All whole frames of a segment from a byte on, also those behind damage."""
-    for stretch in stretches(reader):
-        for frame in reader.frames(stretch.start):
+    for span in intact_ranges(reader):
+        for frame in reader.frames(span.start):
             if frame.start >= start:
                 yield frame
 
@@ -67,34 +67,34 @@ def check(path: Path, readers: list[Reader]) -> int:
         print(f"each team has {first.slots} session slots")
     if first.number > 1:
         print(f"the first {first.changes} changes are in a state alone")
-    for reader, behind in zip(readers, [*readers[1:], None]):
+    for reader, following in zip(readers, [*readers[1:], None]):
         if len(readers) > 1 or first.number > 1:
             header = reader.header()
             print(f"segment {header.number}, behind {header.changes} changes: {reader.path}")
-            state = Past(path).state_named(header.number, reader.notes())
+            state = Archive(path).state_named(header.number, reader.notes())
             if state:
-                told = state.in_a_word()
-                print(f"it begins with the state {state.path}: {told}")
-                status = status if told == "whole" else REFUSED
-        status = max(status, _check_segment(reader, path, behind.header().bytes if behind else None))
+                condition = state.condition()
+                print(f"it begins with the state {state.path}: {condition}")
+                status = status if condition == "whole" else REFUSED
+        status = max(status, _check_segment(reader, path, following.header().bytes if following else None))
     return status
 
 
 def _check_segment(reader: Reader, path: Path, size: int | None) -> int:
     """The same of a segment, which had this size when another followed it, None of the last one."""
-    status, found = DONE, list(stretches(reader))
+    status, found = DONE, list(intact_ranges(reader))
     copied = "" if size is None else f"copied to {path}, "
-    for stretch, behind in zip(found, [*found[1:], None]):
-        print(f"whole from byte {stretch.start} to {stretch.end}: {stretch.changes} changes in {stretch.frames} batches")
-        if behind:
+    for span, following in zip(found, [*found[1:], None]):
+        print(f"whole from byte {span.start} to {span.end}: {span.changes} changes in {span.frames} batches")
+        if following:
             status = REFUSED
-            way = f"{copied}`cut --at {stretch.end}` makes a journal of what stands before"
-            print(f"damaged from byte {stretch.end} to {behind.start}: {way}")
+            remedy = f"{copied}`cut --at {span.end}` makes a journal of what stands before"
+            print(f"damaged from byte {span.end} to {following.start}: {remedy}")
     end = found[-1].end
     if size is not None and end != size:
         status = REFUSED
         print(f"damaged from byte {end} to {size}, where it ended when the next segment was begun: {copied}it ends there")
-    elif tail := reader.tail(end):
+    elif tail := reader.trailing_bytes(end):
         print(f"torn: {tail} bytes at byte {end} are no whole batch (a write that was cut off); a start removes them")
     return status
 
@@ -135,30 +135,30 @@ def cut(path: Path, at: int | None, takes_over: bool) -> int:
         lock(file.fileno(), path)
         reader = Reader(file.fileno(), path)
         if not takes_over:
-            _refuse_claim(reader)
-        first = next(stretches(reader))
+            _refuse_owner(reader)
+        first = next(intact_ranges(reader))
         at = first.end if at is None else at
         if at not in (first.start, *(frame.end for frame in reader.frames(first.start))):
             raise Fault(REFUSED, f"{path}: no batch of its first whole stretch, from byte {first.start} to {first.end}, ends at byte {at}")
-        aside = path.with_name(f"{path.name}.before-cut-at-{at}")
-        if aside.exists():
-            raise Fault(FAILED, f"{aside} is there already")
-        with whole_file(aside, 0o600) as copy:
+        backup = path.with_name(f"{path.name}.before-cut-at-{at}")
+        if backup.exists():
+            raise Fault(FAILED, f"{backup} is there already")
+        with atomic_file(backup, 0o600) as copy:
             shutil.copyfileobj(file, copy, 1 << 20)
         os.ftruncate(file.fileno(), at)
         os.fsync(file.fileno())
         sync_folder(path.absolute().parent)
-    log(TOOL, f"{path}: cut off at byte {at}; as it was it is {aside}")
+    log(TOOL, f"{path}: cut off at byte {at}; as it was it is {backup}")
     return DONE
 
 
-def _refuse_claim(reader: Reader) -> None:
+def _refuse_owner(reader: Reader) -> None:
     """A fault where a hub may be at work on the journal."""
-    succession = Succession()
+    succession = OwnerHistory()
     for frame in whole_frames(reader):
         for note in frame.notes():
-            succession.take(note)
-    succession.refuse_claim(own(), reader.path)
+            succession.add_note(note)
+    succession.refuse_owner(this_process(), reader.path)
 
 
 def export(path: Path, readers: list[Reader], team: str | None, start: int, output: Path | None) -> int:
@@ -169,8 +169,8 @@ def export(path: Path, readers: list[Reader], team: str | None, start: int, outp
     first = readers[-1 if start else 0].header()
     frames = whole_frames(readers[-1], start) if start else itertools.chain.from_iterable(map(whole_frames, readers))
     if first.number > 1:
-        way = "" if start else f"; its lines are for a replay with --state {Past(path).state(first.number)}"
-        log(TOOL, f"{path}: the first {first.changes} changes are not in it{way}")
+        remedy = "" if start else f"; its lines are for a replay with --state {Archive(path).state(first.number)}"
+        log(TOOL, f"{path}: the first {first.changes} changes are not in it{remedy}")
     if first.slots != SLOTS:
         log(TOOL, f"{path}: its lines are for a program with --sessions {first.slots}")
     if output is None:
@@ -178,7 +178,7 @@ def export(path: Path, readers: list[Reader], team: str | None, start: int, outp
             sys.stdout.write("".join(f"{record.line.decode()}\n" for record in frame.records() if is_of(record, team)))
         return DONE
     refuse_inputs(output, [reader.path for reader in readers])
-    with whole_file(output) as file:
+    with atomic_file(output) as file:
         at = file.write(header_of(first.texts, first.number, first.changes, slots=first.slots))
         for frame in frames:
             if records := [record for record in frame.records() if is_of(record, team)]:
@@ -188,28 +188,28 @@ def export(path: Path, readers: list[Reader], team: str | None, start: int, outp
 
 def verify(path: Path, given: list[Path], wanted: str | None, is_all: bool) -> int:
     """Has the program answer the changes behind the last state, over the kept texts or those given, and compares each reply."""
-    with opened(path) as readers:
+    with open_segments(path) as readers:
         header = readers[0].header()
         texts = header.texts
         kept = [kept_text(path, text) for text in texts]
         paths = given or [found for found in kept if found]
         if len(paths) != len(texts):
-            raise Fault(REFUSED, f"{path}: {len(texts)} texts, of which {len(paths)} are {'given' if given else 'kept beside it'}")
+            raise Fault(REFUSED, f"{path}: {len(texts)} texts, of which {len(paths)} are {'given' if given else 'kept partial_file it'}")
         server = Server(Program(find_program(wanted), paths, header.slots), [text.sum for text in texts])
-        state, behind = way_to_end(path, readers, is_all)
-        before = behind[0].header().changes
+        state, following = last_state(path, readers, is_all)
+        before = following[0].header().changes
 
         async def replay() -> int:
             try:
                 await server.start(state)
-                return await server.restore(records_in(behind), None, before)
+                return await server.restore(records_in(following), None, before)
             except ServerLost as lost:
                 raise Fault(FAILED, f"{path}: {lost}") from None
             finally:
                 await server.kill()
 
-        told = f"{asyncio.run(replay()) - before} changes" + (f" behind a state of {before}" if state else "")
-        log(TOOL, f"{path}: {told} are answered as recorded")
+        text = f"{asyncio.run(replay()) - before} changes" + (f" behind a state of {before}" if state else "")
+        log(TOOL, f"{path}: {text} are answered as recorded")
     return DONE
 
 
@@ -223,8 +223,8 @@ def parser() -> Parser:
     )
     verbs = made.add_subparsers(dest="verb", metavar="VERB", required=True, parser_class=argparse.ArgumentParser)
 
-    def verb(name: str, told: str) -> argparse.ArgumentParser:
-        added = verbs.add_parser(name, help=told, description=told)
+    def verb(name: str, text: str) -> argparse.ArgumentParser:
+        added = verbs.add_parser(name, help=text, description=text)
         added.add_argument("journal", metavar="JOURNAL", type=Path, help="a journal of lefence-hub")
         return added
 
@@ -254,7 +254,7 @@ def main() -> int:
             return cut(options.journal, options.at, options.takeover)
         if options.verb == "verify":
             return verify(options.journal, options.texts, options.program, options.all)
-        with opened(options.journal) as readers:
+        with open_segments(options.journal) as readers:
             if options.verb == "list":
                 return list_changes(readers, options.team)
             if options.verb == "check":

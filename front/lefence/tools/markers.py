@@ -10,7 +10,7 @@ from pathlib import Path
 from typing import NamedTuple
 from xml.sax.saxutils import escape
 
-from ..base.atomic_file import refuse_inputs, whole_file
+from ..base.atomic_file import atomic_file, refuse_inputs
 from ..base.description import Box, Cell, Description, Facts
 from ..base.faults import DONE, FAILED, USAGE, Fault, Parser, log, run_tool
 from ..base.program import find_program
@@ -95,10 +95,10 @@ def database_of(description: Description) -> Iterator[str]:
     yield _HEAD.format(tool=TOOL, top=top, tags=tags, categories=categories)
     for violation in violations_of(Progress(TOOL, "cells").over(description.cells())):
         yield _item(violation, top, facts)
-    yield _TAIL.format(description=escape(said_of(description)))
+    yield _TAIL.format(description=escape(totals_text(description)))
 
 
-def said_of(description: Description) -> str:
+def totals_text(description: Description) -> str:
     """The totals in words, once the cells were read."""
     total = description.total
     return f"{total.illegal} of {total.cells} cells break a rule; {total.unplaced} without a place have no marker"
@@ -163,13 +163,13 @@ def main() -> int:
         for output in (options.output, options.technology):
             if output is not None:
                 refuse_inputs(output, inputs)
-        with whole_file(options.output) as file, Description(program, options.design, options.libraries) as description:
+        with atomic_file(options.output) as file, Description(program, options.design, options.libraries) as description:
             for piece in database_of(description):
                 file.write(piece.encode())
             if options.technology is not None:
-                with whole_file(options.technology) as technology:
+                with atomic_file(options.technology) as technology:
                     technology.write(technology_of(description.frame.facts, options.libraries))
-        log(TOOL, said_of(description))
+        log(TOOL, totals_text(description))
         return DONE
 
     return run_tool(TOOL, work)

@@ -12,7 +12,7 @@ from contextlib import ExitStack
 from pathlib import Path
 from typing import BinaryIO
 
-from ..base.design import Entry, mapped, section_parts, shown, statements_in
+from ..base.design import Entry, map_file, section_parts, shown, statements_in
 from ..base.faults import REFUSED, Fault
 
 # Bytes that are written at a time.
@@ -25,8 +25,8 @@ def merge(whole: Path, slices: list[Path], output: BinaryIO) -> int:
     files = resource.getrlimit(resource.RLIMIT_NOFILE)[1]
     resource.setrlimit(resource.RLIMIT_NOFILE, (files, files))
     with ExitStack() as stack:
-        text = mapped(whole, stack)
-        streams = [_movable(mapped(path, stack)) for path in slices]
+        text = map_file(whole, stack)
+        streams = [_movable(map_file(path, stack)) for path in slices]
         # The next component of each slice, by its name.
         heads: dict[bytes, tuple[Entry, int]] = {}
         for number, stream in enumerate(streams):
@@ -41,8 +41,8 @@ def merge(whole: Path, slices: list[Path], output: BinaryIO) -> int:
                 count += 1
                 _advance(heads, streams[number], number)
         _copy(text, at, len(text), output)
-        left = sorted((number, shown(entry.name)) for entry, number in heads.values())
-    for number, name in left:
+        unmatched = sorted((number, shown(entry.name)) for entry, number in heads.values())
+    for number, name in unmatched:
         raise Fault(REFUSED, f"{slices[number]}: component {name} is none of {whole}, or stands in another order there")
     return count
 

@@ -12,7 +12,7 @@ from contextlib import ExitStack
 from itertools import zip_longest
 from pathlib import Path
 
-from ..base.atomic_file import refuse_inputs, whole_file
+from ..base.atomic_file import atomic_file, refuse_inputs
 from ..base.description import Box, Cell, Description
 from ..base.faults import DONE, FAILED, USAGE, Fault, Parser, log, run_tool
 from ..base.program import find_program
@@ -143,7 +143,7 @@ def main() -> int:
             sys.stdout.buffer.writelines(piece.encode() for piece in drawing.svg())
             sys.stdout.buffer.flush()
         for output in outputs:
-            with whole_file(output) as file:
+            with atomic_file(output) as file:
                 if output.suffix.lower() == ".png":
                     file.write(png_of(drawing, klayout))
                 else:

@@ -2,12 +2,12 @@
 
 from __future__ import annotations
 
+import itertools
 import re
 from collections import Counter
 from collections.abc import Iterator
 from dataclasses import dataclass, field
 from decimal import Decimal
-from itertools import count
 from typing import NamedTuple
 
 from ..base.description import Box
@@ -40,11 +40,11 @@ class Grid(NamedTuple):
     x: int
     y: int
     is_upright: bool
-    told: str
+    reason: str
 
 
 @dataclass
-class Wanted:
+class PreparationOptions:
     """What is asked for. Boxes are database units; the core is None where DIEAREA has it, less the margin on every side."""
 
     replaces_rows: bool = False
@@ -62,7 +62,7 @@ class Preparation:
         self.text = text
         self._statements = statements(text)
         self._changes: list[_Change] = []
-        self.said: list[str] = []
+        self.messages: list[str] = []
 
     @property
     def units(self) -> int:
@@ -85,7 +85,7 @@ class Preparation:
             at = change.stop
         return b"".join([*pieces, self.text[at:]])
 
-    def place_before(self, place: int) -> int | None:
+    def position_before(self, place: int) -> int | None:
         """Where a place of the result stands in the text that was read; None where it was put in."""
         shift = 0
         for change in sorted(self._changes, key=lambda change: change.start):
@@ -107,7 +107,7 @@ class Preparation:
         rest = _REST.match(self.text, place)
         return rest.end() if rest else place
 
-    def _put(self, place: int, text: bytes) -> None:
+    def _insert(self, place: int, text: bytes) -> None:
         """New lines behind what ends there."""
         at = self._line_end(place)
         self._changes.append(_Change(at, at, text))
@@ -116,7 +116,7 @@ class Preparation:
         """Takes out a statement or an entry, but not the comment in the line of what ends at its start."""
         self._changes.append(_Change(self._line_end(start), stop, b""))
 
-    def add_rows(self, site: Site, wanted: Wanted) -> None:
+    def add_rows(self, site: Site, wanted: PreparationOptions) -> None:
         """Rows of the site over the core, on the grid of the placed cells; those that the text has are taken out."""
         name = f"site {shown(site.name)}"
         width, height = (_whole(length * self.units, name) for length in (site.width, site.height))
@@ -138,10 +138,10 @@ class Preparation:
         if old := list(self._all(b"ROW")):
             for row in old:
                 self._remove(row.start, row.stop)
-            self.said.append(f"{len(old)} rows removed")
-        self._put(old[-1].stop if old else self._place_of_rows(), text)
+            self.messages.append(f"{len(old)} rows removed")
+        self._insert(old[-1].stop if old else self._place_of_rows(), text)
         size = f"{sites} sites each, the first at {left} {bottom} is {'N' if first else 'FS'}"
-        self.said += [f"{rows} rows of {name} added: {size}", grid.told]
+        self.messages += [f"{rows} rows of {name} added: {size}", grid.reason]
 
     def _place_of_rows(self) -> int:
         """Behind DIEAREA or UNITS, as the order of DEF has it."""
@@ -153,53 +153,53 @@ class Preparation:
             numbers = [int(Decimal(word.decode())) for word in words if _NUMBER.fullmatch(word)]
             if len(numbers) != 4 or len(words) != 10:
                 raise Fault(REFUSED, "DIEAREA is no rectangle in whole database units; --core says where rows are made")
-            across, up = sorted(numbers[::2]), sorted(numbers[1::2])
-            return Box(across[0], up[0], across[1], up[1])
+            xs, ys = sorted(numbers[::2]), sorted(numbers[1::2])
+            return Box(xs[0], ys[0], xs[1], ys[1])
         raise Fault(REFUSED, "the text has no DIEAREA; --core says where rows are made")
 
     def _grid(self, core: Box, width: int, height: int) -> Grid:
         """The grid of most of the placed cells; the core's corner where less than half of them agree."""
-        across: Counter[int] = Counter()
+        columns: Counter[int] = Counter()
         # By where a cell stands in a pair of rows, and whether it is flipped; None where that tells nothing.
-        upwards: Counter[tuple[int, bool | None]] = Counter()
+        row_pairs: Counter[tuple[int, bool | None]] = Counter()
         for statement in self._all(b"COMPONENTS"):
             for entry in section_parts(self.text, statement)[2]:
                 if found := _placed(entry):
                     x, y, orient = found
-                    across[x % width] += 1
-                    upwards[y % (2 * height), orient in _FLIPPED if orient in _UPRIGHT + _FLIPPED else None] += 1
-        levels: Counter[int] = Counter()
-        for (y, _), many in upwards.items():
-            levels[y % height] += many
-        cells = across.total()
-        (x, many_across), (y, many_upwards) = (*across.most_common(1), (0, 0))[0], (*levels.most_common(1), (0, 0))[0]
-        if not cells or 2 * min(many_across, many_upwards) < cells:
-            told = f"less than half of the {cells} placed cells agree on a grid" if cells else "no cell is placed"
-            return Grid(core.left, core.bottom, True, f"{told}: the rows begin at the core's corner with N")
-        upright = upwards[y, False] + upwards[y + height, True]
-        flipped = upwards[y, True] + upwards[y + height, False]
-        told = f"the rows follow the {cells} placed cells: {many_across} of them fit along x, {many_upwards} along y"
-        told += f", and {max(upright, flipped)} face as their row"
-        return Grid(x, y, upright >= flipped, told)
+                    columns[x % width] += 1
+                    row_pairs[y % (2 * height), orient in _FLIPPED if orient in _UPRIGHT + _FLIPPED else None] += 1
+        row_levels: Counter[int] = Counter()
+        for (y, _), count in row_pairs.items():
+            row_levels[y % height] += count
+        cells = columns.total()
+        (x, count_x), (y, count_y) = (*columns.most_common(1), (0, 0))[0], (*row_levels.most_common(1), (0, 0))[0]
+        if not cells or 2 * min(count_x, count_y) < cells:
+            reason = f"less than half of the {cells} placed cells agree on a grid" if cells else "no cell is placed"
+            return Grid(core.left, core.bottom, True, f"{reason}: the rows begin at the core's corner with N")
+        upright = row_pairs[y, False] + row_pairs[y + height, True]
+        flipped = row_pairs[y, True] + row_pairs[y + height, False]
+        reason = f"the rows follow the {cells} placed cells: {count_x} of them fit along x, {count_y} along y"
+        reason += f", and {max(upright, flipped)} face as their row"
+        return Grid(x, y, upright >= flipped, reason)
 
     def remove_fillers(self, patterns: list[str]) -> None:
         """Takes out the components whose name or macro one of the patterns has."""
         are_fillers = {pattern: pattern_of(_word(pattern).encode()).fullmatch for pattern in patterns}
-        removed, unmet = 0, set(patterns)
+        removed, unmatched = 0, set(patterns)
         for statement in self._all(b"COMPONENTS"):
             section = _Section(self.text, statement)
             kept = 0
             for start, entry in section.entries():
                 found = {pattern for pattern, is_filler in are_fillers.items() if any(map(is_filler, entry.words[:2]))}
                 if found:
-                    unmet -= found
+                    unmatched -= found
                     self._remove(start, start + len(entry.text))
                     removed += 1
                 else:
                     kept += 1
-            self._changes.append(_Change(section.count, section.behind_count, b"%d" % kept))
-        self.said.append(f"{removed} fillers removed ({' '.join(patterns)})")
-        self.said += [f"no component has a name or a macro like {pattern}" for pattern in patterns if pattern in unmet and removed]
+            self._changes.append(_Change(section.count, section.after_count, b"%d" % kept))
+        self.messages.append(f"{removed} fillers removed ({' '.join(patterns)})")
+        self.messages += [f"no component has a name or a macro like {pattern}" for pattern in patterns if pattern in unmatched and removed]
 
     def add_fences(self, fences: dict[str, list[Box]]) -> None:
         """FENCE regions of these rectangles."""
@@ -211,7 +211,7 @@ class Preparation:
                 raise Fault(REFUSED, f"the text has a region {name} already")
             points = b" ".join(b"( %d %d ) ( %d %d )" % box for box in boxes)
             entries.append(b"\n- %b %b + TYPE FENCE ;" % (word, points))
-            self.said.append(f"fence {name} added: {len(boxes)} {'rectangles' if len(boxes) > 1 else 'rectangle'}")
+            self.messages.append(f"fence {name} added: {len(boxes)} {'rectangles' if len(boxes) > 1 else 'rectangle'}")
         self._add_entries(b"REGIONS", entries, (b"COMPONENTS", b"PINS", b"NETS", b"GROUPS", b"END"))
 
     def add_groups(self, groups: dict[str, list[str]], fences: list[str]) -> None:
@@ -223,7 +223,7 @@ class Preparation:
             fence = _word(name).encode()
             if fence not in known:
                 raise Fault(REFUSED, f"there is no fence {name} for the group; --fence {name} adds one")
-            names = (fence if number == 1 else b"%b_%d" % (fence, number) for number in count(1))
+            names = (fence if number == 1 else b"%b_%d" % (fence, number) for number in itertools.count(1))
             group = next(each for each in names if each not in taken)
             members = b" ".join(_word(pattern).encode() for pattern in patterns)
             entries.append(b"\n- %b %b + REGION %b ;" % (group, members, fence))
@@ -233,14 +233,14 @@ class Preparation:
         """Entries at the end of the first section of that keyword; else in a new one, before the first of the followers."""
         if (statement := next(self._all(keyword), None)) is not None:
             section = _Section(self.text, statement)
-            last, many = section.start, len(entries)
+            last, count = section.start, len(entries)
             for start, entry in section.entries():
-                last, many = start + len(entry.text), many + 1
-            self._changes.append(_Change(section.count, section.behind_count, b"%d" % many))
-            self._put(last, b"".join(entries))
+                last, count = start + len(entry.text), count + 1
+            self._changes.append(_Change(section.count, section.after_count, b"%d" % count))
+            self._insert(last, b"".join(entries))
             return
         place = next((each.start for each in self._statements if each.keyword in followers), len(self.text))
-        self._put(place, b"\n%b %d ;%b\nEND %b" % (keyword, len(entries), b"".join(entries), keyword))
+        self._insert(place, b"\n%b %d ;%b\nEND %b" % (keyword, len(entries), b"".join(entries), keyword))
 
 
 class _Section:
@@ -251,8 +251,8 @@ class _Section:
         # Where the count is, and where the entries begin.
         self.count = statement.start + len(before)
         found = _WORD.match(text, self.count, statement.stop)
-        self.behind_count = found.end() if found else self.count
-        self.start = self.behind_count + len(behind)
+        self.after_count = found.end() if found else self.count
+        self.start = self.after_count + len(behind)
 
     def entries(self) -> Iterator[tuple[int, Entry]]:
         """Each entry and where it begins."""

@@ -9,15 +9,15 @@ from collections import Counter
 from dataclasses import dataclass
 from pathlib import Path
 
-from ..base.atomic_file import refuse_inputs, whole_file
+from ..base.atomic_file import atomic_file, refuse_inputs
 from ..base.description import Box, Description, Facts, Total
-from ..base.design import refuse_other_text, shown
+from ..base.design import refuse_no_design, shown
 from ..base.faults import DONE, REFUSED, USAGE, Fault, Parser, log, run_tool
 from ..base.lef import Site, sites_of
 from ..base.program import find_program
 from ..base.progress import Progress
 from ..base.protocol import RULES
-from .preparation import Preparation, Wanted, whole_units
+from .preparation import Preparation, PreparationOptions, whole_units
 from .skipped import Remark, line_of, remarks_of
 
 TOOL = "lefence-prepare"
@@ -26,7 +26,7 @@ NOT_LEGAL = 4
 _BOX_WORDS = ("X1", "Y1", "X2", "Y2")
 
 
-def prepare(preparation: Preparation, wanted: Wanted, libraries: list[bytes], site: str | None) -> None:
+def prepare(preparation: Preparation, wanted: PreparationOptions, libraries: list[bytes], site: str | None) -> None:
     """Makes what is asked for; rows are made where the text has none."""
     if wanted.replaces_rows or not preparation.has_rows:
         preparation.add_rows(_core_site(libraries, site), wanted)
@@ -56,7 +56,7 @@ def _core_site(libraries: list[bytes], name: str | None) -> Site:
 
 
 @dataclass
-class Told:
+class TextSummary:
     """What the program tells of a text, with the cells of each team, how many break each rule, and how high how many are."""
 
     facts: Facts
@@ -78,12 +78,12 @@ class Told:
 
     def in_words(self) -> str:
         """The totals."""
-        broken = ", ".join(f"{many} by rule {rule} {RULES.get(rule, '')}" for rule, many in sorted(self.rules.items()))
+        broken = ", ".join(f"{count} by rule {rule} {RULES.get(rule, '')}" for rule, count in sorted(self.rules.items()))
         illegal = f"{self.total.illegal} illegal ({broken})" if broken else "0 illegal"
         return f"it loads: {self.total.cells} cells, {self.total.unplaced} unplaced, {illegal}"
 
 
-def told_of(program: str, text: bytes, libraries: list[Path], name: str) -> Told:
+def text_summary_of(program: str, text: bytes, libraries: list[Path], name: str) -> TextSummary:
     """What the program tells of a text; a fault, which calls it by this name, where it does not load."""
     with tempfile.NamedTemporaryFile(suffix=".def") as file:
         file.write(text)
@@ -98,12 +98,12 @@ def told_of(program: str, text: bytes, libraries: list[Path], name: str) -> Told
                     heights[cell.height] += 1
                     if cell.rule is not None:
                         rules[cell.rule] += 1
-                return Told(description.frame.facts, description.total, teams, rules, heights)
+                return TextSummary(description.frame.facts, description.total, teams, rules, heights)
         except Fault as fault:
             raise Fault(fault.status, str(fault).replace(f"DEF file {file.name}", name)) from None
 
 
-def wanted_of(options: argparse.Namespace, units: int) -> Wanted:
+def wanted_of(options: argparse.Namespace, units: int) -> PreparationOptions:
     """What the command line asks for, in database units."""
     margin = whole_units(options.margin, units) if options.margin else 0
     fences: dict[str, list[Box]] = {}
@@ -115,7 +115,7 @@ def wanted_of(options: argparse.Namespace, units: int) -> Wanted:
             raise Fault(USAGE, f"--group {name} names no component")
         groups.setdefault(name, []).extend(patterns)
     core = _box(options.core, units) if options.core else None
-    return Wanted(options.rows, margin, core, options.fillers, fences, groups)
+    return PreparationOptions(options.rows, margin, core, options.fillers, fences, groups)
 
 
 def _box(corners: list[str], units: int) -> Box:
@@ -157,21 +157,21 @@ def main() -> int:
     def work() -> int:
         program = find_program(options.program)
         if options.look:
-            return look(program, options)
+            return list_skipped(program, options)
         if options.output is None:
             raise Fault(USAGE, "--output FILE says where the prepared text is written; --look writes none")
         refuse_inputs(options.output, (options.design, *options.libraries))
         text = options.design.read_bytes()
-        refuse_other_text(options.design, text)
+        refuse_no_design(options.design, text)
         preparation = Preparation(text)
         wanted = wanted_of(options, preparation.units)
         prepare(preparation, wanted, [path.read_bytes() for path in options.libraries], options.site)
-        for line in preparation.said:
+        for line in preparation.messages:
             log(TOOL, line)
         text = preparation.result()
-        status = _tell(program, preparation, text, options, wanted)
+        status = _report(program, preparation, text, options, wanted)
         if status in (DONE, NOT_LEGAL) or options.force:
-            with whole_file(options.output) as file:
+            with atomic_file(options.output) as file:
                 file.write(text)
         else:
             log(TOOL, "nothing is written; --force writes it even so")
@@ -180,22 +180,22 @@ def main() -> int:
     return run_tool(TOOL, work)
 
 
-def look(program: str, options: argparse.Namespace) -> int:
+def list_skipped(program: str, options: argparse.Namespace) -> int:
     """Tells of the text as it is, on standard output."""
     if options.output or options.rows or options.site or options.core or options.margin or options.fillers or options.fence or options.group:
         raise Fault(USAGE, "--look tells of the text as it is: it goes with no option that prepares or writes one")
     text = options.design.read_bytes()
-    refuse_other_text(options.design, text)
-    judged = judge(program, text, options.libraries, str(options.design))
-    lines = [_located(options.design, text, remark.place, remark.text) for remark in judged.remarks]
+    refuse_no_design(options.design, text)
+    result = check(program, text, options.libraries, str(options.design))
+    lines = [_located(options.design, text, remark.place, remark.text) for remark in result.remarks]
     if not Preparation(text).has_rows:
         lines.append("there is no ROW; a run with --output makes rows")
-    print("\n".join([*lines, *judged.lines]).encode("utf-8", "backslashreplace").decode())
-    return judged.status or (NOT_LEGAL if lines else DONE)
+    print("\n".join([*lines, *result.lines]).encode("utf-8", "backslashreplace").decode())
+    return result.status or (NOT_LEGAL if lines else DONE)
 
 
 @dataclass
-class Judged:
+class CheckResult:
     """What there is to say of a text, and the status to end with: 0, 4 where every cell breaks a rule, or why it is not sound."""
 
     status: int
@@ -204,22 +204,22 @@ class Judged:
     teams: Counter[str]
 
 
-def judge(program: str, text: bytes, libraries: list[Path], name: str) -> Judged:
+def check(program: str, text: bytes, libraries: list[Path], name: str) -> CheckResult:
     """What the program makes of a text, and what it passes over in it; its fault calls the text by this name."""
     try:
-        told = told_of(program, text, libraries, name)
+        summary = text_summary_of(program, text, libraries, name)
     except Fault as fault:
-        return Judged(fault.status, [f"it does not load: {fault}"], remarks_of(text, None), Counter())
-    lines, status = [told.in_words()], DONE
-    if not told.fits_rows:
-        heights = ", ".join(f"{height / told.facts.units:g}" for height in sorted(told.heights)[:5])
-        site = f"{told.facts.site}, {told.facts.site_height / told.facts.units:g} microns high"
+        return CheckResult(fault.status, [f"it does not load: {fault}"], remarks_of(text, None), Counter())
+    lines, status = [summary.in_words()], DONE
+    if not summary.fits_rows:
+        heights = ", ".join(f"{height / summary.facts.units:g}" for height in sorted(summary.heights)[:5])
+        site = f"{summary.facts.site}, {summary.facts.site_height / summary.facts.units:g} microns high"
         lines.append(f"no cell fits the rows of site {site}: the cells are {heights} microns high; --rows --site NAME takes another site")
         status = REFUSED
-    elif told.is_all_illegal:
+    elif summary.is_all_illegal:
         lines.append("every cell breaks a rule; lefence-repair looks for places")
         status = NOT_LEGAL
-    return Judged(status, lines, remarks_of(text, told.facts), told.teams)
+    return CheckResult(status, lines, remarks_of(text, summary.facts), summary.teams)
 
 
 def _located(path: Path, text: bytes, place: int | None, said: str) -> str:
@@ -227,15 +227,15 @@ def _located(path: Path, text: bytes, place: int | None, said: str) -> str:
     return said if place is None else f"{path}, line {line_of(text, place)}: {said}"
 
 
-def _tell(program: str, preparation: Preparation, text: bytes, options: argparse.Namespace, wanted: Wanted) -> int:
+def _report(program: str, preparation: Preparation, text: bytes, options: argparse.Namespace, wanted: PreparationOptions) -> int:
     """Says what the program makes of the text, and what it passes over, by the lines of the text that was read; the status."""
-    judged = judge(program, text, options.libraries, "the prepared text")
-    for remark in judged.remarks:
-        place = None if remark.place is None else preparation.place_before(remark.place)
+    result = check(program, text, options.libraries, "the prepared text")
+    for remark in result.remarks:
+        place = None if remark.place is None else preparation.position_before(remark.place)
         log(TOOL, _located(options.design, preparation.text, place, remark.text))
     for name in wanted.groups:
-        if judged.teams[name]:
-            log(TOOL, f"team {name} has {judged.teams[name]} cells")
-    for line in judged.lines:
+        if result.teams[name]:
+            log(TOOL, f"team {name} has {result.teams[name]} cells")
+    for line in result.lines:
         log(TOOL, line)
-    return judged.status
+    return result.status

@@ -14,7 +14,7 @@ from pathlib import Path
 
 from ..base.faults import DONE, FAILED, REFUSED, Fault, Parser, log, run_tool
 from ..base.protocol import CHANGES, REVISIONS
-from ..client.blocking import Connection, Sent
+from ..client.blocking import Connection, SentLine
 from ..client.endpoint import connect_to
 from ..journal.segments import read_records
 
@@ -35,13 +35,13 @@ def records_of(path: Path) -> Iterator[Record]:
     with open(path, "rb") as file:
         if file.read(5) == b"open ":
             file.seek(0)
-            yield from _records_made(path, file)
+            yield from _records_of_lines(path, file)
             return
     for number, (line, reply, _) in enumerate(read_records(path), 1):
         yield number, line, reply
 
 
-def _records_made(path: Path, lines: Iterable[bytes]) -> Iterator[Record]:
+def _records_of_lines(path: Path, lines: Iterable[bytes]) -> Iterator[Record]:
     """Records of lines that a program accepted behind the design as it is loaded: sessions and revisions are as they were there."""
     revisions: Counter[bytes] = Counter()
     sessions: defaultdict[bytes, set[int]] = defaultdict(set)
@@ -49,22 +49,22 @@ def _records_made(path: Path, lines: Iterable[bytes]) -> Iterator[Record]:
         verb, team, *words = [*line.split(), b"", b""]
         if verb not in CHANGES or not team:
             raise Fault(REFUSED, f"{path}: line {number} is no change of a team")
-        told = b"ok"
+        recorded = b"ok"
         if verb == b"open":
             session = next(free for free in itertools.count() if free not in sessions[team])
             sessions[team].add(session)
-            told = b"ok %d %d" % (session, revisions[team])
+            recorded = b"ok %d %d" % (session, revisions[team])
         elif verb == b"close":
             sessions[team] = {each for each in sessions[team] if b"%d" % each != words[0]}
         elif verb in REVISIONS:
             revisions[team] += 1
-            told = b"ok %d" % revisions[team]
-        yield number, line.rstrip(b"\n"), told
+            recorded = b"ok %d" % revisions[team]
+        yield number, line.rstrip(b"\n"), recorded
 
 
-def is_as_told(reply: bytes, told: bytes) -> bool:
+def is_recorded_reply(reply: bytes, recorded: bytes) -> bool:
     """Whether a reply is the one of a record."""
-    return reply == told or not told.endswith(b"\n") and reply.startswith((told + b"\n", told + b" "))
+    return reply == recorded or not recorded.endswith(b"\n") and reply.startswith((recorded + b"\n", recorded + b" "))
 
 
 class Push:
@@ -74,7 +74,7 @@ class Push:
         """Up to `ahead` lines are in flight; with 1, nothing is sent behind a reply that differs."""
         self._connection = connection
         self._ahead = ahead
-        self._flying: deque[tuple[Record, Sent]] = deque()
+        self._in_flight: deque[tuple[Record, SentLine]] = deque()
         # The last revision of each team that was answered as recorded, and how many records were.
         self.revisions: dict[bytes, int] = {}
         self.count = 0
@@ -82,22 +82,22 @@ class Push:
     def send_all(self, records: Iterable[Record]) -> None:
         """Sends the records; a fault tells the first reply that differs."""
         for record in records:
-            self._flying.append((record, self._connection.send(record[1])))
-            if len(self._flying) >= self._ahead:
+            self._in_flight.append((record, self._connection.send(record[1])))
+            if len(self._in_flight) >= self._ahead:
                 self._compare()
-        while self._flying:
+        while self._in_flight:
             self._compare()
 
     def _compare(self) -> None:
-        (number, line, told), sent = self._flying.popleft()
+        (number, line, recorded), sent = self._in_flight.popleft()
         reply = self._connection.wait(sent)
         team = line.split()[1]
-        if not is_as_told(reply, told):
+        if not is_recorded_reply(reply, recorded):
             at = f"team {_text(team)} at revision {self.revisions.get(team, 0)}, line {number}"
-            differs = f"{_text(line)!r} was answered {_text(told)!r}, and there {_text(reply)!r}"
-            raise Fault(REFUSED, f"{at}: {differs}; {self.count} lines before it were answered alike, and nothing more is sent")
+            difference = f"{_text(line)!r} was answered {_text(recorded)!r}, and there {_text(reply)!r}"
+            raise Fault(REFUSED, f"{at}: {difference}; {self.count} lines before it were answered alike, and nothing more is sent")
         self.count += 1
-        if (revision := revision_of(line, told)) is not None:
+        if (revision := revision_of(line, recorded)) is not None:
             self.revisions[team] = revision
 
 
@@ -105,26 +105,26 @@ def _text(reply: bytes) -> str:
     return reply.decode("ascii", "backslashreplace").removesuffix("\n")
 
 
-def continued(connection: Connection, records: list[Record], push: Push) -> Iterator[Record]:
+def remaining_records(connection: Connection, records: list[Record], push: Push) -> Iterator[Record]:
     """The records behind those that an earlier push of the same ones sent, by each team's revision there.
 
     Each team's sessions are opened again as they were at that revision.
     """
     skips: dict[bytes, int] = {}
     for team in dict.fromkeys(line.split()[1] for _, line, _ in records):
-        revision = _revision_there(connection, team)
+        revision = _current_revision(connection, team)
         own = [record for record in records if record[1].split()[1] == team]
-        made = [at for at, record in enumerate(own) if revision_of(record[1], record[2]) == revision]
-        if revision and not made:
+        found = [at for at, record in enumerate(own) if revision_of(record[1], record[2]) == revision]
+        if revision and not found:
             raise Fault(REFUSED, f"team {team.decode()} is at revision {revision} there, which is none of these lines")
-        before = own[: made[0] + 1] if made else []
+        before = own[: found[0] + 1] if found else []
         skips[team] = before[-1][0] if before else 0
         push.revisions[team] = revision
         _open_again(connection, team, _sessions_after(before), revision)
     return (record for record in records if record[0] > skips[record[1].split()[1]])
 
 
-def _revision_there(connection: Connection, team: bytes) -> int:
+def _current_revision(connection: Connection, team: bytes) -> int:
     words = connection.ask_line(b"open " + team).split()
     if words[0] != b"ok":
         raise Fault(REFUSED, f"open {team.decode()}: {b' '.join(words).decode()}")
@@ -156,31 +156,31 @@ def _open_again(connection: Connection, team: bytes, sessions: set[int], revisio
 def push_file(path: Path, where: str, ahead: int, continues: bool) -> Push:
     """Sends the commands of a journal or a repair to a socket; a fault tells the first reply that differs, or that it is lost."""
     records = list(records_of(path))
-    there = connect_to(where)
-    push = Push(there.connection, max(1, ahead))
+    endpoint = connect_to(where)
+    push = Push(endpoint.connection, max(1, ahead))
     try:
-        push.send_all(continued(there.connection, records, push) if continues else records)
+        push.send_all(remaining_records(endpoint.connection, records, push) if continues else records)
     except OSError as error:
         raise Fault(FAILED, f"{error}; {push.count} lines were answered alike, and --continue sends the others") from None
     finally:
-        there.close()
+        endpoint.close()
     return push
 
 
 def parser() -> Parser:
-    made = Parser(
+    found = Parser(
         TOOL,
         "Sends the commands of a journal, as one that a hub over a slice wrote, or the lines of `lefence repair --lines` to\n"
         "the hub of the whole design. Each reply must be the one that it was; at the first that is not, nothing more is\n"
         "sent, and the status is 1.",
         f"{TOOL} A.journal /run/lefence/A.sock",
     )
-    add = made.add_argument
+    add = found.add_argument
     add("file", metavar="FILE", type=Path, help="a journal of lefence-hub, or the lines of a repair")
     add("socket", metavar="SOCKET", help="the team's socket, the operator's where the file is of several teams, or HOST:PORT")
     add("--continue", dest="continues", action="store_true", help="pass over what an earlier push of this file sent")
     add("--ahead", metavar="N", type=int, default=1, help="lines in flight (1); with more, some behind a difference may be sent")
-    return made
+    return found
 
 
 def main() -> int:

@@ -11,12 +11,12 @@ from contextlib import AbstractContextManager, nullcontext
 from pathlib import Path
 from typing import Any, BinaryIO
 
-from ..base.atomic_file import refuse_inputs, whole_file
+from ..base.atomic_file import atomic_file, refuse_inputs
 from ..base.faults import DONE, Parser, log, run_tool
 from ..base.program import Program, find_program
 from .drawing import number
-from .repair_remote import repair_there
-from .repair_run import Mended, tell_moves
+from .repair_remote import repair_remote
+from .repair_run import RepairRun, print_moves
 
 TOOL = "lefence-repair"
 # The status where a cell is left, as of `lefence check`.
@@ -30,33 +30,33 @@ def repair_design(options: argparse.Namespace) -> int:
     teams, program = options.team or [], Program(find_program(options.program), [options.design, *options.libraries])
     words = [f"--{option}" for option in ("keep", "all") if getattr(options, option)]
     if options.socket:
-        repair = repair_there(TOOL, options.socket, teams, program, words)
-        return _end_of(repair.every, is_written=True, team=repair.teams[0]["team"])
+        repair = repair_remote(TOOL, options.socket, teams, program, words)
+        return _end_of(repair.total, is_written=True, team=repair.teams[0]["team"])
     words += [f"--team={team}" for team in teams]
-    file: AbstractContextManager[BinaryIO | None] = whole_file(options.output) if options.output else nullcontext()
+    file: AbstractContextManager[BinaryIO | None] = atomic_file(options.output) if options.output else nullcontext()
     with file as output, tempfile.TemporaryDirectory(prefix=TOOL) as folder:
-        repair = Mended(TOOL, program, words, Path(folder), is_exported=bool(output))
+        repair = RepairRun(TOOL, program, words, Path(folder), is_exported=bool(output))
         moves = repair.moves(is_all=not output)
         if output:
             repair.write(output, moves)
     if not options.output:
-        tell_moves(moves, repair.left)
-    repair.tell(moves)
-    return _end_of(repair.every, is_written=bool(options.output))
+        print_moves(moves, repair.unrepaired)
+    repair.report(moves)
+    return _end_of(repair.total, is_written=bool(options.output))
 
 
-def _end_of(every: dict[str, Any], is_written: bool, team: str | None = None) -> int:
+def _end_of(total: dict[str, Any], is_written: bool, team: str | None = None) -> int:
     """Tells how it ends, of all teams or of one that is committed where no cell of it is left; the exit status."""
-    is_idle = not (every["moved"] or every["turned"] or every["placed"] or every["left_cells"])
+    is_idle = not (total["moved"] or total["turned"] or total["placed"] or total["left_cells"])
     if is_idle:
         log(TOOL, "nothing moves" + (f"; team {team} is committed" if team else ""))
-    if every["legal"]:
+    if total["legal"]:
         cells = f"every cell of team {team}" if team else "every cell"
         log(TOOL, f"{cells} {'is' if is_written or is_idle else 'would be'} legal")
         return DONE
-    left = every["left_cells"]
+    unrepaired = total["left_cells"]
     others = "other teams have cells that break a rule or have no place"
-    log(TOOL, "not fully legal: " + (f"{number(left, 'cell')} left" if left else others))
+    log(TOOL, "not fully legal: " + (f"{number(unrepaired, 'cell')} left" if unrepaired else others))
     return NOT_LEGAL
 
 
@@ -70,14 +70,14 @@ def parser() -> Parser:
     )
     made.add_design()
     add = made.add_argument
-    to = made.add_mutually_exclusive_group(required=True)
-    to.add_argument("-o", "--output", "--out", metavar="FILE", type=Path, help="what is written; it may be the DEF text that is read")
-    to.add_argument("--dry-run", action="store_true", help="tell what would move, and write no file")
-    to.add_argument("--socket", metavar="SOCKET", help="repair the team of a hub's socket as it stands there, by changes of a session")
+    target = made.add_mutually_exclusive_group(required=True)
+    target.add_argument("-o", "--output", "--out", metavar="FILE", type=Path, help="what is written; it may be the DEF text that is read")
+    target.add_argument("--dry-run", action="store_true", help="tell what would move, and write no file")
+    target.add_argument("--socket", metavar="SOCKET", help="repair the team of a hub's socket as it stands there, by changes of a session")
     add("--team", metavar="NAME", action="append", help="repair this team alone; may be given again (all teams)")
-    which = made.add_mutually_exclusive_group()
-    which.add_argument("--keep", action="store_true", help="legal cells stay, as `lefence repair` has it")
-    which.add_argument("--all", action="store_true", help="legal cells may move too, as `lefence repair` has it")
+    scope = made.add_mutually_exclusive_group()
+    scope.add_argument("--keep", action="store_true", help="legal cells stay, as `lefence repair` has it")
+    scope.add_argument("--all", action="store_true", help="legal cells may move too, as `lefence repair` has it")
     made.add_program()
     return made
 

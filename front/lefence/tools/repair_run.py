@@ -12,7 +12,7 @@ from contextlib import ExitStack
 from pathlib import Path
 from typing import Any, BinaryIO, NamedTuple
 
-from ..base.design import mapped, units_in
+from ..base.design import map_file, units_in
 from ..base.faults import FAILED, Fault, log
 from ..base.program import Program
 from ..base.progress import Progress
@@ -33,22 +33,22 @@ class Move(NamedTuple):
 def moves_of(program: Program, lines: Path, teams: Mapping[str, list[str]]) -> list[Move]:
     """What the lines of a repair do to cells of these teams: to those of given names, and to all that the lines name."""
     cells = {team.encode(): dict.fromkeys(name.encode() for name in names) for team, names in teams.items()}
-    own = []
+    repair_lines = []
     with open(lines, "rb") as file:
         for line in file:
             verb, team, *words = line.split()
             if team in cells:
-                own.append(line)
+                repair_lines.append(line)
                 cells[team].update((word, None) for word, kind in zip(words[1:], VERBS[verb.decode()].fields) if kind == "CELL")
     pairs = [(team, cell) for team, names in cells.items() for cell in names]
     opens = [b"open %b\n" % team for team in cells]
-    looks = [b"where %b 0 %b\n" % pair for pair in pairs]
-    replies = replies_of(program, [*opens, *looks, *(b"close %b 0\n" % team for team in cells), *own, *opens, *looks])
-    before, behind = len(opens) + len(looks), len(replies) - len(looks)
-    for reply in replies[before:behind]:
+    queries = [b"where %b 0 %b\n" % pair for pair in pairs]
+    replies = replies_of(program, [*opens, *queries, *(b"close %b 0\n" % team for team in cells), *repair_lines, *opens, *queries])
+    before, after = len(opens) + len(queries), len(replies) - len(queries)
+    for reply in replies[before:after]:
         if not is_accepted(reply):
-            raise _odd(reply)
-    spots = map(_spot_in, replies[len(opens) : before]), map(_spot_in, replies[behind:])
+            raise _unexpected(reply)
+    spots = map(_spot_in, replies[len(opens) : before]), map(_spot_in, replies[after:])
     return [Move(team.decode(), cell.decode(), old, new) for (team, cell), old, new in zip(pairs, *spots)]
 
 
@@ -69,16 +69,16 @@ def _spot_in(reply: bytes) -> Spot | None:
     if words[:1] == ["ok"]:
         return Spot(int(words[1]), int(words[2]), words[3])
     if words[:3] != ["no", "6", "Unplaced"]:
-        raise _odd(reply)
+        raise _unexpected(reply)
     return None
 
 
-def _odd(reply: bytes) -> Fault:
+def _unexpected(reply: bytes) -> Fault:
     """The fault of a program that refuses what it never refuses."""
     return Fault(FAILED, f"the program answered {reply.decode('ascii', 'backslashreplace').rstrip()!r}")
 
 
-class Mended:
+class RepairRun:
     """A repair that is done, and what is told of it."""
 
     def __init__(self, tool: str, program: Program, options: list[str], folder: Path, is_exported: bool) -> None:
@@ -86,12 +86,12 @@ class Mended:
         self._tool, self._program = tool, program
         self._lines, self._exported = folder / "lines", folder / "new.def"
         export = self._exported if is_exported else None
-        *self.teams, self.every = program.repair(options, self._lines, export, Progress(tool, "the program repairs"))
+        *self.teams, self.total = program.repair(options, self._lines, export, Progress(tool, "the program repairs"))
         with ExitStack() as stack:
             # (of a text that the program has loaded)
-            self._units = int(units_in(mapped(program.texts[0], stack)))
+            self._units = int(units_in(map_file(program.texts[0], stack)))
         # The teams with cells that are left, each with the names of these.
-        self.left: dict[str, list[str]] = {team["team"]: team["left"] for team in self.teams if team["left"]}
+        self.unrepaired: dict[str, list[str]] = {team["team"]: team["left"] for team in self.teams if team["left"]}
 
     def moves(self, is_all: bool) -> list[Move]:
         """What became of the cells of the teams with cells that are left, or of all."""
@@ -111,42 +111,42 @@ class Mended:
             return
         output.write(with_spots(self._exported.read_bytes(), {move.cell: move.new for move in moves if move.old != move.new}))
 
-    def tell(self, moves: list[Move]) -> None:
+    def report(self, moves: list[Move]) -> None:
         """What became of each team's cells, and which are left, on standard error."""
-        olds = {(move.team, move.cell): move.old for move in moves}
-        told = [team for team in self.teams if team["cells"] or team["moved"] or team["turned"]]
-        for team in told:
+        old_spots = {(move.team, move.cell): move.old for move in moves}
+        text = [team for team in self.teams if team["cells"] or team["moved"] or team["turned"]]
+        for team in text:
             name = team["team"]
-            self._tell_counts(name, team, len(team["left"]))
+            self._report_counts(name, team, len(team["left"]))
             for cell, gap in zip(team["left"], team["gaps"], strict=True):
-                old = olds[name, cell]
-                stood = f"stood at {_text(old)}" if old else "had none"
-                near = f"the widest gap of the rows near it is {gap / self._units:.3f} microns" if gap else "no site near it is free"
-                log(self._tool, f"team {name}: no place for {cell}, which {stood}; {near}")
-        if len(told) > 1:
-            self._tell_counts("all", self.every, self.every["left_cells"])
+                old = old_spots[name, cell]
+                origin = f"stood at {_spot_text(old)}" if old else "had none"
+                gap_text = f"the widest gap of the rows near it is {gap / self._units:.3f} microns" if gap else "no site near it is free"
+                log(self._tool, f"team {name}: no place for {cell}, which {origin}; {gap_text}")
+        if len(text) > 1:
+            self._report_counts("all", self.total, self.total["left_cells"])
 
-    def _tell_counts(self, name: str, counts: dict[str, Any], left: int) -> None:
+    def _report_counts(self, name: str, counts: dict[str, Any], unrepaired: int) -> None:
         moved = counts["moved"]
-        told = f"{moved} moved, {counts['turned']} turned, {counts['placed']} newly placed, {counts['kept']} stay, {left} left"
+        text = f"{moved} moved, {counts['turned']} turned, {counts['placed']} newly placed, {counts['kept']} stay, {unrepaired} left"
         if counts["pushed"]:
-            told += f"; {number(counts['pushed'], 'legal cell')} pushed"
-        mean, largest, least = (way / self._units for way in (counts["total"] / max(1, moved), counts["largest"], counts["least_largest"]))
-        ways = f"; moved by {mean:.3f} microns on average, {largest:.3f} at most, which is {least:.3f} or more in any repair" if moved else ""
-        log(self._tool, f"team {name}: {told}{ways}")
+            text += f"; {number(counts['pushed'], 'legal cell')} pushed"
+        mean, largest, least = (distance / self._units for distance in (counts["total"] / max(1, moved), counts["largest"], counts["least_largest"]))
+        distances = f"; moved by {mean:.3f} microns on average, {largest:.3f} at most, which is {least:.3f} or more in any repair" if moved else ""
+        log(self._tool, f"team {name}: {text}{distances}")
 
 
-def tell_moves(moves: list[Move], left: Mapping[str, list[str]]) -> None:
+def print_moves(moves: list[Move], unrepaired: Mapping[str, list[str]]) -> None:
     """What would move, on standard output: a line for each cell."""
-    lacking = {(team, cell) for team, names in left.items() for cell in names}
+    unplaced = {(team, cell) for team, names in unrepaired.items() for cell in names}
     for move in moves:
         old, new = move.old, move.new
-        if (move.team, move.cell) in lacking or new is None:
-            print(f"{move.team} {move.cell} {_text(old)} -> no place")
+        if (move.team, move.cell) in unplaced or new is None:
+            print(f"{move.team} {move.cell} {_spot_text(old)} -> no place")
         elif new != old:
-            way = f" by {abs(new.x - old.x) + abs(new.y - old.y)}" if old else ""
-            print(f"{move.team} {move.cell} {_text(old)} -> {_text(new)}{way}")
+            distance = f" by {abs(new.x - old.x) + abs(new.y - old.y)}" if old else ""
+            print(f"{move.team} {move.cell} {_spot_text(old)} -> {_spot_text(new)}{distance}")
 
 
-def _text(spot: Spot | None) -> str:
+def _spot_text(spot: Spot | None) -> str:
     return f"{spot.x} {spot.y} {spot.orient}" if spot else "unplaced"

@@ -17,15 +17,15 @@ from pathlib import Path
 from urllib.parse import quote
 
 from .. import __version__
-from ..base.atomic_file import refuse_inputs, whole_file
+from ..base.atomic_file import atomic_file, refuse_inputs
 from ..base.description import Box, Cell, Description, Frame, Obstacle
 from ..base.faults import DONE, Parser, log, run_tool
 from ..base.program import find_program
 from ..base.progress import Progress
 from ..base.protocol import GROUND, RULES
-from ..client.refusals import broken_in_words
+from ..client.refusals import violation_text
 from .drawing import number, shortened, text_of
-from .report_moves import Since, data_of, legend_of, section_of, since
+from .report_moves import PlacementDiff, data_of, legend_of, placement_diff, section_of
 from .scene import BROKEN, LIMIT, SHADES, Bins, Scene, colour_of, row_blocks
 from .summary import refuse_other_units
 from .team_area import areas_of
@@ -50,7 +50,7 @@ class Report:
     obstacles: list[Obstacle]
     design: Path
     # What became of the cells since an earlier placement, if one was given.
-    since: Since | None = None
+    diff: PlacementDiff | None = None
     # Whether cells near to violations are left out.
     lacks: bool = False
 
@@ -64,11 +64,11 @@ class Near:
         self._broken = {cell.name for cell in broken}
         self._tiles = {tile for cell in broken if cell.box for tile in self._tiles_of(cell.box, NEAR * height)}
 
-    def _tiles_of(self, box: Box, around: int) -> Iterator[tuple[int, int]]:
+    def _tiles_of(self, box: Box, bounding_box: int) -> Iterator[tuple[int, int]]:
         side = self._side
-        left, bottom = (box.left - around) // side, (box.bottom - around) // side
-        for along in range(left, min(left + LARGEST, (box.right + around) // side) + 1):
-            for up in range(bottom, min(bottom + LARGEST, (box.top + around) // side) + 1):
+        left, bottom = (box.left - bounding_box) // side, (box.bottom - bounding_box) // side
+        for along in range(left, min(left + LARGEST, (box.right + bounding_box) // side) + 1):
+            for up in range(bottom, min(bottom + LARGEST, (box.top + bounding_box) // side) + 1):
                 yield along, up
 
     @property
@@ -105,15 +105,15 @@ def report_of(
         description = both.enter_context(Description(program, design, libraries))
         scene = Scene(description.frame, limit, most)
         cells = _taken(scene, Progress(TOOL, "cells").over(description.cells()))
-        changes = None
+        diff = None
         if before is None:
             for _ in cells:
                 pass
         else:
             early = both.enter_context(Description(program, before, libraries))
             refuse_other_units((before, early.frame), (design, description.frame))
-            changes = since(before, early, description, cells)
-    report = Report(scene, areas_of(scene.frame), [], scene.obstacles, design, changes)
+            diff = placement_diff(before, early, description, cells)
+    report = Report(scene, areas_of(scene.frame), [], scene.obstacles, design, diff)
     if scene.map is None:
         report.cells = [cell for cell in scene.cells if cell.rule is None]
     elif scene.broken:
@@ -138,7 +138,7 @@ def page_of(report: Report) -> str:
         "LEGEND": _legend(report),
         "VIOLATIONS_NOTE": _violations_note(report),
         "VIOLATIONS": _violations(report.scene),
-        "SINCE": section_of(report.since) if report.since else "",
+        "SINCE": section_of(report.diff) if report.diff else "",
         "TEAMS": _teams(report),
         "FACTS": _facts(report.scene),
         "DATA": _embedded(_data(report)),
@@ -178,7 +178,7 @@ def _data(report: Report) -> dict[str, object]:
         "shades": SHADES,
         "broken_colour": BROKEN,
         "macros": list(macros),
-        "since": None if report.since is None else data_of(report.since),
+        "since": None if report.diff is None else data_of(report.diff),
     }
 
 
@@ -192,7 +192,7 @@ def _map(bins: Bins, red: dict[tuple[int, int], str]) -> dict[str, object]:
 
 
 def _words(cell: Cell) -> str:
-    return broken_in_words(cell.rule or 0, cell.name, cell.other, is_there=True)
+    return violation_text(cell.rule or 0, cell.name, cell.other, is_there=True)
 
 
 def _swatch(frame: Frame, team: str) -> str:
@@ -202,14 +202,14 @@ def _swatch(frame: Frame, team: str) -> str:
 
 def _badges(scene: Scene) -> str:
     broken, unplaced = scene.sum_of("broken"), scene.sum_of("unplaced")
-    told = []
+    values = []
     if broken:
-        told.append(("bad", number(broken, "cell breaks a rule", "cells break a rule")))
+        values.append(("bad", number(broken, "cell breaks a rule", "cells break a rule")))
     if unplaced:
-        told.append(("warn", number(unplaced, "cell is unplaced", "cells are unplaced")))
+        values.append(("warn", number(unplaced, "cell is unplaced", "cells are unplaced")))
     if scene.outside:
-        told.append(("warn", number(scene.outside, "cell stands", "cells stand") + " far outside of the rows"))
-    return "".join(f'<span class="badge {kind}">{text}</span>' for kind, text in told or [("good", "fully legal")])
+        values.append(("warn", number(scene.outside, "cell stands", "cells stand") + " far outside of the rows"))
+    return "".join(f'<span class="badge {kind}">{text}</span>' for kind, text in values or [("good", "fully legal")])
 
 
 def _legend(report: Report) -> str:
@@ -219,7 +219,7 @@ def _legend(report: Report) -> str:
     named += [(BROKEN, "breaks a rule; from afar: more cells than room" if scene.map and scene.shows_too_full else "breaks a rule")] * bool(scene.broken)
     teams = [(colour_of(at, team), shortened(team)) for at, team in enumerate(frame.teams[:-1])][:12]
     teams.append((colour_of(len(frame.fences), GROUND), "- (ground)"))
-    named += legend_of(report.since) if report.since else []
+    named += legend_of(report.diff) if report.diff else []
     text = [f'<span><i class="swatch" style="background:{colour}"></i>{text_of(name)}</span>' for colour, name in teams + named]
     if len(frame.teams) > len(teams):
         text.append(f"<span>and {number(len(frame.teams) - len(teams), 'team')} more</span>")
@@ -249,14 +249,14 @@ def _violations(scene: Scene) -> str:
     units, lines = scene.frame.facts.units, []
     for cell in scene.broken:
         assert cell.box is not None and cell.rule is not None
-        go = text_of("v=" + quote(cell.name, safe="", errors="replace"))
-        told = text_of(_words(cell).removeprefix(cell.name).strip())
-        name = f'<a class="name" href="#{go}">{text_of(cell.name)}</a><small>{told}</small>'
+        anchor = text_of("v=" + quote(cell.name, safe="", errors="replace"))
+        values = text_of(_words(cell).removeprefix(cell.name).strip())
+        name = f'<a class="name" href="#{anchor}">{text_of(cell.name)}</a><small>{values}</small>'
         place = f"{cell.box.left / units:,.10g}, {cell.box.bottom / units:,.10g}"
         team = swatches[cell.team] + text_of(cell.team)
         rule = f"{cell.rule} {RULES.get(cell.rule, '')}"
         fields = f'<td>{name}</td><td class="rule">{rule}</td><td class="team">{team}</td><td class="number">{place}</td>'
-        lines.append(f'<tr data-go="{go}">{fields}</tr>\n')
+        lines.append(f'<tr data-go="{anchor}">{fields}</tr>\n')
     head = '<tr><th>Cell</th><th>Rule</th><th>Team</th><th class="number">Place (µm)</th></tr>'
     return f"<table><thead>{head}</thead><tbody>\n{''.join(lines)}</tbody></table>"
 
@@ -266,7 +266,7 @@ def _teams(report: Report) -> str:
     scene, square = report.scene, report.scene.frame.facts.units ** 2
     lines = []
     for team, tally in scene.tallies.items():
-        go = text_of("t=" + quote(team, safe="", errors="replace"))
+        anchor = text_of("t=" + quote(team, safe="", errors="replace"))
         name = text_of(team) + ("<small>the ground outside all fences</small>" if team == GROUND else "")
         broken = ", ".join(f"{RULES.get(rule, rule)} {count:,}" for rule, count in sorted(tally.broken.items()))
         illegal = f'<span class="bad">{tally.broken.total():,}</span><small>{broken}</small>' if broken else "0"
@@ -280,7 +280,7 @@ def _teams(report: Report) -> str:
         cells = "".join(f'<td class="number">{value}</td>' for value in numbers)
         cells += "".join(f'<td class="number wide">{value}</td>' for value in areas)
         cells += f'<td class="number">{_utilization(tally.area, report.ground[team])}</td>'
-        lines.append(f'<tr data-go="{go}"><td>{_swatch(scene.frame, team)}<a href="#{go}">{name}</a></td>{cells}</tr>\n')
+        lines.append(f'<tr data-go="{anchor}"><td>{_swatch(scene.frame, team)}<a href="#{anchor}">{name}</a></td>{cells}</tr>\n')
     head = "".join(f'<th class="number">{name}</th>' for name in ("Cells", "Placed", "Unplaced", "Illegal"))
     head += "".join(f'<th class="number wide">{name}</th>' for name in ("Cells, µm²", "Ground, µm²"))
     head = f'<tr><th>Team</th>{head}<th class="number">Utilization</th></tr>'
@@ -299,7 +299,7 @@ def _facts(scene: Scene) -> str:
     frame, facts = scene.frame, scene.frame.facts
     units, box = facts.units, frame.box
     fixed = sum(obstacle.name is not None for obstacle in frame.obstacles)
-    told = {
+    values = {
         "Design": facts.name,
         "Units": f"{number(units, 'database unit')} in a micron",
         "Core site": f"{facts.site}, {facts.site_width / units:g} × {facts.site_height / units:g} µm",
@@ -312,7 +312,7 @@ def _facts(scene: Scene) -> str:
         "Cells": f"{scene.sum_of('cells'):,}",
         "Made": f"{datetime.now(timezone.utc):%Y-%m-%d %H:%M} UTC, by {TOOL} {__version__}",
     }
-    return "".join(f"<div><dt>{key}</dt><dd>{text_of(value)}</dd></div>" for key, value in told.items())
+    return "".join(f"<div><dt>{key}</dt><dd>{text_of(value)}</dd></div>" for key, value in values.items())
 
 
 def parser() -> Parser:
@@ -345,7 +345,7 @@ def main() -> int:
             sys.stdout.buffer.write(page)
             sys.stdout.buffer.flush()
         else:
-            with whole_file(options.output) as file:
+            with atomic_file(options.output) as file:
                 file.write(page)
             log(TOOL, f"{options.output}: {len(page)} bytes")
         return DONE

@@ -40,7 +40,7 @@ def darker(colour: str) -> str:
     return "#" + "".join(f"{int(colour[at : at + 2], 16) * 62 // 100:02x}" for at in (1, 3, 5))
 
 
-def meet(box: Box, other: Box) -> Box | None:
+def intersection(box: Box, other: Box) -> Box | None:
     """What two boxes have in common; None where that is nothing."""
     low = max(box.left, other.left), max(box.bottom, other.bottom)
     common = Box(*low, min(box.right, other.right), min(box.top, other.top))

@@ -11,23 +11,23 @@ import sys
 from collections.abc import Iterable
 from pathlib import Path
 
-from ..base.faults import DONE, FAILED, REFUSED, USAGE, Fault, Parser, printable, run_tool, words_of
+from ..base.faults import DONE, FAILED, REFUSED, USAGE, Fault, Parser, printable, reason_of, run_tool
 from ..base.protocol import OPENACCESS, ORIENTS, VERBS, ProtocolError
 from ..client.blocking import Connection, Session
 from ..client.endpoint import Endpoint, connect_to, start_program
-from ..client.refusals import BadRequest, NoPlace, Refusal, broken_in_words
+from ..client.refusals import BadRequest, NoPlace, Refusal, violation_text
 from ..client.verbs import Legalized, Place, Report, Tidied
 
 TOOL = "lefence-shell"
 _NAME_IN_ENTRY = re.compile(rb"^- (\S+)", re.M)
 # What to do where `tidy` finds no place (docs/PROTOCOL.md).
-_WAY_OUT = "nothing has moved; cells that break a rule may stand where there is room: `check` names them, `unplace` takes one away"
+_TIDY_HINT = "nothing has moved; cells that break a rule may stand where there is room: `check` names them, `unplace` takes one away"
 # The most rows of a report that are printed.
 _MOST_ROWS = 200
 # The greatest padding (docs/PROTOCOL.md, "Lines and fields").
 _MOST_PADDING = 16
 
-OWN = {
+SHELL_COMMANDS = {
     "team": ("NAME", "opens a session of the team, or goes back to the one that is open; the verbs are for it"),
     "teams": ("", "the teams that are known to be served here"),
     "raw": ("LINE", "sends a line of the protocol as it is, and prints its reply"),
@@ -44,30 +44,30 @@ def report_lines(report: Report) -> list[str]:
     lines = [f"{report.cells} cells, {report.unplaced} without a place, {len(report.violations)} break a rule"]
     shown = report.violations[:_MOST_ROWS]
     if shown:
-        wide = max(4, *(len(each.cell) for each in shown))
-        lines.append(f"{'cell':<{wide}}  rule  what")
+        width = max(4, *(len(each.cell) for each in shown))
+        lines.append(f"{'cell':<{width}}  rule  what")
         for each in shown:
-            what = broken_in_words(each.rule, each.cell, each.other, is_there=True, is_padded=True)
-            lines.append(f"{each.cell:<{wide}}  {each.rule:>4}  {what}")
+            what = violation_text(each.rule, each.cell, each.other, is_there=True, is_padded=True)
+            lines.append(f"{each.cell:<{width}}  {each.rule:>4}  {what}")
     if len(report.violations) > len(shown):
         lines.append(f"and {len(report.violations) - len(shown)} more")
     return lines
 
 
-def in_words(verb: str, fields: list[str], said: object) -> list[str]:
+def result_lines(verb: str, fields: list[str], result: object) -> list[str]:
     """What an accepted verb came to, in words."""
-    if isinstance(said, Report):
-        return report_lines(said)
-    if isinstance(said, bytes):
-        return said.decode("ascii", "backslashreplace").splitlines()
-    if isinstance(said, Place):
-        return [f"{fields[0]} {'stands' if verb == 'where' else 'would best stand'} at ({said.x}, {said.y}), {said.orient}"]
-    if isinstance(said, Legalized):
-        return [f"{fields[0]} now stands at ({said.place.x}, {said.place.y}), {said.place.orient}; revision {said.revision}"]
-    if isinstance(said, Tidied):
-        return [f"{said.moved} cells moved; revision {said.revision}"]
+    if isinstance(result, Report):
+        return report_lines(result)
+    if isinstance(result, bytes):
+        return result.decode("ascii", "backslashreplace").splitlines()
+    if isinstance(result, Place):
+        return [f"{fields[0]} {'stands' if verb == 'where' else 'would best stand'} at ({result.x}, {result.y}), {result.orient}"]
+    if isinstance(result, Legalized):
+        return [f"{fields[0]} now stands at ({result.place.x}, {result.place.y}), {result.place.orient}; revision {result.revision}"]
+    if isinstance(result, Tidied):
+        return [f"{result.moved} cells moved; revision {result.revision}"]
     done = "synced" if verb == "sync" else "done"
-    return [done if said is None else f"{done}; revision {said}"]
+    return [done if result is None else f"{done}; revision {result}"]
 
 
 class Shell(cmd.Cmd):
@@ -103,7 +103,7 @@ class Shell(cmd.Cmd):
         except (Refusal, ValueError, ProtocolError) as error:
             self._print([f"no: {error.words() if isinstance(error, Refusal) else error}"])
             if verb == "tidy" and isinstance(error, NoPlace):
-                self._print([_WAY_OUT])
+                self._print([_TIDY_HINT])
         return False
 
     def _answer(self, verb: str, fields: list[str], line: str) -> None:
@@ -157,7 +157,7 @@ class Shell(cmd.Cmd):
         session = self._session()
         method = getattr(session, "def_text" if verb == "def" else verb)
         values = [_value(kind, field) for kind, field in zip(wanted, fields)]
-        self._print(in_words(verb, fields, method(*values)))
+        self._print(result_lines(verb, fields, method(*values)))
         if verb == "close":
             self._sessions.pop(session.team)
             self._team = None
@@ -171,7 +171,7 @@ class Shell(cmd.Cmd):
 
     def do_help(self, arg: str) -> None:
         """What a command takes and does, or all commands."""
-        rows = {name: (" ".join(verb.fields), verb.text) for name, verb in VERBS.items() if name not in _HIDDEN} | OWN
+        rows = {name: (" ".join(verb.fields), verb.text) for name, verb in VERBS.items() if name not in _HIDDEN} | SHELL_COMMANDS
         if arg in rows:
             fields, text = rows[arg]
             self._print([f"{arg} {fields}".rstrip(), f"  {text}"])
@@ -181,7 +181,7 @@ class Shell(cmd.Cmd):
             self._print([f"{f'{name} {fields}':<22} {text}" for name, (fields, text) in rows.items()])
 
     def completenames(self, text: str, *ignored: object) -> list[str]:
-        return _matches(text, (name for name in [*VERBS, *OWN] if name not in _HIDDEN))
+        return _matches(text, (name for name in [*VERBS, *SHELL_COMMANDS] if name not in _HIDDEN))
 
     def completedefault(self, text: str = "", line: str = "", begidx: int = 0, endidx: int = 0, *ignored: object) -> list[str]:
         """Completes the fields of verbs: cells of the team, orientations; teams behind `team`."""
@@ -216,8 +216,8 @@ class Shell(cmd.Cmd):
 def _value(kind: str, field: str) -> str | int:
     """A field as the client library takes it; ValueError of one that no request can have."""
     if kind == "O" and field not in ORIENTS:
-        meant = f", which calls it {OPENACCESS[field]}" if field in OPENACCESS else ""
-        raise ValueError(f"{field} is no orientation of DEF{meant}: {' '.join(ORIENTS)}")
+        hint = f", which calls it {OPENACCESS[field]}" if field in OPENACCESS else ""
+        raise ValueError(f"{field} is no orientation of DEF{hint}: {' '.join(ORIENTS)}")
     if kind not in ("X", "Y", "P"):
         return field
     if not re.fullmatch(r"-?[0-9]+", field, re.ASCII):
@@ -232,7 +232,7 @@ def _history() -> Path:
     return Path(home) / "lefence-shell-history"
 
 
-def _converse(shell: Shell) -> None:
+def _interact(shell: Shell) -> None:
     """Answers the lines of standard input; a terminal gets completion and history."""
     if not sys.stdin.isatty():
         shell.prompt = ""
@@ -280,8 +280,8 @@ def parser() -> Parser:
     )
     made.add_argument("where", metavar="WHERE", nargs="+", help="a socket, HOST:PORT, or DEF LEF...")
     made.add_argument("--team", metavar="NAME", help="the team to begin with")
-    told = "sends the lines of standard input as they are, and writes the replies as they are: for programs that cannot reach a socket"
-    made.add_argument("--raw", action="store_true", help=told)
+    text = "sends the lines of standard input as they are, and writes the replies as they are: for programs that cannot reach a socket"
+    made.add_argument("--raw", action="store_true", help=text)
     made.add_program()
     return made
 
@@ -312,11 +312,11 @@ def main() -> int:
                 return DONE
             if options.team and not _begin(shell, options.team):
                 return REFUSED
-            _converse(shell)
+            _interact(shell)
         except OSError as error:
             if isinstance(error, BrokenPipeError):
                 raise
-            raise Fault(FAILED, words_of(error)) from None
+            raise Fault(FAILED, reason_of(error)) from None
         finally:
             endpoint.close()
         return DONE

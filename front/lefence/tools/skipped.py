@@ -65,13 +65,13 @@ def _of_sections(design: Design) -> Iterator[Remark]:
     for statement in design.statements:
         if statement.keyword in CLAUSES:
             before, _, entries = section_parts(design.text, statement)
-            many = 0
-            for many, entry in enumerate(entries, 1):
+            count = 0
+            for count, entry in enumerate(entries, 1):
                 yield from _of_words(statement.keyword, entry)
             place = statement.start + len(before)
-            told = next(words_in(design.text[place : place + 20]), b"")
-            if told != b"%d" % many:
-                text = f"{shown(statement.keyword)} {shown(told)}, and there are {many}"
+            announced = next(words_in(design.text[place : place + 20]), b"")
+            if announced != b"%d" % count:
+                text = f"{shown(statement.keyword)} {shown(announced)}, and there are {count}"
                 yield Remark("counts that are wrong", text, place)
 
 
@@ -95,17 +95,17 @@ def _of_teams(design: Design) -> Iterator[Remark]:
     cells: Counter[bytes] = Counter()
     fences = set(design.fences)
     for component in design.entries(b"COMPONENTS"):
-        patterns.see(component.name)
+        patterns.remove(component.name)
         team = design.team_of(component)
         if team is not None:
             cells[team] += 1
-            region = component.behind(b"REGION") if b"REGION" in component.text else None
+            region = component.value_after(b"REGION") if b"REGION" in component.text else None
             if region in fences and region != team:
                 text = f"+ REGION {shown(region)} of component {shown(component.name)} binds it to no fence, as a group would: it is of"
                 yield Remark("+ REGION of components", f"{text} team {shown(team)}", _place_of(component))
     yield from patterns.unmatched()
     for group in design.entries(b"GROUPS"):
-        if (region := group.behind(b"REGION")) is not None and region not in fences:
+        if (region := group.value_after(b"REGION")) is not None and region not in fences:
             text = f"group {shown(group.name)} is bound to {shown(region)}, which is no fence: its cells are of team {GROUND}"
             yield Remark("groups without a fence", text, _place_of(group))
     for region_entry in design.entries(b"REGIONS"):
@@ -131,23 +131,23 @@ class _Patterns:
                         self._names[word].append(group)
         self._lengths = {len(first) for first in self._starred}
 
-    def see(self, name: bytes) -> None:
+    def remove(self, name: bytes) -> None:
         """A component's name."""
         self._names.pop(name, None)
         for length in self._lengths if self._starred else ():
             first = name[:length]
             if first in self._starred:
-                left = [each for each in self._starred[first] if not each[0].fullmatch(name)]
-                if left:
-                    self._starred[first] = left
+                remaining = [each for each in self._starred[first] if not each[0].fullmatch(name)]
+                if remaining:
+                    self._starred[first] = remaining
                 else:
                     del self._starred[first]
 
     def unmatched(self) -> Iterator[Remark]:
         """Those that no component has, in the order of the text."""
-        left = [(group, word) for word, groups in self._names.items() for group in groups]
-        left += [(group, word) for pairs in self._starred.values() for _, word, group in pairs]
-        for group, word in sorted(left, key=lambda pair: pair[0].start):
+        remaining = [(group, word) for word, groups in self._names.items() for group in groups]
+        remaining += [(group, word) for pairs in self._starred.values() for _, word, group in pairs]
+        for group, word in sorted(remaining, key=lambda pair: pair[0].start):
             yield Remark("names of groups", f"{shown(word)} of group {shown(group.name)} matches no component", _place_of(group))
 
 

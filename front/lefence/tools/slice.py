@@ -14,9 +14,9 @@ from collections.abc import Iterator
 from itertools import zip_longest
 from pathlib import Path
 
-from ..base.atomic_file import refuse_inputs, whole_file
+from ..base.atomic_file import atomic_file, refuse_inputs
 from ..base.description import Cell, Description
-from ..base.design import Design, Entry, Statement, section_parts, whole_design
+from ..base.design import Design, Entry, Statement, complete_design, section_parts
 from ..base.faults import DONE, REFUSED, Fault, Parser, log, run_tool
 from ..base.program import find_program
 from ..base.protocol import GROUND
@@ -30,10 +30,10 @@ _DROPPED = frozenset(b"PINS PINPROPERTIES SLOTS FILLS SPECIALNETS NETS SCANCHAIN
 
 def slice_of(text: bytes, team: str) -> bytes:
     """The slice of a DEF text for a team; a fault where it has no such team."""
-    return part_of(Design(text), team)
+    return slice_of_design(Design(text), team)
 
 
-def part_of(design: Design, team: str) -> bytes:
+def slice_of_design(design: Design, team: str) -> bytes:
     """The same of a design.
 
     The rows, regions, blockages, FIXED and COVER components and the small statements stay as they are, byte for byte.
@@ -68,7 +68,7 @@ class _Entries:
 
     def __init__(self, design: Design, section: Statement, teams: list[bytes]) -> None:
         self._text, self._keyword = design.text, section.keyword
-        self._before, self._behind, entries = section_parts(design.text, section)
+        self._head, self._tail, entries = section_parts(design.text, section)
         # Where entries begin and end in turn, and how many they are.
         self._spans = {team: array("Q") for team in teams}
         self._counts = dict.fromkeys(teams, 0)
@@ -91,7 +91,7 @@ class _Entries:
 
     def of(self, team: bytes) -> Iterator[bytes]:
         """The section with the entries of a team alone, and their number as the count, piece by piece."""
-        yield self._before + b"%d" % self._counts[team] + self._behind
+        yield self._head + b"%d" % self._counts[team] + self._tail
         spans = self._spans[team]
         for start, stop in zip(spans[::2], spans[1::2]):
             yield self._text[start:stop]
@@ -128,19 +128,19 @@ def _without_rule(cell: Cell) -> Cell:
 
 
 def parser() -> Parser:
-    made = Parser(
+    sliced = Parser(
         TOOL,
         "Writes a DEF text with the frame and one team's cells alone. The program answers that team's commands on\n"
         "it byte for byte as on the whole design. With the LEF texts, the slice is compared with what the program\n"
         "reads in the whole design, and not written where it differs.",
         f"{TOOL} chip.def tech.lef cells.lef --team A --output A.def\nlefence replay A.def tech.lef cells.lef < session.txt",
     )
-    made.add_argument("design", metavar="DEF", type=Path, help="the whole design")
-    made.add_argument("libraries", metavar="LEF", type=Path, nargs="*", default=[], help="its LEF texts; without them nothing is compared")
-    made.add_argument("--team", metavar="NAME", required=True, help="a FENCE region, or - for the ground outside all fences")
-    made.add_argument("-o", "--output", metavar="FILE", type=Path, help="where the slice is written (standard output)")
-    made.add_program()
-    return made
+    sliced.add_argument("design", metavar="DEF", type=Path, help="the whole design")
+    sliced.add_argument("libraries", metavar="LEF", type=Path, nargs="*", default=[], help="its LEF texts; without them nothing is compared")
+    sliced.add_argument("--team", metavar="NAME", required=True, help="a FENCE region, or - for the ground outside all fences")
+    sliced.add_argument("-o", "--output", metavar="FILE", type=Path, help="where the slice is written (standard output)")
+    sliced.add_program()
+    return sliced
 
 
 def main() -> int:
@@ -150,18 +150,18 @@ def main() -> int:
         if options.output is not None:
             refuse_inputs(options.output, [options.design, *options.libraries])
         text = options.design.read_bytes()
-        made = part_of(whole_design(options.design, text), options.team)
+        sliced = slice_of_design(complete_design(options.design, text), options.team)
         if options.libraries:
-            refuse_difference(find_program(options.program), options.design, made, options.libraries, options.team)
+            refuse_difference(find_program(options.program), options.design, sliced, options.libraries, options.team)
         else:
             log(TOOL, "no LEF texts are given: the slice is not compared with what the program reads")
         if options.output is None:
-            sys.stdout.buffer.write(made)
+            sys.stdout.buffer.write(sliced)
             sys.stdout.buffer.flush()
         else:
-            with whole_file(options.output) as file:
-                file.write(made)
-        log(TOOL, f"team {options.team}: {len(made)} of {len(text)} bytes")
+            with atomic_file(options.output) as file:
+                file.write(sliced)
+        log(TOOL, f"team {options.team}: {len(sliced)} of {len(text)} bytes")
         return DONE
 
     return run_tool(TOOL, work)

@@ -24,8 +24,8 @@ def with_spots(text: bytes, spots: Mapping[str, Spot | None]) -> bytes:
     for entry in entries(text, statements(text), b"COMPONENTS"):
         name = entry.name.decode("ascii", "replace")
         if name in spots:
-            start, stop, behind = _clause(entry)
-            pieces += [text[at : entry.start + start], _placed(spots[name]) + behind]
+            start, stop, separator = _clause(entry)
+            pieces += [text[at : entry.start + start], _placed(spots[name]) + separator]
             at = entry.start + stop
     return b"".join([*pieces, text[at:]])
 

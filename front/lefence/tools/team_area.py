@@ -24,10 +24,10 @@ def areas_of(frame: Frame) -> dict[str, int]:
     for (bottom, top), rows in sorted(levels.items()):
         rows.sort()
         inside = fences.between(bottom, top)
-        taken = sorted((part, "") for part, _ in _meetings(rows, obstacles.between(bottom, top)))
+        taken = sorted((part, "") for part, _ in _intersections(rows, obstacles.between(bottom, top)))
         areas[GROUND] += sum(row.area for row in rows) - sum(part.area for part, _ in taken)
         for sign, boxes in ((1, rows), (-1, [part for part, _ in taken])):
-            for part, team in _meetings(boxes, inside):
+            for part, team in _intersections(boxes, inside):
                 areas[team] += sign * part.area
                 areas[GROUND] -= sign * part.area
     return areas
@@ -51,23 +51,23 @@ class _Sweep:
         parts: defaultdict[str, list[Box]] = defaultdict(list)
         for box, owner in self._here:
             parts[owner].append(Box(box.left, max(box.bottom, bottom), box.right, min(box.top, top)))
-        return sorted((box, owner) for owner, boxes in parts.items() for box in _apart(boxes))
+        return sorted((box, owner) for owner, boxes in parts.items() for box in _disjoint(boxes))
 
 
-def _apart(boxes: list[Box]) -> Iterator[Box]:
+def _disjoint(boxes: list[Box]) -> Iterator[Box]:
     """The same points in boxes that share none."""
     group: list[Box] = []
     right = 0
     for box in sorted(boxes):
         if group and box.left >= right:
-            yield from _apart_in_group(group, right)
+            yield from _disjoint_in_group(group, right)
             group = []
         right = max(right, box.right) if group else box.right
         group.append(box)
-    yield from _apart_in_group(group, right)
+    yield from _disjoint_in_group(group, right)
 
 
-def _apart_in_group(group: list[Box], right: int) -> Iterator[Box]:
+def _disjoint_in_group(group: list[Box], right: int) -> Iterator[Box]:
     """The same for boxes by their left sides whose extents along x hang together up to `right`."""
     edges = sorted({edge for box in group for edge in (box.bottom, box.top)})
     if len(edges) == 2:
@@ -81,7 +81,7 @@ def _apart_in_group(group: list[Box], right: int) -> Iterator[Box]:
                 end = box.right
 
 
-def _meetings(first: list[Box], second: list[tuple[Box, str]]) -> Iterator[tuple[Box, str]]:
+def _intersections(first: list[Box], second: list[tuple[Box, str]]) -> Iterator[tuple[Box, str]]:
     """What each two boxes of both lists have in common, with the owner of the second; both lists are by their left sides."""
     here: list[tuple[Box, str]] = []
     start = 0
