@@ -1,4 +1,4 @@
-"""Files that are there whole or stay as they were."""
+"""Files that are replaced as a whole, or not at all."""
 
 from __future__ import annotations
 
@@ -14,9 +14,9 @@ from .faults import FAILED, USAGE, Fault
 
 @contextlib.contextmanager
 def atomic_file(path: Path, mode: int = 0o666) -> Iterator[BinaryIO]:
-    """A new file beside, which takes the name and the mode at the end of the block, as `beside` says.
+    """Opens a new file, which replaces the file at the path when the block ends without an exception.
 
-    The disk has it before it has the name. What is no regular file, as a pipe, is written to as it is.
+    The bytes are on the disk before the file gets its name; see `partial_file`. A pipe or a device is written directly.
     """
     if is_special(path):
         with open(path, "wb") as file:
@@ -30,11 +30,11 @@ def atomic_file(path: Path, mode: int = 0o666) -> Iterator[BinaryIO]:
 
 @contextlib.contextmanager
 def partial_file(path: Path, mode: int = 0o666) -> Iterator[Path]:
-    """A new file beside (`FILE.partial0`, or the next free number), which takes the name and the mode at the end of the block.
+    """Makes an empty file `FILE.partial0` (or the next free number), which replaces FILE when the block ends.
 
-    Where there is no file yet it has the mode given; else nobody else may read it before the end.
-    Who writes it sees to it that the disk has it; the disk has its name at the end. After any exception of the block it is gone, and
-    the file stays as it was. Links are followed. A fault where it cannot be made.
+    If FILE is new, it gets the given mode; else it gets the mode of the old file, and nobody else can read it before.
+    The caller syncs the bytes; the name is on the disk when the block has ended. If the block raises, the partial file
+    is removed and FILE is unchanged. Links are followed. Raises a Fault if the file cannot be made.
     """
     target = Path(os.path.realpath(path))
     try:
@@ -55,12 +55,12 @@ def partial_file(path: Path, mode: int = 0o666) -> Iterator[Path]:
 
 
 def is_special(path: Path) -> bool:
-    """Whether something other than a regular file has the path, as a pipe or a device."""
+    """Whether the path is something other than a regular file, for example a pipe or a device."""
     return path.exists() and not path.is_file()
 
 
 def sync_folder(path: Path) -> None:
-    """Has the names in a folder on the disk."""
+    """Syncs the names in a folder to the disk."""
     folder = os.open(path, os.O_RDONLY | os.O_DIRECTORY | os.O_CLOEXEC)
     try:
         os.fsync(folder)
@@ -69,7 +69,7 @@ def sync_folder(path: Path) -> None:
 
 
 def _create_partial(target: Path, mode: int) -> Path:
-    """A new file in the same folder."""
+    """Creates a new file in the same folder."""
     for number in count():
         partial = Path(f"{target}.partial{number}")
         with contextlib.suppress(FileExistsError):
@@ -79,7 +79,7 @@ def _create_partial(target: Path, mode: int) -> Path:
 
 
 def refuse_inputs(output: Path, inputs: Iterable[Path]) -> None:
-    """A fault where the output is one of the files that are read."""
+    """Raises a Fault if the output is one of the input files."""
     for path in inputs:
         if output.exists() and path.exists() and output.samefile(path):
             raise Fault(USAGE, f"{output} is read, and would be written over")

@@ -1,7 +1,7 @@
-"""What `lefence describe` tells of a design: the frame at once, its cells one by one, and the totals.
+"""The output of `lefence describe`: the frame at once, then the cells one by one, then the totals.
 
-The tools that draw, judge and repair a design stand on this alone: it holds no rule of legality. Lengths are database units.
-The keys are those of docs/PROTOCOL.md ("The description").
+The tools that draw, check and repair a design use only this. They have no rules of legality of their own. Lengths are
+database units. The keys are those of docs/PROTOCOL.md ("The description").
 """
 
 from __future__ import annotations
@@ -18,14 +18,14 @@ from typing import Any, NamedTuple
 from .faults import Fault
 from .program import PAUSE, Program
 
-# The exit statuses of a description that was written: the design is fully legal, or it is not.
+# Exit statuses of a complete description: 0 if the design is fully legal, else 4.
 _WRITTEN = (0, 4)
-# What the last line has; no name can have these bytes, since its quotes have backslashes before them.
+# A part of the last line only: in names, quotes are escaped.
 _TOTAL = b'"kind":"total"'
 
 
 class Box(NamedTuple):
-    """The points from left and bottom on and below right and top."""
+    """A rectangle, with its left and bottom edges and without its right and top edges."""
 
     left: int
     bottom: int
@@ -46,7 +46,7 @@ class Box(NamedTuple):
 
 
 class Facts(NamedTuple):
-    """The design's name, its database units in a micron, and the core site."""
+    """The design's name, its database units per micron, and the core site."""
 
     name: str
     units: int
@@ -56,7 +56,7 @@ class Facts(NamedTuple):
 
 
 class Row(NamedTuple):
-    """A core row, and how many sites it has."""
+    """A core row and its number of sites."""
 
     name: str
     box: Box
@@ -65,23 +65,24 @@ class Row(NamedTuple):
 
 
 class Fence(NamedTuple):
-    """A fence, by the name of its team."""
+    """A fence; its name is its team's."""
 
     name: str
     rects: tuple[Box, ...]
 
 
 class Obstacle(NamedTuple):
-    """A FIXED component, or a rectangle of a placement blockage, which has no name."""
+    """A FIXED component, or a rectangle of a placement blockage; the latter has no name."""
 
     name: str | None
     box: Box
 
 
 class Cell(NamedTuple):
-    """A movable cell: the size of its macro as it faces north; box and orient are None where it is unplaced.
+    """A movable cell with the size of its macro as it faces north; `box` and `orient` are None if it is unplaced.
 
-    `rule` is the number of the first rule that it breaks, if it breaks one; `other` is for rule 8 the first cell that it meets.
+    `rule` is the number of the first rule that it breaks, or None. `other` is the first cell that it overlaps, for rule
+    8.
     """
 
     name: str
@@ -96,7 +97,7 @@ class Cell(NamedTuple):
 
 
 class Total(NamedTuple):
-    """How many there are of each, and how many cells are unplaced or break a rule."""
+    """The totals of a design, with the number of cells that are unplaced or break a rule."""
 
     rows: int
     fences: int
@@ -109,7 +110,7 @@ class Total(NamedTuple):
 
 @dataclass
 class Frame:
-    """What no team changes."""
+    """The part of a design that no team changes."""
 
     facts: Facts
     rows: list[Row]
@@ -119,19 +120,19 @@ class Frame:
 
     @property
     def teams(self) -> list[str]:
-        """The teams of the fences, in the order of the DEF text, and the team of the ground."""
+        """The teams of the fences in the order of the DEF file, then the ground team."""
         return [*(fence.name for fence in self.fences), "-"]
 
     @property
     def box(self) -> Box:
-        """The least box around the rows, the fences and the obstacles."""
+        """The smallest box around the rows, the fences and the obstacles."""
         boxes = [row.box for row in self.rows] + [rect for fence in self.fences for rect in fence.rects]
         boxes += [obstacle.box for obstacle in self.obstacles]
         return bounding_box(boxes)
 
 
 def bounding_box(boxes: list[Box]) -> Box:
-    """The least box around these, of which there is one at least."""
+    """The smallest box around these boxes, which must not be empty."""
     return Box(
         min(box.left for box in boxes),
         min(box.bottom for box in boxes),
@@ -141,20 +142,20 @@ def bounding_box(boxes: list[Box]) -> Box:
 
 
 class Description:
-    """A description that is being read: `frame` at once, then `cells()`, and behind the last cell `total`.
+    """A description as it is read: first `frame`, then `cells()`, then `total`.
 
-    A block closes it. Every fault of the program is a Fault with the program's status and what it said, whether it comes before
-    the frame or behind some of the cells.
+    As a context manager it closes itself. If the program fails, before the frame or later, reading raises a Fault with
+    the program's status and message.
     """
 
     frame: Frame
     total: Total
 
     def __init__(self, program: str, design: Path, libraries: list[Path]) -> None:
-        """Starts the program over a DEF text and LEF texts, and reads as far as the frame goes."""
+        """Starts the program over a DEF file and LEF files, and reads the frame."""
         self._run = Program(program, [design, *libraries]).describe()
         self._batches = self._read_batches()
-        # Lines behind the frame that were read with it.
+        # Lines after the frame that were read with it.
         self._read_ahead: list[bytes] = []
         try:
             self.frame = self._read_frame()
@@ -169,21 +170,21 @@ class Description:
         self.close()
 
     def close(self) -> None:
-        """Ends the program, if it is still at it."""
+        """Ends the program if it still runs."""
         self._run.close()
 
     def cells(self) -> Iterator[Cell]:
-        """The movable cells in loading order, once; when they are read, `total` is there."""
+        """Yields the movable cells in loading order, once. `total` is set after the last one."""
         return self._cells(lambda lines: lines)
 
     def cells_of(self, team: str) -> Iterator[Cell]:
-        """As `cells`, but those of one team alone; the lines of the others are not parsed."""
+        """Yields the cells of one team. The lines of other teams are not parsed."""
         own = b'"team":%b,' % json.dumps(team).encode()
         return self._cells(lambda lines: [line for line in lines if own in line or _TOTAL in line])
 
     def _cells(self, wanted: Callable[[list[bytes]], list[bytes]]) -> Iterator[Cell]:
         for lines in itertools.chain([self._read_ahead], self._batches):
-            # One call for many lines: half the time of a call for each.
+            # Parsing many lines in one call takes half the time.
             for line in json.loads(b"[" + b",".join(wanted(lines)) + b"]"):
                 if line["kind"] == "cell":
                     yield _cell(line)
@@ -194,7 +195,7 @@ class Description:
                     return
 
     def _read_batches(self) -> Iterator[list[bytes]]:
-        """The lines that come, many at a time; behind the last one a fault."""
+        """Yields the lines in batches. Raises a Fault at the end of the output."""
         while True:
             try:
                 lines = self._run.lines()
@@ -227,7 +228,7 @@ class Description:
 
 
 def add_team(line: bytes, teams: list[str]) -> bool:
-    """Puts the team to these where the line tells a fence; whether more may come, behind the design, a row or a fence."""
+    """Adds the team to the list if the line is a fence. Returns False at the first line after the fences."""
     record = json.loads(line)
     if record["kind"] == "fence":
         teams.append(record["name"])
@@ -235,7 +236,7 @@ def add_team(line: bytes, teams: list[str]) -> bool:
 
 
 def _cell(line: dict[str, Any]) -> Cell:
-    """A cell; what many share is one text in memory."""
+    """A cell of a line. Texts that many cells share are interned."""
     box = line["box"]
     return Cell(
         line["name"],

@@ -1,7 +1,7 @@
-"""DEF texts, as far as slices and sockets need them: statements, entries of sections, and who owns which component.
+"""DEF files, as far as slices and sockets need them: statements, sections, entries, and the team of each component.
 
-Tokens and patterns are read as docs/PROTOCOL.md has them ("LEF and DEF texts"). Texts are taken to be such as the program
-loads; of others no more is promised than that reading ends.
+Tokens and patterns are those of docs/PROTOCOL.md ("LEF and DEF texts"). The functions expect a text that the program
+loads. For any other text they only promise to end.
 """
 
 from __future__ import annotations
@@ -19,26 +19,26 @@ from typing import cast
 from .faults import REFUSED, Fault
 from .protocol import GROUND
 
-# White space and comments; then a token, a quoted text or a word. Each is an atomic group, which keeps what it took, so matching is
-# linear. Possessive repetitions of groups (`(..)*+`) are not used: Python 3.11.2, Debian 12's, matches them wrongly.
+# White space and comments; then a token: a quoted text or a word. Each is an atomic group, so that matching takes
+# linear time. Possessive repetitions of groups (`(..)*+`) are not used: Python 3.11.2 (Debian 12) matches them wrongly.
 _SKIP = rb"(?>(?:[ \t\r\n]+|#[^\n]*)*)"
 _TOKEN = rb'(?>"[^"\\]*(?:\\.[^"\\]*)*"|[^ \t\r\n]+)'
 TOKENS = re.compile(_SKIP + rb"(" + _TOKEN + rb")", re.S)
-# Behind a word that stands alone.
+# The end of a word.
 _ALONE = rb"(?![^ \t\r\n])"
 _SEMICOLON = rb";" + _ALONE
-# An entry of a section: from `-` to its semicolon, with its first word, the name, on its own.
+# An entry of a section, from `-` to its semicolon; its first word is its name.
 _NAME = rb"(?:" + _SKIP + rb"(?!" + _SEMICOLON + rb")(" + _TOKEN + rb"))?"
 _MORE = rb"(?>(?:" + _SKIP + rb"(?!" + _SEMICOLON + rb")" + _TOKEN + rb")*)"
 _ENTRY = re.compile(_SKIP + rb"-" + _ALONE + _NAME + _MORE + _SKIP + _SEMICOLON, re.S)
 
-# Tokens that are matched at a time: the memory that a match takes grows with them.
+# Tokens matched at a time: the memory of a match grows with them.
 _AT_ONCE = 1000
 
-# A star in a pattern of names, which is any run of bytes, unless it stands directly behind a backslash.
+# A star in a pattern of names, which matches any bytes. A star after a backslash is a literal star.
 STAR = re.compile(rb"(?<!\\)\*")
 
-# Sections, which end with END and their keyword; all other statements end with a semicolon, but for BEGINEXT and END DESIGN.
+# Sections, which end with END and their keyword. Other statements end with a semicolon, except BEGINEXT and END DESIGN.
 SECTIONS = frozenset(
     b"PROPERTYDEFINITIONS VIAS STYLES NONDEFAULTRULES PINS PINPROPERTIES SLOTS FILLS SPECIALNETS NETS SCANCHAINS REGIONS GROUPS "
     b"COMPONENTS BLOCKAGES".split()
@@ -47,7 +47,7 @@ SECTIONS = frozenset(
 
 @lru_cache
 def _parts_of(keyword: bytes) -> tuple[re.Pattern[bytes], re.Pattern[bytes]]:
-    """Expressions for tokens behind a keyword, many at a time, and for the last ones of its statement."""
+    """Returns expressions for the tokens after a keyword, many at a time, and for the end of its statement."""
     if keyword in SECTIONS:
         last = rb"END" + _ALONE + _SKIP + re.escape(keyword) + _ALONE
     else:
@@ -56,7 +56,7 @@ def _parts_of(keyword: bytes) -> tuple[re.Pattern[bytes], re.Pattern[bytes]]:
 
 
 def _end_of(text: bytes, keyword: re.Match[bytes]) -> int:
-    """Where the statement of that keyword ends."""
+    """Returns where the statement of this keyword ends."""
     if keyword[1] == b"END":
         end = TOKENS.match(text, keyword.end())
     else:
@@ -70,7 +70,7 @@ def _end_of(text: bytes, keyword: re.Match[bytes]) -> int:
 
 @dataclass(frozen=True)
 class Statement:
-    """A statement or a section: its keyword, and its bytes with the white space and comments before it."""
+    """A statement or a section: its keyword, and its bytes with the white space and comments in front."""
 
     keyword: bytes
     start: int
@@ -79,7 +79,7 @@ class Statement:
 
 @dataclass
 class Entry:
-    """An entry of a section: its name, its bytes with the white space and comments before it, and where these begin."""
+    """An entry of a section: its name, its bytes with the white space and comments in front, and where they start."""
 
     name: bytes
     text: bytes
@@ -87,28 +87,28 @@ class Entry:
 
     @cached_property
     def words(self) -> list[bytes]:
-        """Its words, from the one behind `-` up to the semicolon."""
+        """The entry's words between `-` and the semicolon."""
         return TOKENS.findall(self.text)[1:-1]
 
     def value_after(self, clause: bytes) -> bytes | None:
-        """The word behind the first `+` and this word; None where there is none."""
+        """Returns the word after the first `+ CLAUSE`, or None."""
         for at in range(len(self.words) - 2):
             if self.words[at] == b"+" and self.words[at + 1] == clause:
                 return self.words[at + 2]
         return None
 
     def has(self, clause: bytes) -> bool:
-        """Whether this word stands behind a `+`."""
+        """Whether the entry has a `+ CLAUSE`."""
         return clause in self.text and any(pair == (b"+", clause) for pair in zip(self.words, self.words[1:]))
 
 
 def pattern_of(word: bytes) -> re.Pattern[bytes]:
-    """What a name or a pattern with stars names, if it is matched as a whole."""
+    """Compiles a name, or a pattern with stars, for `fullmatch`."""
     return re.compile(rb".*".join(map(re.escape, STAR.split(word))), re.S)
 
 
 def map_file(path: Path, stack: ExitStack) -> bytes:
-    """A file's bytes until the stack ends, which the system reads as they are needed; what is taken of them are bytes."""
+    """Maps a file into memory until the stack closes. Slices of it are bytes."""
     with open(path, "rb") as file:
         if not os.fstat(file.fileno()).st_size:
             return b""
@@ -116,21 +116,21 @@ def map_file(path: Path, stack: ExitStack) -> bytes:
 
 
 def words_in(text: bytes) -> Iterator[bytes]:
-    """The words and quoted texts of a DEF or LEF text, without comments."""
+    """Yields the words and quoted texts of a DEF or LEF text, without comments."""
     at = 0
-    # (a search would try each byte of a comment at the end of the text)
+    # (`search` would try each byte of a comment at the end of the text)
     while found := TOKENS.match(text, at):
         yield found[1]
         at = found.end()
 
 
 def statements(text: bytes) -> list[Statement]:
-    """The statements up to END DESIGN, which is the last."""
+    """Lists the statements up to END DESIGN, the last one."""
     return list(statements_in(text))
 
 
 def statements_in(text: bytes) -> Iterator[Statement]:
-    """The same, each when it is asked for."""
+    """Yields the statements up to END DESIGN, the last one."""
     start = 0
     while first := TOKENS.match(text, start):
         stop = _end_of(text, first)
@@ -141,7 +141,7 @@ def statements_in(text: bytes) -> Iterator[Statement]:
 
 
 def section_parts(text: bytes, section: Statement) -> tuple[bytes, bytes, Iterator[Entry]]:
-    """The bytes of a section up to its count, those behind the count up to the first entry, and the entries."""
+    """Splits a section: its bytes up to the count, those between the count and the first entry, and the entries."""
     keyword = TOKENS.match(text, section.start, section.stop)
     count = TOKENS.match(text, keyword.end() if keyword else section.stop, section.stop)
     if count is None:
@@ -158,14 +158,14 @@ def _entries(text: bytes, start: int, stop: int) -> Iterator[Entry]:
 
 
 def entries(text: bytes, found: list[Statement], keyword: bytes) -> Iterator[Entry]:
-    """The entries of all sections of that keyword, of the statements that were found in a text."""
+    """Yields the entries of all sections with this keyword, given the statements of the text."""
     for statement in found:
         if statement.keyword == keyword:
             yield from section_parts(text, statement)[2]
 
 
 def units_in(text: bytes) -> bytes:
-    """The database units in a micron; 0 where the text does not tell them in a form that the program loads."""
+    """Returns the database units per micron, or `0` if the text has no UNITS in a form that the program loads."""
     for statement in statements_in(text):
         if statement.keyword == b"UNITS":
             return (list(words_in(text[statement.start : statement.stop]))[3:4] or [b"0"])[0]
@@ -173,22 +173,22 @@ def units_in(text: bytes) -> bytes:
 
 
 def shown(word: bytes) -> str:
-    """A word of a text for people, whatever bytes it has."""
+    """Decodes a word for people; other bytes than ASCII are escaped."""
     return word.decode("ascii", "backslashreplace")
 
 
 def fences_in(text: bytes) -> list[str]:
-    """The teams of the FENCE regions of a text."""
+    """Lists the teams of the FENCE regions of a text."""
     return [shown(fence) for fence in fences_of(text, statements(text))]
 
 
 def fences_of(text: bytes, found: list[Statement]) -> list[bytes]:
-    """The names of the FENCE regions, in the order of the text."""
+    """Lists the names of the FENCE regions in the order of the text."""
     return list(dict.fromkeys(entry.name for entry in entries(text, found, b"REGIONS") if entry.value_after(b"TYPE") == b"FENCE"))
 
 
 class Design:
-    """A DEF text, its statements, and which team owns which component."""
+    """A DEF text, its statements, and the team of each component."""
 
     def __init__(self, text: bytes) -> None:
         self.text = text
@@ -196,14 +196,14 @@ class Design:
         self.fences = fences_of(text, self.statements)
         self._fences = set(self.fences)
         self._literal: dict[bytes, bytes] = {}
-        # Patterns with a star by the bytes before it, and how many such bytes there are.
+        # Patterns with a star, by the bytes in front of it; and the lengths of these.
         self._starred: dict[bytes, list[tuple[re.Pattern[bytes], bytes]]] = {}
         self._prefixes: set[int] = set()
         for group in self.entries(b"GROUPS"):
             self._add_group(group)
 
     def entries(self, keyword: bytes) -> Iterator[Entry]:
-        """The entries of all sections of that keyword."""
+        """Yields the entries of all sections with this keyword."""
         return entries(self.text, self.statements, keyword)
 
     def _add_group(self, group: Entry) -> None:
@@ -221,12 +221,12 @@ class Design:
                 self._prefixes.add(len(parts[0]))
 
     def fence_of(self, group: Entry) -> bytes | None:
-        """The FENCE region that a group is bound to, if it is."""
+        """Returns the FENCE region of a group, or None."""
         region = group.value_after(b"REGION")
         return region if region in self._fences else None
 
     def team_of(self, component: Entry) -> bytes | None:
-        """The team of a component; None where it is FIXED or COVER, and so no team's."""
+        """Returns the team of a component, or None if it is FIXED or COVER."""
         if component.has(b"FIXED") or component.has(b"COVER"):
             return None
         name = component.name
@@ -239,19 +239,19 @@ class Design:
         return GROUND.encode()
 
     def cells_of(self, team: bytes) -> list[bytes]:
-        """The names of a team's cells, in loading order."""
+        """Lists the names of a team's cells in loading order."""
         return [component.name for component in self.entries(b"COMPONENTS") if self.team_of(component) == team]
 
 
 def refuse_no_design(path: Path, text: bytes) -> None:
-    """A fault where the text of a file is no DEF text."""
+    """Raises a Fault if the text is not a DEF text."""
     if not any(statement.keyword == b"DESIGN" for statement in statements_in(text)):
         compressed = ", but compressed by gzip" if text[:2] == b"\x1f\x8b" else ""
         raise Fault(REFUSED, f"{path} has no DESIGN: it is no DEF text{compressed}")
 
 
 def complete_design(path: Path, text: bytes) -> Design:
-    """The design of the text of a file; a fault where that is no DEF text, or is cut off."""
+    """Parses the text of a file. Raises a Fault if it is not a DEF text or is truncated."""
     refuse_no_design(path, text)
     design = Design(text)
     last = design.statements[-1]

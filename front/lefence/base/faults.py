@@ -1,4 +1,4 @@
-"""What ends a tool: an exit status, as those of the program, and a text for standard error."""
+"""Errors that end a tool, its exit statuses, its command line and its log."""
 
 from __future__ import annotations
 
@@ -14,12 +14,13 @@ from types import FrameType
 
 from .. import __version__
 
-# Exit statuses, as the program's: done; refused input; no command; a file, a socket, the disk or the program failed.
+# Exit statuses, as of the program: done; input refused; wrong command line; a file, a socket, the disk or the program
+# failed.
 DONE, REFUSED, USAGE, FAILED = 0, 1, 2, 3
 
 
 class Fault(Exception):
-    """Ends a tool with a status and a text."""
+    """Ends a tool with a status and a message."""
 
     def __init__(self, status: int, text: str) -> None:
         super().__init__(text)
@@ -27,7 +28,7 @@ class Fault(Exception):
 
 
 class Parser(argparse.ArgumentParser):
-    """The words of a tool, with an example at the end of its help."""
+    """The command line of a tool, with an example at the end of its help."""
 
     def __init__(self, tool: str, what: str, example: str) -> None:
         epilog = "example:\n" + "\n".join(f"  {line}" for line in example.splitlines())
@@ -35,32 +36,32 @@ class Parser(argparse.ArgumentParser):
         self.add_argument("--version", action="version", version=f"{tool} {__version__}", help="print the version and end")
 
     def add_design(self) -> None:
-        """The words of a design: its DEF text, and its LEF texts behind it."""
+        """Adds the arguments of a design: its DEF file, then its LEF files."""
         self.add_argument("design", metavar="DEF", type=Path, help="the design")
         self.add_argument("libraries", metavar="LEF", type=Path, nargs="+", help="its LEF texts, in the order of the program")
 
     def add_program(self) -> None:
-        """The option for another program."""
+        """Adds the option for another program."""
         text = "the lefence program (that of the search path, or of this repository)"
         self.add_argument("--program", metavar="PATH", help=text)
 
 
 def printable(text: str) -> str:
-    """The text, with whatever would steer a terminal as an escape sequence of Python's."""
+    """Escapes all characters that are not printable, since they may control a terminal."""
     if text.isprintable():
         return text
     return "".join(sign if sign.isprintable() or sign in "\n\t" else sign.encode("unicode_escape").decode() for sign in text)
 
 
 def reason_of(error: Exception) -> str:
-    """What an exception says; of one of the system the file's name and the reason, without its number."""
+    """Returns the message of an exception; of an OSError the file's name and the reason, without its number."""
     if not isinstance(error, OSError) or error.strerror is None:
         return str(error)
     return error.strerror if error.filename is None else f"{error.filename}: {error.strerror}"
 
 
 def log(tool: str, text: str) -> None:
-    """A line on standard error, whatever bytes a name in it has; one that cannot be written is no fault."""
+    """Prints a line on standard error, with unprintable characters escaped. Errors of the write are ignored."""
     try:
         print(f"{tool}: {printable(text)}", file=sys.stderr, flush=True)
     except OSError:
@@ -72,7 +73,7 @@ def _end(number: int, frame: FrameType | None) -> None:
 
 
 def run_tool(tool: str, work: Callable[[], int]) -> int:
-    """The exit status of a tool's work; a fault is told on standard error, and SIGTERM leaves nothing behind."""
+    """Runs a tool; returns its exit status. A Fault is printed on standard error; SIGTERM cleans up before the end."""
     if threading.current_thread() is threading.main_thread() and signal.getsignal(signal.SIGTERM) == signal.SIG_DFL:
         signal.signal(signal.SIGTERM, _end)
     try:
@@ -83,7 +84,7 @@ def run_tool(tool: str, work: Callable[[], int]) -> int:
         log(tool, str(fault))
         return fault.status
     except BrokenPipeError:
-        # Whoever read the output is gone; what is left in the buffer must not fail once more at the end.
+        # The reader of the output is gone. Discard the buffered rest, so that it does not fail again at exit.
         os.dup2(os.open(os.devnull, os.O_WRONLY), 1)
         return FAILED
     except OSError as error:
@@ -95,6 +96,6 @@ def run_tool(tool: str, work: Callable[[], int]) -> int:
         log(tool, "out of memory")
         return FAILED
     except Exception:
-        # A fault of this tool itself, which must not look as one of what it was given.
+        # An error of the tool itself must not look like an error of its input.
         log(tool, traceback.format_exc().rstrip())
         return FAILED

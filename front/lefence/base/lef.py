@@ -1,4 +1,4 @@
-"""LEF texts, as far as rows and lists of cells need them: the sites, the macros, and their sizes."""
+"""LEF files, as far as rows and lists of cells need them: sites, macros, and their sizes."""
 
 from __future__ import annotations
 
@@ -9,13 +9,13 @@ from typing import NamedTuple
 
 from .design import words_in
 
-# Sections that end with END and their name, and are passed over: a SITE in them is another statement.
+# Sections that end with END and their name. They are skipped: a SITE inside them is another statement.
 _NAMED = frozenset(b"MACRO LAYER VIA VIARULE NONDEFAULTRULE ARRAY".split())
 _LENGTH = re.compile(rb"[+-]?(\d{1,7}(\.\d{0,6})?|\.\d{1,6})")
 
 
 class Site(NamedTuple):
-    """A site: whether its CLASS is CORE, and its size in microns, which is 0 where the text has none."""
+    """A site: whether its CLASS is CORE, and its size in microns, or 0 if it has none."""
 
     name: bytes
     is_core: bool
@@ -24,7 +24,7 @@ class Site(NamedTuple):
 
 
 def sites_of(text: bytes) -> Iterator[Site]:
-    """The sites of a LEF text, in its order."""
+    """Yields the sites of a LEF text in its order."""
     words = words_in(text)
     for word in words:
         if word == b"SITE":
@@ -39,7 +39,7 @@ def sites_of(text: bytes) -> Iterator[Site]:
 
 
 def sizes_of(text: bytes) -> Iterator[tuple[bytes, Decimal, Decimal]]:
-    """The macros of a LEF text with their widths and heights in microns, in its order."""
+    """Yields the macros of a LEF text in its order, with their widths and heights in microns."""
     words = words_in(text)
     for word in words:
         if word == b"MACRO":
@@ -55,7 +55,9 @@ def sizes_of(text: bytes) -> Iterator[tuple[bytes, Decimal, Decimal]]:
 
 
 def _size(words: list[bytes]) -> tuple[Decimal, Decimal]:
-    """The SIZE of a macro; 0 where it has none. A pin or a property of that name has no BY behind its number."""
+    """Returns the SIZE of a macro or a site, or 0 if it has none. A pin or a property named SIZE has no BY after its
+    number.
+    """
     for at, word in enumerate(words):
         if word == b"SIZE" and words[at + 2 : at + 3] == [b"BY"] and len(words) > at + 3:
             return length(words[at + 1]), length(words[at + 3])
@@ -63,7 +65,7 @@ def _size(words: list[bytes]) -> tuple[Decimal, Decimal]:
 
 
 def _section(words: Iterator[bytes], name: bytes) -> list[bytes]:
-    """The words up to END and that name."""
+    """Returns the words up to END and this name."""
     found: list[bytes] = []
     for word in words:
         if word == name and found[-1:] == [b"END"]:
@@ -83,5 +85,5 @@ def _site(name: bytes, words: list[bytes]) -> Site:
 
 
 def length(word: bytes) -> Decimal:
-    """A length in microns; 0 where the word is none."""
+    """Returns a length in microns, or 0 if the word is not a length."""
     return Decimal(word.decode()) if _LENGTH.fullmatch(word) else Decimal(0)

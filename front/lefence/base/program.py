@@ -1,4 +1,4 @@
-"""The lefence program: where it is, and how it is run over the texts of a design, blocking or by asyncio."""
+"""The lefence program: how to find it, and how to run it over a design, blocking or with asyncio."""
 
 from __future__ import annotations
 
@@ -21,21 +21,23 @@ if TYPE_CHECKING:
     from .async_run import AsyncRun
     from .progress import Progress
 
-# Bytes that are read of the program at a time, and seconds in which they come together: it writes line by line, and whoever wakes
-# for each of a million lines is slow.
+# Bytes read at a time, and seconds to wait between reads. The program writes line by line; waking up for each of a
+# million lines is slow.
 PIECE, PAUSE = 1 << 20, 0.002
 
-# What a repair ends with that is done: the design is fully legal, or is not.
+# Exit statuses of a complete repair: the design is fully legal, or it is not.
 REPAIRED = (0, 4)
-# How a line of it begins that tells how far it is.
+# The start of a line with the progress of a repair.
 REPAIRING = "lefence: repairing "
 
-# The program of the repository in which this package stands.
+# The program of the repository that contains this package.
 _BUILT = Path(__file__).resolve().parents[3] / "crates/lefence/out/lefence"
 
 
 def find_program(given: str | None) -> str:
-    """The path of the program: the one given, else `lefence` of the search path, else that of the repository around this."""
+    """Returns the path of the program: the given one, else `lefence` of the search path, else the one of this
+    repository.
+    """
     found = shutil.which(given or "lefence") or (str(_BUILT) if not given and os.access(_BUILT, os.X_OK) else None)
     if found is None:
         built = "" if given else "./lefence of the repository builds it, "
@@ -44,30 +46,31 @@ def find_program(given: str | None) -> str:
 
 
 class Program:
-    """The program with the texts of a design: `replay` answers lines, `describe` tells of the design, `repair` repairs its teams.
+    """The program with the files of a design: `replay` answers lines, `describe` describes it, `repair` repairs its
+    teams.
 
-    A run is waited for (`Run`), or by asyncio, which is imported for it alone (`AsyncRun`).
+    A `Run` blocks. An `AsyncRun` uses asyncio, which is imported only then.
     """
 
     def __init__(self, path: str, texts: list[Path], slots: int = SLOTS) -> None:
-        """The program at a path over a DEF text and LEF texts, with so many session slots of each team.
+        """Makes a program of a path, a DEF file and LEF files, with `slots` session slots per team.
 
-        A fault where the path of a text is not UTF-8.
+        Raises a Fault if the path of a file is not UTF-8.
         """
         self.path = path
         self.texts = texts
-        # (without the option an earlier program answers too)
+        # (without the option, earlier programs work too)
         self._slots = [] if slots == SLOTS else ["--sessions", str(slots)]
         self._words = path_words(texts)
 
     def answer(self, lines: Iterable[bytes], replies: IO[bytes], export: Path | None = None) -> None:
-        """Has the program answer lines, pieces of a text, on a file, and export; a fault where it fails."""
+        """Has the program answer lines, given in pieces, into a file, and export. Raises a Fault if it fails."""
         words = self._replay_words(export)
         with tempfile.TemporaryFile() as errors:
             with subprocess.Popen(words, stdin=subprocess.PIPE, stdout=replies, stderr=errors) as process:
                 assert process.stdin
                 try:
-                    # (a program that reads no more has failed, or who looks at the replies sees that some lack)
+                    # (a broken pipe: the program has failed, or the caller finds that replies are missing)
                     with contextlib.suppress(BrokenPipeError), process.stdin as input_pipe:
                         input_pipe.writelines(lines)
                     status = process.wait()
@@ -78,9 +81,10 @@ class Program:
                 raise fault_of(status, errors, lost_text(status))
 
     def repair(self, options: Iterable[str], lines: Path, export: Path | None, progress: Progress) -> list[dict[str, Any]]:
-        """Has the program repair teams, as its options ask for: its report, an object for each team and one for all.
+        """Has the program repair teams; returns its report: an object per team, then one of all.
 
-        The lines of the commands go to a file, and the committed places to a text, if one is given; a fault where the program fails.
+        Writes the lines of its commands to a file and, if `export` is given, the committed places to another. Raises a
+        Fault if the program fails.
         """
         words = [self.path, "repair", *self._words, *options, "--lines", os.path.abspath(lines)]
         words += ["--export", os.path.abspath(export)] if export else []
@@ -99,17 +103,19 @@ class Program:
             raise fault_of(process.returncode, errors, lost_text(process.returncode))
 
     def replay_on(self, end: socket.socket) -> subprocess.Popen[bytes]:
-        """A run that answers lines of a socket; the terminal's Ctrl-C is not for it, and what it says is on standard error."""
+        """Starts a program that answers the lines of a socket. It ignores the terminal's Ctrl-C and shares standard
+        error.
+        """
         return subprocess.Popen(self._replay_words(), stdin=end.fileno(), stdout=end.fileno(), start_new_session=True)
 
     def describe(self) -> Run:
-        """A run that tells of the design."""
+        """Starts a description of the design."""
         return Run(self._describe_words())
 
     async def replay_async(self, export: str | None = None, state: Path | None = None, save: Path | None = None) -> AsyncRun:
-        """A run that answers lines of a pipe, and says on standard error what it has to say.
+        """Starts a program that answers the lines of a pipe, with the caller's standard error.
 
-        It begins in a state, and at the end of its input it exports and saves one, where that is asked for.
+        It starts from `state`, and at the end of its input it writes `export` and `save`, each if given.
         """
         from .async_run import start_run
 
@@ -119,7 +125,7 @@ class Program:
         return await start_run(words, has_input=True)
 
     async def describe_async(self) -> AsyncRun:
-        """As `describe`."""
+        """Starts a description of the design, for asyncio."""
         from .async_run import start_run
 
         return await start_run(self._describe_words(), has_input=False)
@@ -133,7 +139,7 @@ class Program:
 
 
 class Run:
-    """A run that is waited for, over a pipe; a block ends it. What it says on standard error is kept for its fault."""
+    """A blocking run of the program with a pipe for its output. Its errors are kept for its fault."""
 
     def __init__(self, words: list[str]) -> None:
         """Starts the program with these words, without an input."""
@@ -151,7 +157,7 @@ class Run:
         self.close()
 
     def close(self) -> None:
-        """Ends the program, if it is still at it."""
+        """Ends the program if it still runs."""
         self._process.kill()
         self._process.wait()
         for end in (self._process.stdout, self._errors):
@@ -159,7 +165,9 @@ class Run:
                 end.close()
 
     def lines(self) -> list[bytes]:
-        """The lines that are whole once some bytes more have come, without their line feeds; EOFError where no more come."""
+        """Waits for bytes; returns the lines that are complete, without line feeds. Raises EOFError at the end of the
+        output.
+        """
         piece = os.read(self._output, PIECE)
         if not piece:
             raise EOFError
@@ -167,48 +175,51 @@ class Run:
         return whole
 
     def wait(self) -> int:
-        """Its exit status, once it has ended."""
+        """Waits until the program has ended; returns its exit status."""
         return self._process.wait()
 
     def fault(self, otherwise: str) -> Fault:
-        """The fault of a run that has ended, or is about to."""
+        """Waits until the run has ended; returns the fault that its kept errors describe."""
         return fault_of(self._process.wait(), self._errors, otherwise)
 
 
 def path_words(paths: Iterable[Path]) -> list[str]:
-    """The paths as words of the program: absolute, so that none is an option. A fault where one is not UTF-8."""
+    """Returns the paths as arguments of the program: absolute, so that none is an option. Raises a Fault if one is not
+    UTF-8.
+    """
     words = [os.path.abspath(path) for path in paths]
     for word in words:
-        # Bytes that are not UTF-8 stand in the words of a command line as surrogates, which have no code.
+        # Bytes that are not UTF-8 are surrogates in a command line; these cannot be encoded.
         if word.encode(errors="replace").decode() != word:
             raise Fault(FAILED, f"{word}: the program reads no file whose path is not UTF-8")
     return words
 
 
 def lost_text(status: int) -> str:
-    """What is said of a program that ended with this status, and said nothing itself."""
+    """Returns the message for a program that ended with this status and printed no error."""
     return f"the program was lost: it ended with {status}"
 
 
 def output_lines(errors: IO[bytes]) -> list[str]:
-    """The lines that a program has written to this file so far, which it may still write to."""
+    """Returns the lines that a program has written to this file so far."""
     return os.pread(errors.fileno(), os.fstat(errors.fileno()).st_size, 0).decode(errors="backslashreplace").splitlines()
 
 
 def progress_line(errors: IO[bytes]) -> str | None:
-    """How far a repair is that tells it in this file, if it has."""
+    """Returns the latest progress line of a repair in this file, or None."""
     output = [line for line in output_lines(errors) if line.startswith(REPAIRING)]
     return output[-1].removeprefix("lefence: ") if output else None
 
 
 def fault_of(status: int, errors: IO[bytes], otherwise: str) -> Fault:
-    """The fault of a program that ended with this status, and wrote to this file what it had to say, or nothing."""
+    """Returns the fault of a program with this status and the errors in this file, or `otherwise` if it printed none.
+    """
     text = "\n".join(line for line in output_lines(errors) if not line.startswith(REPAIRING)).strip() or otherwise
     return Fault(status if status in (1, 2, 3) else FAILED, text.removeprefix("lefence: ").replace("\nlefence: ", "; "))
 
 
 def _enlarged(pipe: int) -> int:
-    """The pipe, with room for as many bytes as the system gives."""
+    """Enlarges the pipe's buffer if the system allows it."""
     with contextlib.suppress(AttributeError, OSError):
         fcntl.fcntl(pipe, fcntl.F_SETPIPE_SZ, PIECE)
     return pipe

@@ -1,4 +1,4 @@
-"""How far a tool is, on standard error, where it takes its time."""
+"""Progress of a tool on standard error."""
 
 from __future__ import annotations
 
@@ -9,7 +9,7 @@ from typing import TypeVar
 
 from .faults import log
 
-# Seconds before the first line, and between two lines at least; later it is a tenth of the time so far.
+# Seconds before the first line, and the least between two lines. Later the interval is a tenth of the elapsed time.
 FIRST = 2.0
 BETWEEN = 1.0
 
@@ -17,23 +17,23 @@ _T = TypeVar("_T")
 
 
 class Progress:
-    """Says how long a tool is at work, and how much is done: nothing in the first two seconds, then a line a second at most."""
+    """Prints how long a tool has worked and how much is done. The first line comes after two seconds."""
 
     def __init__(self, tool: str, what: str) -> None:
-        """Of a tool that goes through things, which `what` names, as `cells`; or what is said while it waits."""
+        """Makes the progress of a tool; `what` names the things that it counts, for example `cells`."""
         self._tool, self._what = tool, what
         self._start = time.monotonic()
         self._next = self._start + FIRST
 
     def over(self, things: Iterable[_T]) -> Iterator[_T]:
-        """The things themselves, each counted as done when the next one is asked for."""
+        """Yields the things; each counts as done when the next one is requested."""
         for done, thing in enumerate(things):
             if time.monotonic() >= self._next:
                 self._say(f"{done} {self._what}")
             yield thing
 
     def output_of(self, process: subprocess.Popen[bytes], progress_line: Callable[[], str | None]) -> bytes:
-        """What a process writes on its standard output, once it has ended; meanwhile how far it is, if it tells."""
+        """Waits for a process; returns its standard output. Meanwhile it prints the progress, if `how_far` has one."""
         while True:
             try:
                 return process.communicate(timeout=max(0, self._next - time.monotonic()))[0]

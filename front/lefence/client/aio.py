@@ -1,10 +1,10 @@
-"""The client library for asyncio: the same sessions and verbs, each a coroutine.
+"""The client library for asyncio: the same sessions and verbs, as coroutines.
 
     async with await lefence.aio.connect("/run/lefence/A.sock") as connection, connection.session("A") as session:
         await asyncio.gather(*(session.place(cell, x, y, "N") for cell, x, y in moves))
 
-A coroutine sends its line when it begins to run, so those that run at once are in flight together, in the order in which they
-began.
+A coroutine sends its line when it starts to run. Concurrent coroutines are in flight together, in the order in which
+they started.
 """
 
 from __future__ import annotations
@@ -30,10 +30,10 @@ _MOST_REPLY = 1 << 40
 
 
 async def connect(where: str | os.PathLike[str], port: int | None = None, timeout: float | None = None) -> Connection:
-    """A connection to a Unix socket at a path or, with a port, to a host by TCP.
+    """Connects to a Unix socket at a path or, with a port, to a host over TCP.
 
-    With a timeout in seconds, a line raises TimeoutError where for so long no reply came at all; the connection is then of no
-    use. Raises OSError, which names the path or HOST:PORT, where nobody listens.
+    With a timeout in seconds, a line raises TimeoutError if no reply at all came for that long; the connection is then
+    unusable. Raises OSError, with the path or HOST:PORT, if nobody listens there.
     """
     address = os.fspath(where)
     refuse_port(port)
@@ -47,13 +47,13 @@ async def connect(where: str | os.PathLike[str], port: int | None = None, timeou
 
 
 class Connection:
-    """Lines that go out and replies that come in, in order; any number of coroutines may share it."""
+    """A connection: lines go out and replies come in, in order. Any number of coroutines may share it."""
 
     def __init__(self, reader: asyncio.StreamReader, writer: asyncio.StreamWriter, timeout: float | None = None) -> None:
         self._reader = reader
         self._writer = writer
         self._timeout = timeout
-        # How many replies came.
+        # The number of replies received.
         self._count = 0
         self._is_reported = False
         self._waiting: deque[tuple[bytes, asyncio.Future[bytes]]] = deque()
@@ -69,17 +69,17 @@ class Connection:
 
     @property
     def is_lost(self) -> bool:
-        """Whether a caller has been told that the connection is lost, or that a reply took too long."""
+        """Whether a caller has got an error that says that the connection is lost or a reply took too long."""
         return self._is_reported
 
     def session(
         self, team: str, *, retries: int = 0, microns: bool = False, per_micron: int | None = None, openaccess: bool = False
     ) -> Session:
-        """A session of the team, opened by `async with`; the arguments are those of `lefence.client.Connection.session`."""
+        """Makes a session of the team, for `async with`. Arguments are those of `lefence.client.Connection.session`."""
         return Session(self, team, SessionOptions(retries, microns or per_micron is not None, per_micron, openaccess))
 
     async def ask_line(self, line: bytes) -> bytes:
-        """The whole reply to a line, given without its line feed; one of `def` with its text."""
+        """Sends a line, given without its line feed; returns the whole reply, for `def` with its text."""
         if b"\n" in line:
             raise ValueError("a line has no line feed in it")
         try:
@@ -89,13 +89,13 @@ class Connection:
             raise
 
     async def _ask_line(self, line: bytes) -> bytes:
-        # (that a sender waits for its reply bounds what is unsent)
+        # (each sender waits for its reply, which bounds the unsent bytes)
         reply = self._send(line)
         try:
             return await self._wait_for(reply)
         except BaseException:
             if not reply.cancel() and not reply.cancelled() and not reply.exception():
-                # (it came when its caller was cancelled already)
+                # (the reply came after its caller was cancelled)
                 self._close_abandoned(line, reply.result())
             raise
 
@@ -108,12 +108,12 @@ class Connection:
         return reply
 
     def send_unawaited(self, line: bytes) -> None:
-        """Sends a line to whose reply nobody listens, where the connection is not lost."""
+        """Sends a line whose reply is ignored, unless the connection is lost."""
         if not self._lost:
             self._send(line).cancel()
 
     async def _wait_for(self, reply: asyncio.Future[bytes]) -> bytes:
-        """The reply, as long as some reply comes within the timeout."""
+        """Waits for the reply, as long as any reply comes within the timeout."""
         while self._timeout is not None:
             count = self._count
             done, _ = await asyncio.wait([reply], timeout=self._timeout)
@@ -124,15 +124,16 @@ class Connection:
         return await reply
 
     async def ask(self, request: Request[T]) -> T:
-        """What the reply to a request says; raises its refusal."""
+        """Sends a request; returns its result, or raises its refusal."""
         return result_of(request, await self.ask_line(request.line))
 
     async def export(self, path: str) -> None:
-        """Has a hub write the committed places of all teams to a file of its machine; the operator's socket alone."""
+        """Has a hub write the committed places of all teams to a file of its machine. Only for the operator's socket.
+        """
         await self.ask(Request(f"export {verbs.name(path)}".encode(), lambda words, text: None))
 
     async def bye(self) -> None:
-        """Ends the connection, after a last reply."""
+        """Sends `bye`, waits for its reply and ends the connection."""
         await self.ask(Request(b"bye", lambda words, text: None))
         await self.close()
 
@@ -140,7 +141,7 @@ class Connection:
         """Ends the connection; a hub then frees its sessions."""
         self._reading.cancel()
         if self._lost or self._is_reported or self._writer.transport.get_write_buffer_size():
-            # (nobody may be there who reads the rest)
+            # (the other end may never read the rest)
             self._writer.transport.abort()
         self._writer.close()
         try:
@@ -150,7 +151,7 @@ class Connection:
         self._mark_lost("the connection is closed")
 
     async def _read(self) -> None:
-        """Gives each reply to the line that it is of."""
+        """Gives each reply to the line that it answers."""
         try:
             while reply := await self._reader.readline():
                 if not reply.endswith(b"\n") or not self._waiting:
@@ -173,7 +174,7 @@ class Connection:
             self._mark_lost(f"the connection is lost: {error}")
 
     def _close_abandoned(self, line: bytes, reply: bytes) -> None:
-        """Closes a session whose opener was cancelled, so that its slot is free again."""
+        """Closes a session whose opener was cancelled, to free its slot."""
         words, words = line.split(), reply.split()
         if words[:1] == [b"open"] and len(words) == 2 and is_accepted(reply) and len(words) > 1:
             self.send_unawaited(b"close %b %b" % (words[1], words[1]))
@@ -187,10 +188,10 @@ class Connection:
 
 
 class Session(BaseSession[Connection]):
-    """A session of a team: each method is a coroutine that sends a verb and returns what its reply says, or raises its refusal."""
+    """A session of a team. Each verb is a coroutine that returns the reply's result or raises its refusal."""
 
     async def open(self) -> Session:
-        """Opens the session, which is not open. Refused by NoTeam, SessionsFull."""
+        """Opens the session, which must not be open. Refused by NoTeam, SessionsFull."""
         self._refuse_open()
         number, self.first_revision = await self.connection.ask(verbs.open_session(self.team))
         self._begin(number)
@@ -216,7 +217,7 @@ class Session(BaseSession[Connection]):
         await self.connection.ask(verbs.close_session(scope))
 
     async def cells(self, *libraries: str | os.PathLike[str]) -> list[Cell]:
-        """The team's cells, as `lefence.Session.cells` has them."""
+        """Lists the team's cells; see `lefence.Session.cells`."""
         return cells_in(await self.def_text(), self.scope, libraries)
 
     async def __aenter__(self) -> Session:
@@ -224,18 +225,18 @@ class Session(BaseSession[Connection]):
 
     async def __aexit__(self, kind: type[BaseException] | None, error: BaseException | None, trace: TracebackType | None) -> None:
         if self._scope is None or self.connection.is_lost:
-            # (the block was told that the connection is lost, and a session goes with it)
+            # (the block already knows that the connection is lost, and its sessions with it)
             self._scope = None
             return
         try:
             await self.close()
         except (Refusal, OSError, ProtocolError):
-            # What went wrong in the block counts more than that the session is gone already.
+            # An exception of the block counts more than a session that is gone.
             if kind is None:
                 raise
 
     async def ask(self, request: Request[T]) -> T:
-        """What the reply to a request says; a stale one is synced and asked again, where the caller said so."""
+        """Sends a request; returns its result. With `retries`, a stale one is synced and sent again."""
         for _ in range(self.retries):
             try:
                 return await self.connection.ask(request)

@@ -1,4 +1,4 @@
-"""The client library, without asyncio: connections, sessions and pipelines.
+"""The client library without asyncio: connections, sessions and pipelines.
 
     import lefence
 
@@ -6,7 +6,7 @@
         session.place("u1", 400, 0, "N")
         print(session.legalize("u2", 1500, 300).place)
 
-A connection is for one thread at a time.
+Use a connection in one thread at a time.
 """
 
 from __future__ import annotations
@@ -29,20 +29,20 @@ from .verbs import Request, Scope, read_reply
 
 T = TypeVar("T")
 
-# Bytes that are read at a time, and that may wait to be sent before a sender reads what came.
+# Bytes read at a time, and bytes that may wait to be sent before a sender reads replies.
 _PIECE = 1 << 16
 _MOST_PORT = 65535
 
 
 class ConnectionLost(ConnectionError):
-    """The other end is gone; whether the lines in flight were carried out is not known, the team's revision tells."""
+    """The other end is gone. The team's revision shows which of the lines in flight were executed."""
 
 
 def connect(where: str | os.PathLike[str], port: int | None = None, timeout: float | None = None) -> Connection:
-    """A connection to a Unix socket at a path or, with a port, to a host by TCP.
+    """Connects to a Unix socket at a path or, with a port, to a host over TCP.
 
-    With a timeout in seconds, a reply that takes longer raises TimeoutError, after which the connection is of no use. Raises
-    OSError, which names the path or HOST:PORT, where nobody listens.
+    With a timeout in seconds, a reply that takes longer raises TimeoutError; the connection is then unusable. Raises
+    OSError, with the path or HOST:PORT, if nobody listens there.
     """
     refuse_port(port)
     try:
@@ -52,7 +52,7 @@ def connect(where: str | os.PathLike[str], port: int | None = None, timeout: flo
 
 
 def refuse_port(port: int | None) -> None:
-    """ValueError of a number that is no port: the system would take another one for it."""
+    """Raises ValueError if the number is not a port: the system would silently use another one."""
     if port is not None and not 0 <= port <= _MOST_PORT:
         raise ValueError(f"{port} is no port, which is a number up to {_MOST_PORT}")
 
@@ -73,7 +73,7 @@ def _end_at(where: str, port: int | None, timeout: float | None) -> socket.socke
 
 
 def with_endpoint(error: OSError, where: str, port: int | None) -> OSError:
-    """The error with what was tried."""
+    """Returns the error with the path or HOST:PORT."""
     tried = where if port is None else f"{where}:{port}"
     if error.errno is None:
         return type(error)(f"{tried}: {str(error) or 'timed out'}")
@@ -83,17 +83,17 @@ def with_endpoint(error: OSError, where: str, port: int | None) -> OSError:
 
 @dataclass
 class SentLine:
-    """A line that was sent or waits to be, and its whole reply, once it has been read."""
+    """A line that was sent or waits to be sent, and its whole reply once it is read."""
 
     line: bytes
     reply: bytes | None = None
 
 
 class Connection:
-    """Lines that go out and replies that come in, in order; any number may be in flight."""
+    """A connection: lines go out and replies come in, in order. Any number may be in flight."""
 
     def __init__(self, end: socket.socket, timeout: float | None = None) -> None:
-        """A connection over a socket, which it then owns."""
+        """Makes a connection of a socket and takes its ownership."""
         self._end = end
         self._end.setblocking(False)
         self._timeout = timeout
@@ -113,33 +113,35 @@ class Connection:
 
     @property
     def is_lost(self) -> bool:
-        """Whether a caller has been told that the connection is lost, or that a reply took too long."""
+        """Whether a caller has got an error that says that the connection is lost or a reply took too long."""
         return self._is_lost
 
     def session(
         self, team: str, *, retries: int = 0, microns: bool = False, per_micron: int | None = None, openaccess: bool = False
     ) -> Session:
-        """A session of the team, which is opened by `with` and closed at its end.
+        """Makes a session of the team, which `with` opens and closes.
 
-        A change that is refused as Stale is sent again behind a sync, `retries` times: a caller who asks for that says that his
-        change is right whatever others changed. With `microns`, lengths are microns; how many database units are one a hub
-        tells, `lefence serve` with the team's DEF text, or `per_micron`. With `openaccess`, orientations are R0, MX and so on.
+        - `retries`: how often a change that is refused as Stale is synced and sent again. Use it only for changes that
+          are right whatever others changed.
+        - `microns`: lengths are microns. The database units per micron come from the hub, from the team's DEF text
+          (`lefence serve`), or from `per_micron`.
+        - `openaccess`: orientations are R0, MX and so on.
         """
         return Session(self, team, SessionOptions(retries, microns or per_micron is not None, per_micron, openaccess))
 
     def ask_line(self, line: bytes) -> bytes:
-        """The whole reply to a line, given without its line feed; one of `def` with its text."""
+        """Sends a line, given without its line feed; returns the whole reply, for `def` with its text."""
         return self.wait(self.send(line))
 
     def export(self, path: str) -> None:
-        """Has a hub write the committed places of all teams to a file of its machine; the operator's socket alone.
+        """Has a hub write the committed places of all teams to a file of its machine. Only for the operator's socket.
 
-        Refused by NotExported, and by BadRequest anywhere else. The path is made of the bytes 33 to 126.
+        Refused by NotExported, and by BadRequest on other sockets. The path has only the bytes 33 to 126.
         """
         self.ask(Request(f"export {verbs.name(path)}".encode(), lambda words, text: None))
 
     def bye(self) -> None:
-        """Ends the connection, after a last reply."""
+        """Sends `bye`, waits for its reply and ends the connection."""
         self.ask(Request(b"bye", lambda words, text: None))
         self.close()
 
@@ -151,11 +153,13 @@ class Connection:
             self._end.close()
 
     def ask(self, request: Request[T]) -> T:
-        """What the reply to a request says; raises its refusal."""
+        """Sends a request; returns its result, or raises its refusal."""
         return result_of(request, self.ask_line(request.line))
 
     def send(self, line: bytes) -> SentLine:
-        """Queues a line and waits for nothing; it goes out once somebody waits or flushes, or many are queued. `wait` gives its reply."""
+        """Queues a line without waiting; `wait` returns its reply. It goes out at the next `wait` or `flush`, or when
+        many are queued.
+        """
         if b"\n" in line:
             raise ValueError("a line has no line feed in it")
         sent = SentLine(line)
@@ -166,26 +170,26 @@ class Connection:
         return sent
 
     def flush(self) -> None:
-        """Sends all lines that are queued."""
+        """Sends all queued lines."""
         last = self._deadline()
         while self._out:
             self._transfer(last)
 
     def wait(self, sent: SentLine) -> bytes:
-        """The whole reply to a line that was sent; those to earlier ones come before it and are kept."""
+        """Waits for the whole reply to a line. Replies to earlier lines come first and are kept."""
         while sent.reply is None:
             first = self._unanswered[0]
             try:
                 first.reply = self._next_reply(first.line, self._deadline())
             except ProtocolError:
-                # (where the next reply begins is not known)
+                # (nobody knows where the next reply starts)
                 self._is_lost = True
                 raise
             self._unanswered.popleft()
         return sent.reply
 
     def _deadline(self) -> float | None:
-        """By when a reply must be there."""
+        """When the next reply must have come."""
         return None if self._timeout is None else time.monotonic() + self._timeout
 
     def _next_reply(self, line: bytes, last: float | None) -> bytes:
@@ -202,7 +206,7 @@ class Connection:
         return reply
 
     def _transfer(self, last: float | None = None, waits: bool = True) -> None:
-        """Sends and reads what goes; both, so that neither end waits for the other."""
+        """Sends and reads as far as possible: both, so that neither end waits for the other."""
         if not self._is_open:
             raise ConnectionLost("the connection is closed")
         try:
@@ -221,7 +225,7 @@ class Connection:
         if not ready and waits:
             raise TimeoutError(f"no reply for {self._timeout} seconds")
         try:
-            # (what came is read first: where the other end is gone, nothing can be sent, and its last replies are there all the same)
+            # (read first: if the other end is gone, sending fails, but its last replies are still there)
             if ready and ready[0][1] & selectors.EVENT_READ:
                 piece = self._end.recv(_PIECE)
                 if not piece:
@@ -236,7 +240,7 @@ class Connection:
 
 
 def result_of(request: Request[T], reply: bytes) -> T:
-    """What the reply to a request says; raises its refusal."""
+    """Returns the result of a reply, or raises its refusal."""
     first, _, text = reply.partition(b"\n")
     if first == b"ok" or first.startswith(b"ok "):
         return read_reply(request, first.decode("ascii", "backslashreplace").split()[1:], text)
@@ -247,31 +251,31 @@ def result_of(request: Request[T], reply: bytes) -> T:
 
 
 class Pending(Generic[T]):
-    """A request that was sent, or is queued behind others."""
+    """A request of a pipeline that was sent or is queued."""
 
     def __init__(self, pipeline: Pipeline, request: Request[T]) -> None:
         self.request = request
-        # Whether somebody was told what its reply says, and how often it was sent.
+        # Whether somebody has read its reply, and how often it was sent.
         self.is_read, self.times_sent = False, 0
         self._pipeline = pipeline
         self.send()
 
     def send(self) -> None:
-        """Sends it, once more where its reply is there."""
+        """Sends it; again, if it has a reply."""
         self._sent = self._pipeline.connection.send(self.request.line)
         self.times_sent += 1
 
     def wait(self) -> bytes:
-        """The reply to what was sent last."""
+        """Waits for the reply to the last sending."""
         return self._pipeline.connection.wait(self._sent)
 
     def result(self) -> T:
-        """What its reply says, which is waited for; raises its refusal."""
+        """Waits for the reply; returns its result or raises its refusal."""
         return result_of(self.request, self._reply())
 
     @property
     def refusal(self) -> Refusal | None:
-        """Its refusal, if its reply is one; the reply is waited for."""
+        """Waits for the reply; returns its refusal, or None."""
         try:
             self.result()
         except Refusal as refusal:
@@ -285,10 +289,10 @@ class Pending(Generic[T]):
 
 
 class Session(BaseSession[Connection]):
-    """A session of a team: each method sends a verb, waits for its reply and returns what it says, or raises its refusal."""
+    """A session of a team. Each verb waits for its reply, then returns its result or raises its refusal."""
 
     def open(self) -> Session:
-        """Opens the session, which is not open. Refused by NoTeam, SessionsFull."""
+        """Opens the session, which must not be open. Refused by NoTeam, SessionsFull."""
         self._refuse_open()
         number, self.first_revision = self.connection.ask(verbs.open_session(self.team))
         self._begin(number)
@@ -308,7 +312,7 @@ class Session(BaseSession[Connection]):
             return verbs.units_in(self.def_text())
 
     def cells(self, *libraries: str | os.PathLike[str]) -> list[Cell]:
-        """The team's cells in loading order, with their macros and working places; with the LEF texts also their sizes.
+        """Lists the team's cells in loading order, with macros and working places; with LEF files also with sizes.
 
         Lengths are in the session's unit. Refused by NoSession, OutOfMemory.
         """
@@ -324,18 +328,18 @@ class Session(BaseSession[Connection]):
 
     def __exit__(self, kind: type[BaseException] | None, error: BaseException | None, trace: TracebackType | None) -> None:
         if self._scope is None or self.connection.is_lost:
-            # (the block was told that the connection is lost, and a session goes with it)
+            # (the block already knows that the connection is lost, and its sessions with it)
             self._scope = None
             return
         try:
             self.close()
         except (Refusal, OSError, ProtocolError):
-            # What went wrong in the block counts more than that the session is gone already.
+            # An exception of the block counts more than a session that is gone.
             if kind is None:
                 raise
 
     def ask(self, request: Request[T]) -> T:
-        """What the reply to a request says; a stale one is synced and asked again, where the caller said so."""
+        """Sends a request; returns its result. With `retries`, a stale one is synced and sent again."""
         for _ in range(self.retries):
             try:
                 return self.connection.ask(request)
@@ -344,19 +348,18 @@ class Session(BaseSession[Connection]):
         return self.connection.ask(request)
 
     def pipeline(self, *, raises: bool = True) -> Pipeline:
-        """Many lines in flight: in its block each method of the pipeline queues its verb and returns a `Pending` at once.
+        """Makes a pipeline: in its block each verb queues its line and returns a `Pending` at once.
 
-        The end of the block waits for all replies and raises the first refusal of which the block was not told; with `raises`
-        False none, so that the caller asks each `Pending`.
+        The end of the block waits for all replies. It raises the first refusal that nobody has read; with
+        `raises=False` it raises none, and the caller reads each `Pending`.
         """
         return Pipeline(self, raises)
 
 
 class Pipeline(Verbs):
-    """Requests of one session in flight; their replies come in their order.
+    """Requests of one session in flight. Their replies come in order.
 
-    Where the session has retries, those that are refused as stale are sent again behind a sync, in their order, once somebody
-    asks for one of them.
+    If the session has retries, stale requests are synced and sent again, in order, when one of them is read.
     """
 
     def __init__(self, session: Session, raises: bool) -> None:
@@ -370,7 +373,7 @@ class Pipeline(Verbs):
         return self._session.connection
 
     def final_reply(self, pending: Pending[Any]) -> bytes:
-        """The reply to a request, which is sent again as often as the session says while it is stale."""
+        """Waits for the reply to a request. While it is stale, sends it again, as often as the session allows."""
         most = self._session.retries + 1
         while _is_stale(reply := pending.wait()) and pending.times_sent < most:
             stale = [each for each in self._requests if each.times_sent < most and _is_stale(each.wait())]
@@ -381,7 +384,7 @@ class Pipeline(Verbs):
 
     @property
     def scope(self) -> Scope:
-        """The session."""
+        """The open session."""
         return self._session.scope
 
     def __enter__(self) -> Pipeline:
@@ -400,7 +403,7 @@ class Pipeline(Verbs):
             raise first
 
     def ask(self, request: Request[T]) -> Pending[T]:
-        """Queues a request, which goes out as `Connection.send` says, and waits for nothing."""
+        """Queues a request without waiting; see `Connection.send`."""
         pending = Pending(self, request)
         self._requests.append(pending)
         return pending

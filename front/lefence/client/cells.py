@@ -1,4 +1,4 @@
-"""The cells of a team, as its DEF text tells them, with the sizes of their macros where LEF texts are given."""
+"""The cells of a team, from its DEF text; with LEF files, also the sizes of their macros."""
 
 from __future__ import annotations
 
@@ -21,9 +21,9 @@ _TURNED = frozenset("E W FE FW R90 R270 MXR90 MYR90".split())
 
 @dataclass(frozen=True)
 class Cell:
-    """A cell of a team, its macro, and where it stands, which is None of one without a place.
+    """A cell of a team, its macro, and its place, or None if it is unplaced.
 
-    Width and height are those of the macro as it faces north, in the session's unit; None where no LEF text was given.
+    Width and height are those of the macro as it faces north, in the session's unit; None without LEF files.
     """
 
     name: str
@@ -45,7 +45,7 @@ class Cell:
 
 
 def cells_in(text: bytes, scope: Scope, libraries: Iterable[str | os.PathLike[str]]) -> list[Cell]:
-    """The cells of a team's DEF text, in its order; of two macros with one name in the LEF texts the first counts."""
+    """Lists the cells of a team's DEF text in its order. Of two macros with one name, the first counts."""
     sizes: dict[bytes, tuple[Decimal, Decimal]] = {}
     for library in libraries:
         known = os.stat(library)
@@ -57,7 +57,7 @@ def cells_in(text: bytes, scope: Scope, libraries: Iterable[str | os.PathLike[st
 
 @lru_cache(maxsize=64)
 def _sizes_in(library: str, *version: int) -> dict[bytes, tuple[Decimal, Decimal]]:
-    """The sizes of the macros of a LEF text, which is read again where its time or its length is another one."""
+    """Reads the sizes of the macros of a LEF file; again if its time or length has changed."""
     sizes: dict[bytes, tuple[Decimal, Decimal]] = {}
     for name, width, height in sizes_of(Path(library).read_bytes()):
         sizes.setdefault(name, (width, height))

@@ -1,4 +1,4 @@
-"""Where a tool connects to: a socket's path, HOST:PORT, or a program of its own over a design."""
+"""Connections of the tools: to a socket, to HOST:PORT, or to a program that the tool starts over a design."""
 
 from __future__ import annotations
 
@@ -20,21 +20,21 @@ _PORT = re.compile(r"([^/]+):(\d{1,5})")
 
 @dataclass
 class Endpoint:
-    """A connection, the teams that are known to be served by it, and the program behind it, if it is this tool's own."""
+    """A connection, the teams that it is known to serve, and the tool's own program, if it started one."""
 
     connection: Connection
     teams: list[str]
     process: subprocess.Popen[bytes] | None = None
 
     def close(self) -> None:
-        """Ends the connection, and the program with it."""
+        """Ends the connection and the program."""
         self.connection.close()
         if self.process is not None:
             self.process.wait()
 
 
 def connect_to(where: str) -> Endpoint:
-    """A connection to a Unix socket or to HOST:PORT; a fault where nobody listens there."""
+    """Connects to a Unix socket or to HOST:PORT. Raises a Fault if nobody listens there."""
     found = _PORT.fullmatch(where)
     try:
         if found and not Path(where).exists():
@@ -48,26 +48,26 @@ def connect_to(where: str) -> Endpoint:
 
 
 def _teams_at(path: Path) -> list[str]:
-    """The teams that a hub's socket serves, by the names of the sockets: one for a team's, all for the operator's."""
+    """Lists the teams of a hub's socket by file names: one for a team's socket, all for the operator's."""
     if path.name != "operator.sock":
         return [team] if (team := team_of_socket(path.name)) else []
     return sorted(team for each in path.parent.iterdir() if (team := team_of_socket(each.name)))
 
 
 def start_program(given: str | None, paths: list[Path]) -> Endpoint:
-    """A program of one's own over a design, and a connection to it; a fault where it refuses the design."""
+    """Starts a program over a design and connects to it. Raises a Fault if it refuses the design."""
     program = Program(find_program(given), paths)
     near, far = socket.socketpair()
     with far:
         process = program.replay_on(far)
     connection = Connection(near)
     try:
-        # (the design is loaded twice at once)
+        # (the two programs load the design at the same time)
         with program.describe() as description:
             _wait_loaded(connection, process)
             return Endpoint(connection, _described_teams(description, program.path), process)
     except BaseException:
-        # Whereupon the program ends, if it has not; Ctrl-C does not wait for it.
+        # The program ends with its connection, if it has not ended yet. Ctrl-C does not wait for it.
         connection.close()
         raise
 
@@ -81,7 +81,7 @@ def _wait_loaded(connection: Connection, process: subprocess.Popen[bytes]) -> No
 
 
 def _described_teams(description: Run, path: str) -> list[str]:
-    """The teams that a description tells, which is read no further than to its cells."""
+    """Reads the teams of a description, up to its first cell."""
     teams: list[str] = []
     try:
         while all(add_team(line, teams) for line in description.lines()):

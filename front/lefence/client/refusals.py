@@ -1,6 +1,6 @@
-"""The refusals of the program as exceptions, each with its number, its name and what it names.
+"""The refusals of the program as exceptions, each with its number, name and fields.
 
-After a refusal everything is as it was. docs/PROTOCOL.md says when each comes.
+A refused command changes nothing. docs/PROTOCOL.md says when each comes.
 """
 
 from __future__ import annotations
@@ -10,7 +10,7 @@ from typing import ClassVar
 
 from ..base.protocol import RULES
 
-# What a cell that breaks a rule does, by the rule's number; rule 8 is said of two cells.
+# The text for each rule. Rule 8 is about two cells.
 _VIOLATIONS = {
     1: "{} is not from 1 to 8 core sites high",
     2: "{} {stand} on no core row, off its x grid or beyond its ends",
@@ -21,19 +21,19 @@ _VIOLATIONS = {
     7: "{} {stand} in an obstacle: a FIXED component or a placement blockage",
     8: "{} {overlap} {}",
 }
-# The same of rule 8 where the team may have a padding.
+# The text of rule 8 if the team may have a padding.
 _TOO_NEAR = "{} {overlap} {} or {be} too near to it"
 
 
 def violation_text(rule: int, cell: str, other: str | None = None, is_there: bool = False, is_padded: bool = False) -> str:
-    """Which rule a cell breaks at its place or, if it is not there yet, would break; its team may have a padding, or has none."""
+    """Describes the rule that a cell breaks or, if it is not there yet, would break; with a padding or without."""
     verbs = {verb: f"{verb}s" if is_there else f"would {verb}" for verb in ("stand", "lack", "leave", "overlap")}
     words = _TOO_NEAR if rule == 8 and is_padded else _VIOLATIONS.get(rule, f"{{}} breaks rule {rule}")
     return words.format(cell, other or "another cell", be="is" if is_there else "be", **verbs)
 
 
 class Refusal(Exception):
-    """A reply `no NUMBER NAME ..`; `fields` are the words behind the name."""
+    """A reply `no NUMBER NAME ..`; `fields` are the words after the name."""
 
     number: ClassVar[int] = 0
 
@@ -46,11 +46,11 @@ class Refusal(Exception):
 
     @property
     def name(self) -> str:
-        """The refusal's name, as the protocol has it."""
+        """The refusal's name in the protocol."""
         return type(self).__name__
 
     def words(self) -> str:
-        """What the refusal says, in words."""
+        """The refusal in words."""
         return " ".join(self.fields) or "refused"
 
     def _field(self, at: int) -> str:
@@ -61,7 +61,7 @@ class Refusal(Exception):
 
 
 class BadRequest(Refusal):
-    """1: the line is no request; a number out of range is one way to it."""
+    """1: the line is not a request, or a number is out of range."""
 
     number = 1
 
@@ -70,7 +70,7 @@ class BadRequest(Refusal):
 
 
 class NoTeam(Refusal):
-    """2: no team has that name, or this socket is another team's."""
+    """2: no team has this name, or the socket is another team's."""
 
     number = 2
 
@@ -79,7 +79,7 @@ class NoTeam(Refusal):
 
 
 class NoSession(Refusal):
-    """3: no open session of the team has that number; another client may have closed it."""
+    """3: no open session of the team has this number; another client may have closed it."""
 
     number = 3
 
@@ -88,7 +88,7 @@ class NoSession(Refusal):
 
 
 class Stale(Refusal):
-    """4: a change by a session that has not seen the team's present revision; a sync shows it."""
+    """4: the session has not seen the team's present revision; `sync` shows it."""
 
     number = 4
 
@@ -102,7 +102,7 @@ class Stale(Refusal):
 
 
 class NoCell(Refusal):
-    """5: the cell is none of the team's own."""
+    """5: the cell is not the team's own."""
 
     number = 5
 
@@ -131,22 +131,22 @@ class Illegal(Refusal):
 
     @property
     def rule(self) -> int:
-        """The number of the first rule that is broken, 1 to 8."""
+        """The number of the first broken rule, 1 to 8."""
         return self._number(0)
 
     @property
     def rule_name(self) -> str:
-        """Its name, as `Overlap`."""
+        """The name of the rule, for example `Overlap`."""
         return RULES.get(self.rule, "")
 
     @property
     def cell(self) -> str:
-        """The cell whose place breaks it."""
+        """The cell whose place breaks the rule."""
         return self._field(1)
 
     @property
     def other(self) -> str | None:
-        """For rule 8, the first cell of the team that the place overlaps, or is nearer to than the padding; else None."""
+        """For rule 8, the first cell of the team that the place overlaps or is too near to; else None."""
         return self._field(2) or None
 
     def words(self) -> str:
@@ -154,13 +154,13 @@ class Illegal(Refusal):
 
 
 class NoPlace(Refusal):
-    """8: there is no legal place for a cell off soft blockages."""
+    """8: a cell has no legal place outside soft blockages."""
 
     number = 8
 
     @property
     def cell(self) -> str:
-        """The cell without a best place."""
+        """The cell without a legal place."""
         return self._field(0)
 
     def words(self) -> str:
@@ -168,7 +168,7 @@ class NoPlace(Refusal):
 
 
 class NothingToUndo(Refusal):
-    """9: `undo`, and no change is kept."""
+    """9: `undo` without a kept change."""
 
     number = 9
 
@@ -186,7 +186,7 @@ class SessionsFull(Refusal):
 
 
 class RevisionsSpent(Refusal):
-    """11: the team has made as many changes as can be counted."""
+    """11: the team has reached the greatest revision."""
 
     number = 11
 
@@ -195,7 +195,7 @@ class RevisionsSpent(Refusal):
 
 
 class OutOfMemory(Refusal):
-    """12: no memory; of a hub also: its disk is full. Nothing has changed, and a later try may pass."""
+    """12: out of memory; from a hub also: its disk is full. Nothing has changed; a later try may succeed."""
 
     number = 12
 
@@ -204,7 +204,7 @@ class OutOfMemory(Refusal):
 
 
 class NotExported(Refusal):
-    """13, of a hub alone: the file could not be written; the fields are the reason in words."""
+    """13, from a hub only: the file was not written; the fields are the reason."""
 
     number = 13
 
@@ -216,9 +216,9 @@ _KINDS: dict[int, type[Refusal]] = {kind.number: kind for kind in Refusal.__subc
 
 
 def refusal_of(reply: bytes) -> Refusal | None:
-    """The refusal that a reply is; None where it is none."""
+    """Returns the refusal of a reply, or None if the reply is none."""
     if not reply.startswith(b"no "):
-        # (of a text of a team not one word is looked at)
+        # (skip decoding of long texts)
         return None
     words = reply.decode("ascii", "backslashreplace").split()
     if len(words) < 3 or words[0] != "no" or not words[1].isdecimal():

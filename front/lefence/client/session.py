@@ -1,4 +1,4 @@
-"""What sessions and pipelines share: their team, their scope while they are open, and a method for each verb."""
+"""The common part of sessions and pipelines: the team, the open session, and a method for each verb."""
 
 from __future__ import annotations
 
@@ -20,7 +20,7 @@ T = TypeVar("T")
 
 
 class Requester(Protocol):
-    """Whatever has verbs: an open session, and a way to ask."""
+    """An object with verbs: it has an open session and sends requests."""
 
     @property
     def scope(self) -> Scope: ...
@@ -29,9 +29,10 @@ class Requester(Protocol):
 
 
 class Method(Generic[P, T]):
-    """The method of a verb: it takes the verb's fields and asks for it.
+    """The method of a verb: it takes the verb's fields and sends its request.
 
-    It returns what `ask` does: of a plain session what the reply says, of a pipeline a `Pending`, of asyncio what is to be awaited.
+    Its result depends on the object: a plain session returns the reply's result, a pipeline a `Pending`, an asyncio
+    session an awaitable.
     """
 
     def __init__(self, build: Callable[Concatenate[Scope, P], Request[T]]) -> None:
@@ -58,7 +59,7 @@ class Method(Generic[P, T]):
 
 
 class Verbs:
-    """A method for each verb but those that open and close a session; what it takes and says is told in `lefence.verbs`."""
+    """A method for each verb except `open` and `close`. `lefence.client.verbs` describes them."""
 
     sync = Method(verbs.sync)
     check = Method(verbs.check)
@@ -78,7 +79,7 @@ class Verbs:
 
 @dataclass(frozen=True)
 class SessionOptions:
-    """What a session is opened with: how often a stale change is sent again, and how lengths and orientations are spelled."""
+    """Options of a session: how often a stale change is sent again, and the form of lengths and orientations."""
 
     retries: int = 0
     microns: bool = False
@@ -101,7 +102,7 @@ class BaseSession(Verbs, Generic[C]):
 
     @property
     def scope(self) -> Scope:
-        """The open session; ValueError outside its block."""
+        """The open session. Raises ValueError outside its block."""
         if self._scope is None:
             raise ValueError("the session is not open: its block opens it")
         return self._scope
@@ -113,14 +114,14 @@ class BaseSession(Verbs, Generic[C]):
 
     @property
     def _lacks_units(self) -> bool:
-        """Whether lengths are microns, and how many database units one has is not known."""
+        """Whether lengths are microns, and the database units per micron are unknown."""
         return self._options.microns and self._per_micron is None
 
     def _refuse_open(self) -> None:
-        """ValueError where the session is open: its slot would be forgotten."""
+        """Raises ValueError if the session is open: its slot would be lost."""
         if self._scope is not None:
             raise ValueError("the session is open already")
 
     def _begin(self, number: int) -> None:
-        """The session is open, with all that its wishes need."""
+        """Marks the session as open."""
         self._scope = Scope(self.team, number, self._per_micron, self._options.openaccess)

@@ -1,9 +1,13 @@
-"""What a session can be asked: a request for each verb, with the fields' names, and what its reply says.
+"""A request for each verb: its line, and what its reply means.
 
-These are the methods of the sessions of `lefence.client` and `lefence.aio`, and of pipelines. Lengths are whole database
-units, or microns where the session was opened so (the session's unit); a length in microns must be a whole number of database
-units, else ValueError. A name must be made of the bytes 33 to 126, else ValueError. On a full disk a hub refuses every change as
-`OutOfMemory`. Refusals: `lefence.refusals`.
+These are the methods of the sessions of `lefence.client` and `lefence.aio`, and of pipelines.
+
+- Lengths are whole database units, or microns if the session has `microns` (the session's unit). Microns must be a
+  whole number of database units, else ValueError.
+- Names have only the bytes 33 to 126, else ValueError.
+- If its disk is full, a hub refuses every change as `OutOfMemory`.
+
+`lefence.client.refusals` has the refusals.
 """
 
 from __future__ import annotations
@@ -27,7 +31,7 @@ _OPENACCESS_OF = {orient: other for other, orient in reversed(OPENACCESS.items()
 
 @dataclass(frozen=True)
 class Place:
-    """Where a cell stands: the lower left corner of its box in the session's unit, and its orientation (N, S, FN, FS ..)."""
+    """A cell's place: the lower left corner of its box in the session's unit, and its orientation (N, S, FN, FS ..)."""
 
     x: Length
     y: Length
@@ -36,7 +40,7 @@ class Place:
 
 @dataclass(frozen=True)
 class Legalized:
-    """The team's revision after a legalize, and where the cell went."""
+    """The team's revision after a legalize, and the cell's new place."""
 
     revision: int
     place: Place
@@ -44,7 +48,7 @@ class Legalized:
 
 @dataclass(frozen=True)
 class Tidied:
-    """The team's revision after a tidy, and how many cells moved."""
+    """The team's revision after a tidy, and the number of cells that moved."""
 
     revision: int
     moved: int
@@ -52,7 +56,8 @@ class Tidied:
 
 @dataclass(frozen=True)
 class Violation:
-    """A placed cell, the number of the first rule that it breaks, and for rule 8 the first cell that it overlaps or is too near to."""
+    """A placed cell, the first rule that it breaks, and for rule 8 the first cell that it overlaps or is too near to.
+    """
 
     cell: str
     rule: int
@@ -61,7 +66,7 @@ class Violation:
 
 @dataclass(frozen=True)
 class Report:
-    """How many cells a team has, how many have no place, and which of the others break a rule, in loading order."""
+    """A team's number of cells, of unplaced cells, and its violations in loading order."""
 
     cells: int
     unplaced: int
@@ -69,13 +74,14 @@ class Report:
 
     @property
     def is_clean(self) -> bool:
-        """Whether every cell has a place and none breaks a rule."""
+        """Whether every cell has a place and breaks no rule."""
         return not self.unplaced and not self.violations
 
 
 @dataclass(frozen=True)
 class Request(Generic[T]):
-    """A line without its line feed, and how its accepted reply is read: from the words behind `ok`, and the text of a `def`."""
+    """A line without its line feed, and a function that reads its accepted reply: the words after `ok`, and the text.
+    """
 
     line: bytes
     read: Callable[[list[str], bytes], T]
@@ -83,8 +89,10 @@ class Request(Generic[T]):
 
 @dataclass(frozen=True)
 class Scope:
-    """A session: its team, its number, the database units in a micron where its lengths are microns, else None, and whether its
-    orientations are spelled as OpenAccess has them (R0, MX ..)."""
+    """An open session: its team and number.
+
+    `per_micron` is None if lengths are database units. With `openaccess`, orientations are R0, MX and so on.
+    """
 
     team: str
     number: int
@@ -95,7 +103,7 @@ class Scope:
         return " ".join((verb, name(self.team), str(self.number), *fields)).encode()
 
     def dbu(self, length: Length) -> str:
-        """A length of the caller's in whole database units."""
+        """Converts a caller's length into whole database units."""
         try:
             exact = Decimal(str(length)) * (self.per_micron or 1)
         except InvalidOperation:
@@ -105,11 +113,11 @@ class Scope:
         return str(int(exact))
 
     def length(self, dbu: str) -> Length:
-        """A length of a reply in the session's unit."""
+        """Converts a reply's length into the session's unit."""
         return int(dbu) if self.per_micron is None else int(dbu) / self.per_micron
 
     def orient(self, orient: str) -> str:
-        """An orientation of the caller's as DEF spells it."""
+        """Converts a caller's orientation into DEF's."""
         if orient not in OPENACCESS:
             return name(orient)
         if not self.openaccess:
@@ -122,14 +130,14 @@ class Scope:
 
 
 def name(word: str) -> str:
-    """The word, if it can be a field of a line."""
+    """Returns the word. Raises ValueError if it cannot be a field of a line."""
     if not _NAME.fullmatch(word):
         raise ValueError(f"{word!r} can be no field of a line: it is empty or has other bytes than 33 to 126")
     return word
 
 
 def read_reply(request: Request[T], words: list[str], text: bytes) -> T:
-    """What an accepted reply says, by the words behind `ok`."""
+    """Reads an accepted reply, given its words after `ok`."""
     try:
         return request.read(words, text)
     except (ValueError, LookupError, TypeError) as error:
@@ -147,12 +155,12 @@ def _report(words: list[str], text: bytes) -> Report:
 
 
 def open_session(team: str) -> Request[tuple[int, int]]:
-    """The number of a new session and the team's revision. Refused by NoTeam, SessionsFull."""
+    """Opens a session; its number and the team's revision. Refused by NoTeam, SessionsFull."""
     return Request(f"open {name(team)}".encode(), lambda words, text: (int(words[0]), int(words[1])))
 
 
 def units() -> Request[int]:
-    """The database units in a micron; of a hub alone, and BadRequest of all others."""
+    """Asks a hub for the database units per micron. All other servers refuse it by BadRequest."""
     return Request(b"units", _revision)
 
 
@@ -162,7 +170,7 @@ def close_session(scope: Scope) -> Request[None]:
 
 
 def units_in(text: bytes) -> int:
-    """The database units in a micron, from a team's DEF text."""
+    """Returns the database units per micron of a team's DEF text."""
     units = design.units_in(text)
     if not units.isdigit() or not int(units):
         raise ProtocolError("the team's DEF text has no UNITS")
@@ -170,7 +178,7 @@ def units_in(text: bytes) -> int:
 
 
 def sync(scope: Scope) -> Request[int]:
-    """The session has seen the team's present revision, which is returned.
+    """Marks the team's present revision as seen, and returns it.
 
     Refused by NoSession.
     """
@@ -178,7 +186,7 @@ def sync(scope: Scope) -> Request[int]:
 
 
 def check(scope: Scope) -> Request[Report]:
-    """The team's report; changes nothing.
+    """Returns the team's report; changes nothing.
 
     Refused by NoSession, OutOfMemory.
     """
@@ -186,7 +194,7 @@ def check(scope: Scope) -> Request[Report]:
 
 
 def def_text(scope: Scope) -> Request[bytes]:
-    """The team's DEF text, its cells at their working places in database units; changes nothing.
+    """Returns the team's DEF text with its working places in database units; changes nothing.
 
     Refused by NoSession, OutOfMemory.
     """
@@ -194,7 +202,7 @@ def def_text(scope: Scope) -> Request[bytes]:
 
 
 def where(scope: Scope, cell: str) -> Request[Place]:
-    """The cell's working place, its lower left corner in the session's unit.
+    """Returns the cell's working place in the session's unit.
 
     Refused by NoSession, NoCell, Unplaced.
     """
@@ -202,7 +210,7 @@ def where(scope: Scope, cell: str) -> Request[Place]:
 
 
 def find(scope: Scope, cell: str, x: Length, y: Length) -> Request[Place]:
-    """The cell's best place for the target (x, y), in the session's unit; changes nothing.
+    """Returns the cell's best place for the target (x, y), in the session's unit; changes nothing.
 
     Refused by NoSession, NoCell, NoPlace, OutOfMemory.
     """
@@ -210,7 +218,8 @@ def find(scope: Scope, cell: str, x: Length, y: Length) -> Request[Place]:
 
 
 def place(scope: Scope, cell: str, x: Length, y: Length, orient: str) -> Request[int]:
-    """Sets the cell's working place: its lower left corner (x, y) in the session's unit, and N, S, FN or FS; the team's revision.
+    """Sets the cell's working place: its lower left corner in the session's unit, and N, S, FN or FS. Returns the
+    revision.
 
     Refused by NoSession, Stale, RevisionsSpent, NoCell, Illegal, OutOfMemory.
     """
@@ -229,13 +238,13 @@ def legalize(scope: Scope, cell: str, x: Length, y: Length) -> Request[Legalized
 def tidy(scope: Scope) -> Request[Tidied]:
     """Moves every cell that is unplaced or illegal to its best place, in loading order.
 
-    Refused by NoSession, Stale, RevisionsSpent, OutOfMemory, and NoPlace of a cell without one: then none has moved.
+    Refused by NoSession, Stale, RevisionsSpent, OutOfMemory, and NoPlace of a cell without one: then no cell has moved.
     """
     return Request(scope.line("tidy"), lambda words, text: Tidied(int(words[0]), int(words[1])))
 
 
 def unplace(scope: Scope, cell: str) -> Request[int]:
-    """The cell becomes unplaced; the team's revision.
+    """Unplaces the cell; returns the team's revision.
 
     Refused by NoSession, Stale, RevisionsSpent, NoCell, Unplaced, OutOfMemory.
     """
@@ -243,7 +252,7 @@ def unplace(scope: Scope, cell: str) -> Request[int]:
 
 
 def swap(scope: Scope, cell: str, other: str) -> Request[int]:
-    """The two cells exchange their whole places; the team's revision.
+    """Exchanges the whole places of two cells; returns the team's revision.
 
     Refused by NoSession, Stale, RevisionsSpent, NoCell, Unplaced, Illegal, OutOfMemory.
     """
@@ -251,7 +260,7 @@ def swap(scope: Scope, cell: str, other: str) -> Request[int]:
 
 
 def undo(scope: Scope) -> Request[int]:
-    """Brings back the places before the newest change that is kept, unchecked; the team's revision.
+    """Restores the places before the newest kept change, unchecked; returns the team's revision.
 
     Refused by NoSession, Stale, RevisionsSpent, NothingToUndo.
     """
@@ -259,7 +268,7 @@ def undo(scope: Scope) -> Request[int]:
 
 
 def commit(scope: Scope) -> Request[int]:
-    """The working places become the committed ones; the team's revision.
+    """Commits the working places; returns the team's revision.
 
     Refused by NoSession, Stale, RevisionsSpent, OutOfMemory, Unplaced and Illegal of the first cell that is not legal.
     """
@@ -267,7 +276,7 @@ def commit(scope: Scope) -> Request[int]:
 
 
 def revert(scope: Scope) -> Request[int]:
-    """The committed places become the working ones, unchecked; the team's revision.
+    """Restores the committed places, unchecked; returns the team's revision.
 
     Refused by NoSession, Stale, RevisionsSpent, OutOfMemory.
     """
@@ -275,9 +284,9 @@ def revert(scope: Scope) -> Request[int]:
 
 
 def pad(scope: Scope, padding: int) -> Request[int]:
-    """Sets how far apart the team keeps its own cells along x, in core sites (0 to 16); the team's revision. No cell moves.
+    """Sets the padding between the team's own cells along x, 0 to 16 core sites; returns the revision. No cell moves.
 
-    Refused by NoSession, Stale, RevisionsSpent, and BadRequest of more than 16.
+    Refused by NoSession, Stale, RevisionsSpent, and BadRequest above 16.
     """
     if not float(padding).is_integer():
         raise ValueError(f"{padding} is no whole number of core sites")

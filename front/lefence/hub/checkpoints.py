@@ -1,7 +1,7 @@
-"""Checkpoints of a hub: states of its floor in the journal, made so often that a start, a restored program and an export are quick.
+"""Checkpoints of a hub: saved states in its journal, which make starts, restarts of the program and exports fast.
 
-The journal goes on in a new segment; then a second program answers what stands before that, and saves the state, while the first
-one serves. Until the state is there, all of this is answered again where it is needed.
+The journal continues in a new segment. Then a side program replays everything before it and saves the state, while the
+first program serves. Until the state exists, a start replays from the state before it.
 """
 
 from __future__ import annotations
@@ -23,17 +23,18 @@ from .log_limit import RateLimitedLog
 from .metrics import Metrics, TeamMetrics
 from .server import ServerLost
 
-# A note of a team: its name and revision, its changes that are not committed, and its open sessions.
+# A note of a team: its name, revision, number of uncommitted changes, and open sessions.
 _TEAM = re.compile(rb"team (\S+) (\d+) (\d+) (-|\d+(?:,\d+)*)")
-# What part of a tail for which a checkpoint would be due is worth one at the end.
+# The part of the tail limits above which the last checkpoint is worth its time.
 _AT_END = 0.1
 
 
 @dataclass
 class TailLimits:
-    """How much may stand behind the last state, in bytes (0: without bound, and no state is made) and in seconds of the program.
+    """Limits for the changes after the last state, in bytes and in seconds of the program's work.
 
-    `keep` is how many states are kept, with the journal from the first of them on; 0 keeps all.
+    0 bytes means no limit and no states. `keep` is the number of states kept, with the journal from the first of them;
+    0 keeps all.
     """
 
     bytes: int = 16 << 20
@@ -45,39 +46,39 @@ class Checkpoints:
     """Makes one state at a time."""
 
     def __init__(self, second: SideProgram, journal: Journal, limits: TailLimits, log_limited: RateLimitedLog) -> None:
-        """Those of a journal."""
-        # About how long the program took for the changes behind the last state, and how many states were made.
+        """Makes the checkpoints of a journal."""
+        # The program's approximate seconds for the changes after the last state, and the number of states made.
         self.seconds = 0.0
         self.count = 0
         self._side_program = second
         self._journal = journal
         self._limits = limits
         self._log_limited = log_limited
-        # How much more may stand behind the last state, since tries have failed.
+        # The factor on the limits; it doubles with each failure.
         self._backoff = 1.0
         self._task: asyncio.Task[None] | None = None
 
     def is_due(self, fraction: float = 1) -> bool:
-        """Whether more than this part of what may stand behind the last state stands there."""
+        """Whether the changes after the last state exceed this fraction of the limits."""
         limits, fraction = self._limits, fraction * self._backoff
         if not limits.bytes or not self._journal.tail_changes:
             return False
         return self._journal.tail_bytes > fraction * limits.bytes or self.seconds > fraction * limits.seconds
 
     def begin(self, pool: ClientPool, metrics: Metrics) -> None:
-        """Begins one, where it is due and none is at work; between two batches."""
+        """Starts a checkpoint if one is due and none is running. Call it between two batches."""
         if self.is_due() and not (self._task and not self._task.done()) and self._roll(pool, metrics):
             self._task = asyncio.create_task(self._make())
 
     async def make_last(self, pool: ClientPool, metrics: Metrics, is_wanted: bool) -> None:
-        """Waits for the one that is at work, and makes one more, where it is wanted or worth it."""
+        """Waits for a running checkpoint, then makes another if it is wanted or worth its time."""
         if self._task:
             await self._task
         if self._journal.tail_changes and (is_wanted or self.is_due(_AT_END)) and self._roll(pool, metrics):
             await self._make()
 
     def _roll(self, pool: ClientPool, metrics: Metrics) -> bool:
-        """Has the journal go on in a new segment, if the last one has changes; whether it does."""
+        """Continues the journal in a new segment if the last one has changes; returns False if that failed."""
         try:
             if self._journal.has_changes:
                 self._journal.roll(team_notes(pool, metrics))
@@ -87,7 +88,7 @@ class Checkpoints:
             return False
 
     async def _make(self) -> None:
-        """Has the second program save the state with which the last segment begins."""
+        """Has the side program save the state at the start of the last segment."""
         seconds, begin = self.seconds, time.monotonic()
         path = self._journal.archive.temporary_state(self._journal.header.number)
         try:
@@ -116,7 +117,7 @@ class Checkpoints:
 
 
 def _sync_and_hash(path: Path) -> tuple[int, str]:
-    """The length of a file and the SHA-256 of its bytes, once the disk has it."""
+    """Syncs a file to the disk; returns its length and its SHA-256."""
     with open(path, "rb") as file:
         os.fsync(file.fileno())
         total = hashlib.file_digest(file, "sha256").hexdigest()
@@ -124,7 +125,7 @@ def _sync_and_hash(path: Path) -> tuple[int, str]:
 
 
 def team_notes(pool: ClientPool, metrics: Metrics) -> list[bytes]:
-    """What the state of the program does not tell, or not quickly, as notes for the journal."""
+    """Returns the notes for the journal: what the program's state lacks or gives only slowly."""
     sessions: dict[bytes, list[int]] = {}
     for team, number in sorted(pool.owners):
         sessions.setdefault(team, []).append(number)
@@ -136,7 +137,7 @@ def team_notes(pool: ClientPool, metrics: Metrics) -> list[bytes]:
 
 
 def restore_notes(notes: Iterable[bytes], pool: ClientPool, metrics: Metrics) -> None:
-    """Takes over what such notes tell; the sessions are nobody's."""
+    """Restores owners and metrics from such notes. The sessions have no client."""
     pool.owners.clear()
     metrics.teams.clear()
     for note in notes:

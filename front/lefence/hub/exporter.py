@@ -1,4 +1,4 @@
-"""Exports of a hub: a second program writes them over the journal, while the first one serves."""
+"""Exports of a hub: a side program writes them from the journal while the first program serves."""
 
 from __future__ import annotations
 
@@ -15,19 +15,21 @@ from .server import Server, ServerLost
 
 
 class SideProgram:
-    """A second program over the journal: it writes an export or a state, one in its turn, while the first program serves."""
+    """A second program that replays the journal and writes an export or a state, one at a time."""
 
     def __init__(self, server: Server, journal: Journal) -> None:
-        """That of the design over which `live` answers."""
-        # Whoever has it write takes the turn first.
+        """Makes the side program of the design that `server` has."""
+        # Take the turn before each write.
         self.turn = asyncio.Lock()
-        # The program that is at it.
+        # The running side program.
         self.server: Server | None = None
         self._server = server
         self._journal = journal
 
     async def write(self, position: Position, export: str | None = None, save: Path | None = None) -> None:
-        """Has it answer the journal up to a place, and write; a fault or ServerLost where the file is not there then, whole."""
+        """Replays the journal up to a position and writes the files. Raises a Fault or ServerLost if they are not
+        complete.
+        """
         self.server = side_server = Server(self._server.program, self._server.sums, export, save)
         try:
             self._journal.refuse_loss()
@@ -45,8 +47,8 @@ class Exporter:
     """Writes one export at a time."""
 
     def __init__(self, server: Server, journal: Journal, side_program: SideProgram, say: Callable[[str], None]) -> None:
-        """Exports of what `live` answers, by a second program."""
-        # Files to which no export may go, besides the journal and the texts that are kept.
+        """Makes the exporter of a server and its journal."""
+        # Files that no export may replace, besides the journal and its copies of the design.
         self.protected: list[Path] = []
         self._server = server
         self._journal = journal
@@ -54,7 +56,7 @@ class Exporter:
         self._say = say
 
     def refuse(self, path: str) -> None:
-        """A fault where an export to the path would overwrite the journal or the design, or has no folder to go to."""
+        """Raises a Fault if an export to the path would replace the journal or the design, or cannot be written."""
         inputs = [file for file in (self._journal.path, *self._server.program.texts, *self.protected) if file.exists()]
         if os.path.exists(path) and any(os.path.samefile(path, file) for file in [*inputs, *self._journal.archive.files()]):
             raise Fault(FAILED, f"{path} is the journal or a text of the design")
@@ -62,14 +64,15 @@ class Exporter:
             raise Fault(FAILED, f"{path} cannot be written")
 
     async def write(self, path: str, position: Position) -> str | None:
-        """None where the file is there, whole, with the committed places up to that place of the journal; else why not."""
+        """Writes the committed places at a position of the journal; returns None, or the reason of the failure."""
         async with self._side_program.turn:
             try:
                 self.refuse(path)
                 if is_special(Path(path)):
                     await self._side_program.write(position, export=path)
                     return None
-                # (A program whose hub is killed writes what it has. The disk has its file before it has its name.)
+                # (A killed hub leaves a program that writes what it has. The bytes are on the disk before the file gets
+                # its name.)
                 with partial_file(Path(path)) as partial:
                     await self._side_program.write(position, export=str(partial))
                 return None

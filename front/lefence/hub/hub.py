@@ -1,7 +1,7 @@
-"""The hub: it makes one list of the lines of all clients, has it answered, and keeps what was accepted in a journal.
+"""The hub: merges the lines of all clients into one list, has it answered, and journals what was accepted.
 
-The replies of the program are a function of that list alone, and those to a team of that team's own lines alone. So the order
-in which clients are merged plays no part, and the journal is a whole backup. docs/FRONT.md tells what is promised.
+The program's replies depend only on that list, and those to a team only on the team's own lines. So the order in which
+clients are merged does not matter, and the journal is a complete backup. docs/FRONT.md describes the guarantees.
 """
 
 from __future__ import annotations
@@ -29,25 +29,25 @@ from .notify import notify_alive
 from .server import Note, Server, ServerLost, described_teams
 from .status import status_text, uncommitted_text
 
-# What a batch may weigh; a line of one cell weighs 1, one of a whole team as much as WHOLE.
+# The weight of a batch. A line of one cell weighs 1, one of a whole team _WHOLE.
 _BATCH = 1024
 _WHOLE = 64
 _WHOLE_TEAM = frozenset((b"tidy", b"commit", b"revert", b"undo"))
-# A batch that takes the program longer, in seconds, makes the next ones lighter.
+# Seconds of a batch above which the next batches get lighter, and below which heavier.
 _SLOW, _FAST = 0.02, 0.005
-# What part of a sync the hub waits for more lines, and the most, in seconds.
+# The part of a sync's time that the hub waits for more lines, and the most seconds.
 _LINGER, _MOST_LINGER = 0.25, 0.002
-# How often a program that dies is started again for the same lines.
+# How often a program that dies is restarted for the same lines.
 _STARTS = 5
-# Seconds after which closes that a full disk refused are tried again.
+# Seconds until closes that a full disk refused are tried again.
 _RETRY = 1
 
 
 @dataclass
 class HubLimits:
-    """What a hub bears, in seconds: a client that reads nothing, one that is idle without a session, a program that says nothing.
+    """Timeouts in seconds: unread replies, idle clients without a session, a silent program.
 
-    And how much may stand behind the last state of its journal.
+    `tail` limits the changes after the journal's last state.
     """
 
     patience: float = 60
@@ -57,13 +57,13 @@ class HubLimits:
 
 
 class Hub:
-    """A batch of lines is asked, journaled and told before the next is put together.
+    """Each batch is executed, journaled and answered before the next one is collected.
 
-    So between batches each session's owner is known, and the journal is the program's state.
+    So between batches the owner of each session is known, and the program has the state of the journal.
     """
 
     def __init__(self, server: Server, journal: Journal, limits: HubLimits, say: Callable[[str], None]) -> None:
-        """A hub that is not started."""
+        """Makes a hub; `start` starts it."""
         self.server = server
         self.journal = journal
         self.patience = limits.patience
@@ -77,10 +77,10 @@ class Hub:
         self.checkpoints = Checkpoints(self.side_program, journal, limits.tail, self.log_limited)
         self.unused_name, self.units = b"", b""
         self.teams: list[str] = []
-        # Clients with lines that may be asked, in turn; those that wait for others to read.
+        # Clients whose lines may be executed, in turn; and clients that wait until others have read.
         self._queue: OrderedDict[Client, None] = OrderedDict()
         self._waiting: OrderedDict[Client, None] = OrderedDict()
-        # A session may be open whose client is gone.
+        # Some open sessions may have no client.
         self._has_orphans = True
         self._exports: set[asyncio.Task[None]] = set()
         self._work = asyncio.Event()
@@ -89,7 +89,7 @@ class Hub:
         self._budget = _BATCH
 
     async def start(self, wanted: list[str]) -> list[str]:
-        """Starts the program in the state of the journal; the teams to be served, which are all or those wanted."""
+        """Starts the program from the journal; returns the teams to serve: all, or the wanted ones."""
         text = await asyncio.to_thread(self.server.program.texts[0].read_bytes)
         teams = [GROUND, *await asyncio.to_thread(fences_in, text)]
         self.units = await asyncio.to_thread(units_in, text)
@@ -113,7 +113,9 @@ class Hub:
             await self._restart(lost, self._note_line)
 
     async def _restore(self, on_record: Note | None = None) -> None:
-        """Starts the program in the last state of the journal, and has it answer what stands behind; `note` is told of it."""
+        """Starts the program from the journal's last state and replays the changes after it; calls `on_record` for
+        each.
+        """
         begin = time.monotonic()
         with self.journal.tail(self.journal.position) as tail:
             await self.server.start(tail.state)
@@ -124,30 +126,30 @@ class Hub:
         if on_record:
             self.checkpoints.seconds = time.monotonic() - begin
 
-    # What clients call.
+    # Called by clients.
 
     def admit(self, client: Client) -> bool:
-        """Takes a new client in; False where there are too many."""
+        """Adds a new client. Returns False if there are too many."""
         return self.pool.admit(client)
 
     def enqueue(self, client: Client) -> None:
-        """Puts a client in the queue for its turn, where it has a line and may have it answered."""
+        """Queues a client for its turn if it has a line that may be executed."""
         if client.waiting and not (client.is_slow or client.is_exporting or client.is_ended):
             self._queue.setdefault(client)
             self._work.set()
 
     def remove(self, client: Client) -> None:
-        """A client is gone; its sessions are closed at the head of the next batch."""
+        """Removes a client that is gone. The next batch closes its sessions."""
         self.pool.remove(client)
         self.unmark_slow(client)
         self._close_orphans()
 
     def mark_slow(self, client: Client) -> None:
-        """A client leaves much unread."""
+        """Marks a client that leaves many bytes unread."""
         self.pool.slow.add(client)
 
     def unmark_slow(self, client: Client) -> None:
-        """A client has read, or is gone: those that waited for it have their turn."""
+        """Unmarks a client that has read or is gone. The clients that waited for it get their turn."""
         self.pool.slow.discard(client)
         while self._waiting:
             self.enqueue(self._waiting.popitem(last=False)[0])
@@ -159,7 +161,7 @@ class Hub:
     # Batches.
 
     def next_batch(self) -> list[Entry]:
-        """The next batch: the sessions to be closed, then one line of each client in turn."""
+        """Collects the next batch: closes of orphaned sessions, then one line of each client in turn."""
         batch: list[Entry] = []
         if self._has_orphans:
             self._has_orphans = False
@@ -180,13 +182,13 @@ class Hub:
                 entry.reply = b"ok %b\n" % status_text(self)
             self.enqueue(client)
             weight += _WHOLE if entry.verb in _WHOLE_TEAM else 1
-            # A reply without bound is the last of its batch, which bounds what is held of replies.
+            # A reply of any length is the last of its batch: this bounds the replies held in memory.
             if entry.verb in UNBOUNDED or is_export(entry):
                 break
         return batch
 
     async def run(self) -> None:
-        """Answers batch after batch, and returns when the hub is stopping, no line waits and no export runs."""
+        """Answers batch after batch. Returns when the hub is stopping, no line waits and no export runs."""
         self.checkpoints.begin(self.pool, self.metrics)
         while True:
             while batch := self.next_batch():
@@ -199,7 +201,9 @@ class Hub:
             self._work.clear()
 
     async def watch(self) -> None:
-        """Looks each second after what may not stay as it is; a fault where the journal is not where it was."""
+        """Checks each second for hung programs and idle clients. Raises a Fault if the journal is no longer in its
+        place.
+        """
         while True:
             await asyncio.sleep(1)
             notify_alive(bool(self.teams))
@@ -213,30 +217,30 @@ class Hub:
                 client.disconnect()
 
     def _linger(self, batch: list[Entry]) -> float:
-        """Seconds to wait for the next lines of the clients that were just told, so that they share the next sync.
+        """Seconds to wait for more lines, so that clients just answered share the next sync.
 
-        A small part of what a sync takes; without it each of them would wait for two.
+        It is a small part of a sync's time. Without it each of them would wait for two syncs.
         """
         return min(_MOST_LINGER, self.journal.seconds * _LINGER) if len(batch) > 1 else 0
 
     def kill_programs(self) -> None:
-        """Kills the program, and one that writes an export or a state, and waits for nothing."""
+        """Kills the program and the side program without waiting."""
         for server in (self.server, self.side_program.server):
             if server:
                 server.send_kill()
 
     def stop(self) -> None:
-        """No more is read; `pump` answers what was read."""
+        """Stops reading; `run` answers what was read."""
         self._is_stopping = True
         for client in self.pool.clients:
             client.transport.pause_reading()
         self._work.set()
 
     async def answer(self, batch: list[Entry]) -> None:
-        """Has a batch answered and journaled, then tells the replies."""
+        """Executes and journals a batch, then sends the replies."""
         self._refuse_if_disk_full(batch)
         for entry in self.pool.over_quota(batch):
-            # (what names no team is the program's to refuse)
+            # (the program refuses unknown teams)
             if entry.fields[1].decode() in self.teams:
                 entry.reply = b"no 10 SessionsFull\n"
         self.metrics.count(len(batch))
@@ -247,7 +251,7 @@ class Hub:
         seconds = time.monotonic() - begin
         changes = [Record(entry.line, entry.reply, entry.who) for entry in sent if entry.reply and is_change(entry.fields, entry.reply)]
         if changes:
-            # Whatever ends this process up to here, nobody was told of these changes.
+            # If this process ends before here, nobody has got a reply to these changes.
             self.journal.append(changes)
             self.metrics.syncs.append(self.journal.seconds)
             self.checkpoints.seconds += seconds * len(changes) / len(sent)
@@ -257,7 +261,9 @@ class Hub:
             client.flush()
 
     async def _execute(self, lines: list[bytes]) -> list[bytes]:
-        """The program's replies; one that dies is restored, and asked again. Nothing of these lines is in the journal yet."""
+        """Returns the program's replies. A program that dies is restored and gets the lines again; none is in the
+        journal yet.
+        """
         for _ in range(_STARTS):
             begin = time.monotonic()
             try:
@@ -270,14 +276,14 @@ class Hub:
         raise Fault(FAILED, f"the program died {_STARTS} times over the same lines")
 
     def _adjust_budget(self, seconds: float) -> None:
-        """Makes the next batches lighter or heavier, so that no flood of dear lines holds the others for long."""
+        """Makes the next batches lighter or heavier, so that slow lines do not block others for long."""
         if seconds > _SLOW:
             self._budget = max(1, self._budget // 2)
         elif seconds < _FAST:
             self._budget = min(_BATCH, self._budget * 2)
 
     async def _restart(self, lost: ServerLost, on_record: Note | None = None) -> None:
-        """Starts the program again in the state of the journal, a handful of times where it dies again."""
+        """Starts the program again from the journal; several times if it keeps dying."""
         for _ in range(_STARTS):
             self.say(f"{lost}; {self.journal.changes} changes are restored")
             self.metrics.restores += 1
@@ -288,7 +294,7 @@ class Hub:
         raise Fault(FAILED, f"{lost}; given up after {_STARTS} starts, nothing acknowledged is lost")
 
     def _refuse_if_disk_full(self, batch: list[Entry]) -> None:
-        """Where the journal cannot grow, changes are not even asked, and answered as for want of memory."""
+        """Refuses changes as OutOfMemory, without executing them, if the journal cannot grow."""
         changes = [entry for entry in batch if entry.reply is None and entry.verb in CHANGES]
         if not changes:
             return
@@ -303,7 +309,7 @@ class Hub:
             asyncio.get_running_loop().call_later(_RETRY, self._close_orphans)
 
     def _reply(self, entry: Entry) -> None:
-        """What an answered entry comes to; its reply is put to those of its client."""
+        """Appends an entry's reply to its client, and handles its consequences."""
         client, reply = entry.client, entry.reply or b""
         self._note(entry.fields, reply, client)
         if client is None:
@@ -325,13 +331,13 @@ class Hub:
         self._note(fields, reply, None)
 
     def _note(self, fields: list[bytes], reply: bytes, client: Client | None) -> None:
-        """Keeps who owns which session, and counts."""
+        """Records session owners and metrics."""
         if is_change(fields, reply):
             self.metrics.note(fields, reply)
             self.pool.note(fields, reply, client)
 
     async def _answer_export(self, client: Client, path: str, position: Position) -> None:
-        """Answers an export of the committed places as they were in its turn, while others are served."""
+        """Exports the committed places as of the client's turn, and replies, while others are served."""
         reason = await self.exporter.write(path, position)
         client.replies.append(b"ok\n" if reason is None else b"no 13 NotExported %b\n" % on_one_line(reason))
         client.flush()
@@ -344,14 +350,14 @@ class Hub:
 
 
 def first_unused_name(teams: list[str]) -> bytes:
-    """The shortest name that no team has."""
+    """Returns the shortest name that is not a team."""
     signs = [chr(byte) for byte in range(33, 127)]
     names = (first + side_program for side_program in ("", *signs) for first in signs)
     return next(name for name in names if name not in teams).encode()
 
 
 def refuse_team_mismatch(found: list[str], text: list[str]) -> None:
-    """A fault where the teams that were found in the DEF text are not those that the program tells."""
+    """Raises a Fault if the teams found in the DEF text differ from those that the program reports."""
     if set(found) == set(text):
         return
     first, side_program = (", ".join(sorted(these)) or "no other" for these in (set(found) - set(text), set(text) - set(found)))
@@ -370,5 +376,5 @@ def is_status(entry: Entry) -> bool:
 
 
 def is_from_operator(entry: Entry) -> bool:
-    """Whether the line came by the operator's socket."""
+    """Whether the line came from the operator's socket."""
     return entry.client is not None and entry.client.team is None

@@ -1,4 +1,4 @@
-"""One connection to a socket of a hub: lines that wait for their turn, and replies that go out."""
+"""One connection to a socket of a hub: waiting lines, and replies to send."""
 
 from __future__ import annotations
 
@@ -16,16 +16,16 @@ from typing import Protocol
 
 from ..base.protocol import MOST_LINE, UNBOUNDED, fields_of
 
-# A client with more lines waiting is not read; one with more bytes unread is not asked for more.
+# Waiting lines above which a client is not read, and unread bytes above which its lines are not executed.
 WAITING_LINES = 64
 UNREAD_BYTES = 65536
-# Bytes that are read at a time, and how often at the end.
+# Bytes per read, and the most reads at the end.
 _BUFFER = 16384
 _MOST_READS = 64
 
 
 class Entry:
-    """One line on its way through the hub, of no client where the hub itself asks; its reply, once it is known."""
+    """One line on its way through the hub, and its reply once it is known. Lines of the hub itself have no client."""
 
     __slots__ = ("client", "fields", "is_last", "line", "reply", "verb", "who")
 
@@ -33,11 +33,11 @@ class Entry:
         self.client = client
         self.fields = fields
         self.reply = reply
-        # Nothing of its client follows.
+        # No more lines of its client follow.
         self.is_last = is_last
         self.verb = fields[0] if fields else b""
         self.line = b" ".join(fields)
-        # Whose it is, as the journal tells it.
+        # The client's uid and pid in the journal.
         self.who = client.who if client else b"-"
 
 
@@ -45,9 +45,9 @@ class Host(Protocol):
     """What a client needs of its hub."""
 
     patience: float
-    # A team name that no team has.
+    # A name that is not a team.
     unused_name: bytes
-    # The database units in a micron.
+    # The database units per micron.
     units: bytes
 
     def admit(self, client: Client) -> bool: ...
@@ -64,26 +64,26 @@ class Host(Protocol):
 
 
 class Client(asyncio.BufferedProtocol):
-    """A client of a team, or the operator, who may name any team (`team` is None)."""
+    """A client of a team, or the operator (`team` is None), who may name any team."""
 
     def __init__(self, host: Host, team: bytes | None) -> None:
         self.host = host
         self.team = team
-        # Lines that wait; None is the end of the input.
+        # Waiting lines; None is the end of the input.
         self.waiting: deque[bytes | None] = deque()
         self.replies: list[bytes] = []
-        # Much is unread; it waits for an export; nothing more will be asked.
+        # Many bytes are unread; an export is running; no more lines follow.
         self.is_slow = self.is_exporting = self.is_ended = False
         self.transport: asyncio.Transport
         self._buffer = bytearray(_BUFFER)
-        # A line that has not ended.
+        # A line without its end.
         self._partial = b""
         self._timer: asyncio.TimerHandle | None = None
         self.name = ""
-        # Its uid and pid, as the journal tells them.
+        # Its uid and pid in the journal.
         self.who = b"-"
         self.uid = self.pid = -1
-        # When it was heard or told something last.
+        # The time of the last line or reply.
         self.last_heard = time.monotonic()
 
     def connection_made(self, transport: asyncio.BaseTransport) -> None:
@@ -105,7 +105,7 @@ class Client(asyncio.BufferedProtocol):
     def buffer_updated(self, count: int) -> None:
         self.last_heard = time.monotonic()
         *lines, rest = (self._partial + self._buffer[:count]).split(b"\n")
-        # What is longer is too long all the same.
+        # The rest does not matter: the line is too long anyway.
         self._partial = bytes(rest[: MOST_LINE + 1])
         self.waiting.extend(lines)
         if len(self.waiting) > WAITING_LINES:
@@ -114,21 +114,21 @@ class Client(asyncio.BufferedProtocol):
 
     def eof_received(self) -> bool:
         if self._partial:
-            # A carriage return is no part of a line's end where no line feed follows, and makes a bad request.
+            # A carriage return without a line feed is not an end of line; it makes a bad request.
             self.waiting.append(b"\0" if self._partial.endswith(b"\r") else self._partial)
         self.waiting.append(None)
         self.host.enqueue(self)
         return True
 
     def is_unbounded(self) -> bool:
-        """Whether the next of the waiting lines may have a reply without bound."""
+        """Whether the next waiting line may have a reply of any length."""
         words = (self.waiting[0] or b"").split(None, 1)
         return bool(words) and words[0] in UNBOUNDED
 
     def next_entry(self, keeps_reading: bool) -> Entry:
-        """The next of the waiting lines, as the program is to read it; `reads_on` says whether more may be read.
+        """Takes the next waiting line, in the form that the program gets; `keeps_reading` allows to read more.
 
-        A line of a team's client that names another team is asked with a name that no team has.
+        If a line of a team's client names another team, the program gets a name that is not a team.
         """
         line = self.waiting.popleft()
         if keeps_reading and len(self.waiting) <= WAITING_LINES:
@@ -151,9 +151,9 @@ class Client(asyncio.BufferedProtocol):
         self.replies.clear()
 
     def disconnect(self) -> None:
-        """Ends the connection behind the last reply.
+        """Ends the connection after the last reply.
 
-        What the client has sent beyond it is read and dropped: left unread, it would make the end a reset.
+        Unread bytes from the client are read and dropped: otherwise the end would be a reset.
         """
         self.is_ended = True
         with contextlib.suppress(OSError):
@@ -162,7 +162,7 @@ class Client(asyncio.BufferedProtocol):
                     break
         self.transport.close()
         if self._timer is None and self.transport.get_write_buffer_size():
-            # (the transport waits for ever for one that reads nothing)
+            # (the transport would wait forever for a client that does not read)
             self._drop_if_slow(sys.maxsize)
 
     def pause_writing(self) -> None:
@@ -171,7 +171,7 @@ class Client(asyncio.BufferedProtocol):
         self._drop_if_slow(sys.maxsize)
 
     def _drop_if_slow(self, unread_before: int) -> None:
-        """Drops the client if it has read nothing since this was asked last."""
+        """Drops the client if it has read nothing since the last call."""
         unread = self.transport.get_write_buffer_size() + self._unread_of_system()
         if unread < unread_before:
             self._timer = asyncio.get_running_loop().call_later(self.host.patience, self._drop_if_slow, unread)
@@ -180,14 +180,14 @@ class Client(asyncio.BufferedProtocol):
             self.transport.abort()
 
     def _unread_of_system(self) -> int:
-        """The bytes that the system holds for the client, which get less before any of those that wait here can go there."""
+        """The bytes that the system holds for the client. They shrink before the bytes of the transport do."""
         held = fcntl.ioctl(self.transport.get_extra_info("socket").fileno(), termios.TIOCOUTQ, bytes(4))
         return int(struct.unpack("i", held)[0])
 
     def resume_writing(self) -> None:
         self.is_slow = False
         self.host.unmark_slow(self)
-        # (what is left for one that is done must be read to its end)
+        # (a client that is done must still read the rest)
         if self._timer is not None and not self.is_ended:
             self._timer.cancel()
             self._timer = None

@@ -1,4 +1,4 @@
-"""Lines of a log that may come in floods."""
+"""A log with a rate limit."""
 
 from __future__ import annotations
 
@@ -7,12 +7,12 @@ from collections.abc import Callable
 
 
 class RateLimitedLog:
-    """Says one line of each kind a minute, and then how many more there were meanwhile."""
+    """Prints one line of each kind a minute, then how many lines it left out."""
 
     def __init__(self, say: Callable[[str], None], seconds: float = 60) -> None:
         self._say = say
         self._seconds = seconds
-        # Of each kind, when it may be said again, and how often it was not said.
+        # For each kind: when the next line may be printed, and how many lines were left out.
         self._kinds: dict[str, tuple[float, int]] = {}
 
     def __call__(self, kind: str, text: str) -> None:

@@ -1,4 +1,4 @@
-"""What a hub counts while it serves, as an object of JSON and as metrics in the text form of Prometheus."""
+"""What a hub counts while it serves, and its status as metrics in Prometheus's text format."""
 
 from __future__ import annotations
 
@@ -10,54 +10,54 @@ from typing import Any
 
 from ..base.protocol import REVISIONS, is_accepted
 
-# Of how many batches the figures are.
+# Number of batches for the statistics.
 _BATCHES = 4096
 _KIB = 1024
-# Commands behind which a team's working places are its committed ones.
+# Commands after which a team's working places equal its committed ones.
 _EVEN = (b"commit", b"revert")
 
 
 class TeamMetrics:
-    """A team's revision, and how many changes it made since it committed or reverted last."""
+    """A team's revision, and its changes since the last commit or revert."""
 
     def __init__(self) -> None:
         self.revision = self.uncommitted = 0
 
 
 class Metrics:
-    """Counts of one hub."""
+    """Counters of one hub."""
 
     def __init__(self) -> None:
         self.started = time.time()
         self.teams: dict[bytes, TeamMetrics] = {}
-        # How often the program was started again.
+        # Restarts of the program.
         self.restores = 0
         self.lines = 0
-        # Seconds of syncs, and lines of batches, the last ones.
+        # Seconds of the last syncs, and lines of the last batches.
         self.syncs: deque[float] = deque(maxlen=_BATCHES)
         self.batches: deque[int] = deque(maxlen=_BATCHES)
 
     def note(self, fields: list[bytes], reply: bytes) -> None:
-        """Takes account of an answered line."""
+        """Counts an answered line."""
         if fields and fields[0] in REVISIONS and is_accepted(reply):
             team = self.teams.setdefault(fields[1], TeamMetrics())
             team.revision = int(reply.split()[1])
             team.uncommitted = 0 if fields[0] in _EVEN else team.uncommitted + 1
 
     def count(self, lines: int) -> None:
-        """Takes account of a batch."""
+        """Counts a batch."""
         self.lines += lines
         self.batches.append(lines)
 
 
 def percentile(values: Iterable[float], part: float) -> float:
-    """What that part of the values does not exceed; 0 of none."""
+    """The value that this part of the values does not exceed; 0 for no values."""
     found = sorted(values)
     return found[min(len(found) - 1, int(len(found) * part))] if found else 0
 
 
 def memory_of(pid: int | None) -> int:
-    """The bytes that a process has in memory; 0 where there is none."""
+    """The bytes of memory of a process; 0 if there is none."""
     try:
         lines = Path(f"/proc/{pid}/status").read_text().splitlines()
         return next(int(line.split()[1]) * _KIB for line in lines if line.startswith("VmRSS:"))
@@ -92,7 +92,7 @@ _TEAM_METRICS = {
 
 
 def prometheus(status: dict[str, Any]) -> str:
-    """The same as a status tells, as Prometheus reads it."""
+    """Formats a status for Prometheus."""
     lines: list[str] = []
     for name, (kind, help_text) in _METRICS.items():
         lines += [*_head(f"lefence_{name}", kind, help_text), f"lefence_{name} {status[name]}"]

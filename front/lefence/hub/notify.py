@@ -1,4 +1,4 @@
-"""What a hub tells systemd, where that started it: that it is ready, lives, and ends."""
+"""Messages of a hub to systemd: ready, alive, stopping."""
 
 from __future__ import annotations
 
@@ -10,7 +10,7 @@ import socket
 def notify(*words: str, patience: float = 1) -> None:
     """Sends words such as `READY=1` to the socket that systemd named; without one it does nothing.
 
-    A socket that takes nothing is waited for no longer than `patience` seconds.
+    It waits at most `patience` seconds for a socket that accepts nothing.
     """
     path = os.environ.get("NOTIFY_SOCKET", "")
     if path[:1] not in ("/", "@"):
@@ -21,5 +21,5 @@ def notify(*words: str, patience: float = 1) -> None:
 
 
 def notify_alive(is_ready: bool) -> None:
-    """To be said at least every few seconds: that the start goes on, or that the loop goes round."""
+    """Sends that the start is in progress or the main loop is running. Call it at least every few seconds."""
     notify("WATCHDOG=1" if is_ready else "EXTEND_TIMEOUT_USEC=60000000", patience=0)

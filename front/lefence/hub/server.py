@@ -1,4 +1,4 @@
-"""The program behind a hub: one `lefence replay` on a pipe, and its state restored from a journal."""
+"""The program of a hub: one `lefence replay` on a pipe, and its restoration from a journal."""
 
 from __future__ import annotations
 
@@ -16,46 +16,47 @@ from ..base.protocol import GROUND, text_length
 from ..journal.frames import Record, sums_of
 from ..journal.segments import State
 
-# Lines that are asked at a time while a journal is restored.
+# Lines per request while a journal is replayed.
 _CHUNK = 1000
 
 Note = Callable[[list[bytes], bytes], None]
 
 
 class ServerLost(Exception):
-    """The program is gone: what it did with the lines in flight is not known."""
+    """The program is gone. What it did with the lines in flight is unknown."""
 
 
 class Server:
-    """A running program over a design whose texts have the given SHA-256 sums."""
+    """A running program over a design whose files have the given SHA-256 sums."""
 
     def __init__(self, program: Program, sums: list[str], export: str | None = None, save: Path | None = None) -> None:
-        """A server that is not started yet; with `export` and `save`, it writes these files at the end of its input."""
+        """Makes a server. At the end of its input, the program writes the files `export` and `save`, if given."""
         self.program = program
         self.sums = sums
         self._export, self._save = export, save
         self._run: AsyncRun | None = None
-        # Since when the program says nothing to what it was asked.
+        # Since when the program has been silent although it has work; None if it has none.
         self._since: float | None = None
 
     @property
     def pid(self) -> int | None:
-        """The process of the program, where it runs."""
+        """The process id of the program, or None."""
         return self._run.pid if self._run else None
 
     def seconds_silent(self) -> float:
-        """For how many seconds the program has said nothing, while it has something to answer or to write."""
+        """How many seconds the program has been silent although it has work."""
         return 0 if self._since is None else time.monotonic() - self._since
 
     def send_kill(self) -> None:
-        """Kills a program that hangs; whoever waits for it is told that it is lost."""
+        """Kills a hung program without waiting; pending calls raise ServerLost."""
         if self._run:
             self._run.send_kill()
 
     async def start(self, state: State | None = None) -> None:
-        """Starts the program, and waits until it has loaded the design, and the state with which it is to begin.
+        """Starts the program, and waits until it has loaded the design and the state.
 
-        Raises a fault where it refuses one of them or the words, or the texts are not those of the sums; ServerLost where it dies.
+        Raises a Fault if it refuses one of them or its arguments, or if the files have other sums; ServerLost if it
+        dies.
         """
         await self.kill()
         self._run = await self.program.replay_async(self._export, state.path if state else None, self._save)
@@ -73,7 +74,7 @@ class Server:
             raise Fault(REFUSED, f"{state.path} has changed")
 
     async def execute(self, lines: list[bytes]) -> list[bytes]:
-        """The reply to each line with all its bytes; a `def` may only be the last. Raises ServerLost where the program dies."""
+        """Returns the whole reply to each line; only the last may be a `def`. Raises ServerLost if the program dies."""
         if not lines:
             return []
         self._since = time.monotonic()
@@ -104,9 +105,9 @@ class Server:
         return replies
 
     async def restore(self, records: Iterator[Record], on_record: Note | None = None, count: int = 0) -> int:
-        """Has the lines of a journal answered, and compares each reply; `note` is told of each. How many they are with `count` before.
+        """Replays records, compares each reply and calls `on_record` for each. Returns their number plus `count`.
 
-        Raises a fault at the first reply that is another; ServerLost where the program dies or lacks memory.
+        Raises a Fault at the first reply that differs; ServerLost if the program dies or is out of memory.
         """
         while chunk := list(itertools.islice(records, _CHUNK)):
             for record, reply in zip(chunk, await self.execute([record.line for record in chunk])):
@@ -121,7 +122,7 @@ class Server:
         return count
 
     async def end(self) -> int:
-        """Ends the program's input, and returns its exit status."""
+        """Ends the program's input; returns its exit status."""
         assert self._run
         self._since = time.monotonic()
         try:
@@ -130,18 +131,18 @@ class Server:
             self._since = None
 
     async def kill(self) -> None:
-        """Ends the program, where it runs."""
+        """Kills the program if it runs."""
         if self._run is not None:
             await self._run.kill()
         self._run = None
 
 
 async def described_teams(program: Program) -> list[str]:
-    """The teams that the program finds in a design: `lefence describe` tells them before its cells, and is ended there."""
+    """Team names from the head of `lefence describe`, which is stopped before it prints the cells."""
     run = await program.describe_async()
     teams = [GROUND]
     try:
-        # (the last line of one that dies may be a part)
+        # (a program that dies may leave a partial last line)
         while (line := await run.reader.readline()).endswith(b"\n"):
             if not add_team(line, teams):
                 return teams

@@ -1,4 +1,4 @@
-"""The sockets of a hub: their folder, their modes and their groups."""
+"""The sockets of a hub: their folder, modes and groups."""
 
 from __future__ import annotations
 
@@ -11,14 +11,14 @@ from pathlib import Path
 from ..base.faults import FAILED, REFUSED, USAGE, Fault
 from ..journal.journal import lock
 
-# The most bytes of a socket's path that the system takes.
+# The most bytes of a socket's path on this system.
 _MOST_PATH = 107
 
 
 def claim_folder(path: Path) -> None:
-    """Makes the folder of the sockets if it is missing, and takes its lock until this process ends.
+    """Makes the folder of the sockets if needed, and locks it until this process ends.
 
-    A fault where another user may write to it, and so could put sockets of his own in the places of these.
+    Raises a Fault if another user may write to it: he could replace the sockets by his own.
     """
     path.mkdir(mode=0o755, exist_ok=True)
     folder = os.open(path, os.O_RDONLY | os.O_DIRECTORY | os.O_CLOEXEC)
@@ -31,7 +31,7 @@ def claim_folder(path: Path) -> None:
 
 
 def groups_of(words: list[str]) -> dict[str, int]:
-    """The group of each team that `TEAM=GROUP` words tell; a fault where there is no such group."""
+    """Parses `TEAM=GROUP` words into the group id of each team. Raises a Fault if there is no such group."""
     info = {}
     for word in words:
         team, sign, name = word.rpartition("=")
@@ -45,10 +45,10 @@ def groups_of(words: list[str]) -> dict[str, int]:
 
 
 def bind_socket(path: Path, mode: int, keeps_mode: bool, group: int | None) -> socket.socket:
-    """A socket at the path that does not listen yet, of that group.
+    """Makes a socket at the path, in that group, which does not listen yet.
 
-    A dead one of this user that stood there hands on its group where none is given, and its mode where that is to be kept. A
-    fault where the group cannot be set.
+    A dead socket of this user at the path passes on its group if none is given, and its mode if `keeps_mode`. Raises a
+    Fault if the group cannot be set.
     """
     if len(os.fsencode(path)) > _MOST_PATH:
         raise Fault(FAILED, f"{path}: longer than {_MOST_PATH} bytes; use a shorter --sockets, or serve other teams by --team")
@@ -82,7 +82,7 @@ def _set_group(path: Path, group: int | None) -> None:
 
 
 def _dead_socket(path: Path) -> os.stat_result | None:
-    """What stands at the path, if it is a socket and no link to one."""
+    """The status of the path if it is a socket, not a link to one; else None."""
     try:
         info = path.lstat()
     except FileNotFoundError:

@@ -1,4 +1,4 @@
-"""What the operator of a hub is told of it: a line of JSON, and the question for it."""
+"""The status of a hub as a line of JSON, and a client that reads it."""
 
 from __future__ import annotations
 
@@ -17,14 +17,14 @@ from .metrics import TeamMetrics, memory_of, percentile
 if TYPE_CHECKING:
     from .hub import Hub
 
-# Teams that a line of the log names.
+# The most teams named in a line of the log.
 _MOST_TEAMS = 50
-# Seconds for which a hub may say nothing when it is asked.
+# Seconds to wait for a hub's reply.
 _PATIENCE = 10
 
 
 def status_text(hub: Hub) -> bytes:
-    """One line of JSON without a line feed."""
+    """Formats the status as one line of JSON without a line feed."""
     return json.dumps(_status(hub), separators=(",", ":")).encode()
 
 
@@ -59,7 +59,7 @@ def _teams(hub: Hub) -> Iterator[dict[str, Any]]:
 
 
 def _sessions(hub: Hub) -> dict[bytes, list[dict[str, Any]]]:
-    """Of each team the sessions whose clients are there."""
+    """The sessions with clients, by team."""
     found: dict[bytes, list[dict[str, Any]]] = {}
     for (team, number), owner in sorted(hub.pool.owners.items(), key=lambda item: item[0]):
         if who := owner.client:
@@ -69,7 +69,7 @@ def _sessions(hub: Hub) -> dict[bytes, list[dict[str, Any]]]:
 
 
 def uncommitted_text(hub: Hub) -> str | None:
-    """Of which teams an export lacks work; None where it lacks nothing."""
+    """Describes the uncommitted changes that an export lacks; None if there are none."""
     counts = sorted((team.decode(), each.uncommitted) for team, each in hub.metrics.teams.items() if each.uncommitted)
     if not counts:
         return None
@@ -78,7 +78,7 @@ def uncommitted_text(hub: Hub) -> str | None:
 
 
 def ask_status(folder: Path) -> dict[str, Any]:
-    """The status of the hub that has its sockets in a folder; a fault where none listens there."""
+    """Reads the status of the hub with its sockets in a folder. Raises a Fault if none listens there."""
     path = folder / "operator.sock"
     try:
         with connect(path, timeout=_PATIENCE) as connection:

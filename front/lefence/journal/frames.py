@@ -1,11 +1,21 @@
-"""The form of a segment of a journal: a header that names the texts of a design, and frames with changes or notes; how they are read.
+"""The form of a segment of a journal, and its reader. A segment is a header, then frames with changes or notes.
 
-The header has a title, for each text a line `text SHA256 PATH` (the DEF text first; the path as it was given, quoted as in a
-URL), a line `sessions N` where a team has another number of session slots than 8, a line `segment NUMBER CHANGES BYTES` (from 1; how many changes stand in the segments before it, and how many bytes has the
-last of these), and a line `changes`. Version 2 had one segment alone, and no line for it. Then come frames, each
-`batch TIME LENGTH SUM` with a line feed and LENGTH bytes of lines. A line is a change, `LINE <tab> REPLY <tab> UID PID` (`-` where
-the hub itself asked), or a note, which has no tab. TIME is in seconds since 1970. SUM is the CRC-32 of the frame's offset and time,
-with one space between, and of its lines, in eight hexadecimal digits.
+The header has these lines:
+1. a title;
+2. `text SHA256 PATH` for each file of the design, the DEF file first; the path as it was given, quoted as in a URL;
+3. `sessions N`, only if a team has another number of session slots than 8;
+4. `segment NUMBER CHANGES BYTES`: its number from 1, the changes in all segments before it, and the bytes of the
+   segment before it;
+5. `changes`.
+
+Version 2 had only one segment, and no line 4.
+
+A frame is `batch TIME LENGTH SUM`, a line feed, and LENGTH bytes of lines. A line is either
+- a change, `LINE <tab> REPLY <tab> UID PID`, with `-` for a line of the hub itself; or
+- a note, which has no tab.
+
+TIME is in seconds since 1970. SUM is the CRC-32 of the frame's offset and time, with one space between, and of its
+lines, in eight hexadecimal digits.
 """
 
 from __future__ import annotations
@@ -24,7 +34,7 @@ from ..base.faults import FAILED, REFUSED, Fault
 from ..base.protocol import SLOTS
 
 TITLE = b"lefence-hub journal 3\n"
-# That of a journal which a hub began that knew no segments.
+# The title of version 2, which had no segments.
 _OLD_TITLE = b"lefence-hub journal 2\n"
 END_OF_HEADER = b"changes\n"
 _TEXT = re.compile(rb"text ([0-9a-f]{64}) ([!-~]+)\n")
@@ -34,23 +44,25 @@ _FRAME = re.compile(rb"batch (\d{1,12}\.\d{3}) (\d{1,9}) ([0-9a-f]{8})\n")
 MOST_HEADER = 1 << 20
 # More bytes than the first line of any frame has.
 MOST_HEAD = 64
-# Bytes that are read at a time.
+# Bytes read at a time.
 _WINDOW = 1 << 20
 
 
 class Text(NamedTuple):
-    """A text of a design: the SHA-256 of its bytes in hexadecimal digits, and where it was when the journal was begun."""
+    """A file of a design: its SHA-256 in hexadecimal digits, and its path when the journal was made."""
 
     sum: str
     path: Path
 
 
 class Header(NamedTuple):
-    """The header of a segment, which has `length` bytes: its texts, its number, what stands before it, and a team's session slots."""
+    """The header of a segment: the design's files, the segment's number, and what comes before it. It has `length`
+    bytes.
+    """
 
     texts: list[Text]
     number: int
-    # The changes of all segments before it, and the bytes of the last of these.
+    # The changes of all segments before it, and the bytes of the segment before it.
     changes: int
     bytes: int
     length: int
@@ -58,7 +70,7 @@ class Header(NamedTuple):
 
 
 class Record(NamedTuple):
-    """A change: its line, its reply with a line feed, and the uid and pid of the client, `-` where the hub itself asked."""
+    """A change: its line, its reply with a line feed, and the client's uid and pid, or `-` for the hub itself."""
 
     line: bytes
     reply: bytes
@@ -66,7 +78,7 @@ class Record(NamedTuple):
 
 
 class Frame(NamedTuple):
-    """A whole frame: where it begins and ends, its time, and its lines."""
+    """An intact frame: its start and end in the file, its time, and its lines."""
 
     start: int
     end: int
@@ -74,43 +86,43 @@ class Frame(NamedTuple):
     body: bytes
 
     def records(self) -> Iterator[Record]:
-        """Its changes."""
+        """Yields its changes."""
         for line in self.body.splitlines():
             words = line.split(b"\t")
             if len(words) == 3:
                 yield Record(words[0], words[1] + b"\n", words[2])
 
     def notes(self) -> list[bytes]:
-        """Its other lines."""
+        """Lists its notes."""
         return [line for line in self.body.splitlines() if b"\t" not in line]
 
     @property
     def changes(self) -> int:
-        """How many changes it has, none of which has fewer than two tabs."""
+        """The number of its changes. Each has two tabs at least."""
         return self.body.count(b"\t") // 2
 
 
 def sum_of(path: Path) -> str:
-    """The SHA-256 of a file in hexadecimal digits; OSError where it cannot be read."""
+    """The SHA-256 of a file in hexadecimal digits. Raises OSError if it cannot be read."""
     with open(path, "rb") as file:
         return hashlib.file_digest(file, "sha256").hexdigest()
 
 
 def sums_of(paths: Iterable[Path]) -> list[str]:
-    """The same of each file."""
+    """The SHA-256 of each file."""
     return [sum_of(path) for path in paths]
 
 
 def header_of(texts: Iterable[Text], number: int = 1, changes: int = 0, size: int = 0, slots: int = SLOTS) -> bytes:
-    """The header of a segment of a journal of these texts, behind one of so many bytes, where a team has so many session slots."""
+    """Formats the header of a segment after `changes` changes and a segment of `size` bytes."""
     lines = [f"text {text.sum} {quote_from_bytes(os.fsencode(text.path))}\n" for text in texts]
-    # (without the line it is one that an earlier front reads, which knows no other number)
+    # (earlier fronts, which know only 8 slots, can read a header without this line)
     lines += [f"sessions {slots}\n"] if slots != SLOTS else []
     return TITLE + "".join([*lines, f"segment {number} {changes} {size}\n"]).encode() + END_OF_HEADER
 
 
 def header_in(data: bytes) -> Header | None:
-    """The header that these bytes begin with; None where they begin with none that is whole."""
+    """Parses the header at the start of these bytes; None if there is no complete one."""
     if not data.startswith((TITLE, _OLD_TITLE)):
         return None
     texts, at = [], len(TITLE)
@@ -128,7 +140,7 @@ def header_in(data: bytes) -> Header | None:
 
 
 def wrong_title_text(data: bytes) -> str:
-    """What a file is that begins with these bytes and with no header of this version."""
+    """Describes a file that starts with these bytes and has no header of this version."""
     title = data.split(b"\n")[0]
     if re.fullmatch(rb"lefence-hub journal \d{1,9}", title) and title + b"\n" not in (TITLE, _OLD_TITLE):
         return f"`{title.decode()}`, the journal of another version, which this one does not read"
@@ -136,7 +148,7 @@ def wrong_title_text(data: bytes) -> str:
 
 
 def is_partial_header(data: bytes) -> bool:
-    """Whether these bytes are a header that was not written to its end."""
+    """Whether these bytes are an incomplete header."""
     if len(data) >= MOST_HEADER:
         return False
     *lines, last = data.rstrip(b"\0").split(b"\n")
@@ -148,13 +160,13 @@ def is_partial_header(data: bytes) -> bool:
 
 
 def frame_of(offset: int, body: bytes, when: bytes | None = None) -> bytes:
-    """The bytes of a frame that is to stand at the offset, of this time or that of now."""
+    """Formats a frame for this offset, with the given time or the present one."""
     when = when or b"%.3f" % time.time()
     return b"batch %b %d %08x\n%b" % (when, len(body), _sum(offset, when, body), body)
 
 
 def body_of(records: Iterable[Record]) -> bytes:
-    """The lines of these changes."""
+    """Formats the lines of these changes."""
     return b"".join(b"%b\t%b\t%b\n" % (line, reply.removesuffix(b"\n"), who) for line, reply, who in records)
 
 
@@ -163,7 +175,7 @@ def _sum(offset: int, when: bytes, body: bytes) -> int:
 
 
 class Reader:
-    """The frames of a file, which may grow meanwhile."""
+    """Reads the frames of a file, which may grow meanwhile."""
 
     def __init__(self, descriptor: int, path: Path) -> None:
         self.path = path
@@ -171,20 +183,22 @@ class Reader:
         self._window, self._at = b"", 0
 
     def _load(self, offset: int, count: int) -> int:
-        """Has so many bytes from the offset on in the window, or those that are there; where in it they begin."""
+        """Loads `count` bytes from an offset into the window, or as many as exist; returns their position in the
+        window.
+        """
         if not self._at <= offset <= offset + count <= self._at + len(self._window):
             self._window, self._at = os.pread(self._fd, max(count, _WINDOW), offset), offset
         return offset - self._at
 
     def header(self) -> Header:
-        """The header; a fault where the file is no journal."""
+        """Reads the header. Raises a Fault if the file is not a journal."""
         data = header_in(os.pread(self._fd, MOST_HEADER, 0))
         if data is None:
             raise Fault(REFUSED, f"{self.path}: {wrong_title_text(os.pread(self._fd, MOST_HEAD, 0))}")
         return data
 
     def frame(self, offset: int) -> Frame | None:
-        """The whole frame at the offset, if one stands there."""
+        """Returns the frame at the offset, or None if it is missing or damaged."""
         at = self._load(offset, MOST_HEAD)
         head = _FRAME.match(self._window, at)
         if not head:
@@ -197,24 +211,24 @@ class Reader:
         return Frame(offset, start + length, when, body) if is_intact else None
 
     def frames(self, offset: int) -> Iterator[Frame]:
-        """The whole frames that follow each other from the offset on."""
+        """Yields the consecutive intact frames from the offset on."""
         while frame := self.frame(offset):
             yield frame
             offset = frame.end
 
     def end_of_frames(self) -> int:
-        """Where the whole frames end that follow the header and each other."""
+        """Returns the end of the consecutive intact frames after the header."""
         end = self.header().length
         for frame in self.frames(end):
             end = frame.end
         return end
 
     def notes(self) -> list[bytes]:
-        """The notes of the same frames."""
+        """Lists the notes of the consecutive intact frames after the header."""
         return [note for frame in self.frames(self.header().length) for note in frame.notes()]
 
     def frames_to(self, offset: int, end: int) -> Iterator[Frame]:
-        """Those between the offset and the end; a fault where they are not all there."""
+        """Yields the frames between the offset and the end. Raises a Fault if one is missing."""
         while offset < end:
             frame = self.frame(offset)
             if not frame:
@@ -223,7 +237,7 @@ class Reader:
             offset = frame.end
 
     def next_start(self, offset: int) -> int | None:
-        """Where the first whole frame behind the offset begins."""
+        """Returns the start of the first intact frame after the offset, or None."""
         size = os.fstat(self._fd).st_size
         while offset < size:
             piece = os.pread(self._fd, _WINDOW + MOST_HEAD, offset)
@@ -234,7 +248,7 @@ class Reader:
         return None
 
     def trailing_bytes(self, offset: int) -> int:
-        """How many bytes stand behind the offset, but for zeros at the end of the file."""
+        """Counts the bytes after the offset, without zeros at the end of the file."""
         size = os.fstat(self._fd).st_size
         while size > offset:
             start = max(offset, size - _WINDOW)
@@ -245,7 +259,7 @@ class Reader:
 
 
 def refuse_damage(reader: Reader, end: int) -> None:
-    """A fault where whole frames stand behind the end of those that follow each other."""
+    """Raises a Fault if intact frames follow after the end of the consecutive ones."""
     if reader.next_start(end) is not None:
         remedies = f"`lefence-journal check {reader.path}` tells more, and `lefence-journal cut` makes it one that a hub takes"
         raise Fault(REFUSED, f"{reader.path}: damaged at byte {end}, and whole batches follow; {remedies}")

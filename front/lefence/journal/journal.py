@@ -1,7 +1,7 @@
-"""The journal of a hub: the accepted changes with their replies, in the order in which the program was asked them.
+"""The journal of a hub: the accepted changes with their replies, in the order of their execution.
 
-`lefence.frames` has its form, and `lefence.segments` tells of its segments and states. A frame behind another says that the other was
-whole, so each start and each end puts one, with a note: whose the journal is, and that its hub has ended.
+`frames` has its form, `segments` its files and states. A frame after another shows that the other is complete. So each
+start and each end appends a frame with a note: the journal's owner, and that its hub has ended.
 """
 
 from __future__ import annotations
@@ -35,18 +35,18 @@ from .frames import (
 from .owner import ENDED, Owner, OwnerHistory, this_process
 from .segments import Archive, Position, Segment, State, Tail
 
-# Bytes that are set aside on the disk at a time, so that a sync has no length of the file to store.
+# Bytes reserved on the disk at a time, so that a sync need not store a new file length.
 _STEP = 1 << 18
-# The most bytes that a change has in a frame besides its line, and that a frame has besides its changes, with a note before it.
+# The most bytes of a change in a frame besides its line; and of a frame besides its changes, with a note in front.
 MOST_REPLY = 96
 _MOST_REST = 1024
 _NO_ROOM = (errno.ENOSPC, errno.EDQUOT, errno.EFBIG)
-# What a file system says that cannot set bytes aside.
+# Errors of a file system that cannot reserve bytes.
 _NOT_OFFERED = (errno.EOPNOTSUPP, errno.EINVAL, errno.ENOSYS)
 
 
 def lock(descriptor: int, path: Path) -> None:
-    """Takes the lock of an open file or folder until this process ends; a fault where another process holds it."""
+    """Locks an open file or folder until this process ends. Raises a Fault if another process has locked it."""
     try:
         fcntl.flock(descriptor, fcntl.LOCK_EX | fcntl.LOCK_NB)
     except BlockingIOError:
@@ -56,7 +56,10 @@ def lock(descriptor: int, path: Path) -> None:
 
 
 def texts_in(path: Path) -> list[Text] | None:
-    """The texts of the journal at a path; None where it holds no change yet, or there is none. A fault where it is none."""
+    """Reads the design's files of a journal; None if it has no change yet or does not exist.
+
+    Raises a Fault if the file is not a journal.
+    """
     try:
         file = open(path, "rb")
     except FileNotFoundError:
@@ -70,7 +73,7 @@ def texts_in(path: Path) -> list[Text] | None:
 
 
 def _has_changes(reader: Reader, header: Header) -> bool:
-    """Whether a change stands behind the header or in a segment before, or may have stood there."""
+    """Whether the journal has a change, or may have had one."""
     if header.number > 1:
         return True
     end = header.length
@@ -82,7 +85,7 @@ def _has_changes(reader: Reader, header: Header) -> bool:
 
 
 class Journal:
-    """An open journal, to which one hub appends. What `append` returned from is on the disk, unless `is_synced` is False."""
+    """An open journal, to which one hub appends. When `append` returns, its changes are on the disk if `is_synced`."""
 
     def __init__(
         self,
@@ -93,25 +96,29 @@ class Journal:
         takes_over: bool = False,
         slots: int | None = None,
     ) -> None:
-        """Opens or makes the journal of these texts, cuts a torn end off and says so; `owner` is whose it is to be.
+        """Opens or makes the journal of these files for a new owner. Removes an incomplete end and reports it.
 
-        With `slots` each team is to have so many session slots, else as many as it has in the journal, or 8 in a new one. Raises a
-        fault where another hub holds the file, where it is a journal of another design or none, where its teams have another number
-        of session slots, where damage has whole frames behind it, and, unless `takes_over`, where a hub of another host did not end
-        it; then the file stays as it was.
+        With `slots` each team must have that many session slots. Without it, a journal keeps its number and a new one
+        has 8.
+
+        Raises a Fault, and changes nothing, if
+        - another hub has locked the file;
+        - it is not a journal, or one of another design, or has another number of session slots;
+        - intact frames follow after damage;
+        - a hub of another host has not ended it, unless `takes_over`.
         """
         self.path = path
         self.is_synced = True
         self.archive = Archive(path)
-        # How long the disk took for the last frame, and when the last change was made, in seconds since 1970.
+        # Seconds that the disk took for the last frame, and the time of the last change in seconds since 1970.
         self.seconds = self.last = 0.0
-        # Whose it is, and whose it was before, if that is told.
+        # The owner, and the one before, if known.
         self.owner = owner or this_process()
         self.former: Owner | None = None
         self._say = say
-        # The disk has failed; the file is another's.
+        # The disk has failed; the file was replaced.
         self._is_broken = self._is_lost = False
-        # The last state, and the segments behind it but for the last one.
+        # The last state, and the segments after it except the last one.
         self._state: State | None = None
         self._closed: list[Segment] = []
         self._fd = os.open(path, os.O_RDWR | os.O_CREAT | os.O_CLOEXEC, 0o600)
@@ -122,14 +129,14 @@ class Journal:
             raise
 
     def _claim(self, texts: list[Text], takes_over: bool, slots: int | None) -> None:
-        """Makes it this hub's."""
+        """Locks and repairs the file, and writes the new owner."""
         lock(self._fd, self.path)
         if not os.path.samestat(os.stat(self.path), os.fstat(self._fd)):
             raise Fault(FAILED, f"{self.path}: another hub holds it")
         if os.fstat(self._fd).st_mode & 0o022:
             self._say(f"{self.path}: others may write to the journal; `chmod go-w` mends it")
         self._reader = Reader(self._fd, self.path)
-        # The header of the last segment; where its frames end, its notes, and how many changes the journal has.
+        # The header of the last segment; the end of its frames, its notes, and the number of changes in the journal.
         self._header: Header | None = header_in(os.pread(self._fd, MOST_HEADER, 0))
         self._notes: list[bytes] = []
         self.end = self.changes = 0
@@ -153,12 +160,12 @@ class Journal:
 
     @property
     def position(self) -> Position:
-        """Its end."""
+        """The end of the last segment."""
         return Position(self.header.number, self.end)
 
     @property
     def begin(self) -> Position:
-        """Where the last segment begins."""
+        """The start of the last segment."""
         return Position(self.header.number, self.header.length)
 
     @property
@@ -168,27 +175,27 @@ class Journal:
 
     @property
     def tail_changes(self) -> int:
-        """How many changes stand behind the last state."""
+        """The number of changes after the last state."""
         return self.changes - self._segments()[0].header.changes
 
     @property
     def tail_bytes(self) -> int:
-        """How many bytes they have."""
+        """The bytes of the changes after the last state."""
         return sum(segment.bytes for segment in self._segments())
 
     def _segments(self) -> list[Segment]:
-        """Those behind the last state."""
+        """The segments after the last state."""
         return [*self._closed, Segment(self._fd, self.path, self.header, self.end, self._notes)]
 
     def _find_end(self, takes_over: bool) -> Frame | None:
-        """The last of the whole frames, if there is a header; a fault where another hub may be at work."""
+        """Returns the last intact frame, or None. Raises a Fault if another hub may be using the journal."""
         if not self._header:
             return None
         self.changes, self.end = self._header.changes, self._header.length
         last, succession = None, OwnerHistory()
         for last in self._reader.frames(self.end):
             self.changes += last.changes
-            # (a segment is begun behind a change)
+            # (a segment starts after a change)
             self.last = float(last.time) if last.changes or self.changes and not self.last else self.last
             self.end = last.end
             self._notes += last.notes()
@@ -200,7 +207,9 @@ class Journal:
         return last
 
     def _belongs_to(self, texts: list[Text], slots: int | None) -> bool:
-        """Whether it is the journal of these texts, with so many slots; False where it is to be begun. A fault where it is of others."""
+        """Whether the journal has these files and slots; False if it must be written anew. Raises a Fault if it has
+        others.
+        """
         if self._header and [text.sum for text in self._header.texts] == [text.sum for text in texts]:
             refuse_damage(self._reader, self.end)
             if slots in (None, self._header.slots):
@@ -214,9 +223,9 @@ class Journal:
         raise Fault(REFUSED, f"{self.path}: {'a journal of another design' if self._header else wrong_title_text(found)}")
 
     def _find_state(self) -> list[int]:
-        """Finds the last state that is as it was made, and the segments behind it; the numbers of states that are no use.
+        """Finds the last intact state and the segments after it; returns the numbers of unusable states.
 
-        A fault where one of these segments is missing or damaged.
+        Raises a Fault if one of these segments is missing or damaged.
         """
         unusable: list[int] = []
         while True:
@@ -234,7 +243,7 @@ class Journal:
             self._closed.insert(0, self.archive.open_before(first))
 
     def _begin(self, texts: list[Text], slots: int) -> None:
-        """Writes the header."""
+        """Writes the header of a new journal."""
         header = header_of(texts, slots=slots)
         os.ftruncate(self._fd, 0)
         os.pwrite(self._fd, header, 0)
@@ -244,11 +253,12 @@ class Journal:
         self.end = len(header)
 
     def _cut(self, last: Frame | None) -> None:
-        """Cuts off what stands behind the last whole frame."""
+        """Removes what follows the last intact frame."""
         if tail := self._reader.trailing_bytes(self.end):
             self._say(f"{self.path}: a torn batch of {tail} bytes (a write that was cut off) removed at byte {self.end}")
         if last:
-            # Its hub may not have synced it, or in vain, after which the system takes the page for written: it is written anew.
+            # Its hub may not have synced it, or without success; then the system takes the page for written. So write
+            # it again.
             os.pwrite(self._fd, os.pread(self._fd, last.end - last.start, last.start), last.start)
         os.ftruncate(self._fd, self.end)
         os.fsync(self._fd)
@@ -256,7 +266,9 @@ class Journal:
 
     @contextlib.contextmanager
     def tail(self, position: Position) -> Iterator[Tail]:
-        """What stands before the place, which may be read up to the end of the block, whatever becomes of the files."""
+        """Returns what comes before the position. It can be read until the end of the block, whatever happens to the
+        files.
+        """
         segments = [segment for segment in self._segments() if segment.number <= position.number]
         first = segments[0]
         with contextlib.ExitStack() as stack:
@@ -271,9 +283,9 @@ class Journal:
             yield Tail(self._state, first.notes, first.header.changes, records)
 
     def roll(self, notes: list[bytes]) -> None:
-        """Goes on in a new segment, in which these notes come first. An OSError says that it goes on in the old one.
+        """Continues in a new segment, which starts with these notes. After an OSError it continues in the old one.
 
-        At each step the file at the path is the last segment, whole.
+        At each step the file at the path is the last segment, complete.
         """
         self.refuse_loss()
         path, number = Path(os.path.realpath(self.path)), self.header.number
@@ -304,7 +316,7 @@ class Journal:
         self._write_step(lambda: sync_folder(path.parent))
 
     def _seal(self) -> None:
-        """Has the last segment on the disk, with nothing behind its frames."""
+        """Syncs the last segment to the disk, with nothing after its frames."""
 
         def seal() -> None:
             os.ftruncate(self._fd, self.end)
@@ -314,12 +326,12 @@ class Journal:
         self._reserved = self.end
 
     def keep_state(self, source: Path, size: int, digest: str) -> None:
-        """Takes the state that was written to a path, of so many bytes with this sum, for that with which the last segment begins.
+        """Makes a written file the state at the start of the last segment, given its length and SHA-256.
 
-        When this returns the disk has it, and its name in the journal. An OSError says that it is none.
+        When it returns, the state and its name in the journal are on the disk. After an OSError there is no state.
         """
         state = State(self.archive.state(self.header.number), size, digest)
-        # (a batch that is under way has its room besides)
+        # (a batch in progress has its own reserved bytes)
         if not self.has_room(_MOST_REST):
             raise OSError(errno.ENOSPC, "the journal has no room for the name of the state")
         try:
@@ -335,7 +347,7 @@ class Journal:
         self._state, self._closed = state, []
 
     def refuse_loss(self) -> None:
-        """A fault where the file is not at its path any more, is shorter than it was, or another has written behind its end."""
+        """Raises a Fault if the file was moved or truncated, or another process has appended to it."""
         self._refuse_broken()
         if reason := self._loss():
             self._is_lost = True
@@ -353,7 +365,7 @@ class Journal:
         return "another process has written to the journal" if is_written else None
 
     def has_room(self, count: int) -> bool:
-        """Sets so many bytes aside for the next frame; False where the disk has not so many."""
+        """Reserves bytes for the next frame. Returns False if the disk is full."""
         need = self.end + _MOST_REST + count
         if need > self._reserved:
             try:
@@ -367,9 +379,10 @@ class Journal:
         return True
 
     def append(self, records: list[Record]) -> None:
-        """Appends one frame of changes, which is on the disk when this returns.
+        """Appends one frame of changes. It is on the disk when this returns.
 
-        After a fault the journal may lack what the program has done, and what the disk holds is unknown: it must end the hub.
+        After a Fault nobody knows what is on the disk, and the journal may lack what the program has done: the hub must
+        end.
         """
         self._refuse_broken()
         frame = frame_of(self.end, body_of(records))
@@ -381,7 +394,7 @@ class Journal:
         self.changes += len(records)
 
     def _write_step(self, step: Callable[[], object]) -> None:
-        """Takes a step of the disk, after whose failure nothing more is known of it."""
+        """Runs a step on the disk. If it fails, nothing more is known of the disk."""
         try:
             step()
         except OSError as error:
@@ -399,7 +412,7 @@ class Journal:
             os.fdatasync(self._fd)
 
     def _note(self, text: bytes) -> bool:
-        """Puts a note behind the last frame; False where there is no room for it, and nothing is lost but that."""
+        """Appends a note. Returns False, and loses nothing else, if the disk is full."""
         frame = frame_of(self.end, text + b"\n")
         try:
             if os.pwrite(self._fd, frame, self.end) == len(frame):
@@ -415,9 +428,9 @@ class Journal:
         return False
 
     def close(self) -> None:
-        """Says that the hub has ended, gives back what was set aside, and frees the lock.
+        """Appends a note that the hub has ended, frees the reserved bytes and the lock.
 
-        After a fault of the disk nothing is written, since a sync that succeeds then tells nothing of what failed before.
+        After a failure of the disk it writes nothing: a later sync that succeeds proves nothing.
         """
         if self._fd < 0:
             return

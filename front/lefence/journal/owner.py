@@ -1,4 +1,4 @@
-"""Whose a journal is: the host, the kernel's boot and the process that append to it, as a note of the journal tells."""
+"""The owner of a journal: the host, boot and process that append to it, as the journal's notes record."""
 
 from __future__ import annotations
 
@@ -12,7 +12,7 @@ from .. import __version__
 from ..base.faults import FAILED, Fault
 from .frames import sum_of
 
-# The note of a hub that has ended, behind which the journal is nobody's.
+# The note of a hub that has ended; after it the journal has no owner.
 ENDED = b"ended"
 _OWNER = re.compile(r"owner (\S+) (\S+) (\d+) (\d+) front (\S+) program (\S+)")
 _BOOT = Path("/proc/sys/kernel/random/boot_id")
@@ -20,9 +20,9 @@ _BOOT = Path("/proc/sys/kernel/random/boot_id")
 
 @dataclass(frozen=True)
 class Owner:
-    """A hub: host and boot on which it runs, its process and when that began (in ticks of the boot), its version and program.
+    """A hub: its host and boot, its process and start time (in ticks of the boot), its version and its program.
 
-    The program is told by the first 16 digits of its SHA-256.
+    The program is given by the first 16 digits of its SHA-256.
     """
 
     host: str
@@ -33,7 +33,7 @@ class Owner:
     program: str
 
     def note(self) -> bytes:
-        """The line of the journal that says so."""
+        """Formats the owner as a note of the journal."""
         return f"owner {self.host} {self.boot} {self.pid} {self.started} front {self.front} program {self.program}".encode()
 
     def __str__(self) -> str:
@@ -41,38 +41,38 @@ class Owner:
 
 
 class OwnerHistory:
-    """Whose a journal is, by its notes in order."""
+    """The owners of a journal, from its notes in order."""
 
     def __init__(self) -> None:
-        # The last hub that it tells, and whether that has not ended.
+        # The last hub, and whether it has not ended.
         self.last: Owner | None = None
         self.is_open = False
 
     def add_note(self, note: bytes) -> None:
-        """Takes account of the next note."""
+        """Takes the next note into account."""
         self.last = owner_of(note) or self.last
         self.is_open = note != ENDED
 
     def refuse_owner(self, own: Owner, path: Path) -> None:
-        """A fault where the last hub may be at work."""
+        """Raises a Fault if the last hub may be running."""
         if self.last and self.is_open and (reason := reason_in_use(self.last, own)):
             raise Fault(FAILED, f"{path}: {reason}; --takeover takes the journal from a hub that is gone")
 
 
 def owner_of(note: bytes) -> Owner | None:
-    """The owner that a note tells, if it is of that kind."""
+    """Parses the owner of a note; None if the note is of another kind."""
     found = _OWNER.fullmatch(note.decode("ascii", "replace"))
     return Owner(found[1], found[2], int(found[3]), int(found[4]), found[5], found[6]) if found else None
 
 
 def this_process(program: str | None = None) -> Owner:
-    """This process, with the program at that path."""
+    """Returns this process as an owner, with the program at that path."""
     host = re.sub(r"[^!-~]", "?", socket.gethostname()) or "?"
     return Owner(host, _boot(), os.getpid(), _start_time(os.getpid()) or 0, __version__, sum_of(Path(program))[:16] if program else "-")
 
 
 def reason_in_use(owner: Owner, own: Owner) -> str | None:
-    """Why a journal may still be that owner's; None where its process is gone for certain."""
+    """Returns why an owner may still be using its journal; None if its process is certainly gone."""
     if owner.host != own.host:
         return f"{owner}, which did not end it, may be at work"
     if owner.boot != own.boot or owner.pid == own.pid:
@@ -88,7 +88,7 @@ def _boot() -> str:
 
 
 def _start_time(pid: int) -> int | None:
-    """When a process began; None where there is none."""
+    """Returns the start time of a process, or None if there is none."""
     try:
         return int(Path(f"/proc/{pid}/stat").read_text().rpartition(")")[2].split()[19])
     except (OSError, IndexError, ValueError):

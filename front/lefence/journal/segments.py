@@ -1,11 +1,16 @@
-"""The segments of a journal, and the states between them.
+"""The segments of a journal, and the states at which they start.
 
-The file at the path of a journal is its last segment. Those before it stand in `JOURNAL.past`, as `7.journal`, and so do states:
-`8.state` tells the floor where segment 8 begins. A note of segment 8 names it, by the length and the SHA-256 of its bytes.
+The file at the path of a journal is its last segment. The earlier ones are in `JOURNAL.past`, for example as
+`7.journal`. The states are there too: `8.state` is the state at the start of segment 8. A note of segment 8 names it by
+its length and SHA-256.
 
-Each step of a checkpoint is on the disk before the next: the new segment, as `JOURNAL.next`, and the end of the old one; a link to the
-old one in the past; the new one's name, before anything more is acknowledged; the state, under a name that no other program writes to,
-then as `8.state`; the note of it; what is too old is removed, the lowest number first.
+A checkpoint takes these steps; each is on the disk before the next:
+1. the new segment as `JOURNAL.next`, and the end of the old one;
+2. a link to the old one in the folder of the past;
+3. the new one's name, before any further change is acknowledged;
+4. the state, under a name that no other program writes to, then as `8.state`;
+5. the note that names it;
+6. the removal of old files, the lowest number first.
 """
 
 from __future__ import annotations
@@ -29,24 +34,24 @@ _STATE = re.compile(rb"state (\d{1,15}) ([0-9a-f]{64}) front \S+ program \S+")
 
 
 class State(NamedTuple):
-    """A state text: where it is, how many bytes it has, and their SHA-256 in hexadecimal digits."""
+    """A saved state: its path, its length in bytes, and its SHA-256 in hexadecimal digits."""
 
     path: Path
     size: int
     sum: str
 
     def note(self, owner: Owner) -> bytes:
-        """The line of the journal that names it, and the versions of the front and the program that made it."""
+        """Formats the note that names it, with the versions of the front and the program that made it."""
         return f"state {self.size} {self.sum} front {owner.front} program {owner.program}".encode()
 
     def is_whole(self) -> bool:
-        """Whether these bytes are there."""
+        """Whether the file has these bytes."""
         with contextlib.suppress(OSError):
             return self.path.stat().st_size == self.size and sum_of(self.path) == self.sum
         return False
 
     def condition(self) -> str:
-        """Whether they are, in words."""
+        """The condition of the file: whole, damaged or not there."""
         return "whole" if self.is_whole() else "damaged" if self.path.exists() else "not there"
 
 
@@ -58,7 +63,7 @@ class Position(NamedTuple):
 
 
 class Segment(NamedTuple):
-    """A segment that is open: its file and path, its header, where its frames end, and its notes."""
+    """An open segment: its file and path, its header, the end of its frames, and its notes."""
 
     descriptor: int
     path: Path
@@ -73,12 +78,14 @@ class Segment(NamedTuple):
 
     @property
     def bytes(self) -> int:
-        """How many bytes its frames have."""
+        """The bytes of its frames."""
         return self.end - self.header.length
 
 
 class Tail(NamedTuple):
-    """What a program begins with: a state (None: the design as it is loaded), notes of it, how many changes it has, and those behind."""
+    """What a program starts from: a state, or None for the loaded design; the state's notes and number of changes; and
+    the changes after it.
+    """
 
     state: State | None
     notes: list[bytes]
@@ -87,44 +94,44 @@ class Tail(NamedTuple):
 
 
 class Archive:
-    """The folder of a journal with the segments before its last one, and with its states."""
+    """The folder of a journal with its earlier segments and its states."""
 
     def __init__(self, journal: Path) -> None:
         self.folder = Path(os.path.realpath(journal) + ".past")
 
     def segment(self, number: int) -> Path:
-        """Where the segment of that number is once another follows it."""
+        """The path of an earlier segment."""
         return self.folder / f"{number}.journal"
 
     def state(self, number: int) -> Path:
-        """Where the state is with which the segment of that number begins."""
+        """The path of the state at the start of a segment."""
         return self.folder / f"{number}.state"
 
     def temporary_state(self, number: int) -> Path:
-        """Where that state is written at first: at a path of its own, since a program whose hub was killed may still write."""
+        """A new path for writing that state: the program of a killed hub may still be writing to an older one."""
         return self.folder / f"{number}.making-{time.time_ns()}"
 
     def state_named(self, number: int, notes: Iterable[bytes]) -> State | None:
-        """The state with which the segment of that number begins, as its notes name it."""
+        """Returns the state at the start of a segment, as the segment's notes name it, or None."""
         named = [found for note in notes if (found := _STATE.fullmatch(note))]
         return State(self.state(number), int(named[-1][1]), named[-1][2].decode()) if named else None
 
     def make(self) -> None:
-        """Makes the folder, where it is missing; the disk has it when this returns."""
+        """Makes the folder if it is missing, and syncs it to the disk."""
         with contextlib.suppress(FileExistsError):
             self.folder.mkdir(mode=0o700)
         sync_folder(self.folder.parent)
 
     def numbers(self, kind: str) -> list[int]:
-        """The numbers of the segments (`journal`) or states (`state`) that are there, in order."""
+        """Lists the numbers of the segments (`journal`) or states (`state`) in the folder."""
         return sorted(int(found[1]) for name in self._names() if (found := _KEPT.fullmatch(name)) and found[2] == kind)
 
     def files(self) -> list[Path]:
-        """All that is there."""
+        """Lists all files in the folder."""
         return [self.folder / name for name in self._names()]
 
     def size(self) -> int:
-        """How many bytes all of it has."""
+        """Adds up the bytes of all files in the folder."""
         found = 0
         for path in self.files():
             with contextlib.suppress(FileNotFoundError):
@@ -137,7 +144,7 @@ class Archive:
         return []
 
     def open_before(self, following: Segment) -> Segment:
-        """The segment before another one; a fault where it is missing or damaged."""
+        """Opens the segment before another one. Raises a Fault if it is missing or damaged."""
         number = following.number - 1
         path = self.segment(number)
         try:
@@ -156,9 +163,9 @@ class Archive:
             raise
 
     def clean_up(self, number: int, descriptor: int, unusable: list[int]) -> None:
-        """Clears up behind a hub that was killed, where the last segment has this number, and these states are spoilt or not named.
+        """Removes leftovers of a killed hub, given the last segment's number and the unusable states.
 
-        What a later journal has left there, as where this one is a copy of an earlier day, is put aside.
+        Files of a later journal, for example if this one is an older copy, are moved aside.
         """
         for name in self._names():
             if _UNMADE.fullmatch(name):
@@ -176,12 +183,14 @@ class Archive:
                 _move_aside(self.state(found))
 
     def prune(self, keep: int) -> None:
-        """Removes all but so many of the last states, and the segments before these; none where that is 0."""
+        """Deletes old states, keeping the last `keep` and the segments from the first of them; keeps all if `keep` is
+        0.
+        """
         states = self.numbers("state")
         if not 0 < keep < len(states):
             return
         old = [self.segment(number) for number in self.numbers("journal")] + [self.state(number) for number in states]
-        # (the first segment that is left has its state at any moment)
+        # (at any moment the first remaining segment has its state)
         for path in sorted(old, key=lambda each: (int(each.stem), each.suffix)):
             if int(path.stem) < states[-keep]:
                 path.unlink()
@@ -194,7 +203,7 @@ def _move_aside(path: Path) -> None:
 
 @contextlib.contextmanager
 def open_segments(path: Path) -> Iterator[list[Reader]]:
-    """The segments of a journal that are kept, in order; the last one is the file at the path."""
+    """Opens the segments of a journal in order; the last one is the file at the path."""
     with contextlib.ExitStack() as stack:
         readers = [Reader(stack.enter_context(open(path, "rb")).fileno(), path)]
         header = readers[0].header()
@@ -212,9 +221,9 @@ def open_segments(path: Path) -> Iterator[list[Reader]]:
 
 
 def last_state(path: Path, readers: list[Reader], is_all: bool) -> tuple[State | None, list[Reader]]:
-    """The last state of a journal that is whole, or with `is_all` the first, and the segments behind it.
+    """Returns the last intact state of a journal, or with `is_all` the first, and the segments after it.
 
-    None stands for the design as it is loaded. A fault where there is neither.
+    None is the design as it is loaded. Raises a Fault if there is neither.
     """
     for at in [0] if is_all else reversed(range(len(readers))):
         number = readers[at].header().number
@@ -225,16 +234,16 @@ def last_state(path: Path, readers: list[Reader], is_all: bool) -> tuple[State |
 
 
 def refuse_short_segment(reader: Reader, end: int, size: int) -> None:
-    """A fault where the whole frames of a segment end before those that it had when the next one was begun."""
+    """Raises a Fault if a segment now ends before it ended when the next one was made."""
     if end != size:
         raise Fault(REFUSED, f"{reader.path}: damaged at byte {end}, before the {size} bytes that it had when the next segment was begun")
 
 
 def read_records(path: Path) -> Iterator[Record]:
-    """Each change of a journal, which is left as it is; its hub need not have ended.
+    """Yields each change of a journal without changing it. Its hub may be running.
 
-    A torn end is passed over. Raises a fault where the file is no journal, its first segment is not kept, or damage has whole
-    frames behind it; OSError where it cannot be read.
+    An incomplete end is skipped. Raises a Fault if the file is not a journal, its first segment is missing, or intact
+    frames follow after damage; OSError if it cannot be read.
     """
     with open_segments(path) as readers:
         first = readers[0].header()
@@ -245,7 +254,7 @@ def read_records(path: Path) -> Iterator[Record]:
 
 
 def records_in(readers: list[Reader]) -> Iterator[Record]:
-    """Each change of these segments, once it is seen that none is damaged."""
+    """Yields each change of these segments, after a check that none is damaged."""
     ends = [reader.end_of_frames() for reader in readers]
     for reader, end, following in zip(readers, ends, readers[1:]):
         refuse_short_segment(reader, end, following.header().bytes)

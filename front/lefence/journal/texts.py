@@ -1,7 +1,7 @@
-"""The texts of a design, kept beside the journal by their sums: without them what was acknowledged tells nothing.
+"""Copies of the design's files next to the journal: without them its changes mean nothing.
 
-A copy is `JOURNAL.texts/SHA256/NAME`. The hub runs the program over the copies alone, so that whoever writes a text anew changes
-nothing for it.
+A copy is `JOURNAL.texts/SHA256/NAME`. The hub runs the program only on the copies, so a changed file does not affect
+it.
 """
 
 from __future__ import annotations
@@ -20,19 +20,19 @@ from ..base.faults import FAILED, REFUSED, Fault, reason_of
 from .frames import Text, sum_of
 from .journal import texts_in
 
-# The end of the name of a copy that was not made to its end.
+# The end of the name of an incomplete copy.
 _PARTIAL = re.compile(r"(\.partial\d+)+$")
-# Has a file share the bytes of another one, where the file system can do so.
+# Makes a file share the bytes of another one, if the file system can.
 _FICLONE = 0x40049409
 
 
 def texts_folder(journal: Path) -> Path:
-    """Where the texts of a journal are kept."""
+    """The folder with a journal's copies."""
     return Path(os.path.realpath(journal) + ".texts")
 
 
 def kept_text(journal: Path, text: Text) -> Path | None:
-    """The kept copy of a text; None where there is none, or one of other bytes."""
+    """Returns the intact copy of a file, or None."""
     with contextlib.suppress(FileNotFoundError):
         for path in sorted((texts_folder(journal) / text.sum).iterdir()):
             if path.is_file() and not _PARTIAL.search(path.name) and sum_of(path) == text.sum:
@@ -41,10 +41,10 @@ def kept_text(journal: Path, text: Text) -> Path | None:
 
 
 def resolve_texts(journal: Path, given: list[Path], say: Callable[[str], None]) -> tuple[list[Text], list[Path]]:
-    """The texts of a journal that is or will be at the path, and their kept copies, which are made where they are missing.
+    """Returns a journal's files and their copies; makes missing copies. The journal need not exist yet.
 
-    A journal that has changes keeps its texts, whatever stands by now at the paths from which they came. Raises a fault where
-    other files are given than those.
+    A journal with changes keeps its files, whatever is now at their original paths. Raises a Fault if other files are
+    given.
     """
     texts = texts_in(journal)
     if texts is None:
@@ -72,14 +72,14 @@ def _resolve_text(journal: Path, text: Text, given: Path, say: Callable[[str], N
 
 
 def remove_partial_texts(journal: Path) -> None:
-    """Removes copies that were not made to their end, once the journal is held, so that no other hub goes on with it."""
+    """Removes incomplete copies. The journal must be locked, so that no other hub is writing them."""
     for path in texts_folder(journal).glob("*/*"):
         if _PARTIAL.search(path.name):
             path.unlink(missing_ok=True)
 
 
 def _make_copy(journal: Path, text: Text, given: Path) -> Path:
-    """Makes the copy of a text, which is on the disk when this returns."""
+    """Makes the copy of a file and syncs it to the disk."""
     folder = texts_folder(journal)
     path = folder / text.sum / _PARTIAL.sub("", given.name)
     folder.mkdir(mode=0o700, exist_ok=True)

@@ -1,4 +1,4 @@
-"""What became of each team's cells from one placement of a design to another: how many moved, how far, and what they break."""
+"""Statistics of each team's cells between two placements of a design: how many moved, how far, and what they break."""
 
 from __future__ import annotations
 
@@ -17,7 +17,7 @@ from .team_area import areas_of
 
 # The upper ends of the bins of a histogram, in rows; the last bin has none.
 BINS = (0, 1, 2, 5, 10, 20, 50)
-# How many of the farthest movers are named, if nothing else is asked for.
+# The default number of farthest cells listed.
 MOST_FAR = 10
 
 
@@ -31,11 +31,12 @@ class _Place(NamedTuple):
 
 @dataclass
 class Team:
-    """What became of a team's cells, which are those of the design after, but for `lost` and what is told of before.
+    """Statistics of a team's cells. They count the cells of the design after, except `lost` and those of before.
 
-    Moved cells have another lower left corner, turned ones the same with another orientation, and kept ones both; `placed` ones
-    had no place before, and `unplaced` ones have none after. `added` and `lost` cells are in one design alone. `moves` has the
-    displacement of each moved cell: its way along x plus that along y. Lengths are database units.
+    - `moved` cells have another lower left corner, `turned` ones only another orientation, `kept` ones neither.
+    - `placed` cells had no place before, `unplaced` ones have none after.
+    - `added` and `lost` cells are only in the design after or before.
+    - `moves` has the displacement of each moved cell, along x plus along y. Lengths are database units.
     """
 
     name: str
@@ -57,12 +58,12 @@ class Team:
 
     @property
     def utilization(self) -> float | None:
-        """The area of its cells by the area of its ground; None where it has none."""
+        """The area of its cells divided by the area of its ground; None without ground."""
         return self.cell_area / self.ground_area if self.ground_area else None
 
     @property
     def mean(self) -> float:
-        """The mean displacement of the moved cells; 0 where there are none, as for the next two."""
+        """The mean displacement of the moved cells; 0 without any, as for the next two."""
         return sum(self.moves) / len(self.moves) if self.moves else 0.0
 
     @property
@@ -74,7 +75,7 @@ class Team:
         return max(self.moves, default=0)
 
     def histogram(self, row_height: int) -> list[int]:
-        """How many cells, of those with a place before and after, went up to each of `BINS` rows, and how many further."""
+        """Counts the cells that moved up to each of `BINS` rows, and farther. It needs places before and after."""
         ends = [end * row_height for end in BINS]
         counts = [self.kept + self.turned, *(0 for _ in BINS)]
         for move in self.moves:
@@ -82,14 +83,14 @@ class Team:
         return counts
 
     def add(self, other: Team) -> None:
-        """Counts another team's cells in."""
+        """Adds another team's counts."""
         for name in vars(other):
             if name != "name":
                 setattr(self, name, getattr(self, name) + getattr(other, name))
 
 
 class FarCell(NamedTuple):
-    """A cell that moved, how far, and from where to where."""
+    """A cell that moved, its displacement, and its places before and after."""
 
     distance: int
     name: str
@@ -99,12 +100,12 @@ class FarCell(NamedTuple):
 
 
 class _Farthest:
-    """The farthest movers, by name where they went as far."""
+    """The farthest cells; equally far ones by name."""
 
     def __init__(self, most: int) -> None:
         self._most = most
         self._found: list[FarCell] = []
-        # A cell that went less far is none of them.
+        # The least displacement that counts.
         self._least = 0
 
     def take(self, cell: FarCell) -> None:
@@ -121,9 +122,9 @@ class _Farthest:
 
 @dataclass
 class Summary:
-    """The teams in the order of the frame after, all of them in one, the cells that are in one design alone, and the farthest movers.
+    """The teams in the order of the frame after, their sum, the cells of one design only, and the farthest cells.
 
-    `notes` tells in words what else differs.
+    `notes` lists other differences in words.
     """
 
     frame: Frame
@@ -136,9 +137,10 @@ class Summary:
 
 
 def summary_of(before: Iterable[Cell], after: Iterable[Cell], frame: Frame, most_far: int = MOST_FAR) -> Summary:
-    """What became of the cells; `frame` is that of the design after. Both are gone through once, side by side.
+    """Compares two placements; `frame` is of the design after. It reads both once, in parallel.
 
-    Cells in the same order take eight bytes each where they moved (the median some 50 at the end), and others some 200.
+    Memory: eight bytes for a moved cell in the same order (about 50 at the end, for the median), about 200 for a cell
+    in another order.
     """
     count = _Count(frame, most_far)
     early, late = _Waiting(), _Waiting()
@@ -162,19 +164,19 @@ def _place_of(cell: Cell) -> _Place | None:
 
 
 class _Waiting:
-    """Cells of one design whose like in the other has not been seen, in few bytes each."""
+    """Cells of one design that are not found yet in the other, in few bytes each."""
 
-    # The number of the team, the corner, and the number of the orientation, or one more where there is no place.
+    # The team's number, the corner, and the orientation's number, or one more without a place.
     _FORM = struct.Struct("<HqqB")
 
     def __init__(self) -> None:
         self._states: dict[str, bytes] = {}
-        # The teams by their numbers, and the other way round.
+        # The teams by number, and their numbers.
         self._teams: list[str] = []
         self._numbers: dict[str, int] = {}
 
     def match(self, cell: Cell, own: _Waiting) -> tuple[str, _Place | None] | None:
-        """The team and the place of the cell of that name here, which waits no longer; else the cell waits among its own."""
+        """Removes the cell with this name and returns its team and place; else adds the cell to `own`."""
         state = self._states.pop(cell.name, None)
         if state is None:
             own._store(cell)
@@ -182,7 +184,7 @@ class _Waiting:
         return self._opened(state)
 
     def cells(self) -> list[tuple[str, str]]:
-        """The name and the team of each cell that waits still."""
+        """The name and team of each remaining cell."""
         return [(name, self._opened(state)[0]) for name, state in self._states.items()]
 
     def _store(self, cell: Cell) -> None:
@@ -208,7 +210,7 @@ class _Count:
         self._changed_team = 0
 
     def _team(self, name: str) -> Team:
-        """The team of that name, which only the design before may have."""
+        """The team with this name; it may exist only in the design before."""
         return self._teams.get(name) or self._teams.setdefault(name, Team(name))
 
     def add_before(self, cell: Cell) -> None:
@@ -224,7 +226,7 @@ class _Count:
         team.placeless_after += cell.box is None
 
     def compare(self, name: str, early: tuple[str, _Place | None], late: tuple[str, _Place | None]) -> None:
-        """One cell of both designs, with its team and place before and after."""
+        """Counts one cell of both designs, given its team and place before and after."""
         (team_before, before), (team_after, after) = early, late
         self._changed_team += team_before != team_after
         team = self._team(team_after)
@@ -243,7 +245,7 @@ class _Count:
             team.kept += 1
 
     def summary(self, early: list[tuple[str, str]], late: list[tuple[str, str]]) -> Summary:
-        """With the cells that are in the design before alone, and in that after alone."""
+        """Returns the summary, given the remaining cells of the designs before and after."""
         for _, team in early:
             self._team(team).lost += 1
         for _, team in late:
@@ -257,7 +259,7 @@ class _Count:
 
 
 def notes_of(before: Frame, after: Frame) -> list[str]:
-    """What differs between two frames, in words."""
+    """Lists the differences between two frames in words."""
     found = []
     if before.facts.name != after.facts.name:
         found.append(f"the designs have two names: {before.facts.name} before, {after.facts.name} after")

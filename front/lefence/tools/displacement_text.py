@@ -1,4 +1,4 @@
-"""A summary as text for a terminal and as an object for scripts."""
+"""A summary of displacements as text for a terminal, and as an object for scripts."""
 
 from __future__ import annotations
 
@@ -6,19 +6,28 @@ from collections.abc import Iterable
 
 from .displacement import BINS, FarCell, Summary, Team
 
-# How many of the cells that are in one design alone are named, and how long the longest bar is.
+# The most cells of one design listed by name, and the length of the longest bar.
 _NAMED, _BAR = 10, 40
 
 
 def object_of(summary: Summary) -> dict[str, object]:
-    """The summary as a JSON object, with lengths in microns.
+    """Returns the summary as a JSON object, with lengths in microns. Its keys are:
 
-    Its keys are `design`, `units`, `row_height`; `bins`, in rows; `teams`, a list, and `all`, objects with counts of cells (`cells`,
-    `moved`, `turned`, `kept`, `newly_placed`, `newly_unplaced`, `only_before`, `only_after`), `displacement` and `displacement_rows`
-    (each with `total`, `mean`, `median`, `largest`), `histogram` (cells that went up to each of the `bins`, and further), `violations`
-    and `unplaced` (each with `before`, `after`), and `utilization` (null without ground); `only_before` and `only_after`, lists of
-    names; `farthest`, objects with `name`, `team`, `before` and `after` (x, y, orientation), `displacement` and `displacement_rows`;
-    `notes`.
+    - `design`, `units`, `row_height`;
+    - `bins`, in rows;
+    - `teams`, a list, and `all`: objects as described below;
+    - `only_before` and `only_after`: lists of names;
+    - `farthest`: objects with `name`, `team`, `before` and `after` (x, y, orientation), `displacement` and
+      `displacement_rows`;
+    - `notes`.
+
+    An object of a team has
+    - counts of cells: `cells`, `moved`, `turned`, `kept`, `newly_placed`, `newly_unplaced`, `only_before`,
+      `only_after`;
+    - `displacement` and `displacement_rows`, each with `total`, `mean`, `median`, `largest`;
+    - `histogram`: cells that moved up to each of the `bins`, and farther;
+    - `violations` and `unplaced`, each with `before`, `after`;
+    - `utilization`: null without ground.
     """
     facts = summary.frame.facts
     return {
@@ -65,7 +74,7 @@ def _team_object(summary: Summary, team: Team) -> dict[str, object]:
 
 
 def text_of(summary: Summary) -> str:
-    """The summary as tables for a terminal, with a line feed at its end."""
+    """Formats the summary as tables for a terminal, with a line feed at its end."""
     facts = summary.frame.facts
     height = facts.site_height
     teams = [*summary.teams, summary.all] if len(summary.teams) > 1 else summary.teams
@@ -82,7 +91,7 @@ def text_of(summary: Summary) -> str:
     if summary.farthest:
         parts.append(_table(["farthest", "team", "from", "to", "way", "in rows"], (_far_row(cell, facts.units, height) for cell in summary.farthest)))
     parts += _alone(summary.only_before, "before") + _alone(summary.only_after, "after")
-    # What differs beside the places comes first, since it may mean that these are two designs.
+    # Other differences come first, since they may mean that these are two different designs.
     parts[1:1] = [f"note: {note}" for note in summary.notes]
     return "\n\n".join(parts) + "\n"
 
@@ -111,7 +120,7 @@ def _far_row(cell: FarCell, units: int, row_height: int) -> list[str]:
 
 
 def _table(head: list[str], rows: Iterable[list[str]]) -> str:
-    """Columns two spaces apart: the first one from the left, all others up to the right."""
+    """Formats columns two spaces apart: the first aligned to the left, the others to the right."""
     lines = [head, *rows]
     widths = [max(map(len, column)) for column in zip(*lines)]
     return "\n".join("  ".join([first.ljust(widths[0]), *map(str.rjust, others, widths[1:])]) for first, *others in lines)
@@ -122,7 +131,7 @@ def _bars(counts: list[int]) -> str:
     most, digits = max(max(counts), 1), len(str(max(counts)))
     lines = []
     for name, count in zip(names, counts):
-        # A bin that has a cell at all has a mark.
+        # A bin with any cell has a mark.
         bar = "#" * -(-count * _BAR // most)
         lines.append(f"{name:<9}  {count:>{digits}}  {bar}".rstrip())
     return "\n".join(["cells by displacement, in rows", *lines])

@@ -1,4 +1,4 @@
-"""A scene as an SVG text. All that lies on the chip is in database units, in a group that is turned upside down."""
+"""A scene as an SVG. The chip is in database units, in a group that is flipped vertically."""
 
 from __future__ import annotations
 
@@ -13,24 +13,24 @@ from ..base.protocol import GROUND
 from ..client.refusals import violation_text
 from .scene import BROKEN, OBSTACLES, SHADES, Bins, Scene, colour_of, darker, intersection, row_blocks
 
-# The longer side of the chip, the space around it, and the width of the legend, in pixels.
+# In pixels: the longer side of the chip, the space around it, the width of the legend and the height of the heading.
 CHIP, SPACE, LEGEND, HEAD = 760, 24, 216, 76
-# Rows less high than this many pixels are drawn without lines between them, and names smaller than LEAST_NAME not at all.
+# Heights in pixels below which rows are drawn without lines, and names not at all.
 LEAST_ROW, LEAST_NAME = 5, 9
-# How many teams a legend names, and how long their names are.
+# The most teams in the legend, and the most characters of their names.
 MOST_NAMES, LONGEST_NAME = 20, 24
 
-# What XML has no place for.
+# Characters that XML does not allow.
 _NO_TEXT = re.compile("[^\t\n\r\x20-\ud7ff\ue000-\ufffd\U00010000-\U0010ffff]")
-# The colours of arrows up to so many rows long, and of longer ones.
+# The colours of arrows by their greatest length in rows.
 MOVE_COLOURS = ((2, "#20124d"), (5, "#5b1a8b"), (10, "#a3158f"), (20, "#e0457b"), (50, "#ff7f3f"), (math.inf, "#ffb000"))
-# Characters that are as wide as high in most fonts; the others are some two thirds of that.
+# Characters that are as wide as high in most fonts; the others have about two thirds of that.
 _WIDE = re.compile(r"[mwMWQ%@&]|[^\x00-\x7f]")
 _INK, _FAINT, _OBSTACLE, _BLOCKAGE, _SOFT = "#1d232b", "#667080", "#59626e", "#aab2bd", "#8a6a2f"
 
 
 class Move(NamedTuple):
-    """A cell that stands elsewhere than before."""
+    """A cell that moved."""
 
     name: str
     before: Box
@@ -38,34 +38,34 @@ class Move(NamedTuple):
 
     @property
     def length(self) -> int:
-        """The way along x plus that along y."""
+        """The displacement along x plus along y."""
         return abs(self.after.left - self.before.left) + abs(self.after.bottom - self.before.bottom)
 
 
 class _Line(NamedTuple):
-    """A line of the legend, and how wide it is about."""
+    """A line of the legend, and its approximate width."""
 
     svg: str
     wide: float
 
 
 def text_of(name: str) -> str:
-    """A name as text of XML or HTML, whatever characters it has."""
+    """Escapes a name for XML or HTML."""
     return escape(_NO_TEXT.sub(lambda found: f"\\x{ord(found[0]):02x}", name))
 
 
 def shortened(name: str, most: int = LONGEST_NAME) -> str:
-    """A name, or its beginning and end where it is long."""
+    """Shortens a long name to its beginning and end."""
     return name if len(name) <= most else f"{name[: most // 2]}…{name[-(most - most // 2 - 1) :]}"
 
 
 def number(count: int, one: str, many: str | None = None) -> str:
-    """As `1 cell` and `12,000 cells`."""
+    """Formats a count, for example `1 cell` and `12,000 cells`."""
     return f"{count:,} {one if count == 1 else many or one + 's'}"
 
 
 def by_length(moves: list[Move], row_height: int) -> Iterator[tuple[str, str, list[Move]]]:
-    """The moves by their lengths, the shortest first: how far, the colour of their arrows, and which they are."""
+    """Groups the moves by length, shortest first: a label, the colour of the arrows, and the moves."""
     least = 0.0
     for most, colour in MOVE_COLOURS:
         label = f"up to {most} rows" if most < math.inf else f"over {least:g} rows"
@@ -74,7 +74,7 @@ def by_length(moves: list[Move], row_height: int) -> Iterator[tuple[str, str, li
 
 
 class Drawing:
-    """A scene that is drawn, with arrows for moves; `moved` tells how many moves there are in all."""
+    """A scene to be drawn, with arrows for moves; `moved` is the number of all moves."""
 
     def __init__(self, scene: Scene, moves: list[Move] | None = None, moved: int = 0) -> None:
         self.scene, self.view = scene, scene.view
@@ -83,7 +83,7 @@ class Drawing:
         self.wide, self.high = self.view.width * self.scale, self.view.height * self.scale
 
     def svg(self) -> Iterator[str]:
-        """The text, piece by piece."""
+        """Yields the SVG in pieces."""
         facts, legend = self.scene.frame.facts, [*self._legend()]
         height = max(self.high + HEAD + SPACE, HEAD + 22 * len(legend) + SPACE)
         width = self.wide + max(LEGEND, *(line.wide for line in legend)) + 3 * SPACE
@@ -97,7 +97,7 @@ class Drawing:
         yield from self._chip()
         yield "</g>\n"
         yield from self._names()
-        # What is drawn beside the chip, as arrows from afar, is covered.
+        # Cover what is drawn outside the chip, for example arrows from far away.
         bounding_box = f"M0 0h{width:.2f}v{height:.2f}h-{width:.2f}zM{SPACE} {HEAD}h{self.wide:.2f}v{self.high:.2f}h-{self.wide:.2f}z"
         yield f'<path fill="#ffffff" fill-rule="evenodd" d="{bounding_box}"/>\n'
         heading = text_of(shortened(facts.name, 60))
@@ -117,7 +117,7 @@ class Drawing:
         return text_of(" · ".join(parts))
 
     def _box(self, box: Box, name: str | None = None) -> str:
-        """A rectangle as far as the view goes."""
+        """The part of a rectangle inside the view, as SVG."""
         part = intersection(box, self.view)
         if part is None:
             return ""
@@ -130,7 +130,7 @@ class Drawing:
         yield "</g>\n"
 
     def _line(self, width: float) -> str:
-        """The width of a line in database units, as Qt's SVG knows no other way for all that it draws."""
+        """The width of a line in database units: Qt's SVG supports no other way."""
         return f'stroke-width="{width / self.scale:.4g}"'
 
     def _chip(self) -> Iterator[str]:
@@ -165,7 +165,7 @@ class Drawing:
                 yield f'<g stroke="{colour}">\n{"".join(map(self._arrow, moves))}</g>\n'
 
     def _fences(self, key: str) -> Iterator[str]:
-        """The fences, with their colours under this key."""
+        """The fences, with their colours as this attribute."""
         for at, fence in enumerate(self.scene.frame.fences):
             boxes = "".join(map(self._box, fence.rects))
             yield f'<g {key}="{colour_of(at, fence.name)}"><title>{text_of(fence.name)}</title>\n{boxes}</g>\n'
@@ -200,7 +200,7 @@ class Drawing:
         yield "</g>\n"
 
     def _place(self, bins: Bins) -> str:
-        """What makes a bin the unit."""
+        """A transformation that makes a bin the unit."""
         return f'transform="matrix({bins.side} 0 0 {bins.side} {bins.view.left} {bins.view.bottom})"'
 
     def _broken(self, cell: Cell) -> str:
@@ -208,7 +208,7 @@ class Drawing:
         return self._box(cell.box, text) if cell.box else ""
 
     def _fixed(self, obstacle: Obstacle) -> str:
-        """A FIXED component, with a cross where it is large."""
+        """A FIXED component, with a cross if it is large."""
         box = self._box(obstacle.box, obstacle.name)
         part = intersection(obstacle.box, self.view)
         if part and min(part.width, part.height) * self.scale > 10:
@@ -218,7 +218,7 @@ class Drawing:
         return box
 
     def _arrow(self, move: Move) -> str:
-        """From the middle of the old place to the middle of the new one."""
+        """An arrow between the centres of the old and the new place."""
         middles = [((box.left + box.right) / 2, (box.bottom + box.top) / 2) for box in (move.before, move.after)]
         (x0, y0), (x1, y1) = middles
         head = min(6 / self.scale, math.hypot(x1 - x0, y1 - y0) / 2)
@@ -228,7 +228,7 @@ class Drawing:
         return f'<path d="{line}"><title>{text_of(move.name)}</title></path>\n'
 
     def _names(self) -> Iterator[str]:
-        """The teams' names in the largest rectangles of their fences, where they have room."""
+        """The teams' names in the largest rectangles of their fences, if they fit."""
         yield '<g id="names" text-anchor="middle" font-weight="bold">\n'
         for at, fence in enumerate(self.scene.frame.fences):
             parts = [part for rect in fence.rects if (part := intersection(rect, self.view))]
@@ -292,7 +292,7 @@ class Drawing:
 
 
 def _width(text: str, size: int) -> float:
-    """How wide a text is about, in pixels."""
+    """The approximate width of a text in pixels."""
     return size * (0.66 * len(text) + 0.34 * len(_WIDE.findall(text)))
 
 

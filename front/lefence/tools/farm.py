@@ -1,4 +1,4 @@
-"""lefence-farm: the teams of a design at work on the machines of a farm, by Slurm, by LSF, or by processes of this machine."""
+"""lefence-farm: runs the teams of a design on a farm, by Slurm, by LSF, or as processes of this machine."""
 
 from __future__ import annotations
 
@@ -24,8 +24,11 @@ _PACKAGE = Path(__file__).resolve().parents[2]
 
 
 class Farm(NamedTuple):
-    """Where the work is, the words for the engine, how many teams are at work at once (0: as many as the engine lets), and whether
-    an engine's last job is waited for."""
+    """A farm: the work folder, and the words for the engine.
+
+    `most` is the most teams that run at once (0: as many as the engine allows); `waits` is whether to wait for the
+    engine's last job.
+    """
 
     work: Path
     words: list[str]
@@ -34,13 +37,13 @@ class Farm(NamedTuple):
 
 
 def task_words(work: Path, *words: str) -> list[str]:
-    """The command line that does a part of the work, on whatever machine sees the folder."""
+    """The command line for a part of the work, on any machine that has the folder."""
     code = f"import sys; sys.path.insert(0, {str(_PACKAGE)!r}); from lefence.tools.farm import main; sys.exit(main())"
     return [sys.executable, "-B", "-c", code, str(work), *words]
 
 
 def _script(farm: Farm, name: str, *words: str, variable: str = "") -> Path:
-    """A script of the work's folder that does a part of it; the number of the team is in a variable of the engine."""
+    """Writes a script for a part of the work. The team's number is in a variable of the engine."""
     path = farm.work / name
     number = f' "${variable}"' if variable else ""
     path.write_text(f"#!/bin/sh\nexec {shlex.join(task_words(farm.work, *words))}{number}\n")
@@ -49,7 +52,7 @@ def _script(farm: Farm, name: str, *words: str, variable: str = "") -> Path:
 
 
 def ranges_of(numbers: list[int]) -> str:
-    """Numbers that increase as an engine takes them, `1-4,7`: a word of a command line has a bound."""
+    """Formats increasing numbers as an engine takes them, for example `1-4,7`: a command line has a limited length."""
     runs: list[list[int]] = []
     for number in numbers:
         if runs and runs[-1][-1] == number - 1:
@@ -60,7 +63,7 @@ def ranges_of(numbers: list[int]) -> str:
 
 
 def local(farm: Farm, numbers: list[int]) -> int:
-    """The teams one after another, as many at once as there are to be processes; then what they did."""
+    """Runs the teams as processes of this machine, then collects their work."""
 
     running: list[subprocess.Popen[bytes]] = []
 
@@ -77,7 +80,7 @@ def local(farm: Farm, numbers: list[int]) -> int:
             for number, status in zip(numbers, pool.map(run, numbers)):
                 log(TOOL, f"team {teams[number - 1]}: {'done' if status == DONE else f'ended with {status}'}")
         except SystemExit:
-            # (by a signal, which the teams at work have not had)
+            # (a signal has ended this process, but not those of the teams)
             pool.shutdown(wait=False, cancel_futures=True)
             for task in running:
                 task.terminate()
@@ -86,7 +89,7 @@ def local(farm: Farm, numbers: list[int]) -> int:
 
 
 def slurm(farm: Farm, numbers: list[int]) -> int:
-    """A job array of Slurm with a task for each team, and a job behind it that collects what they did."""
+    """Submits a job array with a task for each team to Slurm, and a job that collects their work."""
     array = ranges_of(numbers) + (f"%{farm.most}" if farm.most else "")
     task = _script(farm, "task.sh", "--task", variable="SLURM_ARRAY_TASK_ID")
     last = _script(farm, "collect.sh", "--collect")
@@ -101,7 +104,7 @@ def slurm(farm: Farm, numbers: list[int]) -> int:
 
 
 def lsf(farm: Farm, numbers: list[int]) -> int:
-    """The same by LSF."""
+    """Submits the same jobs to LSF."""
     array = f"lefence[{ranges_of(numbers)}]" + (f"%{farm.most}" if farm.most else "")
     task = _script(farm, "task.sh", "--task", variable="LSB_JOBINDEX")
     last = _script(farm, "collect.sh", "--collect")
@@ -114,7 +117,7 @@ def lsf(farm: Farm, numbers: list[int]) -> int:
 
 
 def _submitted(words: list[str], pattern: str) -> str:
-    """The number of a job that is submitted; a fault where the engine refuses it."""
+    """Submits a job; returns its number. Raises a Fault if the engine refuses it."""
     try:
         done = subprocess.run(words, stdin=subprocess.DEVNULL, capture_output=True, text=True)
     except FileNotFoundError:
@@ -126,7 +129,7 @@ def _submitted(words: list[str], pattern: str) -> str:
 
 
 def _submit_last(farm: Farm, numbers: list[int], words: list[str], pattern: str) -> int:
-    """Submits the last job; its status, and what it told, where it is waited for."""
+    """Submits the last job. If it is waited for, prints its output and returns its status."""
     log_file = farm.work / "collect.log"
     if not farm.waits:
         end = _submitted(words, pattern)
@@ -170,7 +173,7 @@ def parser() -> Parser:
 
 
 def plan_of(options: argparse.Namespace, command: list[str], design: Design) -> Plan:
-    """The plan of a command line, with all paths from the root."""
+    """Makes the plan of a command line, with absolute paths."""
     texts = [str(path.resolve()) for path in options.texts]
     export = str((options.export or options.work / "new.def").resolve())
     teams = teams_of(design)

@@ -1,8 +1,13 @@
-"""A farm's folder: which teams have work to do, the work of one of them over its slice, and all of it in one design at the end.
+"""The work folder of a farm: which teams have work to do, one team's work on its slice, and the collected design.
 
-`WORK/farm.json` is the plan. Team number I, from 1, has the folder `WORK/I`: its `slice.def`, the `journal` of a hub over it (with copies
-of its texts until the team is done) or the `lines` of a repair, `new.def` with its committed places, a `log`, and in the end `done`, or
-`failed` with the reason. Nothing but these files goes from one machine to another.
+`WORK/farm.json` is the plan. Team number I, from 1, has the folder `WORK/I` with these files:
+- `slice.def`, its part of the design;
+- the `journal` of a hub over it, with copies of its design until the team is done, or the `lines` of a repair;
+- `new.def` with its committed places;
+- `log`;
+- finally `done`, or `failed` with the reason.
+
+Machines exchange only these files.
 """
 
 from __future__ import annotations
@@ -36,18 +41,22 @@ from .push import Record, is_recorded_reply, records_of
 from .slice import slices_of
 
 TOOL = "lefence-farm"
-# The status where the others' work is in the design, and some team's is not.
+# The exit status if the design lacks the work of some team.
 INCOMPLETE = 4
 _MARK = b"# a slice of the text %b\n"
-# Seconds between two looks whether a hub serves.
+# Seconds between two checks whether a hub serves.
 _POLL = 0.05
-# Seconds that a hub has for its end, and a command for what it does before its first session: the engine has bounds of its own.
+# The engine has limits of its own, so those of the hub are far away: for its end, and for a command before its first
+# session.
 _HUB_OPTIONS = ("--grace", "1e7", "--idle", "1e7", "--keep", "0")
 
 
 @dataclass
 class Plan:
-    """What a farm is to do: the texts with the SHA-256 of the DEF text, the teams, the command (none: a repair), and where it is run."""
+    """The plan of a farm: the design's files, the SHA-256 of the DEF file, the teams, and the command with its folder.
+
+    Without a command, each team is repaired.
+    """
 
     design: str
     libraries: list[str]
@@ -76,18 +85,18 @@ class Plan:
         return [at for at in range(1, len(self.teams) + 1) if not (work / str(at) / "done").exists()]
 
     def refuse_changed_design(self) -> None:
-        """A fault where the DEF text is another one than the slices were made of."""
+        """Raises a Fault if the DEF file has changed since the slices were made."""
         if sum_of(Path(self.design)) != self.sum:
             raise Fault(REFUSED, f"{self.design} is another text than the slices were made of")
 
 
 def teams_of(design: Design) -> list[str]:
-    """The teams of a design: those of its fences, and the team of the ground."""
+    """Lists the teams of a design: those of its fences, then the ground team."""
     return [*map(shown, design.fences), GROUND]
 
 
 def begin(work: Path, plan: Plan, design: Design) -> None:
-    """Makes a folder for each team, with its slice; a folder that was begun with another text is refused."""
+    """Makes a folder with a slice for each team. Raises a Fault if the folder is of another design."""
     if (work / "farm.json").exists() and Plan.load(work).sum != plan.sum:
         raise Fault(REFUSED, f"{work} is of another text than {plan.design}: give another folder, or remove it")
     names = [os.fsencode(team) for team in plan.teams]
@@ -101,7 +110,9 @@ def begin(work: Path, plan: Plan, design: Design) -> None:
 
 
 def run_team(work: Path, number: int) -> int:
-    """The work of one team: the command beside a hub over the slice, or a repair of it. Its status, which is kept in `done` or `failed`."""
+    """Does the work of one team: the command with a hub over the slice, or a repair. Keeps the result in `done` or
+    `failed`.
+    """
     plan, folder = Plan.load(work), work / str(number)
     if not 1 <= number <= len(plan.teams):
         raise Fault(USAGE, f"{work} has no team number {number}: they are 1 to {len(plan.teams)}")
@@ -127,7 +138,7 @@ def _end_by_signal(number: int, frame: FrameType | None) -> None:
 
 
 def refuse_foreign_slice(folder: Path, plan: Plan) -> None:
-    """A fault where the slice is of another text than the plan."""
+    """Raises a Fault if the slice is of another design than the plan."""
     mark = _MARK % plan.sum.encode()
     with open(folder / "slice.def", "rb") as file:
         if file.read(len(mark)) != mark:
@@ -135,7 +146,7 @@ def refuse_foreign_slice(folder: Path, plan: Plan) -> None:
 
 
 def _repair(plan: Plan, folder: Path, team: str) -> None:
-    """Repairs the team on its slice; a fault where a cell is left."""
+    """Repairs the team on its slice. Raises a Fault if a cell remains unrepaired."""
     program = Program(plan.program, [folder / "slice.def", *map(Path, plan.libraries)])
     total = program.repair([f"--team={team}"], folder / "lines", folder / "new.def", Progress(TOOL, "the program repairs"))[-1]
     print(json.dumps(total), flush=True)
@@ -144,9 +155,10 @@ def _repair(plan: Plan, folder: Path, team: str) -> None:
 
 
 def _run_command(plan: Plan, folder: Path, team: str) -> None:
-    """Runs the command, which finds the team's socket by LEFENCE_SOCKET, and its name by LEFENCE_TEAM; a fault where it fails.
+    """Runs the command with a hub over the slice. Raises a Fault if it fails.
 
-    The engine gives a task to one machine at a time: a hub of another one that did not end the journal is gone.
+    The command gets the team's socket as LEFENCE_SOCKET and its name as LEFENCE_TEAM. The engine runs a task on one
+    machine at a time, so a hub of another machine that has not ended the journal is gone.
     """
     (folder / "lines").unlink(missing_ok=True)
     words = ["--team", team, "--journal", str(folder / "journal"), "--takeover", "--export", str(folder / "new.def")]
@@ -164,7 +176,7 @@ def _run_command(plan: Plan, folder: Path, team: str) -> None:
 
 @contextlib.contextmanager
 def _hub(plan: Plan, design: Path, words: list[str], name: str) -> Iterator[Path]:
-    """A hub over a design, whose socket of that name belongs to this machine; at the end of the block it exports and ends."""
+    """Runs a hub over a design, with a local socket of this name. At the end of the block it exports and ends."""
     code = "import sys; from lefence.tools.hub import main; sys.exit(main())"
     path = os.pathsep.join([str(Path(__file__).resolve().parents[2]), *filter(None, [os.environ.get("PYTHONPATH")])])
     with tempfile.TemporaryDirectory(prefix="lefence-farm") as folder:
@@ -181,7 +193,7 @@ def _hub(plan: Plan, design: Path, words: list[str], name: str) -> Iterator[Path
 
 
 def _wait_served(hub: subprocess.Popen[bytes], socket: Path) -> None:
-    """Waits until somebody listens at the socket, or a fault where the hub ends before."""
+    """Waits until somebody listens at the socket. Raises a Fault if the hub ends before."""
     while hub.poll() is None:
         with contextlib.suppress(OSError):
             connect(socket).close()
@@ -191,7 +203,7 @@ def _wait_served(hub: subprocess.Popen[bytes], socket: Path) -> None:
 
 
 def collect(work: Path) -> int:
-    """Brings the work of all teams that are done into one design; the others are named."""
+    """Collects the work of all finished teams into one design, and lists the others."""
     plan = Plan.load(work)
     plan.refuse_changed_design()
     unfinished = set(plan.unfinished_numbers(work))
@@ -218,9 +230,9 @@ def _merge(work: Path, plan: Plan, done: list[int]) -> None:
 
 
 def _answer(work: Path, plan: Plan, done: list[int], output: BinaryIO) -> None:
-    """Has the program answer over the whole design what it answered over the slices, and writes its export.
+    """Has the program answer the teams' lines on the whole design, and writes its export.
 
-    A fault tells the first reply that differs.
+    Raises a Fault at the first reply that differs from the one on the slice.
     """
     program = Program(plan.program, [Path(plan.design), *map(Path, plan.libraries)])
     lines = (line + b"\n" for number in done for _, line, _ in _records_in(work / str(number)))
@@ -242,10 +254,10 @@ def _answer(work: Path, plan: Plan, done: list[int], output: BinaryIO) -> None:
 
 
 def _records_in(folder: Path) -> Iterator[Record]:
-    """The commands of a team that is done, and their replies."""
+    """The commands of a finished team, and their replies."""
     return records_of(folder / "lines" if (folder / "lines").exists() else folder / "journal")
 
 
 def _remove_texts(journal: Path) -> None:
-    """Removes the copies of the texts of a journal on which no hub is to go on."""
+    """Removes a journal's copies of the design; no hub will continue it."""
     shutil.rmtree(texts_folder(journal), ignore_errors=True)

@@ -1,4 +1,4 @@
-"""lefence-hub: many clients at once over one program, a socket for each team, and a journal."""
+"""lefence-hub: serves many clients with one program, a socket for each team, and a journal."""
 
 from __future__ import annotations
 
@@ -32,10 +32,10 @@ from ..journal.owner import this_process
 from ..journal.texts import remove_partial_texts, resolve_texts
 
 TOOL = "lefence-hub"
-# Connections of a socket that may wait to be taken in, and how many asyncio takes in at a time: where no descriptor is left, it
-# says so that often.
+# Connections of a socket that may wait for acceptance, and how many asyncio accepts at a time. If no descriptor is
+# left, asyncio reports that for each of these.
 _QUEUE, _AT_ONCE = 1024, 16
-# Seconds that clients have at the end to read what they were told.
+# Seconds at the end for clients to read their replies.
 _LAST = 5
 
 
@@ -55,13 +55,13 @@ async def listen(hub: Hub, folder: Path, groups: dict[str, int]) -> list[asyncio
         bound = bind_socket(folder / socket_name(team), mode, team is not None, group)
         client = functools.partial(Client, hub, None if team is None else team.encode())
         listeners.append(await create(client, sock=bound))
-        # (asyncio has one number for both)
+        # (asyncio uses one number for both)
         bound.listen(_QUEUE)
     return listeners
 
 
 async def serve(hub: Hub, options: argparse.Namespace, stopped: asyncio.Event) -> None:
-    """Starts and serves until a fault or a signal to stop; then reads no more, but answers what was read."""
+    """Starts and serves until a fault or a signal. Then it stops reading, but answers what was read."""
     groups = groups_of(options.group)
     stop, watch = asyncio.create_task(stopped.wait()), asyncio.create_task(hub.watch())
     start = asyncio.create_task(hub.start([*options.team]))
@@ -79,7 +79,7 @@ async def serve(hub: Hub, options: argparse.Namespace, stopped: asyncio.Event) -
         if options.roll:
             return None
         hub.pool.most_clients = max(1, min(MOST_CLIENTS, (files - 64) // (len(teams) + 1) - 1))
-        # (the first turn of the pump closes sessions that were left open, which are changes too)
+        # (the first batch closes orphaned sessions, which are changes too)
         ready = f"ready: {len(teams)} teams, {hub.journal.changes} changes restored"
         run = asyncio.create_task(hub.run())
         tasks.append(run)
@@ -101,7 +101,7 @@ async def serve(hub: Hub, options: argparse.Namespace, stopped: asyncio.Event) -
 
 
 async def disconnect_all(hub: Hub) -> None:
-    """Ends the connections once the clients have read what they were told, or have had the time for it."""
+    """Ends the connections when the clients have read their replies, or after some seconds."""
     for client in list(hub.pool.clients):
         client.disconnect()
     loop = asyncio.get_running_loop()
@@ -111,7 +111,7 @@ async def disconnect_all(hub: Hub) -> None:
 
 
 def end_by_signals(hub: Hub, stopped: asyncio.Event, grace: float) -> None:
-    """Has signals set the event; after so many seconds more, or at a second signal, this process ends as it stands."""
+    """Sets the event at a signal. After `grace` seconds, or at a second signal, it ends this process at once."""
 
     def give_up() -> None:
         say(f"given up: not ended within {grace:g} seconds, or asked twice; nothing acknowledged is lost")
@@ -128,13 +128,13 @@ def end_by_signals(hub: Hub, stopped: asyncio.Event, grace: float) -> None:
         timer.start()
 
     for number in (signal.SIGTERM, signal.SIGINT, signal.SIGHUP):
-        # (by `nohup` it passes over SIGHUP)
+        # (`nohup` ignores SIGHUP)
         if number != signal.SIGHUP or signal.getsignal(number) != signal.SIG_IGN:
             asyncio.get_running_loop().add_signal_handler(number, stop)
 
 
 def limit_loop_errors(hub: Hub) -> None:
-    """Has what the event loop says of itself told once a minute, as that no descriptor is left."""
+    """Prints messages of the event loop, for example that no descriptor is left, at most once a minute."""
 
     def handle(loop: asyncio.AbstractEventLoop, context: dict[str, Any]) -> None:
         error = context.get("exception")
@@ -145,7 +145,7 @@ def limit_loop_errors(hub: Hub) -> None:
 
 
 async def run(options: argparse.Namespace) -> None:
-    """The hub from its locks to its last export."""
+    """Runs the hub from its locks to its last export."""
     stopped = asyncio.Event()
     paths = [options.design, *options.library]
     program = find_program(options.program)
@@ -168,7 +168,7 @@ async def run(options: argparse.Namespace) -> None:
         await serve(hub, options, stopped)
         await hub.server.kill()
         if hub.teams:
-            # (a start that was cut short knows no more than a part of who has a session)
+            # (a start that was interrupted knows only some of the sessions)
             if text := uncommitted_text(hub):
                 say(text)
             await hub.checkpoints.make_last(hub.pool, hub.metrics, options.roll)
@@ -183,7 +183,7 @@ async def run(options: argparse.Namespace) -> None:
 
 
 class StatusAction(argparse.Action):
-    """An option that asks a hub for its status, prints it and ends."""
+    """An option that prints the status of a hub and ends."""
 
     def __call__(self, parser: argparse.ArgumentParser, _: object, value: Any, option: str | None = None) -> None:
         def work() -> int:
@@ -229,7 +229,7 @@ def parser() -> Parser:
 
 
 def state_count(word: str) -> int:
-    """The value of --keep: one state is too few, since a program may be on its way from it while the next is made."""
+    """The value of --keep. One state is too few: a program may still read it while the next one is made."""
     number = int(word)
     if number < 0 or number == 1:
         raise argparse.ArgumentTypeError(f"{word}: 0, or 2 or more")
@@ -237,7 +237,7 @@ def state_count(word: str) -> int:
 
 
 def slot_count(word: str) -> int:
-    """The value of --sessions, as the program takes it."""
+    """The value of --sessions."""
     number = int(word)
     if not 1 <= number <= MOST_SLOTS:
         raise argparse.ArgumentTypeError(f"{word}: 1 to {MOST_SLOTS}")
@@ -245,7 +245,7 @@ def slot_count(word: str) -> int:
 
 
 def byte_count(word: str) -> int:
-    """The value of an option in bytes."""
+    """A number of bytes."""
     number = int(word)
     if number < 0:
         raise argparse.ArgumentTypeError(f"{word}: 0 or more")
@@ -253,7 +253,7 @@ def byte_count(word: str) -> int:
 
 
 def second_count(word: str) -> float:
-    """The value of an option in seconds, for which the system can wait."""
+    """A number of seconds for which the system can wait."""
     number = float(word)
     if not 0 <= number <= threading.TIMEOUT_MAX:
         raise argparse.ArgumentTypeError(f"{word}: a number of seconds, 0 or more")

@@ -1,4 +1,4 @@
-"""lefence-journal: what a journal holds, whether it is whole, and a way on where it is not."""
+"""lefence-journal: lists, checks, cuts and exports journals."""
 
 from __future__ import annotations
 
@@ -29,7 +29,7 @@ TOOL = "lefence-journal"
 
 @dataclass
 class ByteRange:
-    """Frames that follow each other, of which the first one begins at `start`, and what stands between the last one and the next."""
+    """Consecutive intact frames from byte `start` to byte `end`."""
 
     start: int
     end: int
@@ -38,7 +38,7 @@ class ByteRange:
 
 
 def intact_ranges(reader: Reader) -> Iterator[ByteRange]:
-    """The stretches of a segment; behind each but the last one is damage."""
+    """Yields the ranges of intact frames in a segment. After each but the last one is damage."""
     start: int | None = reader.header().length
     while start is not None:
         found = ByteRange(start, start)
@@ -49,7 +49,7 @@ def intact_ranges(reader: Reader) -> Iterator[ByteRange]:
 
 
 def whole_frames(reader: Reader, start: int = 0) -> Iterator[Frame]:
-    """All whole frames of a segment from a byte on, also those behind damage."""
+    """Yields all intact frames of a segment from a byte on, also those after damage."""
     for span in intact_ranges(reader):
         for frame in reader.frames(span.start):
             if frame.start >= start:
@@ -57,7 +57,7 @@ def whole_frames(reader: Reader, start: int = 0) -> Iterator[Frame]:
 
 
 def check(path: Path, readers: list[Reader]) -> int:
-    """Tells what is whole, and whether the texts are kept; refused where anything is damaged or a text lacks."""
+    """Prints what is intact, and whether the copies are kept. Returns REFUSED if anything is damaged or missing."""
     status, first = DONE, readers[0].header()
     for text in first.texts:
         kept = kept_text(path, text)
@@ -81,7 +81,7 @@ def check(path: Path, readers: list[Reader]) -> int:
 
 
 def _check_segment(reader: Reader, path: Path, size: int | None) -> int:
-    """The same of a segment, which had this size when another followed it, None of the last one."""
+    """Checks one segment; `size` is its size when another followed it, None for the last one."""
     status, found = DONE, list(intact_ranges(reader))
     copied = "" if size is None else f"copied to {path}, "
     for span, following in zip(found, [*found[1:], None]):
@@ -100,7 +100,7 @@ def _check_segment(reader: Reader, path: Path, size: int | None) -> int:
 
 
 def list_changes(readers: list[Reader], team: str | None) -> int:
-    """Tells of each change its number, time, uid, pid, line and reply, and of each note its time."""
+    """Prints number, time, uid, pid, line and reply of each change, and each note with its time."""
     number = readers[0].header().changes
     for frame in itertools.chain.from_iterable(map(whole_frames, readers)):
         when = _time_of(frame)
@@ -125,12 +125,13 @@ def _print(*words: str) -> None:
 
 
 def is_of(record: Record, team: str | None) -> bool:
-    """Whether the change is that of a team, or of any."""
+    """Whether the change is of this team; None is any team."""
     return team is None or record.line.split()[1] == os.fsencode(team)
 
 
 def cut(path: Path, at: int | None, takes_over: bool) -> int:
-    """Cuts a journal off at the end of a batch, or before its first damage; the whole of it is kept beside it first."""
+    """Truncates a journal at the end of a batch, by default before its first damage. First it copies the whole journal.
+    """
     with open(path, "r+b") as file:
         lock(file.fileno(), path)
         reader = Reader(file.fileno(), path)
@@ -153,7 +154,7 @@ def cut(path: Path, at: int | None, takes_over: bool) -> int:
 
 
 def _refuse_owner(reader: Reader) -> None:
-    """A fault where a hub may be at work on the journal."""
+    """Raises a Fault if a hub may be using the journal."""
     succession = OwnerHistory()
     for frame in whole_frames(reader):
         for note in frame.notes():
@@ -164,7 +165,7 @@ def _refuse_owner(reader: Reader) -> None:
 def export(path: Path, readers: list[Reader], team: str | None, start: int, output: Path | None) -> int:
     """Writes the lines of the changes for `lefence replay`, or, with a file, a journal of them for `lefence-push`.
 
-    From a byte on they are those of the last segment alone.
+    With a start byte, only those of the last segment from there on.
     """
     first = readers[-1 if start else 0].header()
     frames = whole_frames(readers[-1], start) if start else itertools.chain.from_iterable(map(whole_frames, readers))
@@ -187,7 +188,7 @@ def export(path: Path, readers: list[Reader], team: str | None, start: int, outp
 
 
 def verify(path: Path, given: list[Path], wanted: str | None, is_all: bool) -> int:
-    """Has the program answer the changes behind the last state, over the kept texts or those given, and compares each reply."""
+    """Replays the changes after the last state, on the kept copies or the given files, and compares each reply."""
     with open_segments(path) as readers:
         header = readers[0].header()
         texts = header.texts

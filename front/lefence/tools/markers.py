@@ -1,4 +1,4 @@
-"""lefence-markers: the violations of a design as a report database of KLayout, which shows each as a marker over the layout."""
+"""lefence-markers: writes the violations of a design as a KLayout report database, which shows them as markers."""
 
 from __future__ import annotations
 
@@ -18,7 +18,7 @@ from ..base.progress import Progress
 from ..base.protocol import RULES
 
 TOOL = "lefence-markers"
-# What KLayout shows in front of each value of an item; a value without one is the cell's box.
+# Tags that KLayout shows in front of the values of an item. The value without a tag is the cell's box.
 _TAGS = ("cell", "team", "other")
 _BOX = struct.Struct("<4q")
 
@@ -35,7 +35,7 @@ _TAIL = """</items>
 <description>{description}</description>
 </report-database>
 """
-# A technology by which KLayout reads a DEF text with these LEF texts, and draws what they have of a macro.
+# A technology with which KLayout reads a DEF file with these LEF files and draws the macros from them.
 _TECHNOLOGY = """<?xml version="1.0" encoding="utf-8"?>
 <technology>
 <name>{name}</name>
@@ -49,7 +49,7 @@ _TECHNOLOGY = """<?xml version="1.0" encoding="utf-8"?>
 
 
 class Violation(NamedTuple):
-    """A cell that breaks a rule; for rule 8 the cell that it meets, with its box."""
+    """A cell that breaks a rule; for rule 8 with the cell that it overlaps, and its box."""
 
     name: str
     team: str
@@ -60,9 +60,9 @@ class Violation(NamedTuple):
 
 
 def violations_of(cells: Iterable[Cell]) -> Iterator[Violation]:
-    """The violations, each once the box of the other cell is known.
+    """Yields each violation when the box of the other cell is known.
 
-    Two boxes that share a point do so both ways, so the other cell breaks a rule too: no cell is kept that breaks none.
+    If two boxes overlap, both cells break a rule. So only cells that break a rule are kept.
     """
     boxes: dict[str, bytes] = {}
     waiting: dict[str, list[tuple[str, str, int]]] = {}
@@ -87,7 +87,7 @@ def _box(packed: bytes) -> Box:
 
 
 def database_of(description: Description) -> Iterator[str]:
-    """The report database, piece by piece, while the description is being read."""
+    """Yields the report database in pieces as the description is read."""
     facts = description.frame.facts
     top = escape(facts.name)
     categories = "".join(f"<category><name>{number} {name}</name></category>" for number, name in RULES.items())
@@ -99,7 +99,7 @@ def database_of(description: Description) -> Iterator[str]:
 
 
 def totals_text(description: Description) -> str:
-    """The totals in words, once the cells were read."""
+    """The totals in words, after the cells were read."""
     total = description.total
     return f"{total.illegal} of {total.cells} cells break a rule; {total.unplaced} without a place have no marker"
 
@@ -120,15 +120,15 @@ def _text(tag: str, text: str) -> str:
 
 
 def _value(box: Box, units: Decimal) -> str:
-    """The box in microns, exactly where these are finite decimals."""
+    """The box in microns; exact, if these are finite decimals."""
     left, bottom, right, top = (format(Decimal(length) / units, "f") for length in box)
     return f"box: ({left},{bottom};{right},{top})"
 
 
 def technology_of(facts: Facts, libraries: Iterable[Path]) -> bytes:
-    """A technology of KLayout for the DEF text with these LEF texts, wherever they are.
+    """Returns a KLayout technology for a DEF file with these LEF files.
 
-    Its database unit divides that of the DEF text, and a nanometer, which the shapes of LEF texts need.
+    Its database unit divides that of the DEF file and a nanometer, which the shapes of LEF files need.
     """
     files = "".join(f"<lef-files>{escape(str(path.resolve()))}</lef-files>\n" for path in libraries)
     unit = 1 / Decimal(math.lcm(facts.units, 1000))

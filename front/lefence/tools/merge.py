@@ -1,7 +1,7 @@
-"""The exported slices of teams put back into the DEF text that they are of, as streams: no text need fit the memory.
+"""Merges exported slices of teams back into the DEF file, as streams: no file need fit the memory.
 
-A component of the whole text stands in the slice of its own team alone, and FIXED and COVER ones, which nobody moves, in all of
-them; the components of each are in the order of the whole text. So one look ahead into each slice finds every component's like.
+A movable component is only in the slice of its team; FIXED and COVER components are in all. The components of each
+slice have the order of the DEF file. So looking ahead by one component in each slice is enough.
 """
 
 from __future__ import annotations
@@ -15,19 +15,21 @@ from typing import BinaryIO
 from ..base.design import Entry, map_file, section_parts, shown, statements_in
 from ..base.faults import REFUSED, Fault
 
-# Bytes that are written at a time.
+# Bytes written at a time.
 _PIECE = 1 << 20
 
 
 def merge(whole: Path, slices: list[Path], output: BinaryIO) -> int:
-    """Writes the whole text with the components of the slices as they are there; how many. A fault where one is not in the text."""
-    # (a mapped file keeps its descriptor)
+    """Writes the DEF file with the components of the slices; returns how many. Raises a Fault if one is not in the
+    file.
+    """
+    # (each mapped file keeps a descriptor open)
     files = resource.getrlimit(resource.RLIMIT_NOFILE)[1]
     resource.setrlimit(resource.RLIMIT_NOFILE, (files, files))
     with ExitStack() as stack:
         text = map_file(whole, stack)
         streams = [_movable(map_file(path, stack)) for path in slices]
-        # The next component of each slice, by its name.
+        # The next component of each slice, by name.
         heads: dict[bytes, tuple[Entry, int]] = {}
         for number, stream in enumerate(streams):
             _advance(heads, stream, number)

@@ -1,4 +1,4 @@
-"""lefence-picture: an SVG or a PNG of a design, as `lefence describe` tells it."""
+"""lefence-picture: draws a design as an SVG or a PNG."""
 
 from __future__ import annotations
 
@@ -21,9 +21,9 @@ from .drawing import Drawing, Move
 from .scene import LIMIT, Scene
 
 TOOL = "lefence-picture"
-# The most arrows.
+# The most arrows drawn.
 MOST_MOVES = 2000
-# What KLayout is given to run: Qt draws the picture on twice as many pixels.
+# A script for KLayout: Qt draws the picture at twice its size.
 _SCRIPT = """import pya
 renderer = pya.QSvgRenderer("picture.svg")
 size = renderer.defaultSize()
@@ -37,16 +37,16 @@ image.save("picture.png")
 
 
 class Moves:
-    """Which cells stand elsewhere than before. Cells that come in one order before and after are not kept."""
+    """The cells that moved between two placements. Cells in the same order in both are not kept in memory."""
 
     def __init__(self) -> None:
         self.count = 0
         self._longest: list[tuple[int, int, Move]] = []
-        # The cells of either side that have not been met on the other one.
+        # The cells of each placement that are not found yet in the other one.
         self._waiting: tuple[dict[str, Box | None], dict[str, Box | None]] = ({}, {})
 
     def take(self, cell: Cell, is_after: bool) -> None:
-        """One more cell, of the design before or of that after."""
+        """Adds a cell of the placement before or after."""
         mine, others = self._waiting[is_after], self._waiting[not is_after]
         if cell.name not in others:
             mine[cell.name] = cell.box
@@ -63,12 +63,12 @@ class Moves:
                 heapq.heappushpop(self._longest, entry)
 
     def longest(self) -> list[Move]:
-        """The longest moves, in the order in which they were met."""
+        """The longest moves, in the order in which they were found."""
         return [move for _, _, move in sorted(self._longest, key=lambda entry: entry[1])]
 
 
 def drawing_of(program: str, design: Path, libraries: list[Path], before: Path | None = None, limit: int = LIMIT) -> Drawing:
-    """A design that is ready to be drawn; with the DEF text before, arrows lead from the old places to the new ones."""
+    """Reads a design for drawing. With a DEF file from before, arrows lead from the old places to the new ones."""
     with ExitStack() as both:
         description = both.enter_context(Description(program, design, libraries))
         old = None if before is None else both.enter_context(Description(program, before, libraries))
@@ -85,12 +85,12 @@ def drawing_of(program: str, design: Path, libraries: list[Path], before: Path |
 
 
 def png_of(drawing: Drawing, klayout: str) -> bytes:
-    """The picture as a PNG, which KLayout makes."""
+    """Makes a PNG of the picture with KLayout."""
     with tempfile.TemporaryDirectory(prefix="lefence-picture") as folder:
         (Path(folder) / "picture.svg").write_text("".join(drawing.svg()), encoding="utf-8")
         (Path(folder) / "draw.py").write_text(_SCRIPT)
         words = [klayout, "-z", "-nc", "-rx", "-r", "draw.py"]
-        # Qt is told to draw without a screen, and to keep its files in the folder.
+        # Qt draws without a screen and keeps its files in the folder.
         environment = {**os.environ, "QT_QPA_PLATFORM": "offscreen", "HOME": folder, "KLAYOUT_HOME": folder}
         done = subprocess.run(
             words, cwd=folder, env=environment, stdin=subprocess.DEVNULL, stdout=subprocess.PIPE, stderr=subprocess.STDOUT
@@ -102,7 +102,7 @@ def png_of(drawing: Drawing, klayout: str) -> bytes:
 
 
 def _klayout(outputs: list[Path]) -> str:
-    """The path of KLayout, if a PNG is asked for."""
+    """Finds KLayout if a PNG is requested. Raises a Fault if it is not installed."""
     is_needed = any(output.suffix.lower() == ".png" for output in outputs)
     found = shutil.which("klayout")
     if is_needed and found is None:

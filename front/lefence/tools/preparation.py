@@ -1,4 +1,4 @@
-"""What a DEF text lacks to load: rows, fences and groups put in, fillers taken out; every other byte stays as it is."""
+"""Changes that make a DEF file loadable: adds rows, fences and groups, removes fillers. All other bytes stay."""
 
 from __future__ import annotations
 
@@ -20,14 +20,14 @@ MOST_ROWS = 65_535
 _NUMBER = re.compile(rb"[+-]?\d{1,10}(\.0*)?")
 _WORD = re.compile(rb"[^ \t\r\n]+")
 _REST = re.compile(rb"[ \t\r]*(#[^\n]*)?(?=\n)")
-# A name or a pattern as it may stand in a DEF text: no quoted text, no comment.
+# A name or a pattern in a DEF file: not a quoted text, not a comment.
 _NAME = re.compile(r"[!$-~][!-~]*")
-# Orientations of cells in a row that is N, and in one that is FS.
+# Orientations of cells in a row with orientation N, and in one with FS.
 _UPRIGHT, _FLIPPED = (b"N", b"FN"), (b"FS", b"S")
 
 
 class _Change(NamedTuple):
-    """Bytes that stand in place of those from start up to stop."""
+    """Bytes that replace those from start up to stop."""
 
     start: int
     stop: int
@@ -35,7 +35,7 @@ class _Change(NamedTuple):
 
 
 class Grid(NamedTuple):
-    """Where rows begin, up to whole sites, and whether the row there is N; `told` says by what."""
+    """The origin of the rows up to whole sites, and whether the row there is N; `reason` says how it was found."""
 
     x: int
     y: int
@@ -45,7 +45,9 @@ class Grid(NamedTuple):
 
 @dataclass
 class PreparationOptions:
-    """What is asked for. Boxes are database units; the core is None where DIEAREA has it, less the margin on every side."""
+    """The requested changes, in database units. The core is None if it is DIEAREA; `margin` is subtracted on every
+    side.
+    """
 
     replaces_rows: bool = False
     margin: int = 0
@@ -56,7 +58,7 @@ class PreparationOptions:
 
 
 class Preparation:
-    """A DEF text that is being changed; `said` has a line for each change."""
+    """A DEF text with pending changes; `messages` has a line for each change."""
 
     def __init__(self, text: bytes) -> None:
         self.text = text
@@ -66,7 +68,7 @@ class Preparation:
 
     @property
     def units(self) -> int:
-        """The database units in a micron."""
+        """The database units per micron."""
         for statement in self._all(b"UNITS"):
             number = (self._words(statement)[3:4] or [b""])[0]
             if number.isdigit() and len(number) < 10 and int(number):
@@ -78,7 +80,7 @@ class Preparation:
         return any(True for _ in self._all(b"ROW"))
 
     def result(self) -> bytes:
-        """The text with all changes; those at one place in the order in which they were made."""
+        """Returns the text with all changes. Changes at one place keep their order."""
         pieces, at = [], 0
         for change in sorted(self._changes, key=lambda change: change.start):
             pieces += [self.text[at : change.start], change.text]
@@ -86,7 +88,7 @@ class Preparation:
         return b"".join([*pieces, self.text[at:]])
 
     def position_before(self, place: int) -> int | None:
-        """Where a place of the result stands in the text that was read; None where it was put in."""
+        """Converts a place in the result into one of the original text; None if it is in an inserted part."""
         shift = 0
         for change in sorted(self._changes, key=lambda change: change.start):
             if place < change.start + shift:
@@ -103,21 +105,21 @@ class Preparation:
         return list(words_in(self.text[statement.start : statement.stop]))
 
     def _line_end(self, place: int) -> int:
-        """The end of the line if nothing but a comment follows there, else the place itself."""
+        """The end of the line if only a comment follows there, else the place itself."""
         rest = _REST.match(self.text, place)
         return rest.end() if rest else place
 
     def _insert(self, place: int, text: bytes) -> None:
-        """New lines behind what ends there."""
+        """Inserts new lines after the line that ends at this place."""
         at = self._line_end(place)
         self._changes.append(_Change(at, at, text))
 
     def _remove(self, start: int, stop: int) -> None:
-        """Takes out a statement or an entry, but not the comment in the line of what ends at its start."""
+        """Removes a statement or an entry, but not the comment in the line before it."""
         self._changes.append(_Change(self._line_end(start), stop, b""))
 
     def add_rows(self, site: Site, wanted: PreparationOptions) -> None:
-        """Rows of the site over the core, on the grid of the placed cells; those that the text has are taken out."""
+        """Adds rows of the site over the core, on the grid of the placed cells; removes the old rows."""
         name = f"site {shown(site.name)}"
         width, height = (_whole(length * self.units, name) for length in (site.width, site.height))
         core = wanted.core or self._die()
@@ -144,7 +146,7 @@ class Preparation:
         self.messages += [f"{rows} rows of {name} added: {size}", grid.reason]
 
     def _place_of_rows(self) -> int:
-        """Behind DIEAREA or UNITS, as the order of DEF has it."""
+        """The place for rows: after DIEAREA, else after UNITS."""
         return next(statement.stop for keyword in (b"DIEAREA", b"UNITS") for statement in self._all(keyword))
 
     def _die(self) -> Box:
@@ -158,9 +160,9 @@ class Preparation:
         raise Fault(REFUSED, "the text has no DIEAREA; --core says where rows are made")
 
     def _grid(self, core: Box, width: int, height: int) -> Grid:
-        """The grid of most of the placed cells; the core's corner where less than half of them agree."""
+        """The grid of most placed cells; the core's corner if less than half of them agree."""
         columns: Counter[int] = Counter()
-        # By where a cell stands in a pair of rows, and whether it is flipped; None where that tells nothing.
+        # By the position of a cell in a pair of rows, and whether it is flipped; None if its orientation does not say.
         row_pairs: Counter[tuple[int, bool | None]] = Counter()
         for statement in self._all(b"COMPONENTS"):
             for entry in section_parts(self.text, statement)[2]:
@@ -183,7 +185,7 @@ class Preparation:
         return Grid(x, y, upright >= flipped, reason)
 
     def remove_fillers(self, patterns: list[str]) -> None:
-        """Takes out the components whose name or macro one of the patterns has."""
+        """Removes the components whose name or macro matches a pattern."""
         are_fillers = {pattern: pattern_of(_word(pattern).encode()).fullmatch for pattern in patterns}
         removed, unmatched = 0, set(patterns)
         for statement in self._all(b"COMPONENTS"):
@@ -202,7 +204,7 @@ class Preparation:
         self.messages += [f"no component has a name or a macro like {pattern}" for pattern in patterns if pattern in unmatched and removed]
 
     def add_fences(self, fences: dict[str, list[Box]]) -> None:
-        """FENCE regions of these rectangles."""
+        """Adds FENCE regions of these rectangles."""
         known = {entry.name for statement in self._all(b"REGIONS") for entry in section_parts(self.text, statement)[2]}
         entries = []
         for name, boxes in fences.items():
@@ -215,7 +217,7 @@ class Preparation:
         self._add_entries(b"REGIONS", entries, (b"COMPONENTS", b"PINS", b"NETS", b"GROUPS", b"END"))
 
     def add_groups(self, groups: dict[str, list[str]], fences: list[str]) -> None:
-        """Groups of these patterns, each bound to the fence of its name; `fences` are those that are added."""
+        """Adds groups of these patterns, each bound to the fence of its name; `fences` are the added ones."""
         known = {*fences_of(self.text, self._statements), *(name.encode() for name in fences)}
         taken = {entry.name for statement in self._all(b"GROUPS") for entry in section_parts(self.text, statement)[2]}
         entries = []
@@ -230,7 +232,9 @@ class Preparation:
         self._add_entries(b"GROUPS", entries, (b"BEGINEXT", b"END"))
 
     def _add_entries(self, keyword: bytes, entries: list[bytes], followers: tuple[bytes, ...]) -> None:
-        """Entries at the end of the first section of that keyword; else in a new one, before the first of the followers."""
+        """Adds entries to the first section with this keyword. Without one, adds a section before the first of the
+        followers.
+        """
         if (statement := next(self._all(keyword), None)) is not None:
             section = _Section(self.text, statement)
             last, count = section.start, len(entries)
@@ -244,18 +248,18 @@ class Preparation:
 
 
 class _Section:
-    """A section with the places of its parts in the text."""
+    """A section, with the places of its parts in the text."""
 
     def __init__(self, text: bytes, statement: Statement) -> None:
         before, behind, self._entries = section_parts(text, statement)
-        # Where the count is, and where the entries begin.
+        # The place of the count, and the start of the entries.
         self.count = statement.start + len(before)
         found = _WORD.match(text, self.count, statement.stop)
         self.after_count = found.end() if found else self.count
         self.start = self.after_count + len(behind)
 
     def entries(self) -> Iterator[tuple[int, Entry]]:
-        """Each entry and where it begins."""
+        """Yields the start of each entry and the entry."""
         at = self.start
         for entry in self._entries:
             yield at, entry
@@ -263,7 +267,7 @@ class _Section:
 
 
 def _placed(entry: Entry) -> tuple[int, int, bytes] | None:
-    """The point and the orientation of a component that is PLACED."""
+    """The point and orientation of a PLACED component, or None."""
     words = entry.words
     at = next((at for at in range(2, len(words) - 5) if words[at] == b"+" and words[at + 1] == b"PLACED"), None)
     if at is None or not (_NUMBER.fullmatch(words[at + 3]) and _NUMBER.fullmatch(words[at + 4])):
@@ -273,7 +277,7 @@ def _placed(entry: Entry) -> tuple[int, int, bytes] | None:
 
 
 def whole_units(microns: str, units: int) -> int:
-    """A length of the command line in database units."""
+    """Converts a length of the command line, in microns, into database units."""
     if not re.fullmatch(r"[+-]?(\d{1,7}(\.\d{0,6})?|\.\d{1,6})", microns, re.ASCII):
         raise Fault(USAGE, f"{microns} is no length in microns")
     return _whole(Decimal(microns) * units, f"{microns} microns")
@@ -286,7 +290,7 @@ def _whole(length: Decimal, what: str) -> int:
 
 
 def _word(word: str) -> str:
-    """The word, if it can be a name or a pattern in a DEF text."""
+    """Returns the word. Raises a Fault if it cannot be a name or a pattern in a DEF file."""
     if not _NAME.fullmatch(word) or word in (";", "+", "-", "(", ")"):
         raise Fault(USAGE, f"{word!r} can be no name in a DEF text")
     return word

@@ -1,4 +1,4 @@
-"""lefence-prepare: from a DEF text without rows or fences to one that the program loads."""
+"""lefence-prepare: makes a DEF file loadable, for example one without rows or fences."""
 
 from __future__ import annotations
 
@@ -21,13 +21,13 @@ from .preparation import Preparation, PreparationOptions, whole_units
 from .skipped import Remark, line_of, remarks_of
 
 TOOL = "lefence-prepare"
-# The status where every cell breaks a rule, or where a look has something to tell.
+# The exit status if every cell breaks a rule, or if --look has found something.
 NOT_LEGAL = 4
 _BOX_WORDS = ("X1", "Y1", "X2", "Y2")
 
 
 def prepare(preparation: Preparation, wanted: PreparationOptions, libraries: list[bytes], site: str | None) -> None:
-    """Makes what is asked for; rows are made where the text has none."""
+    """Makes the requested changes. Rows are made if the text has none."""
     if wanted.replaces_rows or not preparation.has_rows:
         preparation.add_rows(_core_site(libraries, site), wanted)
     elif site is not None or wanted.core is not None or wanted.margin:
@@ -41,7 +41,7 @@ def prepare(preparation: Preparation, wanted: PreparationOptions, libraries: lis
 
 
 def _core_site(libraries: list[bytes], name: str | None) -> Site:
-    """The site of that name; without one the first with CLASS CORE and a size. Of two with one name the first counts."""
+    """Returns the named site, or the first one with CLASS CORE and a size. Of two with one name the first counts."""
     sites: dict[bytes, Site] = {}
     for library in libraries:
         for site in sites_of(library):
@@ -57,7 +57,7 @@ def _core_site(libraries: list[bytes], name: str | None) -> Site:
 
 @dataclass
 class TextSummary:
-    """What the program tells of a text, with the cells of each team, how many break each rule, and how high how many are."""
+    """What the program reports of a text: totals, cells per team, violations per rule, and cells per height."""
 
     facts: Facts
     total: Total
@@ -67,7 +67,7 @@ class TextSummary:
 
     @property
     def fits_rows(self) -> bool:
-        """Whether a cell is as high as from 1 to 8 rows, without which no place can be legal, or there is no cell at all."""
+        """Whether any cell is 1 to 8 rows high, or there is no cell. Otherwise no place is legal."""
         site = self.facts.site_height
         return not self.heights or any(height % site == 0 and height <= 8 * site for height in self.heights)
 
@@ -84,7 +84,7 @@ class TextSummary:
 
 
 def text_summary_of(program: str, text: bytes, libraries: list[Path], name: str) -> TextSummary:
-    """What the program tells of a text; a fault, which calls it by this name, where it does not load."""
+    """Has the program read a text. Raises a Fault, with this name for the text, if it does not load."""
     with tempfile.NamedTemporaryFile(suffix=".def") as file:
         file.write(text)
         file.flush()
@@ -104,7 +104,7 @@ def text_summary_of(program: str, text: bytes, libraries: list[Path], name: str)
 
 
 def wanted_of(options: argparse.Namespace, units: int) -> PreparationOptions:
-    """What the command line asks for, in database units."""
+    """The requested changes of the command line, in database units."""
     margin = whole_units(options.margin, units) if options.margin else 0
     fences: dict[str, list[Box]] = {}
     for name, *corners in options.fence:
@@ -181,7 +181,7 @@ def main() -> int:
 
 
 def list_skipped(program: str, options: argparse.Namespace) -> int:
-    """Tells of the text as it is, on standard output."""
+    """Prints what the program skips in the text as it is."""
     if options.output or options.rows or options.site or options.core or options.margin or options.fillers or options.fence or options.group:
         raise Fault(USAGE, "--look tells of the text as it is: it goes with no option that prepares or writes one")
     text = options.design.read_bytes()
@@ -196,7 +196,7 @@ def list_skipped(program: str, options: argparse.Namespace) -> int:
 
 @dataclass
 class CheckResult:
-    """What there is to say of a text, and the status to end with: 0, 4 where every cell breaks a rule, or why it is not sound."""
+    """Messages about a text, and the exit status: 0, 4 if every cell breaks a rule, or that of the fault."""
 
     status: int
     lines: list[str]
@@ -205,7 +205,7 @@ class CheckResult:
 
 
 def check(program: str, text: bytes, libraries: list[Path], name: str) -> CheckResult:
-    """What the program makes of a text, and what it passes over in it; its fault calls the text by this name."""
+    """Has the program read a text, and lists what it skips there. Messages call the text by this name."""
     try:
         summary = text_summary_of(program, text, libraries, name)
     except Fault as fault:
@@ -223,12 +223,12 @@ def check(program: str, text: bytes, libraries: list[Path], name: str) -> CheckR
 
 
 def _located(path: Path, text: bytes, place: int | None, said: str) -> str:
-    """What is said of a place of a text, with its line."""
+    """Adds the line of a place to a message."""
     return said if place is None else f"{path}, line {line_of(text, place)}: {said}"
 
 
 def _report(program: str, preparation: Preparation, text: bytes, options: argparse.Namespace, wanted: PreparationOptions) -> int:
-    """Says what the program makes of the text, and what it passes over, by the lines of the text that was read; the status."""
+    """Prints the check of the prepared text, with lines of the original text; returns the exit status."""
     result = check(program, text, options.libraries, "the prepared text")
     for remark in result.remarks:
         place = None if remark.place is None else preparation.position_before(remark.place)

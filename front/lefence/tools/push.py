@@ -1,8 +1,9 @@
 """lefence-push: sends the commands of a journal, or the lines of a repair, to the hub of the whole design.
 
-Each reply must be the one that the journal has. The program's theorem promises that where the journal is of a slice of the
-same design and nobody else changed its teams; at the first other reply nothing more is sent. Of the lines of a repair each reply
-must be what it was behind the design as it is loaded, as far as the lines tell.
+Each reply must equal the one in the journal. The program's theorem guarantees that if the journal is of a slice of the
+same design and nobody else has changed its teams. After the first reply that differs, nothing more is sent.
+
+The lines of a repair imply their replies on the design as it is loaded; those are compared as far as known.
 """
 
 from __future__ import annotations
@@ -20,18 +21,18 @@ from ..journal.segments import read_records
 
 TOOL = "lefence-push"
 
-# The number of a record in the journal or of a line, from 1; its line without a line feed, and its reply: one with a line feed is
-# known as a whole, else it begins so.
+# The number of a record in the journal, or of a line, from 1; its line without a line feed; and its reply. A reply with
+# a line feed is complete, else it is only the beginning.
 Record = tuple[int, bytes, bytes]
 
 
 def revision_of(line: bytes, reply: bytes) -> int | None:
-    """The revision that a record made; None of one that made none, as one of a session."""
+    """Returns the revision that a record made, or None."""
     return int(reply.split()[1]) if line.split()[0] in REVISIONS else None
 
 
 def records_of(path: Path) -> Iterator[Record]:
-    """The records of a journal, or those of the lines of a repair; a fault where the file has neither."""
+    """Reads the records of a journal or of a repair's lines. Raises a Fault if the file has neither."""
     with open(path, "rb") as file:
         if file.read(5) == b"open ":
             file.seek(0)
@@ -42,7 +43,9 @@ def records_of(path: Path) -> Iterator[Record]:
 
 
 def _records_of_lines(path: Path, lines: Iterable[bytes]) -> Iterator[Record]:
-    """Records of lines that a program accepted behind the design as it is loaded: sessions and revisions are as they were there."""
+    """Makes records of lines that a program accepted on the design as it is loaded, which determines sessions and
+    revisions.
+    """
     revisions: Counter[bytes] = Counter()
     sessions: defaultdict[bytes, set[int]] = defaultdict(set)
     for number, line in enumerate(lines, 1):
@@ -63,24 +66,24 @@ def _records_of_lines(path: Path, lines: Iterable[bytes]) -> Iterator[Record]:
 
 
 def is_recorded_reply(reply: bytes, recorded: bytes) -> bool:
-    """Whether a reply is the one of a record."""
+    """Whether a reply is the recorded one."""
     return reply == recorded or not recorded.endswith(b"\n") and reply.startswith((recorded + b"\n", recorded + b" "))
 
 
 class Push:
-    """Records on their way to a connection, each reply compared with the recorded one."""
+    """Sends records over a connection and compares each reply with the recorded one."""
 
     def __init__(self, connection: Connection, ahead: int) -> None:
-        """Up to `ahead` lines are in flight; with 1, nothing is sent behind a reply that differs."""
+        """Allows `ahead` lines in flight; with 1, nothing is sent after a reply that differs."""
         self._connection = connection
         self._ahead = ahead
         self._in_flight: deque[tuple[Record, SentLine]] = deque()
-        # The last revision of each team that was answered as recorded, and how many records were.
+        # The last revision of each team with a recorded reply, and the number of such replies.
         self.revisions: dict[bytes, int] = {}
         self.count = 0
 
     def send_all(self, records: Iterable[Record]) -> None:
-        """Sends the records; a fault tells the first reply that differs."""
+        """Sends the records. Raises a Fault at the first reply that differs."""
         for record in records:
             self._in_flight.append((record, self._connection.send(record[1])))
             if len(self._in_flight) >= self._ahead:
@@ -106,9 +109,9 @@ def _text(reply: bytes) -> str:
 
 
 def remaining_records(connection: Connection, records: list[Record], push: Push) -> Iterator[Record]:
-    """The records behind those that an earlier push of the same ones sent, by each team's revision there.
+    """Yields the records after those of an earlier push, by each team's present revision.
 
-    Each team's sessions are opened again as they were at that revision.
+    It opens each team's sessions as they were at that revision.
     """
     skips: dict[bytes, int] = {}
     for team in dict.fromkeys(line.split()[1] for _, line, _ in records):
@@ -133,7 +136,7 @@ def _current_revision(connection: Connection, team: bytes) -> int:
 
 
 def _sessions_after(records: list[Record]) -> set[int]:
-    """The numbers of the sessions that are open behind these records of one team."""
+    """The numbers of the sessions that are open after these records of one team."""
     found: set[int] = set()
     for _, line, reply in records:
         words = line.split()
@@ -154,7 +157,7 @@ def _open_again(connection: Connection, team: bytes, sessions: set[int], revisio
 
 
 def push_file(path: Path, where: str, ahead: int, continues: bool) -> Push:
-    """Sends the commands of a journal or a repair to a socket; a fault tells the first reply that differs, or that it is lost."""
+    """Sends the commands of a journal or a repair to a socket. Raises a Fault at the first reply that differs."""
     records = list(records_of(path))
     endpoint = connect_to(where)
     push = Push(endpoint.connection, max(1, ahead))

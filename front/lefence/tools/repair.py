@@ -1,6 +1,6 @@
-"""lefence-repair: `lefence repair`, with a summary in words, and a text in which the other cells of a team with cells left are repaired.
+"""lefence-repair: runs `lefence repair`, prints a summary, and writes the design also if some cell found no place.
 
-It holds no rule of legality: the program finds the places, and tells which cells are left.
+It has no rules of legality: the program finds the places and reports the unrepaired cells.
 """
 
 from __future__ import annotations
@@ -19,12 +19,12 @@ from .repair_remote import repair_remote
 from .repair_run import RepairRun, print_moves
 
 TOOL = "lefence-repair"
-# The status where a cell is left, as of `lefence check`.
+# The exit status if a cell remains unrepaired, as of `lefence check`.
 NOT_LEGAL = 4
 
 
 def repair_design(options: argparse.Namespace) -> int:
-    """Repairs what a command line asks for; the exit status."""
+    """Repairs what the command line requests; returns the exit status."""
     if options.output:
         refuse_inputs(options.output, options.libraries)
     teams, program = options.team or [], Program(find_program(options.program), [options.design, *options.libraries])
@@ -46,7 +46,9 @@ def repair_design(options: argparse.Namespace) -> int:
 
 
 def _end_of(total: dict[str, Any], is_written: bool, team: str | None = None) -> int:
-    """Tells how it ends, of all teams or of one that is committed where no cell of it is left; the exit status."""
+    """Prints the result for all teams, or for one that is committed if all its cells are legal; returns the exit
+    status.
+    """
     is_idle = not (total["moved"] or total["turned"] or total["placed"] or total["left_cells"])
     if is_idle:
         log(TOOL, "nothing moves" + (f"; team {team} is committed" if team else ""))

@@ -1,6 +1,6 @@
-"""lefence-repair for a team of a running hub: its slice, with the cells as they stand there, is repaired, and the lines are sent there.
+"""Repairs a team of a running hub: repairs its slice with the cells' present places, then sends the changes to the hub.
 
-They go as changes of a session, each reply compared with the one over the slice.
+The changes go through a session; each reply is compared with the one on the slice.
 """
 
 from __future__ import annotations
@@ -22,7 +22,7 @@ from .splice import Spot, with_spots
 
 
 def repair_remote(tool: str, where: str, teams: list[str], program: Program, options: list[str]) -> RepairRun:
-    """Repairs a team of a hub over the design of a program's texts; a fault tells the first reply that differs."""
+    """Repairs a team of a hub over the same design. Raises a Fault at the first reply that differs."""
     endpoint = connect_to(where)
     try:
         team = _team_of(endpoint, teams)
@@ -44,7 +44,7 @@ def repair_remote(tool: str, where: str, teams: list[str], program: Program, opt
 
 
 def _team_of(endpoint: Endpoint, teams: list[str]) -> str:
-    """The team that is named, or else the one of the socket."""
+    """The requested team, else the socket's."""
     named = teams or endpoint.teams
     if len(named) != 1:
         raise Fault(USAGE, "--team is needed, once")
@@ -52,7 +52,7 @@ def _team_of(endpoint: Endpoint, teams: list[str]) -> str:
 
 
 def _current_slice(design: Path, session: Session) -> bytes:
-    """The slice of the session's team, with its cells as they stand there."""
+    """The slice of the session's team, with the cells at their present working places."""
     part = slice_of_design(complete_design(design, design.read_bytes()), session.team)
     cells = session.cells()
     if [cell.name for cell in cells] != [shown(name) for name in Design(part).cells_of(session.team.encode())]:
@@ -61,7 +61,7 @@ def _current_slice(design: Path, session: Session) -> bytes:
 
 
 def _in_session(answers: list[tuple[bytes, bytes]], session: Session) -> Iterator[Record]:
-    """The changes of a repair and their replies, for a session that is open, and behind its first revision."""
+    """The changes of a repair and their replies, rewritten for an open session and its first revision."""
     for number, (line, reply) in enumerate(answers, 1):
         verb, team, _, *fields = [*line.split(), b""]
         if verb not in (b"open", b"close"):

@@ -1,6 +1,6 @@
-"""A repair by the program, and what it did to single cells.
+"""A repair by the program, and its effect on single cells.
 
-That the program tells when it answers the repair's lines once more.
+To find the effect, the program replays the lines of the repair.
 """
 
 from __future__ import annotations
@@ -22,7 +22,7 @@ from .splice import Spot, with_spots
 
 
 class Move(NamedTuple):
-    """A cell of a team, and where it stood before a repair and stands behind it; None where it has no place."""
+    """A cell's place before and after a repair; None if unplaced."""
 
     team: str
     cell: str
@@ -31,7 +31,7 @@ class Move(NamedTuple):
 
 
 def moves_of(program: Program, lines: Path, teams: Mapping[str, list[str]]) -> list[Move]:
-    """What the lines of a repair do to cells of these teams: to those of given names, and to all that the lines name."""
+    """Returns the moves of the given cells of these teams, and of all cells that the lines of their repair name."""
     cells = {team.encode(): dict.fromkeys(name.encode() for name in names) for team, names in teams.items()}
     repair_lines = []
     with open(lines, "rb") as file:
@@ -53,7 +53,7 @@ def moves_of(program: Program, lines: Path, teams: Mapping[str, list[str]]) -> l
 
 
 def replies_of(program: Program, lines: list[bytes]) -> list[bytes]:
-    """What the program answers to lines of verbs other than `def`; both have their line feeds."""
+    """Returns the program's replies to lines of verbs other than `def`. Both have line feeds."""
     with tempfile.TemporaryFile() as file:
         program.answer(lines, file)
         file.seek(0)
@@ -64,7 +64,7 @@ def replies_of(program: Program, lines: list[bytes]) -> list[bytes]:
 
 
 def _spot_in(reply: bytes) -> Spot | None:
-    """The place that a reply of `where` tells; None where there is none."""
+    """Parses the place in a reply of `where`; None if the cell is unplaced."""
     words = reply.decode("ascii", "backslashreplace").split()
     if words[:1] == ["ok"]:
         return Spot(int(words[1]), int(words[2]), words[3])
@@ -74,37 +74,37 @@ def _spot_in(reply: bytes) -> Spot | None:
 
 
 def _unexpected(reply: bytes) -> Fault:
-    """The fault of a program that refuses what it never refuses."""
+    """Makes the fault of an unexpected reply."""
     return Fault(FAILED, f"the program answered {reply.decode('ascii', 'backslashreplace').rstrip()!r}")
 
 
 class RepairRun:
-    """A repair that is done, and what is told of it."""
+    """A finished repair and its report."""
 
     def __init__(self, tool: str, program: Program, options: list[str], folder: Path, is_exported: bool) -> None:
-        """Has the program repair teams, as its options ask for, for a tool; its files are put into a folder."""
+        """Has the program repair teams; `options` select them. Its files go to a folder."""
         self._tool, self._program = tool, program
         self._lines, self._exported = folder / "lines", folder / "new.def"
         export = self._exported if is_exported else None
         *self.teams, self.total = program.repair(options, self._lines, export, Progress(tool, "the program repairs"))
         with ExitStack() as stack:
-            # (of a text that the program has loaded)
+            # (the program has loaded this text)
             self._units = int(units_in(map_file(program.texts[0], stack)))
-        # The teams with cells that are left, each with the names of these.
+        # The unrepaired cells of each team that has some.
         self.unrepaired: dict[str, list[str]] = {team["team"]: team["left"] for team in self.teams if team["left"]}
 
     def moves(self, is_all: bool) -> list[Move]:
-        """What became of the cells of the teams with cells that are left, or of all."""
+        """The moves of the teams with unrepaired cells, or of all teams."""
         wanted = {team["team"]: team["left"] for team in self.teams if is_all or team["left"]}
         return moves_of(self._program, self._lines, wanted) if wanted else []
 
     def answers(self) -> list[tuple[bytes, bytes]]:
-        """The lines of the repair, and the program's replies to them."""
+        """The lines of the repair, and the program's replies."""
         lines = self._lines.read_bytes().splitlines(keepends=True)
         return list(zip(lines, replies_of(self._program, lines)))
 
     def write(self, output: BinaryIO, moves: list[Move]) -> None:
-        """Writes what the program exported, and in it the places that it does not export, since a team could not be committed."""
+        """Writes the program's export, with the places of teams that could not be committed, which it lacks."""
         if not moves:
             with open(self._exported, "rb") as file:
                 shutil.copyfileobj(file, output)
@@ -112,7 +112,7 @@ class RepairRun:
         output.write(with_spots(self._exported.read_bytes(), {move.cell: move.new for move in moves if move.old != move.new}))
 
     def report(self, moves: list[Move]) -> None:
-        """What became of each team's cells, and which are left, on standard error."""
+        """Prints the result of each team and its unrepaired cells on standard error."""
         old_spots = {(move.team, move.cell): move.old for move in moves}
         text = [team for team in self.teams if team["cells"] or team["moved"] or team["turned"]]
         for team in text:
@@ -137,7 +137,7 @@ class RepairRun:
 
 
 def print_moves(moves: list[Move], unrepaired: Mapping[str, list[str]]) -> None:
-    """What would move, on standard output: a line for each cell."""
+    """Prints a line for each cell that would move, on standard output."""
     unplaced = {(team, cell) for team, names in unrepaired.items() for cell in names}
     for move in moves:
         old, new = move.old, move.new

@@ -1,6 +1,6 @@
-"""lefence-report: a page about a design that needs nothing but a browser.
+"""lefence-report: writes a page about a design that needs only a browser.
 
-A design of many cells is drawn as a map, with the cells around the listed violations; for these the description is read twice.
+A design of many cells is drawn as a map, with the cells around the listed violations. Those need a second description.
 """
 
 from __future__ import annotations
@@ -31,32 +31,34 @@ from .summary import refuse_other_units
 from .team_area import areas_of
 
 TOOL = "lefence-report"
-# How many violations are listed, if nothing else is asked for.
+# The default number of listed violations.
 MOST_LISTED = 500
-# How much text the cells around the listed violations may take in all; how far around they stand, and the side of a tile, in
-# heights of a core site.
+# The most bytes of the cells around the listed violations; their greatest distance and the side of a tile, in site
+# heights.
 NEAR_BYTES, NEAR, TILE = 3_000_000, 3, 2
-# The most heights of a core site of a cell that breaks a rule, along either side, around which others are looked for.
+# The greatest extent of a violation, in tiles along either side, around which cells are searched.
 LARGEST = 64
 
 
 @dataclass
 class Report:
-    """What a page tells: the scene, each team's ground, what is drawn one by one, and the file that was read."""
+    """The contents of a page: the scene, each team's area, the cells and obstacles drawn one by one, and the design's
+    file.
+    """
 
     scene: Scene
     ground: dict[str, int]
     cells: list[Cell]
     obstacles: list[Obstacle]
     design: Path
-    # What became of the cells since an earlier placement, if one was given.
+    # The differences to an earlier placement, if one was given.
     diff: PlacementDiff | None = None
-    # Whether cells near to violations are left out.
+    # Whether some cells near violations are left out.
     lacks: bool = False
 
 
 class Near:
-    """Which cells stand near to one that breaks a rule, by square tiles; as many as fit into NEAR_BYTES."""
+    """Selects cells near a violation, by square tiles, up to NEAR_BYTES."""
 
     def __init__(self, broken: list[Cell], height: int) -> None:
         self._side = TILE * height
@@ -73,11 +75,11 @@ class Near:
 
     @property
     def is_full(self) -> bool:
-        """Whether no more fits."""
+        """Whether the limit is reached."""
         return self._left <= 0
 
     def holds(self, name: str | None, box: Box) -> bool:
-        """Whether a thing with such a name is kept, and counts."""
+        """Whether a thing at this place is kept; it then counts for the limit."""
         side = self._side
         corners = [(x // side, y // side) for x in (box.left, box.right - 1) for y in (box.bottom, box.top - 1)]
         if self.is_full or self._tiles.isdisjoint(corners):
@@ -86,12 +88,12 @@ class Near:
         return True
 
     def has(self, cell: Cell) -> bool:
-        """Whether the cell is kept, and counts; those that break a rule are kept elsewhere."""
+        """Whether the cell is kept; it then counts for the limit. Cells that break a rule are kept elsewhere."""
         return cell.box is not None and cell.name not in self._broken and self.holds(cell.name, cell.box)
 
 
 def _taken(scene: Scene, cells: Iterator[Cell]) -> Iterator[Cell]:
-    """The cells, which the scene takes as they pass."""
+    """Yields the cells and adds them to the scene."""
     for cell in cells:
         scene.take(cell)
         yield cell
@@ -100,7 +102,8 @@ def _taken(scene: Scene, cells: Iterator[Cell]) -> Iterator[Cell]:
 def report_of(
     program: str, design: Path, libraries: list[Path], limit: int = LIMIT, most: int = MOST_LISTED, before: Path | None = None
 ) -> Report:
-    """What there is to tell of a design, and of what became of its cells since another text; at most so many violations are listed."""
+    """Collects a report of a design with at most `most` violations; with `before`, also the differences to that file.
+    """
     with ExitStack() as both:
         description = both.enter_context(Description(program, design, libraries))
         scene = Scene(description.frame, limit, most)
@@ -128,7 +131,7 @@ def report_of(
 
 
 def page_of(report: Report) -> str:
-    """The page, without anything outside of it."""
+    """Returns the page; it refers to no other file."""
     facts = report.scene.frame.facts
     parts = {
         "TITLE": text_of(f"{shortened(facts.name, 60)} – lefence"),
@@ -148,12 +151,12 @@ def page_of(report: Report) -> str:
 
 
 def _embedded(data: dict[str, object]) -> str:
-    """JSON that may stand within an element of HTML."""
+    """JSON inside an element of HTML."""
     return json.dumps(data, separators=(",", ":")).replace("<", "\\u003c")
 
 
 def _data(report: Report) -> dict[str, object]:
-    """What the page's script draws."""
+    """The data for the page's script."""
     scene, frame = report.scene, report.scene.frame
     numbers = {team: at for at, team in enumerate(frame.teams)}
     macros: dict[str, int] = {}
@@ -227,7 +230,7 @@ def _legend(report: Report) -> str:
 
 
 def _violations_note(report: Report) -> str:
-    """How many violations of each rule there are, and how many of them are listed."""
+    """The number of violations by rule, and how many of them are listed."""
     scene = report.scene
     rules: Counter[int] = sum((tally.broken for tally in scene.tallies.values()), start=Counter())
     broken = rules.total()
@@ -242,7 +245,7 @@ def _violations_note(report: Report) -> str:
 
 
 def _violations(scene: Scene) -> str:
-    """A line for each listed violation; it leads to its place."""
+    """A row for each listed violation, with a link to its place."""
     if not scene.broken:
         return ""
     swatches = {team: _swatch(scene.frame, team) for team in {cell.team for cell in scene.broken}}
@@ -262,7 +265,7 @@ def _violations(scene: Scene) -> str:
 
 
 def _teams(report: Report) -> str:
-    """A line for each team; it leads to its fence."""
+    """A row for each team, with a link to its fence."""
     scene, square = report.scene, report.scene.frame.facts.units ** 2
     lines = []
     for team, tally in scene.tallies.items():

@@ -1,4 +1,4 @@
-"""What a report tells of an earlier placement of the design: what became of each team's cells, which went farthest, and the arrows."""
+"""The part of a report about an earlier placement: statistics of each team's cells, the farthest cells, and arrows."""
 
 from __future__ import annotations
 
@@ -12,13 +12,13 @@ from .displacement import Summary, Team, notes_of, summary_of
 from .drawing import Move, by_length, number, text_of
 from .picture import Moves
 
-# How many of the cells that went farthest are listed.
+# The most farthest cells listed.
 MOST_LISTED = 50
 
 
 @dataclass
 class PlacementDiff:
-    """What became of the cells since an earlier placement, in this file; the longest moves, and how many there are."""
+    """The differences to an earlier placement in a file; the longest moves, and the number of all moves."""
 
     summary: Summary
     moves: list[Move]
@@ -31,7 +31,7 @@ class PlacementDiff:
 
 
 def placement_diff(file: Path, early: Description, late: Description, cells: Iterable[Cell]) -> PlacementDiff:
-    """What became of the cells of the design, which are gone through once, beside those of the earlier placement."""
+    """Compares the cells of a design, read once, with those of an earlier placement."""
     moves = Moves()
 
     def taken(cells: Iterable[Cell], is_after: bool) -> Iterator[Cell]:
@@ -45,7 +45,8 @@ def placement_diff(file: Path, early: Description, late: Description, cells: Ite
 
 
 def data_of(diff: PlacementDiff) -> dict[str, object]:
-    """What the page's script draws: of each arrow both ends, the number of its colour and the cell; and where the farthest cells went."""
+    """The data for the page's script: each arrow's ends, colour number and cell; and the places of the farthest cells.
+    """
     arrows: list[list[object]] = []
     colours: list[str] = []
     for _, colour, moves in by_length(diff.moves, diff.row_height):
@@ -58,12 +59,12 @@ def data_of(diff: PlacementDiff) -> dict[str, object]:
 
 
 def legend_of(diff: PlacementDiff) -> list[tuple[str, str]]:
-    """The colours of the arrows that there are, with how far they lead."""
+    """The colours of the arrows in use, with their lengths."""
     return [(colour, f"moved {label}") for label, colour, moves in by_length(diff.moves, diff.row_height) if moves]
 
 
 def section_of(diff: PlacementDiff) -> str:
-    """The part of the page that tells of it."""
+    """The section of the page."""
     summary = diff.summary
     lines = [f"{number(diff.moved, 'cell')} moved, {summary.all.turned:,} only turned, {summary.all.kept:,} stayed."]
     if len(diff.moves) < diff.moved:
@@ -83,7 +84,7 @@ def _alone(summary: Summary) -> tuple[tuple[list[str], str], tuple[list[str], st
 
 
 def _teams(summary: Summary) -> str:
-    """A line for each team, which leads to its fence."""
+    """A row for each team, with a link to its fence."""
     heads = ("Moved", "Turned", "Newly placed", "Newly unplaced", "Mean way, µm", "Largest, µm", "Illegal", "Unplaced")
     return _table(["Team", *heads], (_team(team, summary) for team in summary.teams), 1)
 
@@ -101,7 +102,7 @@ def _states(team: Team) -> tuple[tuple[int, int], tuple[int, int]]:
 
 
 def _farthest(summary: Summary) -> str:
-    """A line for each of the cells that went farthest, which leads to its way."""
+    """A row for each farthest cell, with a link to its arrow."""
     facts = summary.frame.facts
     lines = []
     for cell in summary.farthest:
@@ -112,7 +113,7 @@ def _farthest(summary: Summary) -> str:
 
 
 def _anchor_of(kind: str, name: str) -> str:
-    """What stands behind # in the page's address of a team's or a cell's place."""
+    """The part after `#` in the page's address for a team or a cell."""
     return text_of(f"{kind}=" + quote(name, safe="", errors="replace"))
 
 
@@ -121,7 +122,7 @@ def _link(kind: str, name: str) -> str:
 
 
 def _table(head: list[str], lines: Iterable[tuple[str, list[str]]], words: int) -> str:
-    """Lines that lead to places; the first columns have words, the others numbers."""
+    """A table whose rows link to places. The first `words` columns are text, the others numbers."""
 
     def row(fields: list[str], kind: str) -> str:
         first = "".join(f"<{kind}>{field}</{kind}>" for field in fields[:words])

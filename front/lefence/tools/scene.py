@@ -1,7 +1,7 @@
-"""What of a design is shown: gathered from its description in one pass, in bounded memory.
+"""The visible parts of a design, collected from its description in one pass with bounded memory.
 
-Up to a limit all placed cells are kept, to be drawn one by one. Above it there is a map: square bins with the share of their area
-that cells take, by team. The colours of teams are here too, so that a picture and a page agree.
+Up to a limit, all placed cells are kept and drawn one by one. Above it there is a map: square bins with the share of
+their area that cells take, by team. The colours of teams are here too, so that pictures and pages agree.
 """
 
 from __future__ import annotations
@@ -14,19 +14,19 @@ from dataclasses import dataclass, field
 from ..base.description import Box, Cell, Frame, Obstacle
 from ..base.protocol import GROUND
 
-# The most cells, and the most obstacles, that are drawn one by one.
+# The most cells, and the most obstacles, drawn one by one.
 LIMIT = 20_000
-# Bins along the longer side of the map, and how many shades of a share there are.
+# The number of bins along the longer side of the map, and of shades.
 BINS = 240
 SHADES = 8
-# The colours of the first fences, of the ground and of broken cells; further fences have hues that are far from red.
+# The colours of the first fences, of the ground and of cells that break a rule. Other fences get hues far from red.
 _COLOURS = ("#3d7cc9", "#3f9d63", "#d79a1e", "#8d67c9", "#1f9fa6", "#a5713f", "#c46fb0", "#7f9a2d", "#5a63cf", "#4fabdc")
 _GROUND = "#8798ae"
 BROKEN = "#d92b2b"
 
 
 def colour_of(at: int, name: str) -> str:
-    """The colour of a team by its place in `Frame.teams`."""
+    """The colour of a team by its position in `Frame.teams`."""
     if name == GROUND:
         return _GROUND
     if at < len(_COLOURS):
@@ -36,19 +36,19 @@ def colour_of(at: int, name: str) -> str:
 
 
 def darker(colour: str) -> str:
-    """A colour that can be read as text on white."""
+    """A darker colour, readable as text on white."""
     return "#" + "".join(f"{int(colour[at : at + 2], 16) * 62 // 100:02x}" for at in (1, 3, 5))
 
 
 def intersection(box: Box, other: Box) -> Box | None:
-    """What two boxes have in common; None where that is nothing."""
+    """The common part of two boxes, or None."""
     low = max(box.left, other.left), max(box.bottom, other.bottom)
     common = Box(*low, min(box.right, other.right), min(box.top, other.top))
     return common if common.width > 0 and common.height > 0 else None
 
 
 def row_blocks(frame: Frame) -> list[Box]:
-    """The ground of the rows in fewer boxes: rows of one extent along x that lie on one another are one."""
+    """Merges rows of equal extent along x that touch each other."""
     blocks: list[Box] = []
     for box in sorted((row.box for row in frame.rows), key=lambda box: (box.left, box.right, box.bottom)):
         last = blocks[-1] if blocks else None
@@ -61,7 +61,7 @@ def row_blocks(frame: Frame) -> list[Box]:
 
 @dataclass
 class Tally:
-    """Of a team: its cells, how many are unplaced, how many break which rule, and their area in square database units."""
+    """Counts of a team: cells, unplaced cells, violations by rule, and the cells' area in square database units."""
 
     cells: int = 0
     unplaced: int = 0
@@ -70,7 +70,7 @@ class Tally:
 
 
 class Bins:
-    """Square bins over a view, from its lower left corner on."""
+    """Square bins over a view, from its lower left corner."""
 
     def __init__(self, view: Box) -> None:
         self.view = view
@@ -78,7 +78,7 @@ class Bins:
         self._taken: defaultdict[tuple[int, int, int], int] = defaultdict(int)
 
     def add(self, team: int, box: Box) -> None:
-        """A team takes this box."""
+        """Adds a team's box."""
         view, side, taken = self.view, self.side, self._taken
         left, bottom = max(box.left - view.left, 0), max(box.bottom - view.bottom, 0)
         right, top = min(box.right - view.left, view.width), min(box.top - view.bottom, view.height)
@@ -94,7 +94,7 @@ class Bins:
                 taken[y, x, team] += height * (min(right, x * side + side) - max(left, x * side))
 
     def paths(self) -> dict[tuple[int, int], str]:
-        """Of each team and shade (1 to SHADES) the bins that it fills most, as an SVG path whose unit is a bin."""
+        """For each team and shade (1 to SHADES), the bins that it fills most, as an SVG path in bins."""
         most: dict[tuple[int, int], tuple[int, int]] = {}
         for (up, along, team), area in self._taken.items():
             if area > most.get((up, along), (0, 0))[0]:
@@ -103,14 +103,16 @@ class Bins:
         return _paths((place, team, min(SHADES, -(-whole[place] * SHADES // self.side**2))) for place, (_, team) in most.items())
 
     def too_full(self, others: Bins) -> dict[tuple[int, int], str]:
-        """The bins of which both together take more than there is, as `paths`, all of one team; the last shade is that of twice as much."""
+        """The bins that are more than full with both together, as `paths` of one team. The last shade is twice full or
+        more.
+        """
         room, taken = self.side**2, Counter(self._whole())
         taken.update(others._whole())
         over = ((place, area - room) for place, area in taken.items() if area > room)
         return _paths((place, ILL, min(SHADES, -(-more * SHADES // room))) for place, more in over)
 
     def _whole(self) -> dict[tuple[int, int], int]:
-        """How much of each bin is taken."""
+        """The taken area of each bin."""
         whole: defaultdict[tuple[int, int], int] = defaultdict(int)
         for (up, along, _), area in self._taken.items():
             whole[up, along] += area
@@ -118,7 +120,7 @@ class Bins:
 
 
 def _paths(bins: Iterable[tuple[tuple[int, int], int, int]]) -> dict[tuple[int, int], str]:
-    """Bins, each with its team and its shade, as a path for each of these two; neighbours in a line are one rectangle."""
+    """Makes a path of the bins of each team and shade; neighbours in a row become one rectangle."""
     runs: defaultdict[tuple[int, int], list[list[int]]] = defaultdict(list)
     for (up, along), team, shade in sorted(bins):
         places = runs[team, shade]
@@ -129,29 +131,30 @@ def _paths(bins: Iterable[tuple[tuple[int, int], int, int]]) -> dict[tuple[int, 
     return {key: "".join(f"M{x} {y}h{n}v1h-{n}z" for y, x, n in places) for key, places in sorted(runs.items())}
 
 
-# The numbers, in the place of a team's, of obstacles in a map and of cells that break a rule.
+# Numbers used like a team's: of obstacles in a map, and of cells that break a rule.
 OBSTACLES, ILL = -1, -2
 
 
 class Scene:
-    """What is shown of a design whose cells are taken one by one."""
+    """The visible parts of a design whose cells are added one by one."""
 
     def __init__(self, frame: Frame, limit: int = LIMIT, most_broken: int = LIMIT) -> None:
-        """Above `limit` cells there is a map; at most `most_broken` of the cells that break a rule are kept."""
+        """Draws a map above `limit` cells; keeps at most `most_broken` cells that break a rule."""
         self.frame = frame
         box = frame.box
         edge = max(1, max(box.width, box.height) // 50)
         self.view = Box(box.left - edge, box.bottom - edge, box.right + edge, box.top + edge)
         self.tallies = {team: Tally() for team in frame.teams}
         self.outside = 0
-        # The placed cells, where there is no map.
+        # The placed cells, if there is no map.
         self.cells: list[Cell] = []
         self.broken: list[Cell] = []
         self.map: Bins | None = None
         self.broken_map = Bins(self.view)
         self._limit, self._most_broken = limit, most_broken
         self._numbers = {team: at for at, team in enumerate(frame.teams)}
-        # Of many obstacles and soft blockages those are drawn that are no smaller than a bin; the other obstacles are in the map.
+        # Of many obstacles and soft blockages, only those as large as a bin are drawn. The other obstacles are in the
+        # map.
         self.obstacles, self.soft = frame.obstacles, frame.soft
         self._small: list[Obstacle] = []
         least = self.broken_map.side**2
@@ -164,7 +167,7 @@ class Scene:
             self.soft = [box for box in frame.soft if box.area >= least][:limit]
 
     def take(self, cell: Cell) -> None:
-        """One more cell of the design."""
+        """Adds a cell of the design."""
         tally = self.tallies[cell.team]
         tally.cells += 1
         tally.area += cell.width * cell.height
@@ -199,7 +202,9 @@ class Scene:
 
     @property
     def shows_too_full(self) -> bool:
-        """Whether the red of a map is for bins that are too full: where two of three cells break a rule, that tells more than where."""
+        """Whether the map's red shows overfull bins: if two of three cells break a rule, that says more than their
+        places.
+        """
         return 3 * self.sum_of("broken") > 2 * (self.sum_of("cells") - self.sum_of("unplaced"))
 
     def red_paths(self) -> dict[tuple[int, int], str]:
@@ -212,6 +217,6 @@ class Scene:
         return self.map.too_full(drawn)
 
     def sum_of(self, key: str) -> int:
-        """`cells` or `unplaced` or `broken` of all teams together."""
+        """The sum of `cells`, `unplaced` or `broken` over all teams."""
         values = (getattr(tally, key) for tally in self.tallies.values())
         return sum(value.total() if isinstance(value, Counter) else value for value in values)

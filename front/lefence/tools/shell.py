@@ -1,4 +1,4 @@
-"""lefence-shell: a session by hand, with completion, history and replies in words."""
+"""lefence-shell: an interactive session with completion, history and replies in words."""
 
 from __future__ import annotations
 
@@ -20,9 +20,9 @@ from ..client.verbs import Legalized, Place, Report, Tidied
 
 TOOL = "lefence-shell"
 _NAME_IN_ENTRY = re.compile(rb"^- (\S+)", re.M)
-# What to do where `tidy` finds no place (docs/PROTOCOL.md).
+# The advice if `tidy` finds no place (docs/PROTOCOL.md).
 _TIDY_HINT = "nothing has moved; cells that break a rule may stand where there is room: `check` names them, `unplace` takes one away"
-# The most rows of a report that are printed.
+# The most violations printed.
 _MOST_ROWS = 200
 # The greatest padding (docs/PROTOCOL.md, "Lines and fields").
 _MOST_PADDING = 16
@@ -35,12 +35,12 @@ SHELL_COMMANDS = {
     "help": ("[VERB]", "what a verb takes and does"),
     "quit": ("", "ends"),
 }
-# Verbs of the protocol that `team` and `quit` stand for.
+# Verbs of the protocol that `team` and `quit` replace.
 _HIDDEN = ("open",)
 
 
 def report_lines(report: Report) -> list[str]:
-    """A report as a table."""
+    """Formats a report as a table."""
     lines = [f"{report.cells} cells, {report.unplaced} without a place, {len(report.violations)} break a rule"]
     shown = report.violations[:_MOST_ROWS]
     if shown:
@@ -55,7 +55,7 @@ def report_lines(report: Report) -> list[str]:
 
 
 def result_lines(verb: str, fields: list[str], result: object) -> list[str]:
-    """What an accepted verb came to, in words."""
+    """Formats the result of an accepted verb in words."""
     if isinstance(result, Report):
         return report_lines(result)
     if isinstance(result, bytes):
@@ -71,7 +71,7 @@ def result_lines(verb: str, fields: list[str], result: object) -> list[str]:
 
 
 class Shell(cmd.Cmd):
-    """Commands of one connection, each answered in words."""
+    """Commands over one connection, with replies in words."""
 
     identchars = cmd.Cmd.identchars + "-"
 
@@ -81,7 +81,7 @@ class Shell(cmd.Cmd):
         self._teams = list(endpoint.teams)
         self._sessions: dict[str, Session] = {}
         self._team: str | None = None
-        # The cells of each team, once somebody completed one.
+        # The cells of each team, after the first completion.
         self._cells: dict[str, list[str]] = {}
         self._name()
 
@@ -91,7 +91,7 @@ class Shell(cmd.Cmd):
     # One line.
 
     def onecmd(self, line: str) -> bool:
-        """Answers a line; True where the shell is to end."""
+        """Executes a line; returns True if the shell is to end."""
         words = line.split()
         if not words:
             return False
@@ -170,7 +170,7 @@ class Shell(cmd.Cmd):
     # Help and completion.
 
     def do_help(self, arg: str) -> None:
-        """What a command takes and does, or all commands."""
+        """Prints what a command takes and does, or all commands."""
         rows = {name: (" ".join(verb.fields), verb.text) for name, verb in VERBS.items() if name not in _HIDDEN} | SHELL_COMMANDS
         if arg in rows:
             fields, text = rows[arg]
@@ -184,7 +184,7 @@ class Shell(cmd.Cmd):
         return _matches(text, (name for name in [*VERBS, *SHELL_COMMANDS] if name not in _HIDDEN))
 
     def completedefault(self, text: str = "", line: str = "", begidx: int = 0, endidx: int = 0, *ignored: object) -> list[str]:
-        """Completes the fields of verbs: cells of the team, orientations; teams behind `team`."""
+        """Completes the fields of verbs: the team's cells, orientations; and teams after `team`."""
         verb, *before = line[:begidx].split()
         if verb == "team":
             return _matches(text, self._teams)
@@ -200,7 +200,7 @@ class Shell(cmd.Cmd):
         return self.completenames(str(words[0]))
 
     def _known_cells(self) -> list[str]:
-        """The team's cells, by its DEF text, which is asked for once."""
+        """The team's cells, from its DEF text, which is read once."""
         try:
             team = self._session().team
             if team not in self._cells:
@@ -214,7 +214,7 @@ class Shell(cmd.Cmd):
 
 
 def _value(kind: str, field: str) -> str | int:
-    """A field as the client library takes it; ValueError of one that no request can have."""
+    """Converts a field for the client library. Raises ValueError if no request can have it."""
     if kind == "O" and field not in ORIENTS:
         hint = f", which calls it {OPENACCESS[field]}" if field in OPENACCESS else ""
         raise ValueError(f"{field} is no orientation of DEF{hint}: {' '.join(ORIENTS)}")
@@ -233,7 +233,7 @@ def _history() -> Path:
 
 
 def _interact(shell: Shell) -> None:
-    """Answers the lines of standard input; a terminal gets completion and history."""
+    """Executes the lines of standard input; a terminal gets completion and history."""
     if not sys.stdin.isatty():
         shell.prompt = ""
         shell.use_rawinput = False
@@ -266,7 +266,7 @@ def _interact(shell: Shell) -> None:
 
 
 def _relay(connection: Connection) -> None:
-    """Sends each line of standard input, and writes its reply, up to the end of either side."""
+    """Sends each line of standard input and writes its reply, until either side ends."""
     for line in sys.stdin.buffer:
         sys.stdout.buffer.write(connection.ask_line(line.removesuffix(b"\n")))
         sys.stdout.buffer.flush()
@@ -287,7 +287,7 @@ def parser() -> Parser:
 
 
 def _endpoint_of(options: argparse.Namespace) -> Endpoint:
-    """What a command line is to be connected to."""
+    """Connects as the command line requests."""
     first, *more = options.where
     if more:
         return start_program(options.program, [Path(word) for word in options.where])
@@ -299,7 +299,7 @@ def _endpoint_of(options: argparse.Namespace) -> Endpoint:
 def main() -> int:
     options = parser().parse_args()
     for stream in (sys.stdin, sys.stdout):
-        # Any bytes come in and go out as they are.
+        # Any bytes pass unchanged.
         if isinstance(stream, io.TextIOWrapper):
             stream.reconfigure(errors="surrogateescape")
 
@@ -325,7 +325,7 @@ def main() -> int:
 
 
 def _matches(text: str, words: Iterable[str]) -> list[str]:
-    """The words that begin so; the only one with the space that goes on behind it."""
+    """The words with this beginning. A single match gets a space after it."""
     found = [word for word in words if word.startswith(text)]
     return [f"{found[0]} "] if len(found) == 1 else found
 

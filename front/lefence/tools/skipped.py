@@ -1,6 +1,7 @@
-"""What the program passes over in a DEF text without a word, though whoever wrote it may have meant something by it.
+"""What the program skips in a DEF file without a message, although its author may have meant something by it.
 
-The text loads with all of this (docs/PROTOCOL.md, "LEF and DEF texts" and "Loading"); nothing here is a rule of the program.
+The file loads with all of this (docs/PROTOCOL.md, "LEF and DEF texts" and "Loading"). Nothing here is a rule of the
+program.
 """
 
 from __future__ import annotations
@@ -15,9 +16,9 @@ from ..base.description import Facts
 from ..base.design import STAR, TOKENS, Design, Entry, pattern_of, section_parts, shown, words_in
 from ..base.protocol import GROUND
 
-# Of remarks of one kind so many are told one by one.
+# The most remarks of one kind listed one by one.
 MOST_ALIKE = 5
-# The words that may stand behind `+` in DEF 5.8, by the section.
+# The words that DEF 5.8 allows after `+`, by section.
 CLAUSES = {
     b"COMPONENTS": frozenset(b"EEQMASTER SOURCE FIXED COVER PLACED UNPLACED MASKSHIFT HALO ROUTEHALO WEIGHT REGION PROPERTY".split()),
     b"REGIONS": frozenset(b"TYPE PROPERTY".split()),
@@ -28,12 +29,12 @@ CLAUSES = {
 }
 _PLUS = re.compile(rb"\+[ \t\r\n]+([^ \t\r\n]+)")
 _PLACEMENTS = (b"PLACED", b"UNPLACED", b"FIXED", b"COVER")
-# What an entry of a section is called.
+# The name of an entry, by section.
 _CALLED = {b"COMPONENTS": "component", b"REGIONS": "region", b"GROUPS": "group", b"BLOCKAGES": "blockage"}
 
 
 class Remark(NamedTuple):
-    """What is told, of which kind it is, and where in the text that stands; None where it is said of no one place."""
+    """A remark, its kind, and its place in the text, or None."""
 
     kind: str
     text: str
@@ -41,13 +42,13 @@ class Remark(NamedTuple):
 
 
 def remarks_of(text: bytes, facts: Facts | None) -> list[Remark]:
-    """The remarks on a text; with what the program told of the design, also those on its rows. Of many alike the first are told."""
+    """Lists the remarks on a text; with the program's facts of the design, also those on its rows."""
     design = Design(text)
     return list(_few(chain(_of_sections(design), _of_teams(design), _of_rows(design, facts.site) if facts else ())))
 
 
 def _few(remarks: Iterable[Remark]) -> Iterator[Remark]:
-    """The first of each kind, and how many more there are."""
+    """The first remarks of each kind, and the number of the others."""
     kinds: defaultdict[str, list[Remark]] = defaultdict(list)
     counts: Counter[str] = Counter()
     for remark in remarks:
@@ -61,7 +62,7 @@ def _few(remarks: Iterable[Remark]) -> Iterator[Remark]:
 
 
 def _of_sections(design: Design) -> Iterator[Remark]:
-    """Sections that announce another number of entries than they have, and words behind `+` that DEF 5.8 does not have."""
+    """Sections with a wrong count of entries, and words after `+` that DEF 5.8 does not have."""
     for statement in design.statements:
         if statement.keyword in CLAUSES:
             before, _, entries = section_parts(design.text, statement)
@@ -77,7 +78,7 @@ def _of_sections(design: Design) -> Iterator[Remark]:
 
 def _of_words(section: bytes, entry: Entry) -> Iterator[Remark]:
     known = CLAUSES[section]
-    # (of most entries this tells that there is nothing to tell; a comment or a quoted text may have a plus too)
+    # (fast path for most entries; a comment or a quoted text may have a plus too)
     if known.issuperset(_PLUS.findall(entry.text)):
         return
     clauses = [word for plus, word in zip(entry.words, entry.words[1:]) if plus == b"+"]
@@ -90,7 +91,7 @@ def _of_words(section: bytes, entry: Entry) -> Iterator[Remark]:
 
 
 def _of_teams(design: Design) -> Iterator[Remark]:
-    """Names and patterns of groups that match no component, fences without cells, and what binds no component to a fence."""
+    """Names of groups that match no component, fences without cells, and bindings to a fence that have no effect."""
     patterns = _Patterns(design)
     cells: Counter[bytes] = Counter()
     fences = set(design.fences)
@@ -115,11 +116,11 @@ def _of_teams(design: Design) -> Iterator[Remark]:
 
 
 class _Patterns:
-    """The names and patterns of the groups that are bound to a fence, less those that have been met."""
+    """The names and patterns of the groups of fences, without those that matched a component."""
 
     def __init__(self, design: Design) -> None:
         self._names: defaultdict[bytes, list[Entry]] = defaultdict(list)
-        # Patterns with a star by the bytes before it.
+        # Patterns with a star, by the bytes in front of it.
         self._starred: defaultdict[bytes, list[tuple[re.Pattern[bytes], bytes, Entry]]] = defaultdict(list)
         for group in design.entries(b"GROUPS"):
             if design.fence_of(group) is not None:
@@ -132,7 +133,7 @@ class _Patterns:
         self._lengths = {len(first) for first in self._starred}
 
     def remove(self, name: bytes) -> None:
-        """A component's name."""
+        """Removes what a component's name matches."""
         self._names.pop(name, None)
         for length in self._lengths if self._starred else ():
             first = name[:length]
@@ -144,7 +145,7 @@ class _Patterns:
                     del self._starred[first]
 
     def unmatched(self) -> Iterator[Remark]:
-        """Those that no component has, in the order of the text."""
+        """The remaining names and patterns, in the order of the text."""
         remaining = [(group, word) for word, groups in self._names.items() for group in groups]
         remaining += [(group, word) for pairs in self._starred.values() for _, word, group in pairs]
         for group, word in sorted(remaining, key=lambda pair: pair[0].start):
@@ -173,11 +174,11 @@ def _of_rows(design: Design, site: str) -> Iterator[Remark]:
 
 
 def _place_of(entry: Entry) -> int:
-    """Where an entry begins, behind white space and comments."""
+    """The start of an entry, after white space and comments."""
     dash = TOKENS.match(entry.text)
     return entry.start + (dash.start(1) if dash else 0)
 
 
 def line_of(text: bytes, place: int) -> int:
-    """The number of the line in which a place of a text lies."""
+    """The line number of a place in a text."""
     return text.count(b"\n", 0, place) + 1

@@ -1,7 +1,7 @@
-"""lefence-slice: a DEF text with the frame and one team's cells alone.
+"""lefence-slice: writes a DEF file with the frame and the cells of one team only.
 
-On it the program answers that team's commands byte for byte as on the whole design, since its replies are the same from any
-other design with the same frame and the same cells and commands of that team.
+On it the program answers that team's commands as on the whole design, byte for byte: its replies to a team depend only
+on the frame and on that team's cells and commands.
 """
 
 from __future__ import annotations
@@ -22,21 +22,21 @@ from ..base.program import find_program
 from ..base.protocol import GROUND
 
 TOOL = "lefence-slice"
-# Sections of which a slice has the entries of a team.
+# Sections of which a slice has only a team's entries.
 _SLICED = (b"COMPONENTS", b"GROUPS")
-# What speaks of components or nets that a slice lacks, and plays no part in legality.
+# Sections about components or nets that a slice lacks; they do not affect legality.
 _DROPPED = frozenset(b"PINS PINPROPERTIES SLOTS FILLS SPECIALNETS NETS SCANCHAINS BEGINEXT".split())
 
 
 def slice_of(text: bytes, team: str) -> bytes:
-    """The slice of a DEF text for a team; a fault where it has no such team."""
+    """Returns the slice of a DEF text. Raises a Fault if it has no such team."""
     return slice_of_design(Design(text), team)
 
 
 def slice_of_design(design: Design, team: str) -> bytes:
-    """The same of a design.
+    """Returns the slice of a design. Raises a Fault if it has no such team.
 
-    The rows, regions, blockages, FIXED and COVER components and the small statements stay as they are, byte for byte.
+    The rows, regions, blockages, FIXED and COVER components and the small statements stay byte for byte.
     """
     name = os.fsencode(team)
     if team != GROUND and name not in design.fences:
@@ -45,7 +45,7 @@ def slice_of_design(design: Design, team: str) -> bytes:
 
 
 def slices_of(design: Design, teams: list[bytes]) -> Iterator[Iterator[bytes]]:
-    """The slices of a design for these teams of its own, in one pass, each piece by piece."""
+    """Yields the slices for these teams of a design, each in pieces, after one pass over it."""
     sections = {statement.start: _Entries(design, statement, teams) for statement in design.statements if statement.keyword in _SLICED}
     for team in teams:
         yield _pieces(design, team, sections)
@@ -61,15 +61,15 @@ def _pieces(design: Design, team: bytes, sections: dict[int, _Entries]) -> Itera
 
 
 class _Entries:
-    """The entries of COMPONENTS or GROUPS by the team that they concern; those of no team concern all, or none if they are groups.
+    """The places of the entries of COMPONENTS or GROUPS by team; neighbours are merged.
 
-    Kept are their places in the text, neighbours as one.
+    A component of no team is in all slices; a group of no team is in none.
     """
 
     def __init__(self, design: Design, section: Statement, teams: list[bytes]) -> None:
         self._text, self._keyword = design.text, section.keyword
         self._head, self._tail, entries = section_parts(design.text, section)
-        # Where entries begin and end in turn, and how many they are.
+        # Starts and ends of entries alternating, and the number of entries.
         self._spans = {team: array("Q") for team in teams}
         self._counts = dict.fromkeys(teams, 0)
         is_groups = section.keyword == b"GROUPS"
@@ -90,7 +90,7 @@ class _Entries:
             spans.extend((entry.start, stop))
 
     def of(self, team: bytes) -> Iterator[bytes]:
-        """The section with the entries of a team alone, and their number as the count, piece by piece."""
+        """Yields the section with a team's entries and their count, in pieces."""
         yield self._head + b"%d" % self._counts[team] + self._tail
         spans = self._spans[team]
         for start, stop in zip(spans[::2], spans[1::2]):
@@ -99,7 +99,9 @@ class _Entries:
 
 
 def refuse_difference(program: str, whole: Path, part: bytes, libraries: list[Path], team: str) -> None:
-    """A fault where the program does not find in the slice the frame and that team's cells of the whole design, and no others."""
+    """Raises a Fault if the program reads another frame or other cells of the team in the slice than in the whole
+    design.
+    """
     with tempfile.NamedTemporaryFile(suffix=".def") as file:
         file.write(part)
         file.flush()
@@ -123,7 +125,7 @@ def _described(program: str, part: Path, libraries: list[Path]) -> Description:
 
 
 def _without_rule(cell: Cell) -> Cell:
-    """The cell without the rule that it breaks, which may be due to cells of other teams."""
+    """The cell without the rule that it breaks, which cells of other teams may cause."""
     return cell._replace(rule=None, other=None)
 
 

@@ -1,4 +1,4 @@
-"""New placement clauses in a DEF text, as the program's export writes them (docs/PROTOCOL.md, "The program")."""
+"""New placement clauses in a DEF file, in the form of the program's export (docs/PROTOCOL.md, "The program")."""
 
 from __future__ import annotations
 
@@ -19,7 +19,7 @@ class Spot(NamedTuple):
 
 
 def with_spots(text: bytes, spots: Mapping[str, Spot | None]) -> bytes:
-    """The text with these movable components at these places, which are other ones than it has, or unplaced; all other bytes stay."""
+    """Returns the text with these movable components at new places, or unplaced. All other bytes stay."""
     pieces, at = [], 0
     for entry in entries(text, statements(text), b"COMPONENTS"):
         name = entry.name.decode("ascii", "replace")
@@ -35,9 +35,9 @@ def _placed(spot: Spot | None) -> bytes:
 
 
 def _clause(entry: Entry) -> tuple[int, int, bytes]:
-    """Where the placement clause begins and ends in the bytes of a component, and what follows a new one.
+    """The start and end of a component's placement clause in its bytes, and what must follow a new one.
 
-    Without a clause that is before the semicolon, and a space follows.
+    Without a clause, the new one goes in front of the semicolon and needs a space.
     """
     tokens = islice(TOKENS.finditer(entry.text), 3, None)
     plus: re.Match[bytes] | None = None
@@ -50,7 +50,7 @@ def _clause(entry: Entry) -> tuple[int, int, bytes]:
 
 
 def _end(word: re.Match[bytes], tokens: Iterator[re.Match[bytes]]) -> int:
-    """Where a clause ends: behind ( x y ) orient, which UNPLACED may lack."""
+    """The end of a clause: after ( x y ) orient, which UNPLACED may lack."""
     opening = next(tokens)
     if opening[1] != b"(":
         return word.end()

@@ -1,4 +1,4 @@
-"""lefence-summary: what became of each team's cells from one placement of a design to another."""
+"""lefence-summary: prints how far each team's cells moved between two placements of a design."""
 
 from __future__ import annotations
 
@@ -17,7 +17,9 @@ TOOL = "lefence-summary"
 
 
 def summary_of_files(program: str, before: Path, after: Path, libraries: list[Path], most_far: int) -> Summary:
-    """The summary of two DEF texts over the same LEF texts, with so many of the farthest movers; both are read at once."""
+    """Summarizes two DEF files over the same LEF files, with at most `most_far` farthest cells. It reads both in
+    parallel.
+    """
     with Description(program, before, libraries) as early, Description(program, after, libraries) as late:
         refuse_other_units((before, early.frame), (after, late.frame))
         cells = Progress(TOOL, "cells").over(late.cells())
@@ -27,7 +29,7 @@ def summary_of_files(program: str, before: Path, after: Path, libraries: list[Pa
 
 
 def refuse_other_units(before: tuple[Path, Frame], after: tuple[Path, Frame]) -> None:
-    """A fault where two DEF texts have other database units: their places cannot be compared."""
+    """Raises a Fault if two DEF files have different database units: their places cannot be compared."""
     units = [frame.facts.units for _, frame in (before, after)]
     if units[0] != units[1]:
         raise Fault(REFUSED, f"{before[0]} has {units[0]} database units in a micron, and {after[0]} has {units[1]}")

@@ -1,6 +1,6 @@
-"""How much ground each team has: what core rows cover inside its fence, or outside all fences, less the obstacles.
+"""The area of each team's ground: its core rows inside its fence, or outside all fences, without the obstacles.
 
-Exact for any frame. It goes from one level of rows to the next, and meets what lies there alone.
+It is exact for any frame. The computation goes from one level of rows to the next.
 """
 
 from __future__ import annotations
@@ -13,14 +13,14 @@ from ..base.protocol import GROUND
 
 
 def areas_of(frame: Frame) -> dict[str, int]:
-    """The area of each team's ground in square database units, by the team's name, in the order of `frame.teams`."""
+    """Returns each team's area in square database units, in the order of `frame.teams`."""
     areas = dict.fromkeys(frame.teams, 0)
     levels: defaultdict[tuple[int, int], list[Box]] = defaultdict(list)
     for row in frame.rows:
         levels[row.box.bottom, row.box.top].append(row.box)
     fences = _Sweep((rect, fence.name) for fence in frame.fences for rect in fence.rects)
     obstacles = _Sweep((obstacle.box, "") for obstacle in frame.obstacles)
-    # Core rows share no point and have one height, so levels in the order of their bottoms have their tops in order too.
+    # Core rows are disjoint and have one height, so the tops of their levels have the order of their bottoms.
     for (bottom, top), rows in sorted(levels.items()):
         rows.sort()
         inside = fences.between(bottom, top)
@@ -34,7 +34,7 @@ def areas_of(frame: Frame) -> dict[str, int]:
 
 
 class _Sweep:
-    """Boxes with their owners from the bottom upwards."""
+    """Boxes with their owners, from the bottom upwards."""
 
     def __init__(self, boxes: Iterable[tuple[Box, str]]) -> None:
         self._later = [(box, owner) for box, owner in boxes if box.width > 0 and box.height > 0]
@@ -42,7 +42,8 @@ class _Sweep:
         self._here: list[tuple[Box, str]] = []
 
     def between(self, bottom: int, top: int) -> list[tuple[Box, str]]:
-        """What each owner has between the two, which only grow, in boxes that share no point, by their left sides."""
+        """Returns disjoint boxes of each owner between two heights, by their left sides. The heights must not decrease.
+        """
         self._here = [pair for pair in self._here if pair[0].top > bottom]
         while self._later and self._later[-1][0].bottom < top:
             pair = self._later.pop()
@@ -55,7 +56,7 @@ class _Sweep:
 
 
 def _disjoint(boxes: list[Box]) -> Iterator[Box]:
-    """The same points in boxes that share none."""
+    """Splits boxes into disjoint ones with the same points."""
     group: list[Box] = []
     right = 0
     for box in sorted(boxes):
@@ -68,7 +69,7 @@ def _disjoint(boxes: list[Box]) -> Iterator[Box]:
 
 
 def _disjoint_in_group(group: list[Box], right: int) -> Iterator[Box]:
-    """The same for boxes by their left sides whose extents along x hang together up to `right`."""
+    """Splits boxes whose extents along x are connected up to `right`, given by their left sides."""
     edges = sorted({edge for box in group for edge in (box.bottom, box.top)})
     if len(edges) == 2:
         yield Box(group[0].left, edges[0], right, edges[1])
@@ -82,14 +83,16 @@ def _disjoint_in_group(group: list[Box], right: int) -> Iterator[Box]:
 
 
 def _intersections(first: list[Box], second: list[tuple[Box, str]]) -> Iterator[tuple[Box, str]]:
-    """What each two boxes of both lists have in common, with the owner of the second; both lists are by their left sides."""
+    """Yields the common part of each two boxes of both lists, with the second one's owner. Both lists are by left
+    sides.
+    """
     here: list[tuple[Box, str]] = []
     start = 0
     for box in first:
         while start < len(second) and second[start][0].left < box.right:
             here.append(second[start])
             start += 1
-        # Those that end before this box are met by no later one.
+        # No later box overlaps those that end before this one.
         here = [pair for pair in here if pair[0].right > box.left]
         for other, owner in here:
             low = max(box.left, other.left), max(box.bottom, other.bottom)
