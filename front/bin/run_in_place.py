@@ -12,7 +12,9 @@ FRONT = Path(__file__).resolve().parents[1]
 
 def run(tool: str) -> None:
     """Runs the tool of that name, and ends with its status."""
-    scripts: dict[str, str] = tomllib.loads((FRONT / "pyproject.toml").read_text(encoding="utf-8"))["project"]["scripts"]
+    scripts: dict[str, str] = tomllib.loads((FRONT / "pyproject.toml").read_text(encoding="utf-8"))["project"][
+        "scripts"
+    ]
     module, _, function = scripts[tool].partition(":")
     sys.path.insert(0, str(FRONT))
     sys.exit(getattr(importlib.import_module(module), function)())

@@ -46,7 +46,9 @@ class Browser:
         self._folder = folder
         folder.mkdir(exist_ok=True)
         surroundings = {**os.environ, "TMPDIR": str(folder)}
-        self._process = subprocess.Popen(words, close_fds=False, preexec_fn=place, start_new_session=True, env=surroundings, **ends)
+        self._process = subprocess.Popen(
+            words, close_fds=False, preexec_fn=place, start_new_session=True, env=surroundings, **ends
+        )
         for end in (asks, tells, *mine):
             os.close(end)
         self._session: str | None = None
@@ -73,7 +75,12 @@ class Browser:
     def ask(self, method: str, **fields: Any) -> dict[str, Any]:
         """The result of a command."""
         number = next(self._numbers)
-        request = {"id": number, "method": method, "params": fields, **({"sessionId": self._session} if self._session else {})}
+        request = {
+            "id": number,
+            "method": method,
+            "params": fields,
+            **({"sessionId": self._session} if self._session else {}),
+        }
         text = json.dumps(request).encode() + b"\0"
         while text:
             text = text[os.write(self._asking, text) :]
@@ -122,7 +129,9 @@ class Browser:
     def click(self, selector: str) -> None:
         """Presses the mouse in the middle of an element."""
         code = f"(() => {{ const e = document.querySelector({json.dumps(selector)}); e.scrollIntoView({{block: 'center'}});"
-        x, y = self.value(code + "const b = e.getBoundingClientRect(); return [b.x + b.width / 2, b.y + b.height / 2]; })()")
+        x, y = self.value(
+            code + "const b = e.getBoundingClientRect(); return [b.x + b.width / 2, b.y + b.height / 2]; })()"
+        )
         for kind in ("mousePressed", "mouseReleased"):
             self.mouse(kind, x, y, button="left", clickCount=1)
         self.drawn()

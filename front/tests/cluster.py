@@ -47,7 +47,9 @@ def lacking() -> str:
     """What a cluster lacks here; nothing where it can be started."""
     if os.geteuid():
         return "a root user"
-    return ", ".join(name for name in ("munged", "slurmctld", "slurmd", "sbatch", "sinfo") if shutil.which(name) is None)
+    return ", ".join(
+        name for name in ("munged", "slurmctld", "slurmd", "sbatch", "sinfo") if shutil.which(name) is None
+    )
 
 
 def _free_ports() -> list[int]:
@@ -68,12 +70,20 @@ def cluster() -> Iterator[dict[str, str]]:
         started.callback(_end, _munge(folder / "munge"))
         host, memory = socket.gethostname(), os.sysconf("SC_PAGE_SIZE") * os.sysconf("SC_PHYS_PAGES") >> 20
         configuration = folder / "slurm.conf"
-        values = {"folder": folder, "host": host, "ports": _free_ports(), "processors": os.cpu_count(), "memory": memory // 2}
+        values = {
+            "folder": folder,
+            "host": host,
+            "ports": _free_ports(),
+            "processors": os.cpu_count(),
+            "memory": memory // 2,
+        }
         configuration.write_text(_CONFIGURATION.format(**values))
         environment = {**os.environ, "SLURM_CONF": str(configuration)}
         for words in (["slurmctld", "-D", "-i"], ["slurmd", "-D", "-N", host]):
             with open(folder / f"{words[0]}.log", "wb") as log:
-                daemon = subprocess.Popen([*words, "-f", configuration], stdin=subprocess.DEVNULL, stdout=log, stderr=log, env=environment)
+                daemon = subprocess.Popen(
+                    [*words, "-f", configuration], stdin=subprocess.DEVNULL, stdout=log, stderr=log, env=environment
+                )
             started.callback(_end, daemon)
         _wait_idle(environment, folder)
         yield environment
@@ -90,7 +100,9 @@ def _munge(folder: Path) -> subprocess.Popen[bytes]:
     names = {"key-file": "key", "socket": "socket", "pid-file": "pid", "log-file": "log", "seed-file": "seed"}
     words = ["munged", "--foreground", *(f"--{option}={folder / name}" for option, name in names.items())]
     quiet = subprocess.DEVNULL
-    process = subprocess.Popen(words, user=user.pw_uid, group=user.pw_gid, extra_groups=[], stdin=quiet, stdout=quiet, stderr=quiet)
+    process = subprocess.Popen(
+        words, user=user.pw_uid, group=user.pw_gid, extra_groups=[], stdin=quiet, stdout=quiet, stderr=quiet
+    )
     last = time.monotonic() + PATIENCE
     while not (folder / "socket").exists() and process.poll() is None and time.monotonic() < last:
         time.sleep(0.05)

@@ -52,10 +52,15 @@ def design_text(sections: str = "") -> str:
     """Fences f0.. side by side over four rows, with cells f0c0.. each, and as many outside; more sections before the last line."""
     names = [f"f{team}" for team in range(TEAMS)] + ["g"]
     rows = "".join(
-        f"ROW r{row} core 0 {row * 2000} {('N', 'FS')[row % 2]} DO {SITES * (TEAMS + 1)} BY 1 STEP 200 0 ;\n" for row in range(4)
+        f"ROW r{row} core 0 {row * 2000} {('N', 'FS')[row % 2]} DO {SITES * (TEAMS + 1)} BY 1 STEP 200 0 ;\n"
+        for row in range(4)
     )
-    fences = "".join(f"- f{team} ( {team * WIDTH} 0 ) ( {(team + 1) * WIDTH} 8000 ) + TYPE FENCE ;\n" for team in range(TEAMS))
-    parts = "".join(f"- {name}c{number} {'BUF' if number % 3 == 0 else 'INV'} ;\n" for name in names for number in range(CELLS))
+    fences = "".join(
+        f"- f{team} ( {team * WIDTH} 0 ) ( {(team + 1) * WIDTH} 8000 ) + TYPE FENCE ;\n" for team in range(TEAMS)
+    )
+    parts = "".join(
+        f"- {name}c{number} {'BUF' if number % 3 == 0 else 'INV'} ;\n" for name in names for number in range(CELLS)
+    )
     groups = "".join(f"- g{team} f{team}c* + REGION f{team} ;\n" for team in range(TEAMS))
     return (
         f"VERSION 5.8 ;\nDESIGN t ;\nUNITS DISTANCE MICRONS 1000 ;\n{rows}REGIONS {TEAMS} ;\n{fences}END REGIONS\n"
@@ -107,7 +112,14 @@ class Script:
             [
                 *(b"", b" ", b"\t", b"\r", b"\r\r", b"bye bye", b"bye\x0b", b"bye\r\r", b"\x00bye"),
                 *(b"open", b"open Z", b"export", b"export a b"),
-                *(line + b"\r", line + b"\r\r", line[:at] + b"\r" + line[at:], line.replace(b" ", b"\x0c"), line + b" ;", line[:at]),
+                *(
+                    line + b"\r",
+                    line + b"\r\r",
+                    line[:at] + b"\r" + line[at:],
+                    line.replace(b" ", b"\x0c"),
+                    line + b" ;",
+                    line[:at],
+                ),
                 b" \t" + line.replace(b" ", b"\t  ") + b" ",
                 line.ljust(4096),
                 line.ljust(4097),
@@ -194,7 +206,7 @@ class FrontCase(unittest.TestCase):
     def describing(self, script: str) -> str:
         """A program that describes a design as this script does; all else does the proved program."""
         made = self.folder / "describing"
-        made.write_text(f"#!/bin/sh\nif [ \"$1\" = describe ]; then\n{script}\nelse exec '{PROGRAM}' \"$@\"\nfi\n")
+        made.write_text(f'#!/bin/sh\nif [ "$1" = describe ]; then\n{script}\nelse exec \'{PROGRAM}\' "$@"\nfi\n')
         made.chmod(0o755)
         return str(made)
 
@@ -209,7 +221,16 @@ class FrontCase(unittest.TestCase):
         with socket.socket() as free:
             free.bind(("127.0.0.1", 0))
             port = free.getsockname()[1]
-        words = [PROGRAM, "serve", str(self.design), str(self.lef), "--port", str(port), "--connections", str(connections)]
+        words = [
+            PROGRAM,
+            "serve",
+            str(self.design),
+            str(self.lef),
+            "--port",
+            str(port),
+            "--connections",
+            str(connections),
+        ]
         with subprocess.Popen(words, stdout=subprocess.PIPE) as process:
             assert process.stdout
             process.stdout.readline()
@@ -291,7 +312,9 @@ class Hub:
         """Its programs, in the order of their starts."""
         if self.process.poll() is not None:
             return []
-        return [int(word) for word in Path(f"/proc/{self.process.pid}/task/{self.process.pid}/children").read_text().split()]
+        return [
+            int(word) for word in Path(f"/proc/{self.process.pid}/task/{self.process.pid}/children").read_text().split()
+        ]
 
     def server_pid(self) -> int:
         """The program behind it."""

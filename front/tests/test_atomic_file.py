@@ -28,7 +28,9 @@ class WholeFiles(FrontCase):
         (self.folder / "x.partial0").write_bytes(b"another's")
         with atomic_file(link) as file:
             file.write(b"two")
-            self.assertEqual((target.read_bytes(), (self.folder / "x.partial1").stat().st_mode & 0o777), (b"one", 0o600))
+            self.assertEqual(
+                (target.read_bytes(), (self.folder / "x.partial1").stat().st_mode & 0o777), (b"one", 0o600)
+            )
         self.assertEqual((target.read_bytes(), target.stat().st_mode & 0o777, link.is_symlink()), (b"two", 0o640, True))
         self.assertEqual(sorted(os.listdir(self.folder)), ["link", "t.def", "t.lef", "x", "x.partial0"])
 
@@ -36,7 +38,9 @@ class WholeFiles(FrontCase):
         steps, sizes = mock.Mock(), []
         steps.replace.side_effect = os.rename
         steps.fsync.side_effect = lambda end: sizes.append(os.fstat(end).st_size)
-        with mock.patch("os.fsync", steps.fsync), mock.patch("os.replace", steps.replace), atomic_file(self.folder / "x") as file:
+        with mock.patch("os.fsync", steps.fsync), mock.patch("os.replace", steps.replace), atomic_file(
+            self.folder / "x"
+        ) as file:
             file.write(b"one")
         self.assertEqual(([call[0] for call in steps.mock_calls], sizes[0]), (["fsync", "replace", "fsync"], 3))
 
@@ -53,11 +57,18 @@ class WholeFiles(FrontCase):
 
     def test_a_full_disk_leaves_the_file_that_a_tool_would_write_over(self) -> None:
         target = self.folder / "x.svg"
-        for words in (["slice", "t.def", "--team", "f0", "--output"], *([tool, "t.def", "t.lef", "-o"] for tool in ("picture", "report"))):
+        for words in (
+            ["slice", "t.def", "--team", "f0", "--output"],
+            *([tool, "t.def", "t.lef", "-o"] for tool in ("picture", "report")),
+        ):
             target.write_bytes(b"old")
             tool = shlex.join([*tool_words(f"lefence-{words[0]}"), *words[1:], str(target), *["--program", PROGRAM]])
-            done = subprocess.run(["sh", "-c", f"ulimit -f 1; {tool}"], cwd=self.folder, capture_output=True, text=True, timeout=PATIENCE)
-            self.assertEqual((done.returncode, "File too large" in done.stderr, target.read_bytes()), (3, True, b"old"), done.stderr)
+            done = subprocess.run(
+                ["sh", "-c", f"ulimit -f 1; {tool}"], cwd=self.folder, capture_output=True, text=True, timeout=PATIENCE
+            )
+            self.assertEqual(
+                (done.returncode, "File too large" in done.stderr, target.read_bytes()), (3, True, b"old"), done.stderr
+            )
             self.assertEqual(sorted(os.listdir(self.folder)), ["t.def", "t.lef", "x.svg"])
 
     def test_a_tool_that_is_told_to_end_leaves_nothing_behind(self) -> None:

@@ -58,7 +58,9 @@ class Disk:
 
     def pwrite(self, file: int, text: bytes, at: int) -> list[tuple[int, Callable[[], object]]]:
         old, size = os.pread(file, len(text), at), os.fstat(file).st_size
-        return [(os.fstat(file).st_ino, lambda: (self.real["pwrite"](file, old, at), self.real["ftruncate"](file, size)))]
+        return [
+            (os.fstat(file).st_ino, lambda: (self.real["pwrite"](file, old, at), self.real["ftruncate"](file, size)))
+        ]
 
     def ftruncate(self, file: int, size: int) -> list[tuple[int, Callable[[], object]]]:
         old = os.fstat(file).st_size
@@ -96,7 +98,9 @@ class Segments(unittest.TestCase):
     def lines_of(self, journal: Journal) -> list[bytes]:
         """What the state and the tail come to."""
         with journal.tail(journal.position) as tail:
-            return (tail.state.path.read_bytes().splitlines() if tail.state else []) + [record.line for record in tail.records]
+            return (tail.state.path.read_bytes().splitlines() if tail.state else []) + [
+                record.line for record in tail.records
+            ]
 
     def found(self) -> list[bytes]:
         journal = self.open()
@@ -238,7 +242,9 @@ class Segments(unittest.TestCase):
         for frame in frames:
             whole += frame_of(len(whole), frame.body, frame.time)
         self.path.write_bytes(whole)
-        self.assertEqual((self.found(), [each.line for each in read_records(self.path)]), (self.lines(1), self.lines(1)))
+        self.assertEqual(
+            (self.found(), [each.line for each in read_records(self.path)]), (self.lines(1), self.lines(1))
+        )
         self.fill(1)
         self.assertEqual(self.found(), self.lines(3))
 
@@ -285,7 +291,15 @@ class Checkpoints(HubCase):
     def test_sessions_undo_padding_and_what_is_not_committed_are_there_after_a_start(self) -> None:
         self.start(*self.OFTEN)
         talker = self.talk("f0")
-        talker.ask("open f0", "open f0", "place f0 1 f0c1 0 0 N", "sync f0 0", "pad f0 0 2", "sync f0 1", "place f0 1 f0c2 2000 0 N")
+        talker.ask(
+            "open f0",
+            "open f0",
+            "place f0 1 f0c1 0 0 N",
+            "sync f0 0",
+            "pad f0 0 2",
+            "sync f0 1",
+            "place f0 1 f0c2 2000 0 N",
+        )
         self.wait_states(2)
         self.hub.kill()
         self.assertIn("ready: 9 teams, ", self.start())
@@ -296,7 +310,9 @@ class Checkpoints(HubCase):
         status = ask_status(self.folder / "s")
         team = next(team for team in status["teams"] if team["team"] == "f0")
         self.assertEqual((team["revision"], team["uncommitted"], len(team["sessions"])), (4, 4, 1))
-        self.assertEqual(status["past_bytes"], sum(path.stat().st_size for path in Path(f"{self.journal}.past").iterdir()))
+        self.assertEqual(
+            status["past_bytes"], sum(path.stat().st_size for path in Path(f"{self.journal}.past").iterdir())
+        )
 
     def test_an_export_is_that_of_all_changes(self) -> None:
         self.start(*self.OFTEN, "--export", str(self.folder / "end.def"))
@@ -311,7 +327,11 @@ class Checkpoints(HubCase):
         self.assertEqual((self.folder / "end.def").read_bytes(), (self.folder / "want.def").read_bytes())
 
     def test_an_end_leaves_a_state_where_it_is_worth_it(self) -> None:
-        for words, is_made in ((("--tail-bytes", "100000"), False), (("--tail-bytes", "10000"), True), (("--tail-seconds", "0"), True)):
+        for words, is_made in (
+            (("--tail-bytes", "100000"), False),
+            (("--tail-bytes", "10000"), True),
+            (("--tail-seconds", "0"), True),
+        ):
             self.start(*words)
             self.assertEqual(self.talk("f0").ask("open f0", *self.places(40))[-1][:2], "ok")
             self.assertEqual(self.hub.end(), 0)
@@ -405,21 +425,33 @@ class Pages(HubCase):
         return self.hub.told()
 
     def test_an_upgrade(self) -> None:
-        roll, serve = self.lines("lefence-hub chip.def tech.lef cells.lef --sockets s --journal chip.journal --program old")
-        for name, script in (("old", f"exec '{PROGRAM}' \"$@\""), ("new", f"'{PROGRAM}' \"$@\" | sed -u 's/^ok 1$/ok 7/'")):
+        roll, serve = self.lines(
+            "lefence-hub chip.def tech.lef cells.lef --sockets s --journal chip.journal --program old"
+        )
+        for name, script in (
+            ("old", f"exec '{PROGRAM}' \"$@\""),
+            ("new", f"'{PROGRAM}' \"$@\" | sed -u 's/^ok 1$/ok 7/'"),
+        ):
             (self.folder / name).mkdir()
             (self.folder / name / "lefence").write_text(f"#!/bin/sh\n{script}\n")
             (self.folder / name / "lefence").chmod(0o755)
         self.begin(roll.removesuffix(" --roll"))
         self.talk("f0").ask("open f0", "place f0 0 f0c1 0 0 N")
         self.hub.kill()
-        self.assertIn("--roll with that one makes a state first\nlefence-hub: change 2: the journal has b'ok 1", self.begin(serve))
-        self.assertEqual((self.hub.process.wait(), "a state of 2 changes is kept" in self.begin(roll), self.hub.process.wait()), (1, True, 0))
+        self.assertIn(
+            "--roll with that one makes a state first\nlefence-hub: change 2: the journal has b'ok 1", self.begin(serve)
+        )
+        self.assertEqual(
+            (self.hub.process.wait(), "a state of 2 changes is kept" in self.begin(roll), self.hub.process.wait()),
+            (1, True, 0),
+        )
         self.assertIn("ready", self.begin(serve))
         self.assertEqual(self.talk("f0").ask("open f0", "place f0 0 f0c1 200 0 N"), ["ok 0 1", "ok 2"])
 
     def test_a_backup(self) -> None:
-        serve = self.lines("lefence-hub chip.def tech.lef cells.lef --sockets s --journal chip.journal --program old")[0].partition(" --program")[0]
+        serve = self.lines("lefence-hub chip.def tech.lef cells.lef --sockets s --journal chip.journal --program old")[
+            0
+        ].partition(" --program")[0]
         self.begin(serve, "--program", PROGRAM, "--tail-bytes", "1", "--tail-seconds", "0")
         talker = self.talk("f0")
         self.assertEqual(talker.ask("open f0", "place f0 0 f0c1 0 0 N")[1], "ok 1")

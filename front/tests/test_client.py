@@ -66,8 +66,13 @@ class Verbs(HubCase):
             with self.assertRaises(lefence.Illegal) as caught:
                 session.place(cell, 200, 0, "N")
             illegal = caught.exception
-            self.assertEqual((illegal.number, illegal.name, illegal.rule, illegal.rule_name), (7, "Illegal", rule, "Overlap"))
-            self.assertEqual((illegal.cell, illegal.other, illegal.words()), (cell, other, f"{cell} would overlap {other} or be too near to it"))
+            self.assertEqual(
+                (illegal.number, illegal.name, illegal.rule, illegal.rule_name), (7, "Illegal", rule, "Overlap")
+            )
+            self.assertEqual(
+                (illegal.cell, illegal.other, illegal.words()),
+                (cell, other, f"{cell} would overlap {other} or be too near to it"),
+            )
         with self.assertRaises(lefence.Illegal) as caught:
             session.place("f0c2", 100, 0, "N")
         self.assertEqual((caught.exception.rule, caught.exception.other), (2, None))
@@ -125,7 +130,9 @@ class Verbs(HubCase):
             assert_type(lefence.Pipeline.where(pipeline, "f0c1"), Pending[Place])
 
         async def ask() -> None:
-            async with await lefence.aio.connect(self.folder / "s/f1.sock") as connection, connection.session("f1") as session:
+            async with await lefence.aio.connect(self.folder / "s/f1.sock") as connection, connection.session(
+                "f1"
+            ) as session:
                 assert_type(await session.legalize("f1c1", WIDTH, 0), Legalized)
                 assert_type(await lefence.aio.Session.def_text(session), bytes)
 
@@ -151,8 +158,13 @@ class Verbs(HubCase):
         with mock.patch.object(connection, "send", side_effect=connection.send) as send:
             with connection.session("f0", microns=True) as session:
                 self.assertEqual(session.place("f0c1", 0.4, 0, "N"), 1)
-        self.assertEqual([call.args[0] for call in send.call_args_list], [b"open f0", b"units", b"place f0 0 f0c1 400 0 N", b"close f0 0"])
-        with self.service(1) as port, lefence.connect("127.0.0.1", port) as connection, connection.session("f0", microns=True) as session:
+        self.assertEqual(
+            [call.args[0] for call in send.call_args_list],
+            [b"open f0", b"units", b"place f0 0 f0c1 400 0 N", b"close f0 0"],
+        )
+        with self.service(1) as port, lefence.connect("127.0.0.1", port) as connection, connection.session(
+            "f0", microns=True
+        ) as session:
             self.assertEqual(session.place("f0c1", 0.4, 0, "N"), 1)
 
     def test_the_cells_of_a_team_need_no_parser(self) -> None:
@@ -161,7 +173,13 @@ class Verbs(HubCase):
         session.place("f0c1", 400, 2000, "FS")
         cells = session.cells(self.lef)
         self.assertEqual([cell.name for cell in cells], [f"f0c{at}" for at in range(CELLS)])
-        self.assertEqual(cells[:2], [lefence.Cell("f0c0", "BUF", None, 600, 2000), lefence.Cell("f0c1", "INV", Place(400, 2000, "FS"), 400, 2000)])
+        self.assertEqual(
+            cells[:2],
+            [
+                lefence.Cell("f0c0", "BUF", None, 600, 2000),
+                lefence.Cell("f0c1", "INV", Place(400, 2000, "FS"), 400, 2000),
+            ],
+        )
         self.assertEqual((cells[0].box, cells[1].box), (None, (400, 2000, 800, 4000)))
         self.assertEqual(session.cells()[1], lefence.Cell("f0c1", "INV", Place(400, 2000, "FS"), None, None))
         (self.folder / "x.lef").write_text("MACRO INV SIZE 1 BY 1 ; END INV")
@@ -176,7 +194,9 @@ class Verbs(HubCase):
         with self.assertRaisesRegex(ValueError, "R0 is no orientation of DEF, which calls it N"):
             plain.place("f0c1", 0, 0, "R0")
         with plain.connection.session("f0", openaccess=True) as session:
-            for at, (y, orient, same) in enumerate(((0, "R0", "N"), (0, "MY", "FN"), (2000, "MX", "FS"), (2000, "R180", "S"))):
+            for at, (y, orient, same) in enumerate(
+                ((0, "R0", "N"), (0, "MY", "FN"), (2000, "MX", "FS"), (2000, "R180", "S"))
+            ):
                 self.assertEqual(session.place("f0c1", 0, y, orient), at + 1)
                 self.assertEqual((session.where("f0c1").orient, plain.where("f0c1").orient), (orient, same))
             with self.assertRaises(lefence.Illegal):
@@ -186,7 +206,11 @@ class Verbs(HubCase):
     def test_the_example_of_the_page_runs(self) -> None:
         self.start()
         page = (FRONT.parent / "docs/FRONT.md").read_text()
-        code = page.partition("```python\n")[2].partition("```")[0].replace("/run/lefence/A.sock", str(self.folder / "s/f0.sock"))
+        code = (
+            page.partition("```python\n")[2]
+            .partition("```")[0]
+            .replace("/run/lefence/A.sock", str(self.folder / "s/f0.sock"))
+        )
         names: dict[str, object] = {"moves": [("f0c2", 200, 0), ("f0c2", 1200, 0)]}
         with contextlib.redirect_stdout(io.StringIO()) as told:
             exec(code.replace('"A"', '"f0"').replace('"u', '"f0c'), names)
@@ -282,7 +306,9 @@ class Flights(HubCase):
                         self.assertEqual((await session.unplace("f0c1"), await other.tidy()), (31, Tidied(32, CELLS)))
                 self.assertEqual(await connection.ask_line(b"sync f0 0"), b"no 3 NoSession\n")
                 session = await connection.session("f0").open()
-                self.assertEqual((session.number, [cell.macro for cell in await session.cells()][:2]), (0, ["BUF", "INV"]))
+                self.assertEqual(
+                    (session.number, [cell.macro for cell in await session.cells()][:2]), (0, ["BUF", "INV"])
+                )
                 await session.close()
                 with self.assertRaises(lefence.NoSession):
                     await connection.ask(verbs.sync(verbs.Scope("f0", 0)))
@@ -325,7 +351,9 @@ class Flights(HubCase):
         caught = []
 
         async def work() -> None:
-            async with await lefence.aio.connect(self.folder / "s/f0.sock") as connection, connection.session("f0") as session:
+            async with await lefence.aio.connect(self.folder / "s/f0.sock") as connection, connection.session(
+                "f0"
+            ) as session:
                 self.hub.kill()
                 with self.assertRaises(lefence.ConnectionLost) as told:
                     await session.sync()
@@ -418,7 +446,9 @@ class Others(HubCase):
             with far:
                 asyncio.get_running_loop().call_later(0.1, far.sendall, reply)
                 async with asyncio.timeout(PATIENCE), await self.aio_connection(near, 1) as connection:
-                    told = await asyncio.gather(*(connection.ask_line(line) for _ in range(200)), return_exceptions=True)
+                    told = await asyncio.gather(
+                        *(connection.ask_line(line) for _ in range(200)), return_exceptions=True
+                    )
                     self.assertEqual([type(each) for each in told[:2]], [*errors])
 
         asyncio.run(ask(b"ok abc\n", b"def A 0", lefence.ProtocolError, lefence.ConnectionLost))

@@ -68,7 +68,10 @@ class Crashes(HubCase):
                 self.check_team(team, revisions[team])
                 told, kept = told + acknowledged - begun, kept + revisions[team] - acknowledged
                 cut |= {turn} if acknowledged < begun + MANY else set()
-        print(f"\n  {TURNS} crashes, {len(cut)} amid changes: {told} acknowledged, 0 lost, {kept} more kept", file=sys.stderr)
+        print(
+            f"\n  {TURNS} crashes, {len(cut)} amid changes: {told} acknowledged, 0 lost, {kept} more kept",
+            file=sys.stderr,
+        )
 
     def start_anew(self) -> None:
         while self.rng.random() < 0.3:
@@ -137,7 +140,7 @@ class Programs(HubCase):
         """Puts a script before the program that answers lines, which counts its starts in a file."""
         wrapper = self.folder / "wrapper"
         count = f"echo x >> '{self.folder}/starts'\nstarts=$(wc -l < '{self.folder}/starts')"
-        describes = f"[ \"$1\" = replay ] || exec '{PROGRAM}' \"$@\""
+        describes = f'[ "$1" = replay ] || exec \'{PROGRAM}\' "$@"'
         wrapper.write_text(f"#!/bin/sh\n{describes}\n{count}\n{script}\nexec '{PROGRAM}' \"$@\"\n")
         wrapper.chmod(0o755)
         self.program = str(wrapper)
@@ -174,7 +177,9 @@ class Programs(HubCase):
 
     def test_a_signal_while_it_is_restored_ends_the_hub(self) -> None:
         self.start("--tail-bytes", "0")
-        self.assertEqual(self.talk("f0").ask("open f0", "open f0", "place f0 0 f0c1 0 0 N"), ["ok 0 0", "ok 1 0", "ok 1"])
+        self.assertEqual(
+            self.talk("f0").ask("open f0", "open f0", "place f0 0 f0c1 0 0 N"), ["ok 0 0", "ok 1 0", "ok 1"]
+        )
         self.hub.kill()
         self.wrap("sleep 20")
         for words, status in ((("--tail-bytes", "1"), 0), (("--roll",), 3)):
@@ -187,7 +192,9 @@ class Programs(HubCase):
         self.program = PROGRAM
         # The sessions of the killed hub are known, and closed.
         self.start()
-        self.assertEqual(self.talk("f0").ask("open f0", "close f0 1", "sync f0 0"), ["ok 0 1", "no 3 NoSession", "ok 1"])
+        self.assertEqual(
+            self.talk("f0").ask("open f0", "close f0 1", "sync f0 0"), ["ok 0 1", "no 3 NoSession", "ok 1"]
+        )
         # One of which a journal does not tell who had it may be closed too.
         ClientPool(8).note([b"close", b"f0", b"0"], b"ok\n", None)
 

@@ -56,7 +56,10 @@ class Descriptions(FrontCase):
             self.assertEqual(description.total.cells, len(cells))
 
     def test_what_is_refused_is_told_with_its_status(self) -> None:
-        for text, status, told in ((b"VERSION 5.8 ;", 1, "2 UnexpectedEnd line 1; DEF file "), (None, 3, "File; DEF file ")):
+        for text, status, told in (
+            (b"VERSION 5.8 ;", 1, "2 UnexpectedEnd line 1; DEF file "),
+            (None, 3, "File; DEF file "),
+        ):
             self.design.unlink(missing_ok=True)
             if text is not None:
                 self.design.write_bytes(text)
@@ -67,7 +70,7 @@ class Descriptions(FrontCase):
 
     def test_a_program_that_ends_early_is_told(self) -> None:
         facts = '{"kind":"design","name":"t","site":"core","site_height":2000,"site_width":200,"units":1000}'
-        for lines, status in ((facts, 9), (f"{facts}\n{{\"kind\":\"cell\"", 0), ("", 0)):
+        for lines, status in ((facts, 9), (f'{facts}\n{{"kind":"cell"', 0), ("", 0)):
             early = self.folder / "early"
             early.write_text(f"#!/bin/sh\nprintf '%s' '{lines}'\nexit {status}\n")
             early.chmod(0o755)

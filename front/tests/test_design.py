@@ -12,8 +12,37 @@ from lefence.base.design import entries, statements, words_in
 WHITE = b" \t\r\n"
 # What random texts are made of: white space, comments, quotes that end and that do not, words with all of them inside.
 PIECES = (
-    *(b" ", b"\t", b"\n", b"\r\n", b"# x ; \" END\n", b"#\n", b'"a b"', b'" ; # \n"', b'"\\""', b'"\\\\"', b'"', b"\\", b";", b" ; ", b"- "),
-    *(b"a", b"x;", b";x", b'x"y', b"a#b", b"END", b" END DESIGN ", b"COMPONENTS 1 ;", b" END COMPONENTS ", b"+ FIXED ", b"ENDEXT", b"BEGINEXT"),
+    *(
+        b" ",
+        b"\t",
+        b"\n",
+        b"\r\n",
+        b'# x ; " END\n',
+        b"#\n",
+        b'"a b"',
+        b'" ; # \n"',
+        b'"\\""',
+        b'"\\\\"',
+        b'"',
+        b"\\",
+        b";",
+        b" ; ",
+        b"- ",
+    ),
+    *(
+        b"a",
+        b"x;",
+        b";x",
+        b'x"y',
+        b"a#b",
+        b"END",
+        b" END DESIGN ",
+        b"COMPONENTS 1 ;",
+        b" END COMPONENTS ",
+        b"+ FIXED ",
+        b"ENDEXT",
+        b"BEGINEXT",
+    ),
 )
 
 
@@ -80,7 +109,13 @@ class Texts(unittest.TestCase):
 
     def test_long_texts_take_time_and_memory_in_proportion(self) -> None:
         many = 200_000
-        for text in (b'"' + b"a " * many, b'"' + b"\\a" * many, b"- " + b'"a" ' * many, b"# \n" * many, b"COMPONENTS 1 ; - a " + b"b " * many):
+        for text in (
+            b'"' + b"a " * many,
+            b'"' + b"\\a" * many,
+            b"- " + b'"a" ' * many,
+            b"# \n" * many,
+            b"COMPONENTS 1 ; - a " + b"b " * many,
+        ):
             self.assertLessEqual(len(statements(text)), 2)
             self.assertLessEqual(len(list(words_in(text))), many + 10)
 

@@ -121,7 +121,9 @@ class Farms(FarmCase):
         (self.folder / "B.fails").touch()
         done = self.farm("--export", "new.def", "--processes", "4")
         self.assertEqual(done.returncode, 4, done.stderr)
-        self.assertIn(f"team B is not in it: the command ended with 7; {self.work / '2' / 'log'} has more\n", done.stderr)
+        self.assertIn(
+            f"team B is not in it: the command ended with 7; {self.work / '2' / 'log'} has more\n", done.stderr
+        )
         self.assertIn("the work of 2 of 3 teams\n", done.stderr)
         text = (self.folder / "new.def").read_text()
         self.assertEqual(("- b1 BUF ;" in text, "- b2 INV ;" in text, "- a2 INV ;" in text), (True, True, False))
@@ -178,7 +180,10 @@ class Farms(FarmCase):
         lines.write_text(lines.read_text().replace("commit A 0", "unplace A 0 b1\ncommit A 0"))
         done = self.tool("lefence-farm", "work", "--collect")
         self.assertEqual(done.returncode, 1, done.stderr)
-        self.assertRegex(done.stderr.decode(), "team A: line 4, 'unplace A 0 b1', was answered 'ok 3', and over the whole 'no 5 NoCell'\n")
+        self.assertRegex(
+            done.stderr.decode(),
+            "team A: line 4, 'unplace A 0 b1', was answered 'ok 3', and over the whole 'no 5 NoCell'\n",
+        )
         self.assertEqual(((self.folder / "new.def").read_bytes(), [*self.work.glob("whole*")]), (before, []))
 
     def refused_when_the_text_changes(self) -> None:
@@ -213,33 +218,50 @@ class Farms(FarmCase):
         self.assertIn("the work of 3 of 3 teams\n", told)
 
     def test_the_numbers_of_many_teams_are_a_short_word(self) -> None:
-        self.assertEqual([ranges_of(numbers) for numbers in ([7], [1, 2, 3, 5, 8, 9], [*range(1, 5001)])], ["7", "1-3,5,8-9", "1-5000"])
+        self.assertEqual(
+            [ranges_of(numbers) for numbers in ([7], [1, 2, 3, 5, 8, 9], [*range(1, 5001)])],
+            ["7", "1-3,5,8-9", "1-5000"],
+        )
 
     def test_a_signal_ends_the_teams_at_work(self) -> None:
         words = ["work", "t.def", "t.lef", "--program", PROGRAM, "--processes", "3", "--", "sleep", "60"]
-        with subprocess.Popen([*tool_words("lefence-farm"), *words], cwd=self.folder, stderr=subprocess.DEVNULL) as farm:
+        with subprocess.Popen(
+            [*tool_words("lefence-farm"), *words], cwd=self.folder, stderr=subprocess.DEVNULL
+        ) as farm:
             last = time.monotonic() + PATIENCE
             while not all((self.work / str(number) / "journal").exists() for number in (1, 2, 3)):
                 self.assertLess(time.monotonic(), last)
                 time.sleep(0.01)
             farm.terminate()
         self.assertEqual(farm.returncode, 128 + signal.SIGTERM)
-        self.assertEqual({(self.work / str(number) / "failed").read_text() for number in (1, 2, 3)}, {"ended by signal 15\n"})
+        self.assertEqual(
+            {(self.work / str(number) / "failed").read_text() for number in (1, 2, 3)}, {"ended by signal 15\n"}
+        )
 
     def test_a_team_or_a_plan_that_is_none_is_refused(self) -> None:
         self.assertEqual(self.farm("--merge").returncode, 0)
         for number in ("0", "4", "-1"):
             done = self.tool("lefence-farm", "work", f"--task={number}")
-            self.assertEqual((done.returncode, f"has no team number {number}: they are 1 to 3\n".encode() in done.stderr), (2, True), done.stderr)
+            self.assertEqual(
+                (done.returncode, f"has no team number {number}: they are 1 to 3\n".encode() in done.stderr),
+                (2, True),
+                done.stderr,
+            )
         for text in ('{"design": "t.def"}', "[]", "{"):
             (self.work / "farm.json").write_text(text)
             done = self.tool("lefence-farm", "work", "--collect")
             self.assertEqual((done.returncode, done.stderr.count(b"is no plan of this version")), (1, 1), done.stderr)
 
     def test_an_engine_that_is_not_there_or_refuses_is_told(self) -> None:
-        done = self.farm("--engine", "slurm", folder="nowhere") if subprocess.run(["which", "sbatch"], capture_output=True).returncode else None
+        done = (
+            self.farm("--engine", "slurm", folder="nowhere")
+            if subprocess.run(["which", "sbatch"], capture_output=True).returncode
+            else None
+        )
         if done:
-            self.assertEqual((done.returncode, "sbatch is not there; --engine names another engine" in done.stderr), (2, True))
+            self.assertEqual(
+                (done.returncode, "sbatch is not there; --engine names another engine" in done.stderr), (2, True)
+            )
         refusing = self.folder / "bsub"
         refusing.write_text("#!/bin/sh\necho 'no queue' >&2; exit 255\n")
         refusing.chmod(0o755)
@@ -267,7 +289,9 @@ class Farms(FarmCase):
         self.assertEqual((done.returncode, done.stderr, self.work.exists()), (1, told, False))
 
 
-@unittest.skipIf(cluster.lacking(), f"a real cluster cannot be started: it lacks {cluster.lacking()} (Debian: slurm-wlm, munge)")
+@unittest.skipIf(
+    cluster.lacking(), f"a real cluster cannot be started: it lacks {cluster.lacking()} (Debian: slurm-wlm, munge)"
+)
 class Cluster(FarmCase):
     def test_a_real_cluster_of_slurm(self) -> None:
         (self.folder / "B.fails").touch()
@@ -286,7 +310,9 @@ class Cluster(FarmCase):
 
 class Merges(FrontCase):
     def test_all_slices_at_once_are_each_slice(self) -> None:
-        more = "COMPONENTS 2 ; # more\n- wall BUF + FIXED ( 0 6000 ) N ; - g9 INV ;\nEND COMPONENTS\nNETS 0 ;\nEND NETS\n"
+        more = (
+            "COMPONENTS 2 ; # more\n- wall BUF + FIXED ( 0 6000 ) N ; - g9 INV ;\nEND COMPONENTS\nNETS 0 ;\nEND NETS\n"
+        )
         text = self.design.read_bytes().replace(b"END DESIGN", more.encode() + b"END DESIGN")
         design = Design(text)
         teams = teams_of(design)
@@ -304,7 +330,9 @@ class Merges(FrontCase):
             paths[-1].write_bytes(part.replace(b"- gc3 BUF ;", b"- gc3 BUF + PLACED ( 1 2 ) S ;"))
         merged = io.BytesIO()
         self.assertEqual(merge(self.design, paths, merged), 2 * CELLS + 1)
-        want = whole.replace("- f0x INV ;", "- f0x INV + PLACED ( 0 0 ) N ;").replace("- gc3 BUF ;", "- gc3 BUF + PLACED ( 1 2 ) S ;")
+        want = whole.replace("- f0x INV ;", "- f0x INV + PLACED ( 0 0 ) N ;").replace(
+            "- gc3 BUF ;", "- gc3 BUF + PLACED ( 1 2 ) S ;"
+        )
         self.assertEqual(merged.getvalue().decode(), want)
         paths[0].write_bytes(paths[0].read_bytes().replace(b"- f0c4 ", b"- f0d4 "))
         with self.assertRaisesRegex(Fault, "slicef0.def: component f0d4 is none of .*t.def"):

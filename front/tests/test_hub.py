@@ -17,7 +17,20 @@ from concurrent.futures import ThreadPoolExecutor
 from pathlib import Path
 from unittest import mock
 
-from support import CELLS, PATIENCE, PROGRAM, TEAMS, WIDTH, HubCase, Script, Talker, converse, design_text, spot, tool_words
+from support import (
+    CELLS,
+    PATIENCE,
+    PROGRAM,
+    TEAMS,
+    WIDTH,
+    HubCase,
+    Script,
+    Talker,
+    converse,
+    design_text,
+    spot,
+    tool_words,
+)
 
 from lefence.base.faults import Fault
 from lefence.base.protocol import socket_name, team_of_socket
@@ -74,11 +87,22 @@ class Replies(HubCase):
         self.start()
         mine, other = self.talk("f0"), self.talk("f1")
         self.assertEqual(other.ask("open f1"), ["ok 0 0"])
-        lines = ["open f1", "place f1 0 f1c1 8000 0 N", "pad f1 0 2", "close f1 0", "close f1", "where - 0 gc1", "open f0"]
+        lines = [
+            "open f1",
+            "place f1 0 f1c1 8000 0 N",
+            "pad f1 0 2",
+            "close f1 0",
+            "close f1",
+            "where - 0 gc1",
+            "open f0",
+        ]
         lines += ["bye f1", "export x"]
         replies = [*["no 2 NoTeam"] * 4, "no 1 BadRequest", "no 2 NoTeam", "ok 0 0", *["no 1 BadRequest"] * 2]
         self.assertEqual(mine.ask(*lines), replies)
-        self.assertEqual(other.ask("where f1 0 f1c1", "sync f1 0", "place f1 0 f1c1 8000 0 N"), ["no 6 Unplaced f1c1", "ok 0", "ok 1"])
+        self.assertEqual(
+            other.ask("where f1 0 f1c1", "sync f1 0", "place f1 0 f1c1 8000 0 N"),
+            ["no 6 Unplaced f1c1", "ok 0", "ok 1"],
+        )
 
     def test_any_program_that_talks_to_a_socket_is_a_client(self) -> None:
         self.start()
@@ -114,15 +138,29 @@ class Sockets(HubCase):
             self.assertEqual((self.folder / "s/f0.sock").stat().st_gid, 12345)
 
     def test_each_team_has_a_name_of_its_own_and_none_leaves_the_folder(self) -> None:
-        names = {"-": "-.sock", "a_B-9": "a_B-9.sock", "a/b": "a%2Fb.sock", "a%2Fb": "a%252Fb.sock", ".": "%2E.sock", "[0]": "%5B0%5D.sock"}
+        names = {
+            "-": "-.sock",
+            "a_B-9": "a_B-9.sock",
+            "a/b": "a%2Fb.sock",
+            "a%2Fb": "a%252Fb.sock",
+            ".": "%2E.sock",
+            "[0]": "%5B0%5D.sock",
+        }
         self.assertEqual({name: socket_name(name) for name in names}, names)
         self.assertEqual([socket_name(None), socket_name("operator")], ["operator.sock", "%6Fperator.sock"])
         self.assertEqual([team_of_socket(file) for file in names.values()], list(names))
         self.assertEqual(team_of_socket("%6Fperator.sock"), "operator")
-        self.assertEqual([team_of_socket(file) for file in ("operator.sock", "x", "%zz.sock", ".sock", "%61.sock")], [None] * 5)
+        self.assertEqual(
+            [team_of_socket(file) for file in ("operator.sock", "x", "%zz.sock", ".sock", "%61.sock")], [None] * 5
+        )
 
     def test_odd_names_of_teams_are_served(self) -> None:
-        text = design_text().replace("- f0 (", "- a/[0] (").replace("REGION f0 ", "REGION a/[0] ").replace("- f1 (", "- operator (")
+        text = (
+            design_text()
+            .replace("- f0 (", "- a/[0] (")
+            .replace("REGION f0 ", "REGION a/[0] ")
+            .replace("- f1 (", "- operator (")
+        )
         self.design.write_text(text.replace("REGION f1 ", "REGION operator "))
         self.start()
         self.assertEqual(self.talk("a%2F%5B0%5D").ask("open a/[0]", "open operator"), ["ok 0 0", "no 2 NoTeam"])
@@ -142,7 +180,9 @@ class ManyClients(HubCase):
             talker, name = self.talk(f"f{team}"), f"f{team}c{cell}"
             head = f"f{team} {talker.ask(f'open f{team}')[0].split()[1]}"
             for turn in range(rounds):
-                spot = f"{team * WIDTH + cell % 4 * 2000 + turn % 2 * 1000} {cell // 4 * 2000} {'N' if cell < 4 else 'FS'}"
+                spot = (
+                    f"{team * WIDTH + cell % 4 * 2000 + turn % 2 * 1000} {cell // 4 * 2000} {'N' if cell < 4 else 'FS'}"
+                )
                 while (reply := talker.ask(f"sync {head}", f"place {head} {name} {spot}")[1]).startswith("no 4 Stale"):
                     pass
                 self.assertEqual((reply[:2], talker.ask(f"where {head} {name}")), ("ok", [f"ok {spot}"]))
@@ -211,7 +251,9 @@ class ManyClients(HubCase):
         self.assertEqual(replies[:9], [f"ok {n} 0" for n in range(8)] + ["no 10 SessionsFull"])
         # A slot that another client took since is not closed.
         first, second = self.talk("f0"), self.talk("f0")
-        self.assertEqual([first.ask("open f0"), watch.ask("close f0 0"), second.ask("open f0")], [["ok 0 0"], ["ok"], ["ok 0 0"]])
+        self.assertEqual(
+            [first.ask("open f0"), watch.ask("close f0 0"), second.ask("open f0")], [["ok 0 0"], ["ok"], ["ok 0 0"]]
+        )
         first.ask("bye")
         self.assertEqual(watch.ask("sync f0 0"), ["ok 0"])
         second.ask("bye")
@@ -245,7 +287,9 @@ class Disk(HubCase):
         for many in (500, 1):
             reply = ["ok"]
             while reply[-1][:2] == "ok":
-                reply = talker.ask(*[f"place f0 0 f0c1 {turn % 5 * 200} 0 N" for turn in range(accepted, accepted + many)])
+                reply = talker.ask(
+                    *[f"place f0 0 f0c1 {turn % 5 * 200} 0 N" for turn in range(accepted, accepted + many)]
+                )
                 accepted += sum(each.startswith("ok") for each in reply)
         where = f"ok {(accepted - 1) % 5 * 200} 0 N"
         lines = ["where f0 0 f0c1", "unplace f0 0 f0c1", "pad f0 0 1", "open f0", "where f0 0 f0c1", "quit"]
@@ -255,7 +299,9 @@ class Disk(HubCase):
         talker.ask("bye")
         resource.prlimit(pid, resource.RLIMIT_FSIZE, (hard, hard))
         time.sleep(1.5)
-        self.assertEqual(self.talk("f0").ask("open f0", "unplace f0 0 f0c1"), [f"ok 0 {accepted + 1}", f"ok {accepted + 2}"])
+        self.assertEqual(
+            self.talk("f0").ask("open f0", "unplace f0 0 f0c1"), [f"ok 0 {accepted + 1}", f"ok {accepted + 2}"]
+        )
         self.hub.kill()
         self.start()
         self.assertEqual(self.talk("f0").ask("open f0"), [f"ok 0 {accepted + 2}"])
@@ -263,8 +309,10 @@ class Disk(HubCase):
     def test_replies_wait_for_the_disk_and_a_disk_that_fails_ends_the_hub(self) -> None:
         for error in (None, OSError(5, "the disk")):
             steps = mock.Mock(**{"sync.side_effect": error})
-            server = mock.Mock(ask=mock.AsyncMock(return_value=[b"ok 0 0\n"]))
-            hub = hub_module.Hub(server, Journal(self.folder / str(error), [], mock.Mock()), hub_module.HubLimits(), mock.Mock())
+            server = mock.Mock(execute=mock.AsyncMock(return_value=[b"ok 0 0\n"]))
+            hub = hub_module.Hub(
+                server, Journal(self.folder / str(error), [], mock.Mock()), hub_module.HubLimits(), mock.Mock()
+            )
             client = Client(hub, b"f0")
             client.transport = mock.Mock(**{"is_closing.return_value": False, "write": steps.write})
             client.get_buffer(8)[:8] = b"open f0\n"
@@ -289,7 +337,9 @@ class Ends(HubCase):
         done, operator, target, want = b"", self.talk("operator"), self.folder / "new.def", self.folder / "want.def"
         for _ in range(3):
             scripts = [Script(self.rng, team) for team in (0, 2, TEAMS)]
-            lines = [line for _ in range(300) if not (line := self.rng.choice(scripts).line()).startswith((b"def", b"check"))]
+            lines = [
+                line for _ in range(300) if not (line := self.rng.choice(scripts).line()).startswith((b"def", b"check"))
+            ]
             for team in (b"f0", b"f2", b"-"):
                 lines += [b"open " + team, *(b"%b %b 0" % (verb, team) for verb in (b"sync", b"tidy", b"commit"))]
             later = [b"unplace f0 0 f0c1", b"legalize f0 0 f0c1 0 6000", b"commit f0 0"]
@@ -341,8 +391,14 @@ class Ends(HubCase):
     def test_other_teams_than_the_programs_serve_nothing(self) -> None:
         fence = '"kind":"fence","name":"f3"'
         for edit, said in (
-            (f"s/{fence}/{fence[:-3]}Z\"/", "9 teams are found in the DEF text, and the program tells 9; found alone: f3; told alone: Z"),
-            (f"/{fence}/d", "9 teams are found in the DEF text, and the program tells 8; found alone: f3; told alone: no other"),
+            (
+                f's/{fence}/{fence[:-3]}Z"/',
+                "9 teams are found in the DEF text, and the program tells 9; found alone: f3; told alone: Z",
+            ),
+            (
+                f"/{fence}/d",
+                "9 teams are found in the DEF text, and the program tells 8; found alone: f3; told alone: no other",
+            ),
         ):
             self.program = self.describing(f"'{PROGRAM}' \"$@\" | sed '{edit}'")
             self.assertIn(said, self.start())
@@ -352,7 +408,7 @@ class Ends(HubCase):
         for script, said, status in (
             ("echo no such verb >&2; exit 2", "no such verb", 2),
             ("exit 0", "does not tell the teams", 3),
-            ("printf '{\"kind\":\"fen'; kill -9 $$", "does not tell the teams", 3),
+            ('printf \'{"kind":"fen\'; kill -9 $$', "does not tell the teams", 3),
         ):
             self.program = self.describing(script)
             self.assertIn(said, self.start())
@@ -386,7 +442,9 @@ class Ends(HubCase):
         kept = self.journal.read_bytes()
         other = self.folder / "other.def"
         other.write_text(design_text() + "\n")
-        second = subprocess.run([*tool_words("lefence-hub"), *self.words(design=other)], capture_output=True, timeout=PATIENCE)
+        second = subprocess.run(
+            [*tool_words("lefence-hub"), *self.words(design=other)], capture_output=True, timeout=PATIENCE
+        )
         self.assertIn(b"of another design", second.stderr)
         self.assertEqual((second.returncode, self.journal.read_bytes()), (1, kept))
         journal = Journal(self.journal, texts_in(self.journal) or [], mock.Mock())
@@ -429,7 +487,9 @@ class Ends(HubCase):
         self.assertTrue(exported.exists())
         self.assertRegex(self.journal.read_bytes(), rb"\nsessions 9\nsegment [2-9] ")
         self.assertEqual(self.tool("lefence-journal", "verify", self.journal, "--program", PROGRAM).returncode, 0)
-        self.assertEqual(self.tool("lefence-journal", "verify", self.journal, "--all", "--program", PROGRAM).returncode, 0)
+        self.assertEqual(
+            self.tool("lefence-journal", "verify", self.journal, "--all", "--program", PROGRAM).returncode, 0
+        )
         self.assertIn(b"each team has 9 session slots", self.tool("lefence-journal", "check", self.journal).stdout)
         self.assertIn(b"with --sessions 9", self.tool("lefence-journal", "export", self.journal).stderr)
 

@@ -159,7 +159,9 @@ class Journals(unittest.TestCase):
         ends = self.fill()
         last = self.path.read_bytes()[ends[-2] : ends[-1]]
         with mock.patch("os.pwrite", wraps=os.pwrite) as written, mock.patch("os.fsync") as synced:
-            synced.side_effect = lambda _: self.assertEqual([call.args[1:] for call in written.mock_calls], [(last, ends[-2])])
+            synced.side_effect = lambda _: self.assertEqual(
+                [call.args[1:] for call in written.mock_calls], [(last, ends[-2])]
+            )
             self.open().close()
         self.assertTrue(synced.called)
 
@@ -191,12 +193,18 @@ class Journals(unittest.TestCase):
                 journal.refuse_loss()
             journal.close()
             self.assertIn(said, str(caught.exception))
-            self.assertEqual((caught.exception.status, self.path.read_bytes() if self.path.exists() else b""), (3, there))
+            self.assertEqual(
+                (caught.exception.status, self.path.read_bytes() if self.path.exists() else b""), (3, there)
+            )
             self.path.unlink(missing_ok=True)
 
     def test_a_hub_that_may_be_at_work_keeps_it(self) -> None:
         me, parent = this_process(), Path(f"/proc/{os.getppid()}/stat").read_text().rpartition(")")[2].split()[19]
-        elsewhere, dead, alive = replace(me, host="farm2"), replace(me, pid=1, began=7), replace(me, pid=os.getppid(), began=int(parent))
+        elsewhere, dead, alive = (
+            replace(me, host="farm2"),
+            replace(me, pid=1, began=7),
+            replace(me, pid=os.getppid(), began=int(parent)),
+        )
         for owner, is_refused in ((elsewhere, True), (alive, True), (dead, False), (replace(alive, boot="x"), False)):
             os.close(Journal(self.path, TEXTS, self.said.append, owner=owner)._fd)
             before = self.path.read_bytes()

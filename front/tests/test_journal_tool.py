@@ -23,7 +23,13 @@ class JournalTool(HubCase):
     def setUp(self) -> None:
         super().setUp()
         self.start()
-        self.lines = ["open f0", "place f0 0 f0c1 0 0 N", "open f1", "place f1 0 f1c1 8000 0 N", "place f0 0 f0c2 2000 0 N"]
+        self.lines = [
+            "open f0",
+            "place f0 0 f0c1 0 0 N",
+            "open f1",
+            "place f1 0 f1c1 8000 0 N",
+            "place f0 0 f0c2 2000 0 N",
+        ]
         talker = self.talk("operator")
         for line in self.lines:
             self.assertRegex(talker.ask(line)[0], "^ok")
@@ -48,18 +54,28 @@ class JournalTool(HubCase):
         return start, end
 
     def test_a_sound_one_is_told_whole_with_who_changed_what_when(self) -> None:
-        self.assertRegex("\n".join(self.told("check", self.journal)), r"^text \w{64} of \S+/t.def: kept\ntext .*: kept\nwhole from .*: 5 changes")
+        self.assertRegex(
+            "\n".join(self.told("check", self.journal)),
+            r"^text \w{64} of \S+/t.def: kept\ntext .*: kept\nwhole from .*: 5 changes",
+        )
         number = r"\d+\t20\d\d-\d\d-\d\dT\d\d:\d\d:\d\d\.\d{3}Z\t\d+\t\d+\t"
         told = [line for line in self.told("list", self.journal) if not line.startswith("-")]
-        self.assertEqual([re.sub(f"^{number}", "", line) for line in told[:2]], ["open f0\tok 0 0", "place f0 0 f0c1 0 0 N\tok 1"])
+        self.assertEqual(
+            [re.sub(f"^{number}", "", line) for line in told[:2]], ["open f0\tok 0 0", "place f0 0 f0c1 0 0 N\tok 1"]
+        )
         self.assertEqual(len(self.told("list", self.journal, "--team", "f1")), 2)
-        self.assertIn("5 changes are answered as recorded", self.tool("lefence-journal", "verify", self.journal, "--program", PROGRAM).stderr.decode())
+        self.assertIn(
+            "5 changes are answered as recorded",
+            self.tool("lefence-journal", "verify", self.journal, "--program", PROGRAM).stderr.decode(),
+        )
 
     def test_lines_and_journals_come_out_of_it(self) -> None:
         self.assertEqual(self.told("export", self.journal), self.lines)
         made = self.folder / "f1.journal"
         self.told("export", self.journal, "--team", "f1", "-o", made)
-        self.assertEqual(list(read_records(made)), [each for each in read_records(self.journal) if b"f1" in each.line.split()])
+        self.assertEqual(
+            list(read_records(made)), [each for each in read_records(self.journal) if b"f1" in each.line.split()]
+        )
         self.journal.rename(self.folder / "old")
         (self.folder / "journal.texts").rename(self.folder / "old.texts")
         self.start()
@@ -68,9 +84,14 @@ class JournalTool(HubCase):
     def test_a_damaged_one_has_a_way_on(self) -> None:
         start, end = self.spoil(2)
         said = self.start()
-        self.assertEqual((f"damaged at byte {start}" in said, self.hub.process.wait(), "lefence-journal check" in said), (True, 1, True))
+        self.assertEqual(
+            (f"damaged at byte {start}" in said, self.hub.process.wait(), "lefence-journal check" in said),
+            (True, 1, True),
+        )
         told = self.told("check", self.journal, status=1)
-        self.assertIn(f"damaged from byte {start} to {end}: `cut --at {start}` makes a journal of what stands before", told)
+        self.assertIn(
+            f"damaged from byte {start} to {end}: `cut --at {start}` makes a journal of what stands before", told
+        )
         # What stands behind the damage can be read, listed and brought out.
         self.assertEqual(self.told("export", self.journal), [self.lines[0], *self.lines[2:]])
         self.assertEqual(self.told("list", self.journal, "--team", b"\xff"), [])
@@ -93,7 +114,10 @@ class JournalTool(HubCase):
         whole = self.journal.read_bytes()
         self.journal.write_bytes(whole + b"batch 1")
         told = self.told("check", self.journal)
-        self.assertIn(f"torn: 7 bytes at byte {len(whole)} are no whole batch (a write that was cut off); a start removes them", told)
+        self.assertIn(
+            f"torn: 7 bytes at byte {len(whole)} are no whole batch (a write that was cut off); a start removes them",
+            told,
+        )
         (self.folder / "journal.texts").rename(self.folder / "away")
         self.assertIn("not kept", self.told("check", self.journal, status=1)[0])
         program = ("--program", PROGRAM)
@@ -145,11 +169,15 @@ class Segments(HubCase):
             self.assertIn(f"segment {number}, behind {before} changes: ", told)
         states = [f"it begins with the state {self.archive.state(number)}: whole" in told for number in (1, 2, 3)]
         self.assertEqual(states, [False, True, True])
-        listed = [line.split("\t") for line in self.told("list", self.journal)[0].splitlines() if not line.startswith("-")]
+        listed = [
+            line.split("\t") for line in self.told("list", self.journal)[0].splitlines() if not line.startswith("-")
+        ]
         self.assertEqual([(int(words[0]), words[4]) for words in listed], list(enumerate(self.changes(), 1)))
         self.assertEqual(self.told("export", self.journal)[0].splitlines(), self.changes())
         program = ("--program", PROGRAM)
-        self.assertIn("2 changes behind a state of 7 are answered as recorded", self.told("verify", self.journal, *program)[1])
+        self.assertIn(
+            "2 changes behind a state of 7 are answered as recorded", self.told("verify", self.journal, *program)[1]
+        )
         self.assertIn("9 changes are answered as recorded", self.told("verify", self.journal, *program, "--all")[1])
         self.assertEqual([record.line.decode() for record in read_records(self.journal)], self.changes())
 
@@ -157,24 +185,36 @@ class Segments(HubCase):
         self.archive.prune(1)
         told, said = self.told("export", self.journal)
         self.assertEqual(told.splitlines(), self.changes()[7:])
-        self.assertIn(f"the first 7 changes are not in it; its lines are for a replay with --state {self.archive.state(3)}", said)
+        self.assertIn(
+            f"the first 7 changes are not in it; its lines are for a replay with --state {self.archive.state(3)}", said
+        )
         self.assertEqual(self.direct(told.encode(), "--state", str(self.archive.state(3))), b"ok\nok 0 3\n")
         self.assertIn("the first 7 changes are in a state alone", self.told("check", self.journal)[0])
         self.assertTrue(self.told("list", self.journal, "--team", "f0")[0].startswith("9\t"))
-        self.assertIn("its first 7 changes are in a state alone", self.tool("lefence-push", self.journal, "s/f0.sock").stderr.decode())
+        self.assertIn(
+            "its first 7 changes are in a state alone",
+            self.tool("lefence-push", self.journal, "s/f0.sock").stderr.decode(),
+        )
 
     def test_damage_to_any_of_it_is_told(self) -> None:
         whole = self.archive.segment(1).read_bytes()
         self.archive.segment(1).write_bytes(whole.replace(b"place f0 0 f0c1 0 0 N", b"place f0 0 f0c1 9 0 N"))
         told = r"damaged from byte \d+ to \d+: copied to \S*/journal, `cut --at \d+`"
         self.assertRegex(self.told("check", self.journal, status=1)[0], told)
-        self.assertIn("1.journal: damaged at byte", self.told("verify", self.journal, "--program", PROGRAM, "--all", status=1)[1])
+        self.assertIn(
+            "1.journal: damaged at byte", self.told("verify", self.journal, "--program", PROGRAM, "--all", status=1)[1]
+        )
         self.told("verify", self.journal, "--program", PROGRAM)
         self.archive.segment(1).write_bytes(whole[:-20])
-        self.assertIn(f"to {len(whole)}, where it ended when the next segment was begun", self.told("check", self.journal, status=1)[0])
+        self.assertIn(
+            f"to {len(whole)}, where it ended when the next segment was begun",
+            self.told("check", self.journal, status=1)[0],
+        )
         self.archive.state(3).write_bytes(b"x")
         self.assertIn(f"{self.archive.state(3)}: damaged", self.told("check", self.journal, status=1)[0])
-        self.assertIn("5 changes behind a state of 4 are answered", self.told("verify", self.journal, "--program", PROGRAM)[1])
+        self.assertIn(
+            "5 changes behind a state of 4 are answered", self.told("verify", self.journal, "--program", PROGRAM)[1]
+        )
         self.archive.state(2).unlink()
         self.assertIn(f"{self.archive.state(2)}: not there", self.told("check", self.journal, status=1)[0])
         said = self.start()

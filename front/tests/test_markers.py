@@ -87,7 +87,9 @@ class Markers(FrontCase):
         self.lef = self.folder / "apart" / "cells.lef"
         self.lef.parent.mkdir()
         self.lef.write_text(LEF)
-        cells = "".join(f"- o{each} OFF + PLACED ( {at * 5000 - 3333} -7001 ) {each} ;\n" for at, each in enumerate(ORIENTS))
+        cells = "".join(
+            f"- o{each} OFF + PLACED ( {at * 5000 - 3333} -7001 ) {each} ;\n" for at, each in enumerate(ORIENTS)
+        )
         self.design.write_text(TEXT % cells)
         self.markers, self.technology = self.folder / "t.lyrdb", self.folder / "t.lyt"
 
@@ -117,7 +119,9 @@ class Markers(FrontCase):
         self.write()
         words = ("-rd", f"design={self.design}", "-rd", f"lef={self.lef}", "-rd", f"markers={self.markers}")
         *lines, last = map(json.loads, klayout(self.folder, ITEMS, "-b", *words))
-        self.assertEqual([line["cell"] for line in lines], [*(f"o{each}" for each in ORIENTS), "u<1>/b[3]&'c'", "over", "ground"])
+        self.assertEqual(
+            [line["cell"] for line in lines], [*(f"o{each}" for each in ORIENTS), "u<1>/b[3]&'c'", "over", "ground"]
+        )
         self.assertEqual([line["rule"][0] for line in lines], [*"21212121882"])
         for line in lines:
             self.assertEqual(line["box"], line["cell there"], line)
@@ -135,7 +139,11 @@ class Markers(FrontCase):
     def test_the_other_cell_may_come_before_or_behind(self) -> None:
         cells = [cell("a", 8, "c"), cell("b", 8, "a"), cell("legal", None), cell("c", 2)]
         box = Box(0, 0, 400, 2000)
-        expected = [Violation("b", "A", 8, box, "a", box), Violation("a", "A", 8, box, "c", box), Violation("c", "A", 2, box)]
+        expected = [
+            Violation("b", "A", 8, box, "a", box),
+            Violation("a", "A", 8, box, "c", box),
+            Violation("c", "A", 2, box),
+        ]
         self.assertEqual(list(violations_of(cells)), expected)
         with self.assertRaises(Fault) as caught:
             list(violations_of(cells[:3]))
@@ -144,13 +152,15 @@ class Markers(FrontCase):
     def test_a_fault_leaves_the_file_as_it_was(self) -> None:
         self.markers.write_text("old")
         early = self.folder / "early"
-        early.write_text(f"#!/bin/sh\n{PROGRAM} \"$@\" | head -4\n")
+        early.write_text(f'#!/bin/sh\n{PROGRAM} "$@" | head -4\n')
         early.chmod(0o755)
         faults = ((PROGRAM, Path("nowhere.lef"), 3), (str(early), self.lef, 3), (PROGRAM, self.design, 1))
         for program, lef, status in faults:
             done = self.tool("lefence-markers", self.design, lef, "--output", self.markers, "--program", program)
             self.assertEqual((done.returncode, self.markers.read_text()), (status, "old"), done.stderr)
-        self.assertEqual(sorted(path.name for path in self.folder.iterdir()), ["apart", "early", "t.def", "t.lef", "t.lyrdb"])
+        self.assertEqual(
+            sorted(path.name for path in self.folder.iterdir()), ["apart", "early", "t.def", "t.lef", "t.lyrdb"]
+        )
         done = self.tool("lefence-markers", self.design, self.lef, "--output", self.design, "--program", PROGRAM)
         self.assertEqual((done.returncode, done.stderr.count(b"t.def is read, and would be written over")), (2, 1))
 

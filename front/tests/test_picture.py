@@ -60,15 +60,26 @@ class Pictures(FrontCase):
             frame, cells = description.frame, list(description.cells())
         self.assertEqual(boxes(groups["rows"]), [row.box for row in frame.rows])
         self.assertEqual(boxes(groups["fences"]), [rect for fence in frame.fences for rect in fence.rects])
-        self.assertEqual(boxes(groups["fixed"]) + boxes(groups["blockages"]), [obstacle.box for obstacle in frame.obstacles])
+        self.assertEqual(
+            boxes(groups["fixed"]) + boxes(groups["blockages"]), [obstacle.box for obstacle in frame.obstacles]
+        )
         self.assertEqual(boxes(groups["soft"]), frame.soft)
         legal = {cell.name: cell.box for cell in cells if cell.box and cell.rule is None}
-        drawn = {rect.findtext(f"{SVG}title"): boxes(bounding_box)[0] for bounding_box, rect in self.alone(groups["cells"])}
+        drawn = {
+            rect.findtext(f"{SVG}title"): boxes(bounding_box)[0] for bounding_box, rect in self.alone(groups["cells"])
+        }
         self.assertEqual(drawn, legal)
         self.assertEqual(boxes(groups["broken"]), [cell.box for cell in cells if cell.name in ("one", "two")])
         self.assertEqual(len(titled(groups["broken"], "two overlaps one")), 1)
         legend = "".join(groups["legend"].itertext())
-        for text in ("f0 11 cells", "breaks a rule 3 cells", "FIXED component 1", "soft blockage 1", "90 without", "1 outside"):
+        for text in (
+            "f0 11 cells",
+            "breaks a rule 3 cells",
+            "FIXED component 1",
+            "soft blockage 1",
+            "90 without",
+            "1 outside",
+        ):
             self.assertIn(text, legend)
 
     def alone(self, group: ElementTree.Element) -> list[tuple[ElementTree.Element, ElementTree.Element]]:
@@ -88,7 +99,10 @@ class Pictures(FrontCase):
         ground = next(rect for rect in groups[""].findall(f"{SVG}rect") if "x" in rect.attrib).attrib
         left, top, width, height = (float(ground[key]) for key in ("x", "y", "width", "height"))
         self.assertEqual((a, b, c), (-d, 0, 0))
-        for x, y, wanted in ((view.left, view.top, (left, top)), (view.right, view.bottom, (left + width, top + height))):
+        for x, y, wanted in (
+            (view.left, view.top, (left, top)),
+            (view.right, view.bottom, (left + width, top + height)),
+        ):
             self.assertAlmostEqual(a * x + e, wanted[0], 1)
             self.assertAlmostEqual(d * y + f, wanted[1], 1)
 
@@ -99,12 +113,16 @@ class Pictures(FrontCase):
         self.assertEqual((side, other, left, bottom), (312, 312, -1440, -1440))
 
         def bins(paths: list[ElementTree.Element]) -> set[tuple[int, int]]:
-            runs = [map(int, run) for path in paths for run in re.findall(r"M(\d+) (\d+)h(\d+)v1h-\d+z", path.attrib["d"])]
+            runs = [
+                map(int, run) for path in paths for run in re.findall(r"M(\d+) (\d+)h(\d+)v1h-\d+z", path.attrib["d"])
+            ]
             return {(along, y) for x, y, length in runs for along in range(x, x + length)}
 
         def under(box: Box) -> set[tuple[int, int]]:
             xs = range((box.left - left) // side, (box.right - 1 - left) // side + 1)
-            return {(x, y) for x in xs for y in range((box.bottom - bottom) // side, (box.top - 1 - bottom) // side + 1)}
+            return {
+                (x, y) for x in xs for y in range((box.bottom - bottom) // side, (box.top - 1 - bottom) // side + 1)
+            }
 
         mine = [path for path in groups["map"] if path.attrib["fill"] == colour_of(0, "f0")]
         self.assertEqual(bins(mine), under(Box(400, 2000, 800, 4000)))
@@ -129,7 +147,10 @@ class Pictures(FrontCase):
         self.design.write_text(text.replace("- far", near.format(66000) + far.format(16000) + "- far"))
         (self.folder / "old.def").write_text(text.replace("- far", near.format(65800) + far.format(40000) + "- far"))
         groups = self.picture("--before", "old.def")
-        told = {bounding_box.attrib["stroke"]: [arrow.findtext(f"{SVG}title") for arrow in bounding_box] for bounding_box in groups["moves"]}
+        told = {
+            bounding_box.attrib["stroke"]: [arrow.findtext(f"{SVG}title") for arrow in bounding_box]
+            for bounding_box in groups["moves"]
+        }
         self.assertEqual(told, {MOVE_COLOURS[0][1]: ["near"], MOVE_COLOURS[3][1]: ["away"]})
         legend = "".join(groups["legend"].itertext())
         self.assertIn("→ 2 moved\nup to 2 rows 1\nup to 20 rows 1\n", legend)
@@ -156,9 +177,15 @@ class Pictures(FrontCase):
 
     def test_where_most_cells_break_a_rule_a_map_shows_what_is_too_full(self) -> None:
         astray = "".join(f"- x{at} INV + PLACED ( {20000 + 13 * at} 3 ) N ;\n" for at in range(40))
-        self.design.write_text(self.design.read_text().replace("- far", f"{astray}- lone INV + PLACED ( 50007 1 ) N ;\n- far"))
+        self.design.write_text(
+            self.design.read_text().replace("- far", f"{astray}- lone INV + PLACED ( 50007 1 ) N ;\n- far")
+        )
         groups = self.picture("--limit", "3")
-        red = [tuple(map(int, run)) for path in groups["broken"] for run in re.findall(r"M(\d+) (\d+)h(\d+)v1h-\d+z", path.attrib["d"])]
+        red = [
+            tuple(map(int, run))
+            for path in groups["broken"]
+            for run in re.findall(r"M(\d+) (\d+)h(\d+)v1h-\d+z", path.attrib["d"])
+        ]
         side, _, _, _, left, _ = map(int, groups["map"].attrib["transform"][7:-1].split())
         # Where the forty stand and where two overlap, but not where one stands alone.
         places = {(left + side * (x + at)) // 10000 for x, _, length in red for at in range(length)}
@@ -175,12 +202,12 @@ class Pictures(FrontCase):
                 self.assertEqual(len(boxes(groups.get("cells", groups["broken"]))), 0)
 
     def test_any_name_is_text(self) -> None:
-        self.assertEqual(text_of("a\x00<\ud800&\"\uffff"), "a\\x00&lt;\\xd800&amp;&quot;\\xffff")
+        self.assertEqual(text_of('a\x00<\ud800&"\uffff'), "a\\x00&lt;\\xd800&amp;&quot;\\xffff")
         self.assertEqual(shortened("abcdefghij", 6), "abc…ij")
         odd = self.folder / "\u00e9<&\n.def"
-        odd.write_bytes(self.design.read_bytes().replace(b"DESIGN t ", b"DESIGN <t&\"> "))
+        odd.write_bytes(self.design.read_bytes().replace(b"DESIGN t ", b'DESIGN <t&"> '))
         groups = self.picture(design=odd.name)
-        self.assertEqual(groups[""].findtext(f"{SVG}title"), "<t&\">")
+        self.assertEqual(groups[""].findtext(f"{SVG}title"), '<t&">')
 
     def test_a_png(self) -> None:
         words = [*tool_words("lefence-picture"), "t.def", "t.lef", "--program", self.program, "-o", "x.png"]
@@ -200,7 +227,9 @@ class Pictures(FrontCase):
 
     def test_what_is_read_is_not_overwritten(self) -> None:
         done = self.tool("lefence-picture", "t.def", "t.lef", "--program", self.program, "-o", "t.lef")
-        self.assertEqual((done.returncode, done.stderr), (2, b"lefence-picture: t.lef is read, and would be written over\n"))
+        self.assertEqual(
+            (done.returncode, done.stderr), (2, b"lefence-picture: t.lef is read, and would be written over\n")
+        )
         done = self.tool("lefence-picture", "t.def", "t.lef", "--program", self.program, "-o", "x.jpg")
         self.assertEqual((done.returncode, (self.folder / "x.jpg").exists()), (2, False), done.stderr)
 

@@ -63,7 +63,9 @@ class Preparations(FrontCase):
         self.output = self.folder / "ready.def"
 
     def run_on(self, *words: str | Path) -> subprocess.CompletedProcess[bytes]:
-        return self.tool("lefence-prepare", self.design, self.lef, "--output", self.output, "--program", PROGRAM, *words)
+        return self.tool(
+            "lefence-prepare", self.design, self.lef, "--output", self.output, "--program", PROGRAM, *words
+        )
 
     def test_the_sites_of_a_lef_text(self) -> None:
         sites = [(site.name, site.is_core, float(site.width), float(site.height)) for site in sites_of(LEF.encode())]
@@ -108,10 +110,14 @@ class Preparations(FrontCase):
         text = self.output_of("--fence", "B", *"1021", "--group", "A", "b/*", "--group", "B", "x")
         regions = "- A ( 0 0 ) ( 1000 1000 ) + TYPE FENCE ;\n- B ( 1000 0 ) ( 2000 1000 ) + TYPE FENCE ;\n"
         self.assertIn(f"\nREGIONS 2 ;\n{regions}END REGIONS", text)
-        self.assertIn("\nGROUPS 3 ;\n- A a/* + REGION A ;\n- A_2 b/* + REGION A ;\n- B x + REGION B ;\nEND GROUPS", text)
+        self.assertIn(
+            "\nGROUPS 3 ;\n- A a/* + REGION A ;\n- A_2 b/* + REGION A ;\n- B x + REGION B ;\nEND GROUPS", text
+        )
         self.design.write_text(text)
         self.assertEqual(self.output_of(), text)
-        other = self.output_of("--rows", "--site", "tall", "--core", "0", "0", "4", "9", "--margin", "0.3", "--force", status=1)
+        other = self.output_of(
+            "--rows", "--site", "tall", "--core", "0", "0", "4", "9", "--margin", "0.3", "--force", status=1
+        )
         rows = "\nROW ROW_0 tall 300 300 N DO 17 BY 1 STEP 200 0 ;\nROW ROW_1 tall 300 4300 FS DO 17 BY 1 STEP 200 0 ;"
         self.assertIn(f" # the die{rows}\nTRACKS", other)
 
@@ -139,15 +145,45 @@ class Preparations(FrontCase):
             (("( 4100 8100 )", "( 0 1 ) ( 0 0 )"), (), 1, "DIEAREA is no rectangle in whole database units; --core"),
             (("UNITS", "HISTORY"), (), 1, "the text has no UNITS DISTANCE MICRONS"),
             (("MICRONS 1000", "MICRONS 1"), (), 1, "site core is no whole number of database units: 0.2"),
-            (("( 4100 8100 )", "( 4100 2147483647 )"), (), 1, "1073741 rows of site core would have room in the core; the"),
-            (("", ""), ("--margin", "3"), 1, "no row of site core has room in the core: ( 2900 2700 ) ( 1100 5100 ) database"),
+            (
+                ("( 4100 8100 )", "( 4100 2147483647 )"),
+                (),
+                1,
+                "1073741 rows of site core would have room in the core; the",
+            ),
+            (
+                ("", ""),
+                ("--margin", "3"),
+                1,
+                "no row of site core has room in the core: ( 2900 2700 ) ( 1100 5100 ) database",
+            ),
             (("", ""), ("--margin", "1e3"), 2, "1e3 is no length in microns"),
-            (("", ""), ("--site", "pad"), 1, "no LEF text has a site pad with CLASS CORE and a SIZE; found: core, tall"),
+            (
+                ("", ""),
+                ("--site", "pad"),
+                1,
+                "no LEF text has a site pad with CLASS CORE and a SIZE; found: core, tall",
+            ),
             (("", ""), ("--group", "A", "x"), 1, "there is no fence A for the group; --fence A adds one"),
             (("", ""), ("--fence", "a;b c", *"0011"), 2, "'a;b c' can be no name in a DEF text"),
-            (("", ""), ("--fence", "A", *"1100"), 2, "1 1 0 0 is no rectangle: X1 Y1 X2 Y2 are left, bottom, right and top"),
-            (("", ""), ("--fence", "A", "0.0001", *"011"), 1, "0.0001 microns is no whole number of database units: 0.1"),
-            (("TRACKS", f"{ROWS} TRACKS"), ("--margin", "1"), 2, "the text has rows; --rows makes others in their place"),
+            (
+                ("", ""),
+                ("--fence", "A", *"1100"),
+                2,
+                "1 1 0 0 is no rectangle: X1 Y1 X2 Y2 are left, bottom, right and top",
+            ),
+            (
+                ("", ""),
+                ("--fence", "A", "0.0001", *"011"),
+                1,
+                "0.0001 microns is no whole number of database units: 0.1",
+            ),
+            (
+                ("TRACKS", f"{ROWS} TRACKS"),
+                ("--margin", "1"),
+                2,
+                "the text has rows; --rows makes others in their place",
+            ),
         ):
             self.design.write_text(text.replace(*change, 1))
             done = self.run_on(*words)

@@ -114,12 +114,16 @@ class Repairs(FrontCase):
     def test_what_is_spliced_is_what_the_program_exports(self) -> None:
         self.assertEqual(self.repair("--out", self.target).returncode, 0)
         before, after = self.cells(self.design), self.cells(self.target)
-        spots = {name: spot for name, cell in after.items() if (spot := spot_of(cell)) and spot != spot_of(before[name])}
+        spots = {
+            name: spot for name, cell in after.items() if (spot := spot_of(cell)) and spot != spot_of(before[name])
+        }
         self.assertGreater(len(spots), 40)
         self.assertEqual(with_spots(self.design.read_bytes(), spots), self.target.read_bytes())
         unplaced = with_spots(self.target.read_bytes(), dict.fromkeys(spots))
         (self.folder / "unplaced.def").write_bytes(unplaced)
-        self.assertEqual({name for name, cell in self.cells(self.folder / "unplaced.def").items() if cell.box is None}, {*spots})
+        self.assertEqual(
+            {name for name, cell in self.cells(self.folder / "unplaced.def").items() if cell.box is None}, {*spots}
+        )
 
     def test_a_cell_without_room_is_named_and_unplaced_and_all_others_are_repaired(self) -> None:
         self.lef.write_text(LEF.replace("END LIBRARY", HIGH))
@@ -146,7 +150,9 @@ class Repairs(FrontCase):
         self.assertEqual(self.target.read_text(), wanted)
 
     def test_a_cell_on_others_ground_does_not_move_them(self) -> None:
-        self.design.write_text(TIGHT.replace("three BUF + PLACED ( 200", "three BUF + PLACED ( 400").replace("DO 5", "DO 9"))
+        self.design.write_text(
+            TIGHT.replace("three BUF + PLACED ( 200", "three BUF + PLACED ( 400").replace("DO 5", "DO 9")
+        )
         self.add("- g INV + PLACED ( 0 0 ) N")
         done = self.repair("--dry-run")
         self.assertEqual((done.returncode, done.stdout), (0, b"- g 0 0 N -> 1000 0 N by 1000\n"), done.stderr)
@@ -188,7 +194,9 @@ class Repairs(FrontCase):
                 self.assertEqual((after[name].box is None, after[name].rule), (False, None))
             else:
                 self.assertEqual(spot_of(after[name]), spot_of(cell))
-        self.assertTrue(done.stderr.endswith(b"not fully legal: other teams have cells that break a rule or have no place\n"))
+        self.assertTrue(
+            done.stderr.endswith(b"not fully legal: other teams have cells that break a rule or have no place\n")
+        )
         done = self.repair("--out", self.target, "--team", "Z")
         self.assertEqual((done.returncode, done.stderr), (1, b"lefence-repair: NoTeam; team Z is not in the design\n"))
 
@@ -202,7 +210,10 @@ class Repairs(FrontCase):
 
     def test_what_is_refused_is_told_and_no_file_is_left(self) -> None:
         text = self.design.read_text()
-        for broken, told in ((text[:400], b"2 UnexpectedEnd line"), (text.replace("UNITS", "#"), b"7 NoUnits t; DEF file")):
+        for broken, told in (
+            (text[:400], b"2 UnexpectedEnd line"),
+            (text.replace("UNITS", "#"), b"7 NoUnits t; DEF file"),
+        ):
             self.design.write_text(broken)
             done = self.repair("--out", self.target)
             self.assertEqual((done.returncode, told in done.stderr), (1, True), done.stderr)

@@ -25,7 +25,10 @@ class RepairsThere(HubCase):
             session.place("f1c1", 9000, 4000, "N")
             done = self.repair("f1", "--keep")
             self.assertEqual((done.returncode, done.stdout), (0, b""), done.stderr)
-            self.assertIn(f"lefence-repair: team f1: 0 moved, 0 turned, {CELLS - 1} newly placed, 1 stay, 0 left\n".encode(), done.stderr)
+            self.assertIn(
+                f"lefence-repair: team f1: 0 moved, 0 turned, {CELLS - 1} newly placed, 1 stay, 0 left\n".encode(),
+                done.stderr,
+            )
             revision = session.sync()
             self.assertIn(f"lefence-repair: team f1: at revision {revision} there\n".encode(), done.stderr)
             report, place = session.check(), session.where("f1c1")
@@ -56,7 +59,9 @@ class RepairsThere(HubCase):
             session.pad(16)
             done = self.repair("f1")
             self.assertEqual(done.returncode, 1, done.stderr)
-            self.assertRegex(done.stderr.decode(), "line [0-9]+: '[a-z]+ f1 1 f1c[0-9] .*' was answered 'ok .*', and there '(ok|no) ")
+            self.assertRegex(
+                done.stderr.decode(), "line [0-9]+: '[a-z]+ f1 1 f1c[0-9] .*' was answered 'ok .*', and there '(ok|no) "
+            )
             self.assertGreater(session.check().unplaced, 0)
 
     def test_a_design_with_other_cells_is_refused(self) -> None:

@@ -121,7 +121,10 @@ class Reports(ReportCase):
         self.assertFalse(near.has(partial_file))
 
     def test_when_and_by_what_it_was_made(self) -> None:
-        self.assertRegex(self.page(), rf"<dd>\d{{4}}-\d\d-\d\d \d\d:\d\d UTC, by lefence-report {re.escape(lefence.__version__)}</dd>")
+        self.assertRegex(
+            self.page(),
+            rf"<dd>\d{{4}}-\d\d-\d\d \d\d:\d\d UTC, by lefence-report {re.escape(lefence.__version__)}</dd>",
+        )
 
     def test_before_and_after(self) -> None:
         early = self.design.read_text()
@@ -136,13 +139,17 @@ class Reports(ReportCase):
         self.assertIn(["one", "-", "64, 0", "66, 2", "4.00", "2.0"], text.lines)
         self.assertIn("#m=one", text.links)
         found = self.data(text)["since"]
-        self.assertEqual((found["arrows"], found["far"]), ([[64200, 1000, 66200, 3000, 0, "one"]], [["one", 64000, 0, 66000, 2000]]))
+        self.assertEqual(
+            (found["arrows"], found["far"]), ([[64200, 1000, 66200, 3000, 0, "one"]], [["one", 64000, 0, 66000, 2000]])
+        )
         self.assertIsNone(self.data(Text(self.page()))["since"])
 
     def test_texts_of_other_units_are_not_compared(self) -> None:
         text = "DESIGN t ;\nUNITS DISTANCE MICRONS 2000 ;\nROW r0 core 0 0 N DO 10 BY 1 STEP 400 0 ;\nEND DESIGN\n"
         (self.folder / "early.def").write_text(text)
-        done = self.tool("lefence-report", "t.def", "t.lef", "--program", self.program, "-o", "x.html", "--before", "early.def")
+        done = self.tool(
+            "lefence-report", "t.def", "t.lef", "--program", self.program, "-o", "x.html", "--before", "early.def"
+        )
         self.assertEqual((done.returncode, (self.folder / "x.html").exists()), (1, False), done.stderr)
         self.assertIn(b"2000 database units in a micron", done.stderr)
 
@@ -195,7 +202,9 @@ class InABrowser(ReportCase):
     def look_around(self, scale: float) -> None:
         """Wheel, drag, buttons and keys."""
         browser = self.browser
-        x, y = browser.value("[canvas.getBoundingClientRect()].map((b) => [b.x + size.wide / 2, b.y + size.high / 2])[0]")
+        x, y = browser.value(
+            "[canvas.getBoundingClientRect()].map((b) => [b.x + size.wide / 2, b.y + size.high / 2])[0]"
+        )
         browser.mouse("mouseWheel", x, y, deltaX=0, deltaY=-200)
         browser.drawn()
         self.assertGreater(self.where()[2], scale)

@@ -114,7 +114,9 @@ class Texts(HubCase):
         self.talk("f0").ask("open f0", "place f0 0 f0c1 0 0 N")
         self.hub.kill()
         script = self.folder / "other"
-        script.write_text(f"#!/bin/sh\n[ $1 = replay ] || exec '{PROGRAM}' \"$@\"\n'{PROGRAM}' \"$@\" | sed -u 's/^ok 1$/ok 7/'\n")
+        script.write_text(
+            f"#!/bin/sh\n[ $1 = replay ] || exec '{PROGRAM}' \"$@\"\n'{PROGRAM}' \"$@\" | sed -u 's/^ok 1$/ok 7/'\n"
+        )
         script.chmod(0o755)
         self.program = str(script)
         self.assertIn("the journal was written with another program", self.start())
@@ -229,7 +231,7 @@ class Shares(unittest.TestCase):
     """Nobody takes all there is: a hub with clients by hand, and a program that accepts."""
 
     def setUp(self) -> None:
-        def ask(lines: list[bytes]) -> list[bytes]:
+        def execute(lines: list[bytes]) -> list[bytes]:
             self.asked += lines
             return [b"ok %d 0\n" % number if line.startswith(b"open") else b"ok\n" for number, line in enumerate(lines)]
 
@@ -302,7 +304,9 @@ class Shares(unittest.TestCase):
         second = mock.Mock(start=mock.AsyncMock(), restore=mock.AsyncMock(), kill=mock.AsyncMock())
         second.end = mock.AsyncMock(side_effect=lambda: [steps.end(), 0][1])
         self.hub.server.program.texts = []
-        with mock.patch.object(exporter, "Server", return_value=second), mock.patch.object(atomic_file, "sync_folder", steps.sync):
+        with mock.patch.object(exporter, "Server", return_value=second), mock.patch.object(
+            atomic_file, "sync_folder", steps.sync
+        ):
             self.assertIsNone(asyncio.run(self.hub.exporter.write(str(target), self.hub.journal.position)))
         self.assertEqual([str(call) for call in steps.mock_calls], ["call.end()", f"call.sync({target.parent!r})"])
 
@@ -343,7 +347,9 @@ class Shares(unittest.TestCase):
                 while near.send(bytes(1 << 10)):
                     pass
             with far:
-                _, client = await asyncio.get_running_loop().connect_accepted_socket(lambda: Client(self.hub, b"f0"), near)
+                _, client = await asyncio.get_running_loop().connect_accepted_socket(
+                    lambda: Client(self.hub, b"f0"), near
+                )
                 client.replies.append(bytes(unread))
                 client.flush()
                 client.disconnect()
@@ -376,9 +382,13 @@ class Faults(FrontCase):
             raise Fault(3, "the journal is lost")
 
         async def run() -> None:
-            hub = mock.Mock(teams=[], clients=set(), start=mock.AsyncMock(return_value=[]), run=wait_forever, watch=watch)
+            hub = mock.Mock(
+                teams=[], clients=set(), start=mock.AsyncMock(return_value=[]), run=wait_forever, watch=watch
+            )
             with self.assertRaisesRegex(Fault, "is lost"), mock.patch.object(hub_tool, "say"):
-                await hub_tool.serve(hub, argparse.Namespace(group=[], team=[], sockets=self.folder, roll=False), asyncio.Event())
+                await hub_tool.serve(
+                    hub, argparse.Namespace(group=[], team=[], sockets=self.folder, roll=False), asyncio.Event()
+                )
             await asyncio.sleep(0)
             self.assertEqual(ended, [True])
 
@@ -399,7 +409,9 @@ class Operator(HubCase):
     """What the operator sees and bounds."""
 
     def ask_hub(self, option: str) -> str:
-        return subprocess.check_output([*tool_words("lefence-hub"), option, str(self.folder / "s")], text=True, timeout=PATIENCE)
+        return subprocess.check_output(
+            [*tool_words("lefence-hub"), option, str(self.folder / "s")], text=True, timeout=PATIENCE
+        )
 
     def send_end(self, path: Path) -> None:
         with socket.socket(socket.AF_UNIX, socket.SOCK_DGRAM) as end, contextlib.suppress(OSError):
@@ -407,7 +419,9 @@ class Operator(HubCase):
 
     def test_a_socket_of_systemd_that_takes_nothing_holds_nobody(self) -> None:
         path = self.folder / "told"
-        with socket.socket(socket.AF_UNIX, socket.SOCK_DGRAM) as systemd, mock.patch.dict(os.environ, {"NOTIFY_SOCKET": str(path)}):
+        with socket.socket(socket.AF_UNIX, socket.SOCK_DGRAM) as systemd, mock.patch.dict(
+            os.environ, {"NOTIFY_SOCKET": str(path)}
+        ):
             systemd.bind(str(path))
             for _ in range(2000):
                 notify_alive(True)
@@ -436,12 +450,21 @@ class Operator(HubCase):
             self.assertEqual([teams["f0"][key] for key in ("revision", "uncommitted", "clients")], [2, 2, 1])
             [session] = teams["f0"]["sessions"]
             self.assertEqual((session["number"], session["uid"], session["pid"]), (0, os.geteuid(), os.getpid()))
-            self.assertEqual((teams["f1"]["revision"], teams["f1"]["uncommitted"], text_summary_of["changes_total"]), (2, 0, 6))
-            self.assertTrue(text_summary_of["sync_seconds_p99"] > 0 and text_summary_of["program_bytes"] > 1 << 20 and text_summary_of["journal_bytes"] > 300)
+            self.assertEqual(
+                (teams["f1"]["revision"], teams["f1"]["uncommitted"], text_summary_of["changes_total"]), (2, 0, 6)
+            )
+            self.assertTrue(
+                text_summary_of["sync_seconds_p99"] > 0
+                and text_summary_of["program_bytes"] > 1 << 20
+                and text_summary_of["journal_bytes"] > 300
+            )
             metrics = self.ask_hub("--metrics")
             self.assertIn('lefence_team_revision{team="f0"} 2\n', metrics)
             for line in metrics.splitlines():
-                self.assertRegex(line, r"^(# (HELP|TYPE) )?lefence_[a-z0-9_]+(\{team=\"[^ ]+\"\})? ([-0-9.e]+|counter|gauge|[A-Z].*)$")
+                self.assertRegex(
+                    line,
+                    r"^(# (HELP|TYPE) )?lefence_[a-z0-9_]+(\{team=\"[^ ]+\"\})? ([-0-9.e]+|counter|gauge|[A-Z].*)$",
+                )
             self.assertEqual(talker.ask("status"), ["no 1 BadRequest"])
             last = time.monotonic() + PATIENCE
             while b"WATCHDOG=1" not in words:
@@ -469,7 +492,11 @@ class Operator(HubCase):
         needed = ["t.def", "t.lef", "--sockets", "s", "--journal", "j"]
         seconds, least = "a number of seconds, 0 or more", "0 or more"
         for option, value, told in (
-            *((option, value, seconds) for option in ("--grace", "--idle", "--patience", "--deadline") for value in ("nan", "-3", "inf")),
+            *(
+                (option, value, seconds)
+                for option in ("--grace", "--idle", "--patience", "--deadline")
+                for value in ("nan", "-3", "inf")
+            ),
             ("--tail-seconds", "1e300", seconds),
             ("--tail-bytes", "-5", least),
             ("--keep", "1", "0, or 2 or more"),
@@ -477,7 +504,11 @@ class Operator(HubCase):
         ):
             with contextlib.redirect_stderr(io.StringIO()) as said, self.assertRaises(SystemExit) as ended:
                 hub_tool.parser().parse_args([*needed, option, value])
-            self.assertEqual((ended.exception.code, f"argument {option}: {value}: {told}\n" in said.getvalue()), (2, True), said.getvalue())
+            self.assertEqual(
+                (ended.exception.code, f"argument {option}: {value}: {told}\n" in said.getvalue()),
+                (2, True),
+                said.getvalue(),
+            )
 
     def test_a_program_that_hangs_is_restored_and_cannot_hold_the_end(self) -> None:
         self.start("--deadline", "2", "--idle", "2", "--grace", "1")

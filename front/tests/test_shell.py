@@ -67,7 +67,9 @@ class Words(HubCase):
         said = self.say("team f0", "place f0c1 0 0 N", "place f0c2 400 0 N", "pad 1", "check")
         head = ["10 cells, 8 without a place, 2 break a rule", "cell  rule  what"]
         near = "overlaps {} or is too near to it"
-        self.assertEqual(said[-4:], [*head, f"f0c1     8  f0c1 {near.format('f0c2')}", f"f0c2     8  f0c2 {near.format('f0c1')}"])
+        self.assertEqual(
+            said[-4:], [*head, f"f0c1     8  f0c1 {near.format('f0c2')}", f"f0c2     8  f0c2 {near.format('f0c1')}"]
+        )
         self.assertEqual(violation_text(8, "a", "b", is_there=True), "a overlaps b")
         for rule in RULES:
             self.assertTrue(violation_text(rule, "a", "b").startswith("a "))
@@ -75,7 +77,9 @@ class Words(HubCase):
     def test_where_tidy_finds_no_place_the_way_out_is_told(self) -> None:
         # Four rows of forty sites have room for eighty cells of two sites; of three, less.
         parts = "".join(f"- f0d{at} BUF ;\n" for at in range(60))
-        self.design.write_text(self.design.read_text().replace("END COMPONENTS", f"{parts}END COMPONENTS").replace("f0c*", "f0*"))
+        self.design.write_text(
+            self.design.read_text().replace("END COMPONENTS", f"{parts}END COMPONENTS").replace("f0c*", "f0*")
+        )
         said = self.say("team f0", "tidy", "check")
         self.assertRegex(said[1], r"^no: there is no legal place for f0d\d+$")
         self.assertIn("nothing has moved", said[2])
@@ -88,7 +92,17 @@ class Words(HubCase):
         self.assertTrue(all(any(line.startswith(word) for line in said) for word in SHELL_COMMANDS))
 
     def test_any_bytes_are_answered(self) -> None:
-        lines = [b"\xff\xfe", b"team f0", b"place \xff 0 0 N", b"\x00", b"raw \xff\x01", b"x" * 9000, b"help \xff", b"def", b"\r"]
+        lines = [
+            b"\xff\xfe",
+            b"team f0",
+            b"place \xff 0 0 N",
+            b"\x00",
+            b"raw \xff\x01",
+            b"x" * 9000,
+            b"help \xff",
+            b"def",
+            b"\r",
+        ]
         said = self.say(*lines, b"quit", b"never")
         self.assertEqual(len([line for line in said if line.startswith("no")]), 6)
         self.assertIn("END DESIGN", said)
@@ -104,7 +118,9 @@ class Words(HubCase):
         self.assertEqual(said[2:], ["10 cells moved; revision 1", "written"])
         self.assertEqual(sorted(said[1].split()), sorted([f"f{team}" for team in range(TEAMS)] + ["-"]))
         with self.service(1) as port:
-            self.assertEqual(self.say("team f0", "tidy", words=(f"127.0.0.1:{port}",))[1:], ["10 cells moved; revision 1"])
+            self.assertEqual(
+                self.say("team f0", "tidy", words=(f"127.0.0.1:{port}",))[1:], ["10 cells moved; revision 1"]
+            )
 
     def test_an_end_that_is_not_there_is_told(self) -> None:
         for where, status in (("nowhere.sock", 3), ("127.0.0.1:1", 3), ("a" * 300, 3), ("x:99999", 2)):
@@ -112,7 +128,9 @@ class Words(HubCase):
             self.assertEqual((done.returncode, done.stdout), (status, b""), done.stderr)
             self.assertNotIn(b"Traceback", done.stderr)
         done = self.tool("lefence-shell", "t.def")
-        told = b"lefence-shell: t.def is no socket; a design takes its LEF texts too: lefence-shell chip.def tech.lef ..\n"
+        told = (
+            b"lefence-shell: t.def is no socket; a design takes its LEF texts too: lefence-shell chip.def tech.lef ..\n"
+        )
         self.assertEqual((done.returncode, done.stderr), (2, told))
         done = self.tool("lefence-shell", self.design, self.lef, "--program", PROGRAM, "--team", "Z")
         self.assertEqual((done.returncode, done.stdout), (1, b"no: there is no such team here\n"))
@@ -125,10 +143,15 @@ class Words(HubCase):
         other = self.describing(f"'{PROGRAM}' \"$@\" | sed 's/{fence}/{fence[:-3]}Z\"/'")
         done = self.tool("lefence-shell", self.design, self.lef, "--program", other, lines=b"teams\n")
         self.assertEqual((done.returncode, done.stdout, done.stderr), (0, b"f0 f1 f2 Z f4 f5 f6 f7 -\n", b""))
-        for script, said, status in (("echo no such verb >&2; exit 2", "no such verb", 2), ("exit 0", "does not tell the teams", 3)):
+        for script, said, status in (
+            ("echo no such verb >&2; exit 2", "no such verb", 2),
+            ("exit 0", "does not tell the teams", 3),
+        ):
             silent = self.describing(script)
             done = self.tool("lefence-shell", self.design, self.lef, "--program", silent)
-            self.assertEqual((done.returncode, done.stdout, done.stderr.decode().count(said)), (status, b"", 1), done.stderr)
+            self.assertEqual(
+                (done.returncode, done.stdout, done.stderr.decode().count(said)), (status, b"", 1), done.stderr
+            )
 
 
 class Completion(HubCase):
@@ -158,9 +181,16 @@ class Completion(HubCase):
         if pid == 0:
             os.environ["XDG_STATE_HOME"] = str(self.folder)
             os.environ["TERM"] = "dumb"
-            os.execv(sys.executable, [*tool_words("lefence-shell"), str(self.design), str(self.lef), "--program", PROGRAM])
+            os.execv(
+                sys.executable, [*tool_words("lefence-shell"), str(self.design), str(self.lef), "--program", PROGRAM]
+            )
         seen = b""
-        for text, due in ((b"", b"lefence> "), (b"team f0\n", b"f0> "), (b"pla\tf0c1 0 0 N\n", b"revision 1"), (b"quit\n", b"")):
+        for text, due in (
+            (b"", b"lefence> "),
+            (b"team f0\n", b"f0> "),
+            (b"pla\tf0c1 0 0 N\n", b"revision 1"),
+            (b"quit\n", b""),
+        ):
             os.write(terminal, text)
             last = time.monotonic() + PATIENCE
             while due not in seen and time.monotonic() < last:
@@ -170,7 +200,9 @@ class Completion(HubCase):
             seen = b""
         self.assertEqual(os.waitpid(pid, 0)[1], 0)
         os.close(terminal)
-        self.assertEqual((self.folder / "lefence-shell-history").read_text().splitlines()[:2], ["team f0", "place f0c1 0 0 N"])
+        self.assertEqual(
+            (self.folder / "lefence-shell-history").read_text().splitlines()[:2], ["team f0", "place f0c1 0 0 N"]
+        )
 
 
 if __name__ == "__main__":

@@ -58,7 +58,9 @@ t.def, line 6: 2 rows of site wide passed over: the core site is core
 class Looks(FrontCase):
     def setUp(self) -> None:
         super().setUp()
-        self.lef.write_text(self.lef.read_text().replace("MACRO INV", "SITE wide CLASS CORE ; SIZE 2 BY 2 ; END wide MACRO INV"))
+        self.lef.write_text(
+            self.lef.read_text().replace("MACRO INV", "SITE wide CLASS CORE ; SIZE 2 BY 2 ; END wide MACRO INV")
+        )
         self.design.write_text(TEXT)
 
     def run_on(self, *words: str | Path) -> subprocess.CompletedProcess[bytes]:
@@ -73,25 +75,59 @@ class Looks(FrontCase):
         self.assertEqual(sorted(path.name for path in self.folder.iterdir()), ["t.def", "t.lef"])
 
     def test_a_text_without_odd_words_has_nothing_to_tell(self) -> None:
-        clean = TEXT.replace("ROW r1 wide", "HISTORY").replace("ROW r2 wide", "HISTORY").replace("SOFTT", "SOFT").replace("PLAECD (", "PLACED (")
-        clean = clean.replace("WIEGHT", "WEIGHT").replace("FIXD", "FIXED").replace("REGOIN", "REGION").replace("zz* a1 nobody \\*", "a1")
+        clean = (
+            TEXT.replace("ROW r1 wide", "HISTORY")
+            .replace("ROW r2 wide", "HISTORY")
+            .replace("SOFTT", "SOFT")
+            .replace("PLAECD (", "PLACED (")
+        )
+        clean = (
+            clean.replace("WIEGHT", "WEIGHT")
+            .replace("FIXD", "FIXED")
+            .replace("REGOIN", "REGION")
+            .replace("zz* a1 nobody \\*", "a1")
+        )
         clean = clean.replace("COMPONENTS 7", "COMPONENTS 5").replace("- i c1 + REGION C ;\n", "- i c1 ;\n")
         self.design.write_text(clean)
         done = self.run_on("--look")
-        self.assertEqual((done.returncode, done.stdout), (0, b"it loads: 4 cells, 0 unplaced, 1 illegal (1 by rule 6 Fence)\n"))
+        self.assertEqual(
+            (done.returncode, done.stdout), (0, b"it loads: 4 cells, 0 unplaced, 1 illegal (1 by rule 6 Fence)\n")
+        )
 
     def test_a_preparing_run_tells_so_too_by_the_lines_of_the_text_that_it_read(self) -> None:
-        done = self.run_on("--output", "x.def", "--rows", "--fence", "D", *"6072", "--group", "D", "q*", "--fillers", "nothing", "--fillers", "c1")
+        done = self.run_on(
+            "--output",
+            "x.def",
+            "--rows",
+            "--fence",
+            "D",
+            *"6072",
+            "--group",
+            "D",
+            "q*",
+            "--fillers",
+            "nothing",
+            "--fillers",
+            "c1",
+        )
         told = [line.removeprefix("lefence-prepare: ") for line in done.stderr.decode().splitlines()]
         self.assertEqual(done.returncode, 0, told)
         for line in REMARKS.splitlines():
             passed = "passed over: the core" in line or "COMPONENTS" in line
             self.assertEqual(line in told, not passed, (line, told))
-        for line in ("fence D has no cells", "q* of group D matches no component", "no component has a name or a macro like nothing"):
+        for line in (
+            "fence D has no cells",
+            "q* of group D matches no component",
+            "no component has a name or a macro like nothing",
+        ):
             self.assertIn(line, told)
 
     def test_of_many_alike_the_first_are_told(self) -> None:
-        self.design.write_text(TEXT.replace("END COMPONENTS", "".join(f"- x{at} INV + PLCED ( 0 0 ) N ;\n" for at in range(9)) + "END COMPONENTS"))
+        self.design.write_text(
+            TEXT.replace(
+                "END COMPONENTS", "".join(f"- x{at} INV + PLCED ( 0 0 ) N ;\n" for at in range(9)) + "END COMPONENTS"
+            )
+        )
         told = self.run_on("--look").stdout.decode()
         self.assertEqual([f"of component x{at} " in told for at in range(9)], [True] * 5 + [False] * 4)
         self.assertIn("\nand 4 more: + PLCED in COMPONENTS\n", told)
@@ -103,7 +139,9 @@ class Looks(FrontCase):
         done = self.run_on("--output", "x.def", "--core", *"1084")
         self.assertEqual((done.returncode, (self.folder / "x.def").exists()), (4, True), done.stderr)
         self.assertIn(b"every cell breaks a rule", done.stderr)
-        self.lef.write_text(self.lef.read_text().replace("INV CLASS CORE ; ORIGIN 0 0 ; SIZE 0.4 BY 2.0", "INV SIZE 0.4 BY 2.5"))
+        self.lef.write_text(
+            self.lef.read_text().replace("INV CLASS CORE ; ORIGIN 0 0 ; SIZE 0.4 BY 2.0", "INV SIZE 0.4 BY 2.5")
+        )
         done = self.run_on("--output", "y.def")
         told = b"no cell fits the rows of site core, 2 microns high: the cells are 2.5 microns high; --rows --site NAME takes another site\n"
         self.assertEqual((done.returncode, (self.folder / "y.def").exists()), (1, False), done.stderr)
@@ -116,14 +154,20 @@ class Looks(FrontCase):
         done = self.run_on("--look")
         self.assertEqual(done.returncode, 1)
         self.assertIn(b"+ PLAECD of component a1", done.stdout)
-        self.assertTrue(done.stdout.endswith(b"it does not load: 7 NoUnits t; t.def, line 2: DESIGN t ;\n"), done.stdout)
+        self.assertTrue(
+            done.stdout.endswith(b"it does not load: 7 NoUnits t; t.def, line 2: DESIGN t ;\n"), done.stdout
+        )
         self.design.write_text("DESIGN t ;\nUNITS DISTANCE MICRONS 1000 ;\nEND DESIGN\n")
         done = self.run_on("--look")
         told = b"there is no ROW; a run with --output makes rows\nit does not load: 9 NoRows t; t.def, line 1: DESIGN t ;\n"
         self.assertEqual((done.returncode, done.stdout), (1, told))
 
     def test_what_is_no_def_text_is_told_so(self) -> None:
-        for text, told in ((b"", ""), (self.lef.read_bytes(), ""), (gzip.compress(TEXT.encode()), ", but compressed by gzip")):
+        for text, told in (
+            (b"", ""),
+            (self.lef.read_bytes(), ""),
+            (gzip.compress(TEXT.encode()), ", but compressed by gzip"),
+        ):
             self.design.write_bytes(text)
             for words in (("--look",), ("-o", "x.def")):
                 done = self.run_on(*words)
@@ -131,7 +175,13 @@ class Looks(FrontCase):
                 self.assertEqual((done.returncode, done.stdout, done.stderr.decode()), (1, b"", said))
 
     def test_a_look_goes_with_nothing_that_prepares(self) -> None:
-        for words in (("--output", "x"), ("--rows",), ("--fence", "A", *"0011"), ("--fillers", "x"), ("--group", "A", "x")):
+        for words in (
+            ("--output", "x"),
+            ("--rows",),
+            ("--fence", "A", *"0011"),
+            ("--fillers", "x"),
+            ("--group", "A", "x"),
+        ):
             done = self.run_on("--look", *words)
             self.assertEqual((done.returncode, done.stdout), (2, b""), done.stderr)
         self.assertEqual(self.run_on().returncode, 2)

@@ -68,7 +68,9 @@ class Slices(HubCase):
 
     def slice(self, team: str) -> Path:
         target = self.folder / f"{team}.def"
-        done = self.tool("lefence-slice", self.design, self.lef, "--team", team, "--output", target, "--program", self.program)
+        done = self.tool(
+            "lefence-slice", self.design, self.lef, "--team", team, "--output", target, "--program", self.program
+        )
         self.assertEqual((done.returncode, done.stdout), (0, b""), done.stderr)
         self.assertNotIn(b"not compared", done.stderr)
         return target
@@ -91,7 +93,9 @@ class Slices(HubCase):
     def test_commands_are_answered_as_on_the_whole_design(self) -> None:
         for team in (0, 1, 2, TEAMS):
             name = f"f{team}" if team < TEAMS else "-"
-            text = f"open {name}\n".encode() + Script(self.rng, team).lines(800) + f"open {name}\ndef {name} 0\n".encode()
+            text = (
+                f"open {name}\n".encode() + Script(self.rng, team).lines(800) + f"open {name}\ndef {name} 0\n".encode()
+            )
             self.assertEqual(self.direct(text, design=self.slice(name)), self.direct(text))
 
     def test_a_busy_whole_answers_a_team_as_its_slice_does(self) -> None:
@@ -114,10 +118,15 @@ class Slices(HubCase):
 
     def test_what_is_no_def_text_is_told_so(self) -> None:
         text = self.design.read_bytes()
-        for other, told in ((LEF.encode(), "it is no DEF text"), (gzip.compress(text), "it is no DEF text, but compressed by gzip")):
+        for other, told in (
+            (LEF.encode(), "it is no DEF text"),
+            (gzip.compress(text), "it is no DEF text, but compressed by gzip"),
+        ):
             self.design.write_bytes(other)
             done = self.tool("lefence-slice", self.design, "--team", "f0")
-            self.assertEqual((done.returncode, done.stderr.decode()), (1, f"lefence-slice: {self.design} has no DESIGN: {told}\n"))
+            self.assertEqual(
+                (done.returncode, done.stderr.decode()), (1, f"lefence-slice: {self.design} has no DESIGN: {told}\n")
+            )
 
     def test_a_text_that_is_cut_off_is_refused(self) -> None:
         self.design.write_bytes(self.design.read_bytes().partition(b"- f3c0")[0])
@@ -145,7 +154,9 @@ class Slices(HubCase):
     def test_a_slice_that_differs_is_not_written(self) -> None:
         target = self.folder / "f1.def"
         for edit in ("s/f1c3/f1c33/", "/f1c3/d", "s/name...f2fixed/&d/"):
-            program = self.describing(f"""[ "$2" = "{self.design}" ] || exec '{PROGRAM}' "$@"\n'{PROGRAM}' "$@" | sed '{edit}'""")
+            program = self.describing(
+                f"""[ "$2" = "{self.design}" ] || exec '{PROGRAM}' "$@"\n'{PROGRAM}' "$@" | sed '{edit}'"""
+            )
             outputs: tuple[tuple[str | Path, ...], ...] = ((), ("--output", target))
             for words in outputs:
                 done = self.tool("lefence-slice", self.design, self.lef, "--team", "f1", "--program", program, *words)
@@ -193,7 +204,16 @@ class Pushes(HubCase):
         """The lines of a repair of a team's slice, and the slice that is exported then."""
         sliced, lines, exported = (self.folder / f"{team}.{name}" for name in ("def", "lines", "new.def"))
         sliced.write_bytes(slice_of(self.design.read_bytes(), team))
-        words = ["repair", str(sliced), str(self.lef), f"--team={team}", "--lines", str(lines), "--export", str(exported)]
+        words = [
+            "repair",
+            str(sliced),
+            str(self.lef),
+            f"--team={team}",
+            "--lines",
+            str(lines),
+            "--export",
+            str(exported),
+        ]
         self.assertEqual(subprocess.run([PROGRAM, *words], stdout=subprocess.DEVNULL).returncode, 0)
         return lines, exported
 
@@ -248,7 +268,9 @@ class Pushes(HubCase):
         for team, socket in (("f1", "f1"), ("-", "operator")):
             lines, exported = self.repair_away(team)
             cells = Design(exported.read_bytes())
-            wanted.update({each.name: each.words for each in cells.entries(b"COMPONENTS") if cells.team_of(each) == team.encode()})
+            wanted.update(
+                {each.name: each.words for each in cells.entries(b"COMPONENTS") if cells.team_of(each) == team.encode()}
+            )
             status, said = self.push(lines, socket)
             self.assertEqual((status, f"; team {team} at revision " in said), (0, True), said)
             self.assertEqual(self.push(lines, socket, "--continue")[0], 0)
@@ -274,13 +296,19 @@ class Pushes(HubCase):
         for _ in range(4):
             journal = self.work_away(0, 20, "--tail-bytes", "1")
         status, said = self.push(journal, "f0")
-        self.assertEqual((status, "are in a state alone; for a push the hub needs --keep 0 from the first line on\n" in said), (1, True), said)
+        self.assertEqual(
+            (status, "are in a state alone; for a push the hub needs --keep 0 from the first line on\n" in said),
+            (1, True),
+            said,
+        )
         status, said = self.push(self.work_away(1, 20, "--tail-bytes", "1", "--keep", "0"), "f1")
         self.assertEqual(status, 0, said)
 
     def test_the_number_of_a_session_is_no_revision(self) -> None:
         lines = [b"open f1", b"open f1", b"place f1 0 f1c1 8200 0 N"]
-        made = made_journal(self.folder / "made", self.work_away(0, 100), zip(lines, [b"ok 0 0\n", b"ok 1 0\n", b"ok 1\n"]))
+        made = made_journal(
+            self.folder / "made", self.work_away(0, 100), zip(lines, [b"ok 0 0\n", b"ok 1 0\n", b"ok 1\n"])
+        )
         for options in ((), ("--continue",)):
             self.assertEqual(self.push(made, "f1", *options)[0], 0)
 

@@ -93,13 +93,20 @@ class Summaries(FrontCase):
         early = [cell(name, "A", (0, 0, "N")) for name in names]
         late = [cell(name, "A", (200 + 200 * (at // 3), 0, "N")) for at, name in enumerate(names)]
         for order in (late, late[::-1], self.rng.sample(late, len(late))):
-            self.assertEqual([far.name for far in summary_of(early, order, FRAME, 5).farthest], ["c498", "c499", "c495", "c496", "c497"])
-        self.assertEqual((summary_of(early, late, FRAME, 0).farthest, len(summary_of(early, late, FRAME).farthest)), ([], 10))
+            self.assertEqual(
+                [far.name for far in summary_of(early, order, FRAME, 5).farthest],
+                ["c498", "c499", "c495", "c496", "c497"],
+            )
+        self.assertEqual(
+            (summary_of(early, late, FRAME, 0).farthest, len(summary_of(early, late, FRAME).farthest)), ([], 10)
+        )
 
     def test_what_else_differs_is_noted(self) -> None:
         other = Frame(FRAME.facts, FRAME.rows[:1], [], FRAME.obstacles, FRAME.soft)
         self.assertEqual(notes_of(FRAME, FRAME), [])
-        self.assertEqual(notes_of(FRAME, other), ["the rows differ: 2 before, 1 after", "the fences differ: 1 before, 0 after"])
+        self.assertEqual(
+            notes_of(FRAME, other), ["the rows differ: 2 before, 1 after", "the fences differ: 1 before, 0 after"]
+        )
         summary = summary_of(BEFORE, [cell("still", "-", (0, 0, "N"))], other)
         self.assertEqual([(team.name, team.lost) for team in summary.teams], [("-", 2), ("A", 4)])
         self.assertEqual(summary.notes, ["cells of another team than before: 1"])
@@ -122,7 +129,14 @@ class Summaries(FrontCase):
         self.assertEqual(read.pop("teams")[0], team)
         self.assertEqual(read.pop("all"), {**team, "name": "all", "cells": 90, "unplaced": {"before": 89, "after": 89}})
         known = {"design": "t", "units": 1000, "row_height": 2.0, "bins": [0, 1, 2, 5, 10, 20, 50]}
-        far = {"name": "f0c1", "team": "f0", "before": [0.1, 0, "N"], "after": [5, 4, "N"], "displacement": 8.9, "displacement_rows": 4.45}
+        far = {
+            "name": "f0c1",
+            "team": "f0",
+            "before": [0.1, 0, "N"],
+            "after": [5, 4, "N"],
+            "displacement": 8.9,
+            "displacement_rows": 4.45,
+        }
         self.assertEqual(read, {**known, "only_before": [], "only_after": [], "farthest": [far], "notes": []})
 
     def test_other_units_are_refused(self) -> None:

@@ -90,18 +90,39 @@ class Tcl(HubCase):
             self.folder / "s/f0.sock",
             told="lefence-shell: /no/such.sock: No such file or directory\n",
         )
-        codes = ["Illegal 7 8 f0c2 f0c1", "Unplaced 6 f0c2", "NoCell 5", "BadRequest 1", "BadName", "BadLength", "NoSession", "BadRequest 1"]
+        codes = [
+            "Illegal 7 8 f0c2 f0c1",
+            "Unplaced 6 f0c2",
+            "NoCell 5",
+            "BadRequest 1",
+            "BadName",
+            "BadLength",
+            "NoSession",
+            "BadRequest 1",
+        ]
         codes += ["NoTeam 2", "ConnectionLost"]
         self.assertEqual(told[:-2], [*(f"LEFENCE {code}" for code in codes), "trapped", "1"])
         # No channel is left open but that of the connection.
         self.assertEqual(told[-2], told[-1])
 
     def test_each_digit_of_a_length_counts(self) -> None:
-        lengths = ("010 0", "007.25 1000", "-0.4 1000", "1e-3 1000", "9007199254740993 1", "0.0000000004 1000", "0x10 0", "abc 0", "NaN 0")
+        lengths = (
+            "010 0",
+            "007.25 1000",
+            "-0.4 1000",
+            "1e-3 1000",
+            "9007199254740993 1",
+            "0.0000000004 1000",
+            "0x10 0",
+            "abc 0",
+            "NaN 0",
+        )
         script = "package require lefence; foreach {length units} [lindex $argv 0] {catch {lefence::Whole $length $units} told options\n"
         script += "puts [expr {[dict exists $options -errorcode] ? [dict get $options -errorcode] : $told}]}"
         refused = ["LEFENCE BadLength"] * 4
-        self.assertEqual(self.run_tcl(script, " ".join(lengths)), ["10", "7250", "-400", "1", "9007199254740993", *refused])
+        self.assertEqual(
+            self.run_tcl(script, " ".join(lengths)), ["10", "7250", "-400", "1", "9007199254740993", *refused]
+        )
 
     def test_microns_and_retries_where_asked(self) -> None:
         self.start()
@@ -146,7 +167,11 @@ class Tcl(HubCase):
     def test_the_example_of_the_page_runs(self) -> None:
         self.start()
         page = (FRONT.parent / "docs/FRONT.md").read_text()
-        code = page.partition("```tcl\n")[2].partition("```")[0].replace("/run/lefence/A.sock", str(self.folder / "s/f0.sock"))
+        code = (
+            page.partition("```tcl\n")[2]
+            .partition("```")[0]
+            .replace("/run/lefence/A.sock", str(self.folder / "s/f0.sock"))
+        )
         told = self.run_tcl(code.replace("$connection A", "$connection f0").replace("session u", "session f0c"))
         self.assertEqual(told, ["f0c2 f0c1", "0.4 0.0 N", "2"])
 
@@ -155,7 +180,9 @@ class Tcl(HubCase):
         self.assertEqual(told.split(), [word for pair in OPENACCESS.items() for word in pair])
 
     def test_the_version_is_that_of_the_package_which_leaves_variables_as_they_are(self) -> None:
-        self.assertEqual(self.run_tcl("set verb mine; puts [package require lefence]; puts $verb"), [lefence.__version__, "mine"])
+        self.assertEqual(
+            self.run_tcl("set verb mine; puts [package require lefence]; puts $verb"), [lefence.__version__, "mine"]
+        )
 
 
 if __name__ == "__main__":

@@ -22,7 +22,9 @@ def counted(frame: Frame) -> dict[str, int]:
             def holds(box: Box) -> bool:
                 return box.left <= x < box.right and box.bottom <= y < box.top
 
-            if any(holds(row.box) for row in frame.rows) and not any(holds(obstacle.box) for obstacle in frame.obstacles):
+            if any(holds(row.box) for row in frame.rows) and not any(
+                holds(obstacle.box) for obstacle in frame.obstacles
+            ):
                 areas[next((fence.name for fence in frame.fences if any(map(holds, fence.rects))), "-")] += 1
     return areas
 
@@ -50,7 +52,10 @@ class Ground(FrontCase):
             rows = [Row("r", Box(x, y, x + rng.randint(1, 9), y + 4), "N", 1) for x, y in corners]
             rng.shuffle(rows)
             halves = (("a", 0, 20), ("b", 20, 40))
-            fences = [Fence(name, tuple(box(left, right, 20) for _ in range(rng.randint(1, 4)))) for name, left, right in halves]
+            fences = [
+                Fence(name, tuple(box(left, right, 20) for _ in range(rng.randint(1, 4))))
+                for name, left, right in halves
+            ]
             obstacles = [Obstacle(None, box(0, 40, 9)) for _ in range(rng.randrange(30))]
             frame = Frame(FACTS, rows, fences, obstacles, [])
             self.assertEqual(areas_of(frame), counted(frame))

@@ -42,7 +42,10 @@ class Tools(FrontCase):
 
     def test_a_lef_text_that_is_not_needed_is_not_asked_for(self) -> None:
         self.assertIn(b"the following arguments are required: DEF\n", self.tool("lefence-slice", "--team", "f0").stderr)
-        self.assertIn(b"usage: lefence-farm [OPTION ..] WORK [DEF LEF ..] [-- COMMAND]\n", self.tool("lefence-farm", "--help").stdout)
+        self.assertIn(
+            b"usage: lefence-farm [OPTION ..] WORK [DEF LEF ..] [-- COMMAND]\n",
+            self.tool("lefence-farm", "--help").stdout,
+        )
 
     def test_files_that_are_not_there_end_with_3(self) -> None:
         sockets = ("--sockets", "s", "--journal", "j", "--program", PROGRAM)
@@ -113,7 +116,9 @@ class Tools(FrontCase):
             near.symlink_to(FRONT / "bin" / name)
             far.symlink_to(near.name)
             for words in ([str(near)], [str(far)], [sys.executable, str(far)]):
-                self.assertEqual(subprocess.check_output([*words, "--version"], text=True), f"{name} {lefence.__version__}\n")
+                self.assertEqual(
+                    subprocess.check_output([*words, "--version"], text=True), f"{name} {lefence.__version__}\n"
+                )
 
 
 class Faults(unittest.TestCase):
@@ -154,7 +159,16 @@ class Package(FrontCase):
         shutil.copytree(FRONT / "lefence", copy / "lefence", ignore=shutil.ignore_patterns("__pycache__"))
         shutil.copy(FRONT / "pyproject.toml", copy)
         venv.create(made, system_site_packages=True, symlinks=True)
-        pip = [str(made / "bin/python"), "-m", "pip", "install", "--no-index", "--no-build-isolation", *words, str(copy)]
+        pip = [
+            str(made / "bin/python"),
+            "-m",
+            "pip",
+            "install",
+            "--no-index",
+            "--no-build-isolation",
+            *words,
+            str(copy),
+        ]
         done = subprocess.run(pip, capture_output=True, text=True, cwd=self.folder)
         self.assertEqual(done.returncode, 0, done.stderr)
         return made / "bin"
@@ -167,7 +181,15 @@ class Package(FrontCase):
         code = "import importlib.metadata; print(importlib.metadata.version('lefence'))"
         told = subprocess.check_output([commands / "python", "-c", code], text=True, cwd=self.folder)
         self.assertEqual(told, f"{lefence.__version__}\n")
-        words: list[str | Path] = [commands / "lefence-report", self.design, self.lef, "--program", PROGRAM, "-o", self.folder / "x.html"]
+        words: list[str | Path] = [
+            commands / "lefence-report",
+            self.design,
+            self.lef,
+            "--program",
+            PROGRAM,
+            "-o",
+            self.folder / "x.html",
+        ]
         self.assertEqual(subprocess.run(words, stderr=subprocess.DEVNULL).returncode, 0)
 
     def test_an_installation_has_every_tool_and_what_it_reads(self) -> None:

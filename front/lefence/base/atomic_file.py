@@ -4,6 +4,7 @@ from __future__ import annotations
 
 import contextlib
 import os
+import sys
 from collections.abc import Iterable, Iterator
 from itertools import count
 from pathlib import Path
@@ -28,6 +29,16 @@ def atomic_file(path: Path, mode: int = 0o666) -> Iterator[BinaryIO]:
         os.fsync(file.fileno())
 
 
+def write_output(path: Path | None, data: bytes) -> None:
+    """Writes bytes to a file as a whole or, without a path, to standard output."""
+    if path is None:
+        sys.stdout.buffer.write(data)
+        sys.stdout.buffer.flush()
+        return
+    with atomic_file(path) as file:
+        file.write(data)
+
+
 @contextlib.contextmanager
 def partial_file(path: Path, mode: int = 0o666) -> Iterator[Path]:
     """Makes an empty file `FILE.partial0` (or the next free number), which replaces FILE when the block ends.
@@ -40,8 +51,8 @@ def partial_file(path: Path, mode: int = 0o666) -> Iterator[Path]:
     try:
         partial = _create_partial(target, 0o600 if target.exists() else mode)
     except OSError as error:
-        why = error.strerror if target.parent.exists() else "there is no such folder"
-        raise Fault(FAILED, f"{path} cannot be written: {why}") from None
+        why = error.strerror if target.parent.exists() else "no such folder"
+        raise Fault(FAILED, f"cannot write {path}: {why}") from None
     try:
         yield partial
         if target.exists():
@@ -82,4 +93,4 @@ def refuse_inputs(output: Path, inputs: Iterable[Path]) -> None:
     """Raises a Fault if the output is one of the input files."""
     for path in inputs:
         if output.exists() and path.exists() and output.samefile(path):
-            raise Fault(USAGE, f"{output} is read, and would be written over")
+            raise Fault(USAGE, f"{output} is an input file, so it cannot be the output")

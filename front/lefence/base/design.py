@@ -52,7 +52,9 @@ def _parts_of(keyword: bytes) -> tuple[re.Pattern[bytes], re.Pattern[bytes]]:
         last = rb"END" + _ALONE + _SKIP + re.escape(keyword) + _ALONE
     else:
         last = rb"ENDEXT" + _ALONE if keyword == b"BEGINEXT" else _SEMICOLON
-    return re.compile(rb"(?:" + _SKIP + rb"(?!" + last + rb")" + _TOKEN + rb"){1,%d}" % _AT_ONCE, re.S), re.compile(_SKIP + last)
+    return re.compile(rb"(?:" + _SKIP + rb"(?!" + last + rb")" + _TOKEN + rb"){1,%d}" % _AT_ONCE, re.S), re.compile(
+        _SKIP + last
+    )
 
 
 def _end_of(text: bytes, keyword: re.Match[bytes]) -> int:
@@ -184,7 +186,11 @@ def fences_in(text: bytes) -> list[str]:
 
 def fences_of(text: bytes, found: list[Statement]) -> list[bytes]:
     """Lists the names of the FENCE regions in the order of the text."""
-    return list(dict.fromkeys(entry.name for entry in entries(text, found, b"REGIONS") if entry.value_after(b"TYPE") == b"FENCE"))
+    return list(
+        dict.fromkeys(
+            entry.name for entry in entries(text, found, b"REGIONS") if entry.value_after(b"TYPE") == b"FENCE"
+        )
+    )
 
 
 class Design:
@@ -246,8 +252,8 @@ class Design:
 def refuse_no_design(path: Path, text: bytes) -> None:
     """Raises a Fault if the text is not a DEF text."""
     if not any(statement.keyword == b"DESIGN" for statement in statements_in(text)):
-        compressed = ", but compressed by gzip" if text[:2] == b"\x1f\x8b" else ""
-        raise Fault(REFUSED, f"{path} has no DESIGN: it is no DEF text{compressed}")
+        compressed = " but compressed by gzip" if text[:2] == b"\x1f\x8b" else ""
+        raise Fault(REFUSED, f"{path} has no DESIGN: it is not a DEF file{compressed}")
 
 
 def complete_design(path: Path, text: bytes) -> Design:
@@ -256,5 +262,5 @@ def complete_design(path: Path, text: bytes) -> Design:
     design = Design(text)
     last = design.statements[-1]
     if [*words_in(text[last.start : last.stop])] != [b"END", b"DESIGN"]:
-        raise Fault(REFUSED, f"{path} ends without END DESIGN: it is cut off")
+        raise Fault(REFUSED, f"{path} ends without END DESIGN: it is truncated")
     return design

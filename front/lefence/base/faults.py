@@ -32,17 +32,23 @@ class Parser(argparse.ArgumentParser):
 
     def __init__(self, tool: str, what: str, example: str) -> None:
         epilog = "example:\n" + "\n".join(f"  {line}" for line in example.splitlines())
-        super().__init__(prog=tool, description=what, epilog=epilog, formatter_class=argparse.RawDescriptionHelpFormatter)
-        self.add_argument("--version", action="version", version=f"{tool} {__version__}", help="print the version and end")
+        super().__init__(
+            prog=tool, description=what, epilog=epilog, formatter_class=argparse.RawDescriptionHelpFormatter
+        )
+        self.add_argument(
+            "--version", action="version", version=f"{tool} {__version__}", help="print the version and end"
+        )
 
     def add_design(self) -> None:
         """Adds the arguments of a design: its DEF file, then its LEF files."""
         self.add_argument("design", metavar="DEF", type=Path, help="the design")
-        self.add_argument("libraries", metavar="LEF", type=Path, nargs="+", help="its LEF texts, in the order of the program")
+        self.add_argument(
+            "libraries", metavar="LEF", type=Path, nargs="+", help="its LEF files, in the program's order"
+        )
 
     def add_program(self) -> None:
         """Adds the option for another program."""
-        text = "the lefence program (that of the search path, or of this repository)"
+        text = "the lefence program (default: from the search path, else of this repository)"
         self.add_argument("--program", metavar="PATH", help=text)
 
 
@@ -50,7 +56,9 @@ def printable(text: str) -> str:
     """Escapes all characters that are not printable, since they may control a terminal."""
     if text.isprintable():
         return text
-    return "".join(sign if sign.isprintable() or sign in "\n\t" else sign.encode("unicode_escape").decode() for sign in text)
+    return "".join(
+        sign if sign.isprintable() or sign in "\n\t" else sign.encode("unicode_escape").decode() for sign in text
+    )
 
 
 def reason_of(error: Exception) -> str:

@@ -41,7 +41,7 @@ def find_program(given: str | None) -> str:
     found = shutil.which(given or "lefence") or (str(_BUILT) if not given and os.access(_BUILT, os.X_OK) else None)
     if found is None:
         built = "" if given else "./lefence of the repository builds it, "
-        raise Fault(USAGE, f"{given or 'lefence'}: no such program; {built}--program PATH says where it is")
+        raise Fault(USAGE, f"{given or 'lefence'}: no such program; {built}--program PATH names another one")
     return os.path.abspath(found)
 
 
@@ -80,7 +80,9 @@ class Program:
             if status:
                 raise fault_of(status, errors, lost_text(status))
 
-    def repair(self, options: Iterable[str], lines: Path, export: Path | None, progress: Progress) -> list[dict[str, Any]]:
+    def repair(
+        self, options: Iterable[str], lines: Path, export: Path | None, progress: Progress
+    ) -> list[dict[str, Any]]:
         """Has the program repair teams; returns its report: an object per team, then one of all.
 
         Writes the lines of its commands to a file and, if `export` is given, the committed places to another. Raises a
@@ -112,7 +114,9 @@ class Program:
         """Starts a description of the design."""
         return Run(self._describe_words())
 
-    async def replay_async(self, export: str | None = None, state: Path | None = None, save: Path | None = None) -> AsyncRun:
+    async def replay_async(
+        self, export: str | None = None, state: Path | None = None, save: Path | None = None
+    ) -> AsyncRun:
         """Starts a program that answers the lines of a pipe, with the caller's standard error.
 
         It starts from `state`, and at the end of its input it writes `export` and `save`, each if given.
@@ -191,18 +195,20 @@ def path_words(paths: Iterable[Path]) -> list[str]:
     for word in words:
         # Bytes that are not UTF-8 are surrogates in a command line; these cannot be encoded.
         if word.encode(errors="replace").decode() != word:
-            raise Fault(FAILED, f"{word}: the program reads no file whose path is not UTF-8")
+            raise Fault(FAILED, f"{word}: the program cannot open a path that is not UTF-8")
     return words
 
 
 def lost_text(status: int) -> str:
     """Returns the message for a program that ended with this status and printed no error."""
-    return f"the program was lost: it ended with {status}"
+    return f"the program ended unexpectedly with status {status}"
 
 
 def output_lines(errors: IO[bytes]) -> list[str]:
     """Returns the lines that a program has written to this file so far."""
-    return os.pread(errors.fileno(), os.fstat(errors.fileno()).st_size, 0).decode(errors="backslashreplace").splitlines()
+    return (
+        os.pread(errors.fileno(), os.fstat(errors.fileno()).st_size, 0).decode(errors="backslashreplace").splitlines()
+    )
 
 
 def progress_line(errors: IO[bytes]) -> str | None:
@@ -212,8 +218,7 @@ def progress_line(errors: IO[bytes]) -> str | None:
 
 
 def fault_of(status: int, errors: IO[bytes], otherwise: str) -> Fault:
-    """Returns the fault of a program with this status and the errors in this file, or `otherwise` if it printed none.
-    """
+    """Returns the fault of a program with this status and the errors in this file, or `otherwise` if it printed none."""
     text = "\n".join(line for line in output_lines(errors) if not line.startswith(REPAIRING)).strip() or otherwise
     return Fault(status if status in (1, 2, 3) else FAILED, text.removeprefix("lefence: ").replace("\nlefence: ", "; "))
 

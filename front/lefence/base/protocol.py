@@ -20,7 +20,18 @@ SLOTS, MOST_SLOTS = 8, 64
 MOST_NUMBER = 4_294_967_295
 ORIENTS = tables.ORIENTS
 # The orientations as OpenAccess and many Tcl tools spell them. Replies use the first spelling of each.
-OPENACCESS = {"R0": "N", "R90": "W", "R180": "S", "R270": "E", "MY": "FN", "MXR90": "FW", "MX": "FS", "MYR90": "FE", "MX90": "FW", "MY90": "FE"}
+OPENACCESS = {
+    "R0": "N",
+    "R90": "W",
+    "R180": "S",
+    "R270": "E",
+    "MY": "FN",
+    "MXR90": "FW",
+    "MX": "FS",
+    "MYR90": "FE",
+    "MX90": "FW",
+    "MY90": "FE",
+}
 # The ground team, outside all fences.
 GROUND = "-"
 
@@ -95,7 +106,7 @@ def text_length(line: bytes, reply: bytes) -> int:
         return 0
     length = reply[3:].strip()
     if not length.isdigit() or len(length) > _MOST_DIGITS:
-        raise ProtocolError(f"{line!r} was answered {reply!r}")
+        raise ProtocolError(f"unexpected reply {reply!r} to {line!r}")
     return int(length)
 
 

@@ -49,7 +49,9 @@ async def connect(where: str | os.PathLike[str], port: int | None = None, timeou
 class Connection:
     """A connection: lines go out and replies come in, in order. Any number of coroutines may share it."""
 
-    def __init__(self, reader: asyncio.StreamReader, writer: asyncio.StreamWriter, timeout: float | None = None) -> None:
+    def __init__(
+        self, reader: asyncio.StreamReader, writer: asyncio.StreamWriter, timeout: float | None = None
+    ) -> None:
         self._reader = reader
         self._writer = writer
         self._timeout = timeout
@@ -73,7 +75,13 @@ class Connection:
         return self._is_reported
 
     def session(
-        self, team: str, *, retries: int = 0, microns: bool = False, per_micron: int | None = None, openaccess: bool = False
+        self,
+        team: str,
+        *,
+        retries: int = 0,
+        microns: bool = False,
+        per_micron: int | None = None,
+        openaccess: bool = False,
     ) -> Session:
         """Makes a session of the team, for `async with`. Arguments are those of `lefence.client.Connection.session`."""
         return Session(self, team, SessionOptions(retries, microns or per_micron is not None, per_micron, openaccess))
@@ -81,7 +89,7 @@ class Connection:
     async def ask_line(self, line: bytes) -> bytes:
         """Sends a line, given without its line feed; returns the whole reply, for `def` with its text."""
         if b"\n" in line:
-            raise ValueError("a line has no line feed in it")
+            raise ValueError("a line must not contain a line feed")
         try:
             return await self._ask_line(line)
         except (ConnectionLost, TimeoutError, ProtocolError):
@@ -128,8 +136,7 @@ class Connection:
         return result_of(request, await self.ask_line(request.line))
 
     async def export(self, path: str) -> None:
-        """Has a hub write the committed places of all teams to a file of its machine. Only for the operator's socket.
-        """
+        """Has a hub write the committed places of all teams to a file of its machine. Only for the operator's socket."""
         await self.ask(Request(f"export {verbs.name(path)}".encode(), lambda words, text: None))
 
     async def bye(self) -> None:
@@ -164,7 +171,7 @@ class Connection:
                     future.set_result(reply)
                 else:
                     self._close_abandoned(line, reply)
-            self._mark_lost("the connection was ended by the other end")
+            self._mark_lost("the other end has closed the connection")
         except ProtocolError as error:
             _, future = self._waiting.popleft()
             if not future.done():
@@ -223,7 +230,9 @@ class Session(BaseSession[Connection]):
     async def __aenter__(self) -> Session:
         return await self.open()
 
-    async def __aexit__(self, kind: type[BaseException] | None, error: BaseException | None, trace: TracebackType | None) -> None:
+    async def __aexit__(
+        self, kind: type[BaseException] | None, error: BaseException | None, trace: TracebackType | None
+    ) -> None:
         if self._scope is None or self.connection.is_lost:
             # (the block already knows that the connection is lost, and its sessions with it)
             self._scope = None

@@ -54,7 +54,7 @@ def connect(where: str | os.PathLike[str], port: int | None = None, timeout: flo
 def refuse_port(port: int | None) -> None:
     """Raises ValueError if the number is not a port: the system would silently use another one."""
     if port is not None and not 0 <= port <= _MOST_PORT:
-        raise ValueError(f"{port} is no port, which is a number up to {_MOST_PORT}")
+        raise ValueError(f"{port} is not a port: ports are 0 to {_MOST_PORT}")
 
 
 def _end_at(where: str, port: int | None, timeout: float | None) -> socket.socket:
@@ -117,7 +117,13 @@ class Connection:
         return self._is_lost
 
     def session(
-        self, team: str, *, retries: int = 0, microns: bool = False, per_micron: int | None = None, openaccess: bool = False
+        self,
+        team: str,
+        *,
+        retries: int = 0,
+        microns: bool = False,
+        per_micron: int | None = None,
+        openaccess: bool = False,
     ) -> Session:
         """Makes a session of the team, which `with` opens and closes.
 
@@ -161,7 +167,7 @@ class Connection:
         many are queued.
         """
         if b"\n" in line:
-            raise ValueError("a line has no line feed in it")
+            raise ValueError("a line must not contain a line feed")
         sent = SentLine(line)
         self._unanswered.append(sent)
         self._out += line + b"\n"
@@ -229,7 +235,7 @@ class Connection:
             if ready and ready[0][1] & selectors.EVENT_READ:
                 piece = self._end.recv(_PIECE)
                 if not piece:
-                    raise ConnectionLost("the connection was ended by the other end")
+                    raise ConnectionLost("the other end has closed the connection")
                 self._in += piece
             elif ready:
                 del self._out[: self._end.send(self._out[:_PIECE])]
@@ -246,7 +252,7 @@ def result_of(request: Request[T], reply: bytes) -> T:
         return read_reply(request, first.decode("ascii", "backslashreplace").split()[1:], text)
     refusal = refusal_of(first)
     if refusal is None:
-        raise ProtocolError(f"{request.line!r} was answered {first!r}")
+        raise ProtocolError(f"unexpected reply {first!r} to {request.line!r}")
     raise refusal
 
 
@@ -326,7 +332,9 @@ class Session(BaseSession[Connection]):
     def __enter__(self) -> Session:
         return self.open()
 
-    def __exit__(self, kind: type[BaseException] | None, error: BaseException | None, trace: TracebackType | None) -> None:
+    def __exit__(
+        self, kind: type[BaseException] | None, error: BaseException | None, trace: TracebackType | None
+    ) -> None:
         if self._scope is None or self.connection.is_lost:
             # (the block already knows that the connection is lost, and its sessions with it)
             self._scope = None
@@ -390,7 +398,9 @@ class Pipeline(Verbs):
     def __enter__(self) -> Pipeline:
         return self
 
-    def __exit__(self, kind: type[BaseException] | None, error: BaseException | None, trace: TracebackType | None) -> None:
+    def __exit__(
+        self, kind: type[BaseException] | None, error: BaseException | None, trace: TracebackType | None
+    ) -> None:
         unread = [pending for pending in self._requests if not pending.is_read]
         try:
             refusals = [pending.refusal for pending in unread]

@@ -38,7 +38,9 @@ class Cell:
         if self.place is None or self.width is None or self.height is None:
             return None
         # (lengths of replies are whole numbers or floats)
-        left, bottom, wide, high = (cast(float, length) for length in (self.place.x, self.place.y, self.width, self.height))
+        left, bottom, wide, high = (
+            cast(float, length) for length in (self.place.x, self.place.y, self.width, self.height)
+        )
         if self.place.orient in _TURNED:
             wide, high = high, wide
         return left, bottom, left + wide, bottom + high
@@ -70,6 +72,6 @@ def _cell(entry: Entry, scope: Scope, sizes: dict[bytes, tuple[Decimal, Decimal]
     size: list[Length | None] = [None, None]
     if sizes:
         if macro not in sizes:
-            raise ProtocolError(f"no LEF text has the macro {shown(macro)} of {shown(name)}")
+            raise ProtocolError(f"no LEF file has macro {shown(macro)} of cell {shown(name)}")
         size = [scope.length(str(int(length * units))) for length in sizes[macro]]
     return Cell(shown(name), shown(macro), place, *size)

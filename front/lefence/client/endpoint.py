@@ -43,7 +43,7 @@ def connect_to(where: str) -> Endpoint:
     except ValueError as error:
         raise Fault(USAGE, f"{where}: {error}") from None
     except OSError as error:
-        reason = "it is no socket" if os.path.isfile(where) else error.strerror
+        reason = "it is not a socket" if os.path.isfile(where) else error.strerror
         raise Fault(FAILED, f"{where}: {reason or error}") from None
 
 
@@ -77,7 +77,7 @@ def _wait_loaded(connection: Connection, process: subprocess.Popen[bytes]) -> No
         connection.ask_line(b"")
     except OSError:
         status = process.wait()
-        raise Fault(REFUSED if status == 1 else FAILED, "the program does not start; its own line tells why") from None
+        raise Fault(REFUSED if status == 1 else FAILED, "the program does not start; see its message above") from None
 
 
 def _described_teams(description: Run, path: str) -> list[str]:
@@ -87,5 +87,5 @@ def _described_teams(description: Run, path: str) -> list[str]:
         while all(add_team(line, teams) for line in description.lines()):
             pass
     except EOFError:
-        raise description.fault(f"{path} does not tell the teams of the design") from None
+        raise description.fault(f"{path} does not report the teams of the design") from None
     return [*teams, GROUND]

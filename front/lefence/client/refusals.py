@@ -12,30 +12,35 @@ from ..base.protocol import RULES
 
 # The text for each rule. Rule 8 is about two cells.
 _VIOLATIONS = {
-    1: "{} is not from 1 to 8 core sites high",
-    2: "{} {stand} on no core row, off its x grid or beyond its ends",
-    3: "{} {lack} rows under all of its height, with rails that alternate",
-    4: "{} may not be turned so there",
-    5: "{} {stand} with its bottom rail on the other rail of the row",
+    1: "{} is not 1 to 8 core sites high",
+    2: "{} {be} on no core row, off its x grid or beyond its ends",
+    3: "{} {lack} rows with alternating rails under its whole height",
+    4: "{} may not have this orientation there",
+    5: "{} {have} its bottom rail on the other rail of the row",
     6: "{} {leave} the team's ground",
-    7: "{} {stand} in an obstacle: a FIXED component or a placement blockage",
+    7: "{} {overlap} an obstacle: a FIXED component or a placement blockage",
     8: "{} {overlap} {}",
 }
 # The text of rule 8 if the team may have a padding.
-_TOO_NEAR = "{} {overlap} {} or {be} too near to it"
+_TOO_NEAR = "{} {overlap} or {be} too near to {}"
 
 
-def violation_text(rule: int, cell: str, other: str | None = None, is_there: bool = False, is_padded: bool = False) -> str:
+def violation_text(
+    rule: int, cell: str, other: str | None = None, is_there: bool = False, is_padded: bool = False
+) -> str:
     """Describes the rule that a cell breaks or, if it is not there yet, would break; with a padding or without."""
-    verbs = {verb: f"{verb}s" if is_there else f"would {verb}" for verb in ("stand", "lack", "leave", "overlap")}
+    verbs = {verb: f"{verb}s" if is_there else f"would {verb}" for verb in ("lack", "leave", "overlap")}
+    verbs |= {"be": "is", "have": "has"} if is_there else {"be": "would be", "have": "would have"}
     words = _TOO_NEAR if rule == 8 and is_padded else _VIOLATIONS.get(rule, f"{{}} breaks rule {rule}")
-    return words.format(cell, other or "another cell", be="is" if is_there else "be", **verbs)
+    return words.format(cell, other or "another cell", **verbs)
 
 
 class Refusal(Exception):
     """A reply `no NUMBER NAME ..`; `fields` are the words after the name."""
 
     number: ClassVar[int] = 0
+    # The refusal in words, if these are always the same.
+    text: ClassVar[str] = ""
 
     def __init__(self, fields: Sequence[str] = ()) -> None:
         self.fields = tuple(fields)
@@ -51,7 +56,7 @@ class Refusal(Exception):
 
     def words(self) -> str:
         """The refusal in words."""
-        return " ".join(self.fields) or "refused"
+        return self.text or " ".join(self.fields) or "refused"
 
     def _field(self, at: int) -> str:
         return self.fields[at] if at < len(self.fields) else ""
@@ -64,27 +69,21 @@ class BadRequest(Refusal):
     """1: the line is not a request, or a number is out of range."""
 
     number = 1
-
-    def words(self) -> str:
-        return "that is no request"
+    text = "this is not a valid request"
 
 
 class NoTeam(Refusal):
     """2: no team has this name, or the socket is another team's."""
 
     number = 2
-
-    def words(self) -> str:
-        return "there is no such team here"
+    text = "no such team here"
 
 
 class NoSession(Refusal):
     """3: no open session of the team has this number; another client may have closed it."""
 
     number = 3
-
-    def words(self) -> str:
-        return "the session is not open"
+    text = "the session is not open"
 
 
 class Stale(Refusal):
@@ -98,16 +97,14 @@ class Stale(Refusal):
         return self._number(0)
 
     def words(self) -> str:
-        return f"somebody else has changed the team, which is at revision {self.revision}: sync first"
+        return f"another session has changed the team, now at revision {self.revision}: sync first"
 
 
 class NoCell(Refusal):
     """5: the cell is not the team's own."""
 
     number = 5
-
-    def words(self) -> str:
-        return "the team has no such cell"
+    text = "the team has no such cell"
 
 
 class Unplaced(Refusal):
@@ -171,36 +168,28 @@ class NothingToUndo(Refusal):
     """9: `undo` without a kept change."""
 
     number = 9
-
-    def words(self) -> str:
-        return "there is nothing to undo"
+    text = "there is nothing to undo"
 
 
 class SessionsFull(Refusal):
     """10: `open`, and the team has no free session."""
 
     number = 10
-
-    def words(self) -> str:
-        return "the team has no free session"
+    text = "the team has no free session"
 
 
 class RevisionsSpent(Refusal):
     """11: the team has reached the greatest revision."""
 
     number = 11
-
-    def words(self) -> str:
-        return "the team can make no more changes"
+    text = "the team can make no more changes"
 
 
 class OutOfMemory(Refusal):
     """12: out of memory; from a hub also: its disk is full. Nothing has changed; a later try may succeed."""
 
     number = 12
-
-    def words(self) -> str:
-        return "there is no memory for it, or no room on the disk of the hub"
+    text = "out of memory, or the hub's disk is full"
 
 
 class NotExported(Refusal):

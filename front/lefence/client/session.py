@@ -23,9 +23,11 @@ class Requester(Protocol):
     """An object with verbs: it has an open session and sends requests."""
 
     @property
-    def scope(self) -> Scope: ...
+    def scope(self) -> Scope:
+        ...
 
-    def ask(self, request: Request[Any]) -> Any: ...
+    def ask(self, request: Request[Any]) -> Any:
+        ...
 
 
 class Method(Generic[P, T]):
@@ -43,17 +45,31 @@ class Method(Generic[P, T]):
         self._method = method
 
     @overload
-    def __get__(self, requester: client.Session, kind: type) -> Callable[P, T]: ...
+    def __get__(self, requester: client.Session, kind: type) -> Callable[P, T]:
+        ...
+
     @overload
-    def __get__(self, requester: client.Pipeline, kind: type) -> Callable[P, client.Pending[T]]: ...
+    def __get__(self, requester: client.Pipeline, kind: type) -> Callable[P, client.Pending[T]]:
+        ...
+
     @overload
-    def __get__(self, requester: aio.Session, kind: type) -> Callable[P, Awaitable[T]]: ...
+    def __get__(self, requester: aio.Session, kind: type) -> Callable[P, Awaitable[T]]:
+        ...
+
     @overload
-    def __get__(self, requester: None, kind: type[client.Session]) -> Callable[Concatenate[client.Session, P], T]: ...
+    def __get__(self, requester: None, kind: type[client.Session]) -> Callable[Concatenate[client.Session, P], T]:
+        ...
+
     @overload
-    def __get__(self, requester: None, kind: type[client.Pipeline]) -> Callable[Concatenate[client.Pipeline, P], client.Pending[T]]: ...
+    def __get__(
+        self, requester: None, kind: type[client.Pipeline]
+    ) -> Callable[Concatenate[client.Pipeline, P], client.Pending[T]]:
+        ...
+
     @overload
-    def __get__(self, requester: None, kind: type[aio.Session]) -> Callable[Concatenate[aio.Session, P], Awaitable[T]]: ...
+    def __get__(self, requester: None, kind: type[aio.Session]) -> Callable[Concatenate[aio.Session, P], Awaitable[T]]:
+        ...
+
     def __get__(self, requester: Any, kind: type) -> Any:
         return self._method.__get__(requester, kind)
 
@@ -104,7 +120,7 @@ class BaseSession(Verbs, Generic[C]):
     def scope(self) -> Scope:
         """The open session. Raises ValueError outside its block."""
         if self._scope is None:
-            raise ValueError("the session is not open: its block opens it")
+            raise ValueError("the session is not open: use it inside its `with` block")
         return self._scope
 
     @property
@@ -120,7 +136,7 @@ class BaseSession(Verbs, Generic[C]):
     def _refuse_open(self) -> None:
         """Raises ValueError if the session is open: its slot would be lost."""
         if self._scope is not None:
-            raise ValueError("the session is open already")
+            raise ValueError("the session is already open")
 
     def _begin(self, number: int) -> None:
         """Marks the session as open."""

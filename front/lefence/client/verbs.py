@@ -56,8 +56,7 @@ class Tidied:
 
 @dataclass(frozen=True)
 class Violation:
-    """A placed cell, the first rule that it breaks, and for rule 8 the first cell that it overlaps or is too near to.
-    """
+    """A placed cell, the first rule that it breaks, and for rule 8 the first cell that it overlaps or is too near to."""
 
     cell: str
     rule: int
@@ -80,8 +79,7 @@ class Report:
 
 @dataclass(frozen=True)
 class Request(Generic[T]):
-    """A line without its line feed, and a function that reads its accepted reply: the words after `ok`, and the text.
-    """
+    """A line without its line feed, and a function that reads its accepted reply: the words after `ok`, and the text."""
 
     line: bytes
     read: Callable[[list[str], bytes], T]
@@ -107,9 +105,9 @@ class Scope:
         try:
             exact = Decimal(str(length)) * (self.per_micron or 1)
         except InvalidOperation:
-            raise ValueError(f"{length!r} is no length") from None
+            raise ValueError(f"{length!r} is not a length") from None
         if not exact.is_finite() or exact != exact.to_integral_value():
-            raise ValueError(f"{length} is no whole number of database units")
+            raise ValueError(f"{length} is not a whole number of database units")
         return str(int(exact))
 
     def length(self, dbu: str) -> Length:
@@ -121,7 +119,7 @@ class Scope:
         if orient not in OPENACCESS:
             return name(orient)
         if not self.openaccess:
-            raise ValueError(f"{orient} is no orientation of DEF, which calls it {OPENACCESS[orient]}")
+            raise ValueError(f"{orient} is not an orientation of DEF, which calls it {OPENACCESS[orient]}")
         return OPENACCESS[orient]
 
     def place(self, words: list[str]) -> Place:
@@ -132,7 +130,7 @@ class Scope:
 def name(word: str) -> str:
     """Returns the word. Raises ValueError if it cannot be a field of a line."""
     if not _NAME.fullmatch(word):
-        raise ValueError(f"{word!r} can be no field of a line: it is empty or has other bytes than 33 to 126")
+        raise ValueError(f"{word!r} cannot be a field of a line: it is empty or has other bytes than 33 to 126")
     return word
 
 
@@ -141,7 +139,7 @@ def read_reply(request: Request[T], words: list[str], text: bytes) -> T:
     try:
         return request.read(words, text)
     except (ValueError, LookupError, TypeError) as error:
-        raise ProtocolError(f"{request.line!r} was answered {words!r}: {error}") from error
+        raise ProtocolError(f"unexpected reply {words!r} to {request.line!r}: {error}") from error
 
 
 def _revision(words: list[str], text: bytes) -> int:
@@ -289,5 +287,5 @@ def pad(scope: Scope, padding: int) -> Request[int]:
     Refused by NoSession, Stale, RevisionsSpent, and BadRequest above 16.
     """
     if not float(padding).is_integer():
-        raise ValueError(f"{padding} is no whole number of core sites")
+        raise ValueError(f"{padding} is not a whole number of core sites")
     return Request(scope.line("pad", str(int(padding))), _revision)

@@ -98,7 +98,7 @@ class Checkpoints:
                 self._journal.keep_state(path, size, total)
                 self._prune()
             self.seconds, self._backoff, self.count = self.seconds - seconds, 1, self.count + 1
-            text = f"a state of {self._journal.header.changes} changes is kept: {size} bytes, made in {time.monotonic() - begin:.1f} s"
+            text = f"saved a state of {self._journal.header.changes} changes: {size} bytes in {time.monotonic() - begin:.1f} s"
             self._log_limited("state", text)
         except (Fault, OSError, ServerLost) as fault:
             for leftover in path.parent.glob(f"{path.name}*"):
@@ -109,11 +109,11 @@ class Checkpoints:
         try:
             self._journal.archive.prune(self._limits.keep)
         except OSError as error:
-            self._log_limited("old", f"what is too old is not removed: {error}")
+            self._log_limited("old", f"cannot remove old states: {error}")
 
     def _report_failure(self, fault: Exception) -> None:
         self._backoff *= 2
-        self._log_limited("no state", f"no state is made, and the next try is at twice the changes: {fault}")
+        self._log_limited("no state", f"cannot save a state: {fault}; the next try is after twice as many changes")
 
 
 def _sync_and_hash(path: Path) -> tuple[int, str]:
@@ -131,7 +131,9 @@ def team_notes(pool: ClientPool, metrics: Metrics) -> list[bytes]:
         sessions.setdefault(team, []).append(number)
     notes = []
     for team in sorted({*sessions, *metrics.teams}):
-        counts, numbers = metrics.teams.get(team, TeamMetrics()), b",".join(b"%d" % number for number in sessions.get(team, []))
+        counts, numbers = metrics.teams.get(team, TeamMetrics()), b",".join(
+            b"%d" % number for number in sessions.get(team, [])
+        )
         notes.append(b"team %b %d %d %b" % (team, counts.revision, counts.uncommitted, numbers or b"-"))
     return notes
 

@@ -44,7 +44,9 @@ class ClientPool:
         others = [other for other in self.clients if other.team == client.team]
         of_user = sum(other.uid == client.uid for other in others)
         self.clients.add(client)
-        return len(others) < self.most_clients and (_is_own(client) or of_user < max(1, int(self.most_clients * _QUOTA)))
+        return len(others) < self.most_clients and (
+            _is_own(client) or of_user < max(1, int(self.most_clients * _QUOTA))
+        )
 
     def remove(self, client: Client) -> None:
         """Removes a client that is gone; its sessions are still open."""
@@ -67,7 +69,11 @@ class ClientPool:
         since = time.monotonic() - seconds
         owners = {owner.client for owner in self.owners.values()}
         found = [client for client in self.clients if client.last_heard < since and client not in owners]
-        return [client for client in found if not (client.waiting or client.is_exporting or client.is_slow or client.is_ended)]
+        return [
+            client
+            for client in found
+            if not (client.waiting or client.is_exporting or client.is_slow or client.is_ended)
+        ]
 
     def orphans(self) -> list[tuple[bytes, int]]:
         """Lists the sessions whose clients are gone."""
@@ -87,7 +93,13 @@ class ClientPool:
         counts: dict[tuple[bytes, int], int] = {}
         for entry in batch:
             client = entry.client
-            if entry.reply is not None or entry.verb != b"open" or len(entry.fields) != 2 or client is None or _is_own(client):
+            if (
+                entry.reply is not None
+                or entry.verb != b"open"
+                or len(entry.fields) != 2
+                or client is None
+                or _is_own(client)
+            ):
                 continue
             key = entry.fields[1], client.uid
             counts[key] = counts.get(key, self._session_count(*key)) + 1

@@ -37,7 +37,7 @@ class SideProgram:
                 await side_server.start(tail.state)
                 await side_server.restore(tail.records, None, tail.changes)
             if await side_server.end():
-                raise Fault(FAILED, "the program did not write it, and the hub's standard error says why")
+                raise Fault(FAILED, "the program could not write the file; see the hub's standard error")
         finally:
             self.server = None
             await side_server.kill()
@@ -58,10 +58,12 @@ class Exporter:
     def refuse(self, path: str) -> None:
         """Raises a Fault if an export to the path would replace the journal or the design, or cannot be written."""
         inputs = [file for file in (self._journal.path, *self._server.program.texts, *self.protected) if file.exists()]
-        if os.path.exists(path) and any(os.path.samefile(path, file) for file in [*inputs, *self._journal.archive.files()]):
-            raise Fault(FAILED, f"{path} is the journal or a text of the design")
+        if os.path.exists(path) and any(
+            os.path.samefile(path, file) for file in [*inputs, *self._journal.archive.files()]
+        ):
+            raise Fault(FAILED, f"{path} is the journal or a file of the design")
         if os.path.isdir(path) or not os.access(os.path.dirname(os.path.abspath(path)), os.W_OK):
-            raise Fault(FAILED, f"{path} cannot be written")
+            raise Fault(FAILED, f"cannot write {path}")
 
     async def write(self, path: str, position: Position) -> str | None:
         """Writes the committed places at a position of the journal; returns None, or the reason of the failure."""

@@ -210,7 +210,7 @@ class Hub:
             self.journal.refuse_loss()
             for server in (self.server, self.side_program.server):
                 if server and server.seconds_silent() > self.limits.deadline:
-                    self.say(f"the program has said nothing for {self.limits.deadline:g} seconds, and is killed")
+                    self.say(f"the program was silent for {self.limits.deadline:g} seconds and is killed")
                     server.send_kill()
             for client in self.pool.idle(self.limits.idle):
                 self.log_limited("idle", f"{client.name}: dropped, idle without a session")
@@ -249,7 +249,11 @@ class Hub:
         for entry, reply in zip(sent, await self._execute([entry.line for entry in sent])):
             entry.reply = reply
         seconds = time.monotonic() - begin
-        changes = [Record(entry.line, entry.reply, entry.who) for entry in sent if entry.reply and is_change(entry.fields, entry.reply)]
+        changes = [
+            Record(entry.line, entry.reply, entry.who)
+            for entry in sent
+            if entry.reply and is_change(entry.fields, entry.reply)
+        ]
         if changes:
             # If this process ends before here, nobody has got a reply to these changes.
             self.journal.append(changes)
@@ -273,7 +277,7 @@ class Hub:
                 continue
             self._adjust_budget(time.monotonic() - begin)
             return replies
-        raise Fault(FAILED, f"the program died {_STARTS} times over the same lines")
+        raise Fault(FAILED, f"the program died {_STARTS} times on the same lines")
 
     def _adjust_budget(self, seconds: float) -> None:
         """Makes the next batches lighter or heavier, so that slow lines do not block others for long."""
@@ -285,13 +289,13 @@ class Hub:
     async def _restart(self, lost: ServerLost, on_record: Note | None = None) -> None:
         """Starts the program again from the journal; several times if it keeps dying."""
         for _ in range(_STARTS):
-            self.say(f"{lost}; {self.journal.changes} changes are restored")
+            self.say(f"{lost}; restarting it and restoring {self.journal.changes} changes")
             self.metrics.restores += 1
             try:
                 return await self._restore(on_record)
             except ServerLost as again:
                 lost = again
-        raise Fault(FAILED, f"{lost}; given up after {_STARTS} starts, nothing acknowledged is lost")
+        raise Fault(FAILED, f"{lost}; giving up after {_STARTS} starts, no acknowledged change is lost")
 
     def _refuse_if_disk_full(self, batch: list[Entry]) -> None:
         """Refuses changes as OutOfMemory, without executing them, if the journal cannot grow."""
@@ -301,7 +305,9 @@ class Hub:
         is_full = not self.journal.has_room(sum(len(entry.line) + MOST_REPLY for entry in changes))
         if is_full != self._is_full:
             self._is_full = is_full
-            text = "the journal has no room: changes are refused" if is_full else "the journal has room again"
+            text = (
+                "the disk is full: changes are refused" if is_full else "the disk has room again: changes are accepted"
+            )
             self.log_limited(text, text)
         if is_full:
             for entry in changes:
@@ -352,17 +358,18 @@ class Hub:
 def first_unused_name(teams: list[str]) -> bytes:
     """Returns the shortest name that is not a team."""
     signs = [chr(byte) for byte in range(33, 127)]
-    names = (first + side_program for side_program in ("", *signs) for first in signs)
+    names = (first + second for second in ("", *signs) for first in signs)
     return next(name for name in names if name not in teams).encode()
 
 
-def refuse_team_mismatch(found: list[str], text: list[str]) -> None:
+def refuse_team_mismatch(found: list[str], reported: list[str]) -> None:
     """Raises a Fault if the teams found in the DEF text differ from those that the program reports."""
-    if set(found) == set(text):
+    if set(found) == set(reported):
         return
-    first, side_program = (", ".join(sorted(these)) or "no other" for these in (set(found) - set(text), set(text) - set(found)))
-    counts = f"{len(found)} teams are found in the DEF text, and the program tells {len(text)}"
-    raise Fault(REFUSED, f"{counts}; found alone: {first}; told alone: {side_program}")
+    ours, theirs = (set(found) - set(reported), set(reported) - set(found))
+    only_found, only_reported = (", ".join(sorted(teams)) or "none" for teams in (ours, theirs))
+    counts = f"the DEF text has {len(found)} teams, the program reports {len(reported)}"
+    raise Fault(REFUSED, f"{counts}; only in the DEF text: {only_found}; only reported: {only_reported}")
 
 
 def is_export(entry: Entry) -> bool:

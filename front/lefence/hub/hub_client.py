@@ -29,7 +29,9 @@ class Entry:
 
     __slots__ = ("client", "fields", "is_last", "line", "reply", "verb", "who")
 
-    def __init__(self, client: Client | None, fields: list[bytes], reply: bytes | None = None, is_last: bool = False) -> None:
+    def __init__(
+        self, client: Client | None, fields: list[bytes], reply: bytes | None = None, is_last: bool = False
+    ) -> None:
         self.client = client
         self.fields = fields
         self.reply = reply
@@ -50,17 +52,23 @@ class Host(Protocol):
     # The database units per micron.
     units: bytes
 
-    def admit(self, client: Client) -> bool: ...
+    def admit(self, client: Client) -> bool:
+        ...
 
-    def enqueue(self, client: Client) -> None: ...
+    def enqueue(self, client: Client) -> None:
+        ...
 
-    def remove(self, client: Client) -> None: ...
+    def remove(self, client: Client) -> None:
+        ...
 
-    def mark_slow(self, client: Client) -> None: ...
+    def mark_slow(self, client: Client) -> None:
+        ...
 
-    def unmark_slow(self, client: Client) -> None: ...
+    def unmark_slow(self, client: Client) -> None:
+        ...
 
-    def log_limited(self, kind: str, text: str) -> None: ...
+    def log_limited(self, kind: str, text: str) -> None:
+        ...
 
 
 class Client(asyncio.BufferedProtocol):
@@ -96,7 +104,7 @@ class Client(asyncio.BufferedProtocol):
         team = "operator" if self.team is None else self.team.decode()
         self.name = f"{team} pid {self.pid} uid {self.uid}"
         if not self.host.admit(self):
-            self.host.log_limited(f"crowd {team}", f"{self.name}: one client too many")
+            self.host.log_limited(f"crowd {team}", f"{self.name}: refused, too many clients")
             transport.abort()
 
     def get_buffer(self, sizehint: int) -> bytearray:
@@ -176,7 +184,7 @@ class Client(asyncio.BufferedProtocol):
         if unread < unread_before:
             self._timer = asyncio.get_running_loop().call_later(self.host.patience, self._drop_if_slow, unread)
         else:
-            self.host.log_limited("dropped", f"{self.name}: dropped, leaves {unread} bytes unread")
+            self.host.log_limited("dropped", f"{self.name}: dropped, {unread} bytes unread")
             self.transport.abort()
 
     def _unread_of_system(self) -> int:

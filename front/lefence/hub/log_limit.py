@@ -22,4 +22,4 @@ class RateLimitedLog:
             self._kinds[kind] = after, count + 1
             return
         self._kinds[kind] = now + self._seconds, 0
-        self._say(f"{text} (and {count} times more since this was told last)" if count else text)
+        self._say(f"{text} (and {count} more since the last such line)" if count else text)

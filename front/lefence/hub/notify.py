@@ -17,7 +17,9 @@ def notify(*words: str, patience: float = 1) -> None:
         return
     with socket.socket(socket.AF_UNIX, socket.SOCK_DGRAM) as end, contextlib.suppress(OSError):
         end.settimeout(patience)
-        end.sendto("\n".join(words).encode("utf-8", "backslashreplace"), path.replace("@", "\0", 1) if path[0] == "@" else path)
+        end.sendto(
+            "\n".join(words).encode("utf-8", "backslashreplace"), path.replace("@", "\0", 1) if path[0] == "@" else path
+        )
 
 
 def notify_alive(is_ready: bool) -> None:

@@ -65,11 +65,13 @@ class Server:
         except ServerLost:
             status = await self._run.wait()
             if status in (1, 2):
-                reason = "its own line tells why" if status == 1 else "it does not know the options of `replay`"
-                raise Fault(REFUSED if status == 1 else FAILED, f"{self.program.path} does not start: {reason}") from None
+                reason = "see its message above" if status == 1 else "it does not know the options of `replay`"
+                raise Fault(
+                    REFUSED if status == 1 else FAILED, f"{self.program.path} does not start: {reason}"
+                ) from None
             raise
         if await asyncio.to_thread(sums_of, self.program.texts) != self.sums:
-            raise Fault(REFUSED, "the texts of the design have changed")
+            raise Fault(REFUSED, "the files of the design have changed")
         if state and not await asyncio.to_thread(state.is_whole):
             raise Fault(REFUSED, f"{state.path} has changed")
 
@@ -113,10 +115,10 @@ class Server:
             for record, reply in zip(chunk, await self.execute([record.line for record in chunk])):
                 count += 1
                 if reply.startswith(b"no 12 "):
-                    raise ServerLost("the program has no memory to restore its state")
+                    raise ServerLost("the program is out of memory and cannot restore its state")
                 if reply != record.reply:
                     place = f"change {count}: the journal has {record.reply!r} for {record.line!r}"
-                    raise Fault(REFUSED, f"{place}, and the program answers {reply!r}")
+                    raise Fault(REFUSED, f"{place}, but the program replies {reply!r}")
                 if on_record:
                     on_record(record.line.split(), reply)
         return count
@@ -146,6 +148,6 @@ async def described_teams(program: Program) -> list[str]:
         while (line := await run.reader.readline()).endswith(b"\n"):
             if not add_team(line, teams):
                 return teams
-        raise await run.fault(f"{program.path} does not tell the teams of the design")
+        raise await run.fault(f"{program.path} does not report the teams of the design")
     finally:
         await run.kill()

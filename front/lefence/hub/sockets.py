@@ -24,9 +24,12 @@ def claim_folder(path: Path) -> None:
     folder = os.open(path, os.O_RDONLY | os.O_DIRECTORY | os.O_CLOEXEC)
     info = os.fstat(folder)
     if info.st_mode & (stat.S_IWGRP | stat.S_IWOTH):
-        raise Fault(REFUSED, f"{path}: others may write to this folder (mode {stat.S_IMODE(info.st_mode):o}); `chmod go-w` mends it")
+        raise Fault(
+            REFUSED,
+            f"{path}: others may write to this folder (mode {stat.S_IMODE(info.st_mode):o}); fix it with `chmod go-w`",
+        )
     if info.st_uid not in (0, os.geteuid()):
-        raise Fault(REFUSED, f"{path}: a folder of another user (uid {info.st_uid})")
+        raise Fault(REFUSED, f"{path}: this folder belongs to another user (uid {info.st_uid})")
     lock(folder, path)
 
 
@@ -38,7 +41,7 @@ def groups_of(words: list[str]) -> dict[str, int]:
         try:
             info[team] = int(name) if name.isdecimal() else grp.getgrnam(name).gr_gid
         except KeyError:
-            raise Fault(USAGE, f"{word}: there is no group {name}") from None
+            raise Fault(USAGE, f"{word}: no such group: {name}") from None
         if not (team and sign):
             raise Fault(USAGE, f"{word}: --group takes TEAM=GROUP")
     return info
@@ -51,7 +54,9 @@ def bind_socket(path: Path, mode: int, keeps_mode: bool, group: int | None) -> s
     Fault if the group cannot be set.
     """
     if len(os.fsencode(path)) > _MOST_PATH:
-        raise Fault(FAILED, f"{path}: longer than {_MOST_PATH} bytes; use a shorter --sockets, or serve other teams by --team")
+        raise Fault(
+            FAILED, f"{path}: longer than {_MOST_PATH} bytes; use a shorter --sockets, or serve other teams by --team"
+        )
     previous = _dead_socket(path)
     if previous:
         path.unlink()
@@ -78,7 +83,7 @@ def _set_group(path: Path, group: int | None) -> None:
             os.chown(path, -1, group)
     except OSError as error:
         path.unlink()
-        raise Fault(FAILED, f"{path}: the group {group} cannot be set, is this user in it? {error.strerror}") from None
+        raise Fault(FAILED, f"{path}: cannot set group {group}: {error.strerror}; is this user a member?") from None
 
 
 def _dead_socket(path: Path) -> os.stat_result | None:

@@ -73,8 +73,8 @@ def uncommitted_text(hub: Hub) -> str | None:
     counts = sorted((team.decode(), each.uncommitted) for team, each in hub.metrics.teams.items() if each.uncommitted)
     if not counts:
         return None
-    more = f" and {len(counts) - _MOST_TEAMS} teams more" if len(counts) > _MOST_TEAMS else ""
-    return "changes that are not committed: " + ", ".join(f"{count} of {team}" for team, count in counts[:_MOST_TEAMS]) + more
+    more = f" and {len(counts) - _MOST_TEAMS} more teams" if len(counts) > _MOST_TEAMS else ""
+    return "uncommitted changes: " + ", ".join(f"{count} of {team}" for team, count in counts[:_MOST_TEAMS]) + more
 
 
 def ask_status(folder: Path) -> dict[str, Any]:
@@ -86,6 +86,6 @@ def ask_status(folder: Path) -> dict[str, Any]:
     except OSError as error:
         raise Fault(FAILED, f"{path}: {error.strerror or error}") from None
     if not words.startswith(b"ok {"):
-        raise Fault(FAILED, f"{path}: answered {words.decode(errors='backslashreplace').strip()}")
+        raise Fault(FAILED, f"{path}: unexpected reply {words.decode(errors='backslashreplace').strip()}")
     found: dict[str, Any] = json.loads(words[3:])
     return found

@@ -136,15 +136,19 @@ def header_in(data: bytes) -> Header | None:
         if not (place := _SEGMENT.match(data, at)):
             return None
         (number, changes, size), at = map(int, place.groups()), place.end()
-    return Header(texts, number, changes, size, at + len(END_OF_HEADER), slots) if data.startswith(END_OF_HEADER, at) else None
+    return (
+        Header(texts, number, changes, size, at + len(END_OF_HEADER), slots)
+        if data.startswith(END_OF_HEADER, at)
+        else None
+    )
 
 
 def wrong_title_text(data: bytes) -> str:
     """Describes a file that starts with these bytes and has no header of this version."""
     title = data.split(b"\n")[0]
     if re.fullmatch(rb"lefence-hub journal \d{1,9}", title) and title + b"\n" not in (TITLE, _OLD_TITLE):
-        return f"`{title.decode()}`, the journal of another version, which this one does not read"
-    return "no journal of lefence-hub, or one whose header is damaged"
+        return f"`{title.decode()}`: a journal of another version, which this version cannot read"
+    return "not a journal of lefence-hub, or its header is damaged"
 
 
 def is_partial_header(data: bytes) -> bool:
@@ -232,7 +236,7 @@ class Reader:
         while offset < end:
             frame = self.frame(offset)
             if not frame:
-                raise Fault(FAILED, f"{self.path}: no whole batch at byte {offset} any more")
+                raise Fault(FAILED, f"{self.path}: the batch at byte {offset} is gone or damaged")
             yield frame
             offset = frame.end
 
@@ -261,5 +265,5 @@ class Reader:
 def refuse_damage(reader: Reader, end: int) -> None:
     """Raises a Fault if intact frames follow after the end of the consecutive ones."""
     if reader.next_start(end) is not None:
-        remedies = f"`lefence-journal check {reader.path}` tells more, and `lefence-journal cut` makes it one that a hub takes"
-        raise Fault(REFUSED, f"{reader.path}: damaged at byte {end}, and whole batches follow; {remedies}")
+        remedies = f"`lefence-journal check {reader.path}` shows more, `lefence-journal cut` makes it usable"
+        raise Fault(REFUSED, f"{reader.path}: damaged at byte {end}, and intact batches follow; {remedies}")

@@ -50,9 +50,9 @@ def lock(descriptor: int, path: Path) -> None:
     try:
         fcntl.flock(descriptor, fcntl.LOCK_EX | fcntl.LOCK_NB)
     except BlockingIOError:
-        raise Fault(FAILED, f"{path}: another hub holds it") from None
+        raise Fault(FAILED, f"{path}: another hub has locked it") from None
     except OSError as error:
-        raise Fault(FAILED, f"{path}: no lock can be had there: {error.strerror}") from None
+        raise Fault(FAILED, f"{path}: cannot be locked: {error.strerror}") from None
 
 
 def texts_in(path: Path) -> list[Text] | None:
@@ -132,9 +132,9 @@ class Journal:
         """Locks and repairs the file, and writes the new owner."""
         lock(self._fd, self.path)
         if not os.path.samestat(os.stat(self.path), os.fstat(self._fd)):
-            raise Fault(FAILED, f"{self.path}: another hub holds it")
+            raise Fault(FAILED, f"{self.path}: another hub has locked it")
         if os.fstat(self._fd).st_mode & 0o022:
-            self._say(f"{self.path}: others may write to the journal; `chmod go-w` mends it")
+            self._say(f"{self.path}: others may write to the journal; fix it with `chmod go-w`")
         self._reader = Reader(self._fd, self.path)
         # The header of the last segment; the end of its frames, its notes, and the number of changes in the journal.
         self._header: Header | None = header_in(os.pread(self._fd, MOST_HEADER, 0))
@@ -145,7 +145,10 @@ class Journal:
             unusable = self._find_state()
         else:
             if self.archive.numbers("journal"):
-                raise Fault(REFUSED, f"{self.path} holds no change, and {self.archive.folder} does; who means to begin anew moves that away")
+                raise Fault(
+                    REFUSED,
+                    f"{self.path} has no changes, but {self.archive.folder} has; move it away to start a new journal",
+                )
             self._begin(texts, slots or SLOTS)
             last, unusable = None, []
         self._cut(last)
@@ -215,12 +218,17 @@ class Journal:
             if slots in (None, self._header.slots):
                 return True
             if _has_changes(self._reader, self._header):
-                ways = f"start without --sessions or with --sessions {self._header.slots}, or begin a new journal"
-                raise Fault(REFUSED, f"{self.path}: begun with {self._header.slots} session slots of each team, not {slots}: {ways}")
+                remedies = f"start without --sessions or with --sessions {self._header.slots}, or start a new journal"
+                raise Fault(
+                    REFUSED,
+                    f"{self.path}: made for {self._header.slots} session slots per team, not {slots}: {remedies}",
+                )
         found = os.pread(self._fd, MOST_HEADER, 0)
         if is_partial_header(found) or self._header and not _has_changes(self._reader, self._header):
             return False
-        raise Fault(REFUSED, f"{self.path}: {'a journal of another design' if self._header else wrong_title_text(found)}")
+        raise Fault(
+            REFUSED, f"{self.path}: {'a journal of another design' if self._header else wrong_title_text(found)}"
+        )
 
     def _find_state(self) -> list[int]:
         """Finds the last intact state and the segments after it; returns the numbers of unusable states.
@@ -236,7 +244,7 @@ class Journal:
                 return unusable
             if state:
                 problem = "is not the state that the journal names" if state.path.exists() else "is not there"
-                self._say(f"{state.path} {problem}; what stands before it is answered again")
+                self._say(f"{state.path} {problem}; the changes before it are replayed")
             unusable.append(first.number)
             if first.number == 1:
                 return unusable
@@ -255,7 +263,9 @@ class Journal:
     def _cut(self, last: Frame | None) -> None:
         """Removes what follows the last intact frame."""
         if tail := self._reader.trailing_bytes(self.end):
-            self._say(f"{self.path}: a torn batch of {tail} bytes (a write that was cut off) removed at byte {self.end}")
+            self._say(
+                f"{self.path}: removed an incomplete batch of {tail} bytes at byte {self.end} (an interrupted write)"
+            )
         if last:
             # Its hub may not have synced it, or without success; then the system takes the page for written. So write
             # it again.
@@ -298,7 +308,7 @@ class Journal:
             lock(descriptor, next_path)
             os.fchmod(descriptor, os.fstat(self._fd).st_mode & 0o777)
             if os.pwrite(descriptor, header + frame, 0) != len(header + frame):
-                raise OSError(errno.ENOSPC, "written in part")
+                raise OSError(errno.ENOSPC, "only a part was written")
             os.fsync(descriptor)
             self._seal()
             with contextlib.suppress(FileExistsError):
@@ -333,12 +343,12 @@ class Journal:
         state = State(self.archive.state(self.header.number), size, digest)
         # (a batch in progress has its own reserved bytes)
         if not self.has_room(_MOST_REST):
-            raise OSError(errno.ENOSPC, "the journal has no room for the name of the state")
+            raise OSError(errno.ENOSPC, "the disk is full: the state cannot be named in the journal")
         try:
             os.replace(source, state.path)
             sync_folder(self.archive.folder)
             if not self._note(state.note(self.owner)):
-                raise OSError(errno.ENOSPC, "the journal has no room for the name of the state")
+                raise OSError(errno.ENOSPC, "the disk is full: the state cannot be named in the journal")
         except OSError:
             state.path.unlink(missing_ok=True)
             raise
@@ -351,16 +361,16 @@ class Journal:
         self._refuse_broken()
         if reason := self._loss():
             self._is_lost = True
-            raise Fault(FAILED, f"{self.path}: {reason}; what was acknowledged since is in the file that the hub has open")
+            raise Fault(FAILED, f"{self.path}: {reason}; later changes are in the file that the hub has open")
 
     def _loss(self) -> str | None:
         ours = os.fstat(self._fd)
         try:
             found = os.stat(self.path)
         except OSError as error:
-            return f"the journal is not there: {error.strerror}"
+            return f"the journal is gone: {error.strerror}"
         if not os.path.samestat(found, ours):
-            return "another file stands where the journal was"
+            return "another file has replaced the journal"
         is_written = ours.st_size < self.end or os.pread(self._fd, 1, self.end).strip(b"\0")
         return "another process has written to the journal" if is_written else None
 
@@ -399,15 +409,15 @@ class Journal:
             step()
         except OSError as error:
             self._is_broken = True
-            raise Fault(FAILED, f"{self.path}: {error.strerror}; nothing of this was acknowledged") from error
+            raise Fault(FAILED, f"{self.path}: {error.strerror}; these changes were not acknowledged") from error
 
     def _refuse_broken(self) -> None:
         if self._is_broken:
-            raise Fault(FAILED, f"{self.path}: the disk has failed; nothing since was acknowledged")
+            raise Fault(FAILED, f"{self.path}: the disk has failed; no later change was acknowledged")
 
     def _write(self, frame: bytes) -> None:
         if os.pwrite(self._fd, frame, self.end) != len(frame):
-            raise OSError(errno.ENOSPC, "written in part")
+            raise OSError(errno.ENOSPC, "only a part was written")
         if self.is_synced:
             os.fdatasync(self._fd)
 

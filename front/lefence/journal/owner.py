@@ -56,7 +56,7 @@ class OwnerHistory:
     def refuse_owner(self, own: Owner, path: Path) -> None:
         """Raises a Fault if the last hub may be running."""
         if self.last and self.is_open and (reason := reason_in_use(self.last, own)):
-            raise Fault(FAILED, f"{path}: {reason}; --takeover takes the journal from a hub that is gone")
+            raise Fault(FAILED, f"{path}: {reason}; if that hub is gone, use --takeover")
 
 
 def owner_of(note: bytes) -> Owner | None:
@@ -68,16 +68,23 @@ def owner_of(note: bytes) -> Owner | None:
 def this_process(program: str | None = None) -> Owner:
     """Returns this process as an owner, with the program at that path."""
     host = re.sub(r"[^!-~]", "?", socket.gethostname()) or "?"
-    return Owner(host, _boot(), os.getpid(), _start_time(os.getpid()) or 0, __version__, sum_of(Path(program))[:16] if program else "-")
+    return Owner(
+        host,
+        _boot(),
+        os.getpid(),
+        _start_time(os.getpid()) or 0,
+        __version__,
+        sum_of(Path(program))[:16] if program else "-",
+    )
 
 
 def reason_in_use(owner: Owner, own: Owner) -> str | None:
     """Returns why an owner may still be using its journal; None if its process is certainly gone."""
     if owner.host != own.host:
-        return f"{owner}, which did not end it, may be at work"
+        return f"{owner} has not ended it and may be using it"
     if owner.boot != own.boot or owner.pid == own.pid:
         return None
-    return f"{owner} is at work" if _start_time(owner.pid) == owner.started else None
+    return f"{owner} is using it" if _start_time(owner.pid) == owner.started else None
 
 
 def _boot() -> str:

@@ -150,7 +150,7 @@ class Archive:
         try:
             descriptor = os.open(path, os.O_RDONLY | os.O_CLOEXEC)
         except FileNotFoundError:
-            raise Fault(REFUSED, f"no state is whole with which segment {following.number} begins, and {path} is not there") from None
+            raise Fault(REFUSED, f"segment {following.number} has no intact state, and {path} is missing") from None
         try:
             reader = Reader(descriptor, path)
             header, notes, end = reader.header(), reader.notes(), reader.end_of_frames()
@@ -230,13 +230,16 @@ def last_state(path: Path, readers: list[Reader], is_all: bool) -> tuple[State |
         state = Archive(path).state_named(number, readers[at].notes())
         if number == 1 or state and state.is_whole():
             return state, readers[at:]
-    raise Fault(REFUSED, f"{path}: no state is whole with which its segment {readers[0].header().number} begins")
+    raise Fault(REFUSED, f"{path}: segment {readers[0].header().number} has no intact state")
 
 
 def refuse_short_segment(reader: Reader, end: int, size: int) -> None:
     """Raises a Fault if a segment now ends before it ended when the next one was made."""
     if end != size:
-        raise Fault(REFUSED, f"{reader.path}: damaged at byte {end}, before the {size} bytes that it had when the next segment was begun")
+        raise Fault(
+            REFUSED,
+            f"{reader.path}: damaged at byte {end}: it had {size} bytes when the next segment was made",
+        )
 
 
 def read_records(path: Path) -> Iterator[Record]:
@@ -248,8 +251,8 @@ def read_records(path: Path) -> Iterator[Record]:
     with open_segments(path) as readers:
         first = readers[0].header()
         if first.number > 1:
-            message = f"{path}: its first {first.changes} changes are in a state alone"
-            raise Fault(REFUSED, f"{message}; for a push the hub needs --keep 0 from the first line on")
+            message = f"{path}: its first {first.changes} changes exist only as a state"
+            raise Fault(REFUSED, f"{message}; to push a journal, run its hub with --keep 0 from the start")
         yield from records_in(readers)
 
 

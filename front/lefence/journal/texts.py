@@ -50,7 +50,7 @@ def resolve_texts(journal: Path, given: list[Path], say: Callable[[str], None]) 
     if texts is None:
         texts = [Text(sum_of(path), path.absolute()) for path in given]
     if len(texts) != len(given):
-        raise Fault(REFUSED, f"{journal}: a journal of another design, which has {len(texts)} texts")
+        raise Fault(REFUSED, f"{journal}: a journal of another design, which has {len(texts)} files")
     return texts, [_resolve_text(journal, text, path, say) for text, path in zip(texts, given)]
 
 
@@ -64,10 +64,15 @@ def _resolve_text(journal: Path, text: Text, given: Path, say: Callable[[str], N
     if is_same:
         return kept or _make_copy(journal, text, given)
     if kept is None:
-        raise Fault(REFUSED, f"{journal}: a journal of another design: {given} is not its text, of which no copy is kept")
+        raise Fault(
+            REFUSED, f"{journal}: a journal of another design: {given} is not its file, and no copy of that is kept"
+        )
     if given.absolute() != text.path:
-        raise Fault(REFUSED, f"{journal}: a journal of another design: its text came from {text.path}, and {given} has other bytes")
-    say(f"{given} is not what it was when the journal was begun: what counts is the copy {kept}")
+        raise Fault(
+            REFUSED,
+            f"{journal}: a journal of another design: its file was {text.path}, and {given} differs",
+        )
+    say(f"{given} has changed since the journal was made: using the copy {kept}")
     return kept
 
 
@@ -88,7 +93,7 @@ def _make_copy(journal: Path, text: Text, given: Path) -> Path:
         _copy(source, copy)
         copy.flush()
         if sum_of(Path(f"/dev/fd/{copy.fileno()}")) != text.sum:
-            raise Fault(FAILED, f"{given} was written to while it was read")
+            raise Fault(FAILED, f"{given} was modified while it was read")
     path.chmod(0o400)
     sync_folder(folder)
     sync_folder(folder.parent)

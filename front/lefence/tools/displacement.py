@@ -250,7 +250,7 @@ class _Count:
             self._team(team).lost += 1
         for _, team in late:
             self._team(team).added += 1
-        notes = [f"cells of another team than before: {self._changed_team}"] if self._changed_team else []
+        notes = [f"cells that changed their team: {self._changed_team}"] if self._changed_team else []
         total = Team("all")
         for each in self._teams.values():
             total.add(each)
@@ -262,7 +262,7 @@ def notes_of(before: Frame, after: Frame) -> list[str]:
     """Lists the differences between two frames in words."""
     found = []
     if before.facts.name != after.facts.name:
-        found.append(f"the designs have two names: {before.facts.name} before, {after.facts.name} after")
+        found.append(f"the design names differ: {before.facts.name} before, {after.facts.name} after")
     if before.facts[2:] != after.facts[2:]:
         found.append(f"the core sites differ: {before.facts.site} before, {after.facts.site} after")
     kinds: tuple[tuple[str, Sequence[object], Sequence[object]], ...] = (

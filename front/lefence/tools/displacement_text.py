@@ -46,7 +46,9 @@ def object_of(summary: Summary) -> dict[str, object]:
 
 def _far_object(summary: Summary, cell: FarCell) -> dict[str, object]:
     facts = summary.frame.facts
-    before, after = ([place.x / facts.units, place.y / facts.units, place.orient] for place in (cell.before, cell.after))
+    before, after = (
+        [place.x / facts.units, place.y / facts.units, place.orient] for place in (cell.before, cell.after)
+    )
     lengths = {"displacement": cell.distance / facts.units, "displacement_rows": cell.distance / facts.site_height}
     return {"name": cell.name, "team": cell.team, "before": before, "after": after, **lengths}
 
@@ -89,7 +91,12 @@ def text_of(summary: Summary) -> str:
         _bars(summary.all.histogram(height)),
     ]
     if summary.farthest:
-        parts.append(_table(["farthest", "team", "from", "to", "way", "in rows"], (_far_row(cell, facts.units, height) for cell in summary.farthest)))
+        parts.append(
+            _table(
+                ["farthest", "team", "from", "to", "distance", "in rows"],
+                (_far_row(cell, facts.units, height) for cell in summary.farthest),
+            )
+        )
     parts += _alone(summary.only_before, "before") + _alone(summary.only_after, "after")
     # Other differences come first, since they may mean that these are two different designs.
     parts[1:1] = [f"note: {note}" for note in summary.notes]
@@ -123,7 +130,9 @@ def _table(head: list[str], rows: Iterable[list[str]]) -> str:
     """Formats columns two spaces apart: the first aligned to the left, the others to the right."""
     lines = [head, *rows]
     widths = [max(map(len, column)) for column in zip(*lines)]
-    return "\n".join("  ".join([first.ljust(widths[0]), *map(str.rjust, others, widths[1:])]) for first, *others in lines)
+    return "\n".join(
+        "  ".join([first.ljust(widths[0]), *map(str.rjust, others, widths[1:])]) for first, *others in lines
+    )
 
 
 def _bars(counts: list[int]) -> str:
@@ -141,4 +150,4 @@ def _alone(names: list[str], where: str) -> list[str]:
     if not names:
         return []
     more = ", .." if len(names) > _NAMED else ""
-    return [f"cells in the design {where} alone: {len(names)} ({', '.join(names[:_NAMED])}{more})"]
+    return [f"cells only in the design {where}: {len(names)} ({', '.join(names[:_NAMED])}{more})"]

@@ -23,7 +23,14 @@ MOST_NAMES, LONGEST_NAME = 20, 24
 # Characters that XML does not allow.
 _NO_TEXT = re.compile("[^\t\n\r\x20-\ud7ff\ue000-\ufffd\U00010000-\U0010ffff]")
 # The colours of arrows by their greatest length in rows.
-MOVE_COLOURS = ((2, "#20124d"), (5, "#5b1a8b"), (10, "#a3158f"), (20, "#e0457b"), (50, "#ff7f3f"), (math.inf, "#ffb000"))
+MOVE_COLOURS = (
+    (2, "#20124d"),
+    (5, "#5b1a8b"),
+    (10, "#a3158f"),
+    (20, "#e0457b"),
+    (50, "#ff7f3f"),
+    (math.inf, "#ffb000"),
+)
 # Characters that are as wide as high in most fonts; the others have about two thirds of that.
 _WIDE = re.compile(r"[mwMWQ%@&]|[^\x00-\x7f]")
 _INK, _FAINT, _OBSTACLE, _BLOCKAGE, _SOFT = "#1d232b", "#667080", "#59626e", "#aab2bd", "#8a6a2f"
@@ -113,7 +120,10 @@ class Drawing:
         box = scene.frame.box
         size = f"{box.width / units:,.4g} × {box.height / units:,.4g} µm"
         parts = [size, number(len(scene.frame.rows), "row"), number(scene.sum_of("cells"), "cell")]
-        parts += [number(scene.sum_of("broken"), "breaks a rule", "break a rule"), f"{scene.sum_of('unplaced'):,} unplaced"]
+        parts += [
+            number(scene.sum_of("broken"), "breaks a rule", "break a rule"),
+            f"{scene.sum_of('unplaced'):,} unplaced",
+        ]
         return text_of(" · ".join(parts))
 
     def _box(self, box: Box, name: str | None = None) -> str:
@@ -223,7 +233,9 @@ class Drawing:
         (x0, y0), (x1, y1) = middles
         head = min(6 / self.scale, math.hypot(x1 - x0, y1 - y0) / 2)
         way = math.atan2(y0 - y1, x0 - x1)
-        ends = [f"{x1 + head * math.cos(way + turn):.1f} {y1 + head * math.sin(way + turn):.1f}" for turn in (0.45, -0.45)]
+        ends = [
+            f"{x1 + head * math.cos(way + turn):.1f} {y1 + head * math.sin(way + turn):.1f}" for turn in (0.45, -0.45)
+        ]
         line = f"M{x0:g} {y0:g}L{x1:g} {y1:g}M{ends[0]}L{x1:g} {y1:g}L{ends[1]}"
         return f'<path d="{line}"><title>{text_of(move.name)}</title></path>\n'
 
@@ -263,7 +275,11 @@ class Drawing:
         for count, style, label in (
             (fixed, f'fill="{_OBSTACLE}"', "FIXED component"),
             (len(frame.obstacles) - fixed, f'fill="{_BLOCKAGE}"', "blockage"),
-            (len(frame.soft), f'fill="{_SOFT}" fill-opacity="0.12" stroke="{_SOFT}" stroke-dasharray="3 2"', "soft blockage"),
+            (
+                len(frame.soft),
+                f'fill="{_SOFT}" fill-opacity="0.12" stroke="{_SOFT}" stroke-dasharray="3 2"',
+                "soft blockage",
+            ),
         ):
             if count:
                 yield _entry(style, label, f"{count:,}")
@@ -279,16 +295,16 @@ class Drawing:
     def _notes(self) -> Iterator[_Line]:
         scene = self.scene
         if scene.sum_of("unplaced"):
-            yield _note(f"{scene.sum_of('unplaced'):,} without a place")
+            yield _note(f"{scene.sum_of('unplaced'):,} unplaced")
         if scene.outside:
             yield _note(f"{scene.outside:,} outside the picture")
         if scene.map:
             side = scene.map.side / scene.frame.facts.units
             yield _note(f"Bins of {side:.3g} µm; the darker,")
-            yield _note("the more of them is taken.")
+            yield _note("the more area is taken.")
             if scene.shows_too_full:
-                yield _note("Most cells break a rule: red are")
-                yield _note("bins with more cells than room.")
+                yield _note("Most cells break a rule: red")
+                yield _note("bins are more than full.")
 
 
 def _width(text: str, size: int) -> float:

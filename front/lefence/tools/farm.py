@@ -97,7 +97,9 @@ def slurm(farm: Farm, numbers: list[int]) -> int:
     waits = []
     if numbers:
         log_of = str(farm.work / "%a" / "log")
-        job = _submitted([*common, f"--array={array}", "--requeue", "--open-mode=append", f"--output={log_of}", str(task)], r"(\d+)")
+        job = _submitted(
+            [*common, f"--array={array}", "--requeue", "--open-mode=append", f"--output={log_of}", str(task)], r"(\d+)"
+        )
         waits = [f"--dependency=afterany:{job}"]
     waits += ["--wait"] * farm.waits
     return _submit_last(farm, numbers, [*common, *waits, f"--output={farm.work / 'collect.log'}", str(last)], r"(\d+)")
@@ -110,10 +112,14 @@ def lsf(farm: Farm, numbers: list[int]) -> int:
     last = _script(farm, "collect.sh", "--collect")
     waits = []
     if numbers:
-        job = _submitted(["bsub", *farm.words, "-J", array, "-r", "-o", str(farm.work / "%I" / "log"), str(task)], r"Job <(\d+)>")
+        job = _submitted(
+            ["bsub", *farm.words, "-J", array, "-r", "-o", str(farm.work / "%I" / "log"), str(task)], r"Job <(\d+)>"
+        )
         waits = ["-w", f"ended({job})"]
     waits += ["-K"] * farm.waits
-    return _submit_last(farm, numbers, ["bsub", *farm.words, *waits, "-o", str(farm.work / "collect.log"), str(last)], r"Job <(\d+)>")
+    return _submit_last(
+        farm, numbers, ["bsub", *farm.words, *waits, "-o", str(farm.work / "collect.log"), str(last)], r"Job <(\d+)>"
+    )
 
 
 def _submitted(words: list[str], pattern: str) -> str:
@@ -121,7 +127,7 @@ def _submitted(words: list[str], pattern: str) -> str:
     try:
         done = subprocess.run(words, stdin=subprocess.DEVNULL, capture_output=True, text=True)
     except FileNotFoundError:
-        raise Fault(USAGE, f"{words[0]} is not there; --engine names another engine") from None
+        raise Fault(USAGE, f"{words[0]} is not installed; choose another --engine") from None
     found = re.search(pattern, done.stdout)
     if done.returncode or not found:
         raise Fault(FAILED, f"{words[0]} ended with {done.returncode}: {(done.stderr or done.stdout).strip()}")
@@ -133,13 +139,13 @@ def _submit_last(farm: Farm, numbers: list[int], words: list[str], pattern: str)
     log_file = farm.work / "collect.log"
     if not farm.waits:
         end = _submitted(words, pattern)
-        log(TOOL, f"{len(numbers)} teams are submitted; job {end} collects what they did, and tells so in {log_file}")
+        log(TOOL, f"{len(numbers)} teams are submitted; job {end} collects their work and reports in {log_file}")
         return DONE
-    log(TOOL, f"{len(numbers)} teams are submitted; the job that collects what they did is waited for")
+    log(TOOL, f"{len(numbers)} teams are submitted; waiting for the job that collects their work")
     log_file.unlink(missing_ok=True)
     status = subprocess.run(words, stdin=subprocess.DEVNULL, stdout=subprocess.DEVNULL).returncode
     if not log_file.exists():
-        raise Fault(FAILED, f"{words[0]} ended with {status}, and {log_file} is not there")
+        raise Fault(FAILED, f"{words[0]} ended with {status}, and {log_file} is missing")
     sys.stderr.write(log_file.read_text(errors="backslashreplace"))
     return status
 
@@ -150,23 +156,51 @@ ENGINES = {"local": local, "slurm": slurm, "lsf": lsf}
 def parser() -> Parser:
     made = Parser(
         TOOL,
-        "Has the teams of a design work on a farm: each over its slice, beside a hub of its own on whatever machine, with its\n"
-        "journal in WORK, which all machines see. COMMAND finds its team's socket by LEFENCE_SOCKET, and the name by\n"
-        "LEFENCE_TEAM. Without `-- COMMAND` each team is repaired, as by `lefence repair`. At the end the work of all teams is\n"
-        "brought into one design. Given again, only the teams that failed are at work again.",
+        "Runs the teams of a design on a farm, each on its slice with a hub of its own on any machine. The journals are in\n"
+        "WORK, which all machines share. COMMAND gets its team's socket as LEFENCE_SOCKET and the team's name as\n"
+        "LEFENCE_TEAM. Without `-- COMMAND` each team is repaired, as by `lefence repair`. At the end the work of all teams\n"
+        "is merged into one design. A second run repeats only the teams that failed.",
         f"{TOOL} work chip.def tech.lef cells.lef --engine slurm --option=--mem=2G -- python3 place.py",
     )
     add = made.add_argument
-    add("work", metavar="WORK", type=Path, help="a folder that all machines see, made if it is missing")
-    add("texts", metavar="DEF LEF..", type=Path, nargs="*", default=[], help="the design, and its LEF texts in the order of the program")
+    add(
+        "work",
+        metavar="WORK",
+        type=Path,
+        help="the work folder, on a disk that all machines share; made if it is missing",
+    )
+    add(
+        "texts",
+        metavar="DEF LEF..",
+        type=Path,
+        nargs="*",
+        default=[],
+        help="the design, and its LEF files in the program's order",
+    )
     add("--engine", choices=ENGINES, default="local", help="what runs the teams: this machine (local), Slurm or LSF")
-    add("--processes", metavar="N", type=int, default=0, help="at most so many teams at once (local: one for each processor)")
-    add("--option", metavar="WORD", action="append", default=[], help="a word for sbatch or bsub, as --option=--mem=2G; again for more")
+    add(
+        "--processes",
+        metavar="N",
+        type=int,
+        default=0,
+        help="run at most N teams at once (local: one per processor)",
+    )
+    add(
+        "--option",
+        metavar="WORD",
+        action="append",
+        default=[],
+        help="an argument for sbatch or bsub, for example --option=--mem=2G; may be repeated",
+    )
     add("--wait", action="store_true", help="wait for the last job of an engine, and end with its status")
-    add("--export", metavar="FILE", type=Path, help="the design at the end (WORK/new.def)")
-    add("--merge", action="store_true", help="splice the teams' slices into the DEF text, so that no machine holds the design")
-    add("--task", metavar="I", type=int, help="do the work of team number I of WORK")
-    add("--collect", action="store_true", help="bring the work of the teams of WORK that are done into one design")
+    add("--export", metavar="FILE", type=Path, help="the final design (default: WORK/new.def)")
+    add(
+        "--merge",
+        action="store_true",
+        help="merge the teams' slices into the DEF file; no machine needs the memory for the design",
+    )
+    add("--task", metavar="I", type=int, help="do the work of team number I of WORK, and nothing else")
+    add("--collect", action="store_true", help="merge the work of the finished teams of WORK into one design")
     made.add_program()
     made.usage = f"{TOOL} [OPTION ..] WORK [DEF LEF ..] [-- COMMAND]"
     return made
@@ -198,7 +232,7 @@ def main() -> int:
 
     def work() -> int:
         if (options.collect or options.task is not None) and not (options.work / "farm.json").exists():
-            raise Fault(FAILED, f"{options.work} is no work folder of {TOOL}")
+            raise Fault(FAILED, f"{options.work} is not a work folder of {TOOL}")
         options.work = options.work.resolve()
         if options.task is not None:
             return run_team(options.work, options.task)
@@ -216,6 +250,8 @@ def main() -> int:
             del design
         numbers = plan.unfinished_numbers(options.work)
         log(TOOL, f"{len(numbers)} of {len(plan.teams)} teams have work to do")
-        return ENGINES[options.engine](Farm(options.work, options.option, max(0, options.processes), options.wait), numbers)
+        return ENGINES[options.engine](
+            Farm(options.work, options.option, max(0, options.processes), options.wait), numbers
+        )
 
     return run_tool(TOOL, work)

@@ -78,7 +78,9 @@ class Plan:
         try:
             return Plan(**json.loads(path.read_bytes()))
         except (TypeError, ValueError):
-            raise Fault(REFUSED, f"{path} is no plan of this version of {TOOL}: give another folder, or remove {work}") from None
+            raise Fault(
+                REFUSED, f"{path} is not a plan of this version of {TOOL}: use another folder, or remove {work}"
+            ) from None
 
     def unfinished_numbers(self, work: Path) -> list[int]:
         """The numbers of the teams that are not done."""
@@ -87,7 +89,7 @@ class Plan:
     def refuse_changed_design(self) -> None:
         """Raises a Fault if the DEF file has changed since the slices were made."""
         if sum_of(Path(self.design)) != self.sum:
-            raise Fault(REFUSED, f"{self.design} is another text than the slices were made of")
+            raise Fault(REFUSED, f"{self.design} has changed since the slices were made")
 
 
 def teams_of(design: Design) -> list[str]:
@@ -98,7 +100,7 @@ def teams_of(design: Design) -> list[str]:
 def begin(work: Path, plan: Plan, design: Design) -> None:
     """Makes a folder with a slice for each team. Raises a Fault if the folder is of another design."""
     if (work / "farm.json").exists() and Plan.load(work).sum != plan.sum:
-        raise Fault(REFUSED, f"{work} is of another text than {plan.design}: give another folder, or remove it")
+        raise Fault(REFUSED, f"{work} is of another design than {plan.design}: use another folder, or remove it")
     names = [os.fsencode(team) for team in plan.teams]
     missing = [at for at in range(1, len(names) + 1) if not (work / str(at) / "slice.def").exists()]
     for at, text in zip(missing, slices_of(design, [names[at - 1] for at in missing]), strict=True):
@@ -126,7 +128,9 @@ def run_team(work: Path, number: int) -> int:
     except (Fault, OSError) as fault:
         reason = reason_of(fault)
         (folder / "failed").write_text(f"{reason}\n", errors="backslashreplace")
-        raise Fault(fault.status if isinstance(fault, Fault) else FAILED, f"team {plan.teams[number - 1]}: {reason}") from None
+        raise Fault(
+            fault.status if isinstance(fault, Fault) else FAILED, f"team {plan.teams[number - 1]}: {reason}"
+        ) from None
     with atomic_file(folder / "done") as file:
         file.write(b"done\n")
     _remove_texts(folder / "journal")
@@ -142,16 +146,18 @@ def refuse_foreign_slice(folder: Path, plan: Plan) -> None:
     mark = _MARK % plan.sum.encode()
     with open(folder / "slice.def", "rb") as file:
         if file.read(len(mark)) != mark:
-            raise Fault(REFUSED, f"{folder / 'slice.def'} is a slice of another text")
+            raise Fault(REFUSED, f"{folder / 'slice.def'} is a slice of another design")
 
 
 def _repair(plan: Plan, folder: Path, team: str) -> None:
     """Repairs the team on its slice. Raises a Fault if a cell remains unrepaired."""
     program = Program(plan.program, [folder / "slice.def", *map(Path, plan.libraries)])
-    total = program.repair([f"--team={team}"], folder / "lines", folder / "new.def", Progress(TOOL, "the program repairs"))[-1]
+    total = program.repair(
+        [f"--team={team}"], folder / "lines", folder / "new.def", Progress(TOOL, "the program repairs")
+    )[-1]
     print(json.dumps(total), flush=True)
     if total["left_cells"]:
-        raise Fault(INCOMPLETE, f"the repair left {total['left_cells']} cells")
+        raise Fault(INCOMPLETE, f"{total['left_cells']} cells remain unrepaired")
 
 
 def _run_command(plan: Plan, folder: Path, team: str) -> None:
@@ -180,7 +186,19 @@ def _hub(plan: Plan, design: Path, words: list[str], name: str) -> Iterator[Path
     code = "import sys; from lefence.tools.hub import main; sys.exit(main())"
     path = os.pathsep.join([str(Path(__file__).resolve().parents[2]), *filter(None, [os.environ.get("PYTHONPATH")])])
     with tempfile.TemporaryDirectory(prefix="lefence-farm") as folder:
-        command = [sys.executable, "-c", code, str(design), *plan.libraries, "--program", plan.program, *_HUB_OPTIONS, "--sockets", folder, *words]
+        command = [
+            sys.executable,
+            "-c",
+            code,
+            str(design),
+            *plan.libraries,
+            "--program",
+            plan.program,
+            *_HUB_OPTIONS,
+            "--sockets",
+            folder,
+            *words,
+        ]
         with subprocess.Popen(command, env={**os.environ, "PYTHONPATH": path}, stdin=subprocess.DEVNULL) as hub:
             try:
                 _wait_served(hub, Path(folder) / name)
@@ -189,7 +207,10 @@ def _hub(plan: Plan, design: Path, words: list[str], name: str) -> Iterator[Path
                 hub.terminate()
                 hub.wait()
     if hub.returncode:
-        raise Fault(hub.returncode if hub.returncode in (1, 2, 3) else FAILED, f"the hub over {design} ended with {hub.returncode}")
+        raise Fault(
+            hub.returncode if hub.returncode in (1, 2, 3) else FAILED,
+            f"the hub over {design} ended with {hub.returncode}",
+        )
 
 
 def _wait_served(hub: subprocess.Popen[bytes], socket: Path) -> None:
@@ -199,7 +220,10 @@ def _wait_served(hub: subprocess.Popen[bytes], socket: Path) -> None:
             connect(socket).close()
             return
         time.sleep(_POLL)
-    raise Fault(hub.returncode if hub.returncode in (1, 2, 3) else FAILED, f"the hub did not start: it ended with {hub.returncode}")
+    raise Fault(
+        hub.returncode if hub.returncode in (1, 2, 3) else FAILED,
+        f"the hub did not start: it ended with {hub.returncode}",
+    )
 
 
 def collect(work: Path) -> int:
@@ -213,7 +237,7 @@ def collect(work: Path) -> int:
     for number in sorted(unfinished):
         failure = work / str(number) / "failed"
         reason = failure.read_text().strip() if failure.exists() else "it did not end"
-        log(TOOL, f"team {plan.teams[number - 1]} is not in it: {reason}; {work / str(number) / 'log'} has more")
+        log(TOOL, f"team {plan.teams[number - 1]} is missing: {reason}; see {work / str(number) / 'log'}")
     if plan.is_merged:
         _merge(work, plan, done)
     else:
@@ -226,7 +250,7 @@ def collect(work: Path) -> int:
 def _merge(work: Path, plan: Plan, done: list[int]) -> None:
     with atomic_file(Path(plan.export)) as file:
         count = merge(Path(plan.design), [work / str(number) / "new.def" for number in done], file)
-    log(TOOL, f"{count} components are as the teams' slices have them")
+    log(TOOL, f"merged {count} components of the teams' slices")
 
 
 def _answer(work: Path, plan: Plan, done: list[int], output: BinaryIO) -> None:
@@ -245,10 +269,10 @@ def _answer(work: Path, plan: Plan, done: list[int], output: BinaryIO) -> None:
             for count, line, recorded in _records_in(work / str(number)):
                 reply = replies.readline()
                 if not is_recorded_reply(reply, recorded):
-                    answers = f"{shown(recorded).strip()!r}, and over the whole {shown(reply).strip()!r}"
+                    answers = f"{shown(recorded).strip()!r}, and on the whole design {shown(reply).strip()!r}"
                     differs = f"line {count}, {shown(line)!r}, was answered {answers}"
                     raise Fault(REFUSED, f"team {plan.teams[number - 1]}: {differs}")
-            log(TOOL, f"team {plan.teams[number - 1]}: {count} lines answered as over its slice")
+            log(TOOL, f"team {plan.teams[number - 1]}: {count} lines answered as on its slice")
         with open(exported, "rb") as file:
             shutil.copyfileobj(file, output)
 

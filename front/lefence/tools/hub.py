@@ -114,7 +114,7 @@ def end_by_signals(hub: Hub, stopped: asyncio.Event, grace: float) -> None:
     """Sets the event at a signal. After `grace` seconds, or at a second signal, it ends this process at once."""
 
     def give_up() -> None:
-        say(f"given up: not ended within {grace:g} seconds, or asked twice; nothing acknowledged is lost")
+        say(f"killed: not ended within {grace:g} seconds, or a second signal; no acknowledged change is lost")
         hub.kill_programs()
         os._exit(FAILED)
 
@@ -138,7 +138,11 @@ def limit_loop_errors(hub: Hub) -> None:
 
     def handle(loop: asyncio.AbstractEventLoop, context: dict[str, Any]) -> None:
         error = context.get("exception")
-        text = context["message"] if isinstance(error, OSError) or not error else "".join(traceback.format_exception(error))
+        text = (
+            context["message"]
+            if isinstance(error, OSError) or not error
+            else "".join(traceback.format_exception(error))
+        )
         hub.log_limited(str(context["message"]), f"{text}: {error}")
 
     asyncio.get_running_loop().set_exception_handler(handle)
@@ -154,12 +158,17 @@ async def run(options: argparse.Namespace) -> None:
     journal = Journal(options.journal, texts, say, this_process(program), options.takeover, options.sessions)
     journal.is_synced = not options.no_sync
     remove_partial_texts(options.journal)
-    limits = HubLimits(options.patience, options.idle, options.deadline, TailLimits(options.tail_bytes, options.tail_seconds, options.keep))
+    limits = HubLimits(
+        options.patience,
+        options.idle,
+        options.deadline,
+        TailLimits(options.tail_bytes, options.tail_seconds, options.keep),
+    )
     hub = Hub(Server(Program(program, kept, journal.header.slots), [text.sum for text in texts]), journal, limits, say)
     hub.exporter.protected = paths
     if journal.former and journal.former.program != journal.owner.program:
         which = f"{journal.former.program} of front {journal.former.front}"
-        say(f"the journal was written with another program, {which}; where this one answers otherwise, --roll with that one makes a state first")
+        say(f"the journal was written with another program, {which}; if replies differ, run that one with --roll first")
     end_by_signals(hub, stopped, options.grace)
     limit_loop_errors(hub)
     try:
@@ -173,7 +182,7 @@ async def run(options: argparse.Namespace) -> None:
                 say(text)
             await hub.checkpoints.make_last(hub.pool, hub.metrics, options.roll)
         if options.roll and journal.tail_changes:
-            raise Fault(FAILED, "the state that --roll is for is not made")
+            raise Fault(FAILED, "--roll could not save a state")
         if options.export and await hub.exporter.write(options.export, journal.position) is not None:
             raise Fault(FAILED, f"{options.export}: not exported")
     finally:
@@ -197,32 +206,98 @@ class StatusAction(argparse.Action):
 def parser() -> Parser:
     made = Parser(
         TOOL,
-        "Serves many clients at once over one design. Each team has a socket DIR/TEAM.sock, the operator has\n"
-        "DIR/operator.sock; accepted changes are in the journal before they are answered, and are there again\n"
-        "at the next start. SIGTERM ends it. docs/FRONT.md says more.",
+        "Serves many clients at once on one design. Each team has a socket DIR/TEAM.sock, the operator has\n"
+        "DIR/operator.sock. Accepted changes are in the journal before their replies are sent; the next start\n"
+        "restores them. SIGTERM ends the hub. docs/FRONT.md describes it.",
         f"{TOOL} chip.def tech.lef cells.lef --sockets /run/lefence --journal chip.journal --export new.def",
     )
     add = made.add_argument
     add("design", metavar="DEF", type=Path, help="the design")
-    add("library", metavar="LEF", type=Path, nargs="+", help="its libraries, in order")
-    add("--sockets", metavar="DIR", type=Path, required=True, help="the folder for the sockets, made if it is missing")
-    add("--journal", metavar="FILE", type=Path, required=True, help="where accepted changes are kept, made if it is missing")
-    add("--export", metavar="FILE", help="where the committed places are exported at the end")
-    add("--team", metavar="NAME", action="append", default=[], help="a team to serve, and no others than those so named")
+    add("library", metavar="LEF", type=Path, nargs="+", help="its LEF files, in the program's order")
+    add("--sockets", metavar="DIR", type=Path, required=True, help="the folder of the sockets; made if it is missing")
+    add(
+        "--journal",
+        metavar="FILE",
+        type=Path,
+        required=True,
+        help="the journal of accepted changes; made if it is missing",
+    )
+    add("--export", metavar="FILE", help="export the committed places to FILE at the end")
+    add(
+        "--team",
+        metavar="NAME",
+        action="append",
+        default=[],
+        help="serve only this team; may be repeated (default: all teams)",
+    )
     add("--group", metavar="TEAM=GROUP", action="append", default=[], help="the group of a team's socket")
-    add("--patience", metavar="S", type=second_count, default=60.0, help="seconds for which a client may read nothing (60)")
-    add("--idle", metavar="S", type=second_count, default=900.0, help="seconds for which one without a session may say nothing (900)")
-    add("--deadline", metavar="S", type=second_count, default=600.0, help="seconds of silence after which the program hangs (600)")
-    add("--grace", metavar="S", type=second_count, default=240.0, help="seconds within which SIGTERM ends it, exports and all (240)")
-    add("--tail-bytes", metavar="B", type=byte_count, default=16 << 20, help="bytes of changes behind which a state is made (16777216; 0: none)")
-    add("--tail-seconds", metavar="S", type=second_count, default=20.0, help="seconds of the program's work behind which one is made (20)")
-    add("--keep", metavar="N", type=state_count, default=2, help="how many states are kept, with the journal from the first on (2; 0: all)")
-    add("--sessions", metavar="N", type=slot_count, help="session slots of each team, 1 to 64 (those of the journal; 8 in a new one)")
-    add("--roll", action="store_true", help="make a state of the journal, serve nobody, and end")
-    add("--takeover", action="store_true", help="take the journal from a hub of another host, which is gone for certain")
+    add(
+        "--patience",
+        metavar="S",
+        type=second_count,
+        default=60.0,
+        help="seconds after which a client with unread replies is dropped (60)",
+    )
+    add(
+        "--idle",
+        metavar="S",
+        type=second_count,
+        default=900.0,
+        help="seconds after which an idle client without a session is dropped (900)",
+    )
+    add(
+        "--deadline",
+        metavar="S",
+        type=second_count,
+        default=600.0,
+        help="seconds of silence after which the program is restarted (600)",
+    )
+    add(
+        "--grace",
+        metavar="S",
+        type=second_count,
+        default=240.0,
+        help="seconds after SIGTERM for everything, exports included (240)",
+    )
+    add(
+        "--tail-bytes",
+        metavar="B",
+        type=byte_count,
+        default=16 << 20,
+        help="save a state after B bytes of changes (16777216; 0: never)",
+    )
+    add(
+        "--tail-seconds",
+        metavar="S",
+        type=second_count,
+        default=20.0,
+        help="save a state after S seconds of the program's work (20)",
+    )
+    add(
+        "--keep",
+        metavar="N",
+        type=state_count,
+        default=2,
+        help="keep N states, and the journal from the first of them on (2; 0: all)",
+    )
+    add(
+        "--sessions",
+        metavar="N",
+        type=slot_count,
+        help="session slots of each team, 1 to 64 (default: as in the journal; 8 in a new one)",
+    )
+    add("--roll", action="store_true", help="save a state of the journal and end, without serving")
+    add(
+        "--takeover",
+        action="store_true",
+        help="take over the journal of a hub of another host, which is certainly gone",
+    )
     add("--no-sync", action="store_true", help="do not wait for the disk: a crash of the machine may lose changes")
     made.add_program()
-    queries = {"--status": "print what the hub of a folder of sockets tells of itself, as JSON", "--metrics": "the same for Prometheus"}
+    queries = {
+        "--status": "print the status of the hub with its sockets in DIR, as JSON",
+        "--metrics": "the same for Prometheus",
+    }
     for option, text in queries.items():
         add(option, metavar="DIR", type=Path, action=StatusAction, help=text)
     return made

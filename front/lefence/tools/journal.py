@@ -66,15 +66,15 @@ def check(path: Path, readers: list[Reader]) -> int:
     if first.slots != SLOTS:
         print(f"each team has {first.slots} session slots")
     if first.number > 1:
-        print(f"the first {first.changes} changes are in a state alone")
+        print(f"the first {first.changes} changes exist only as a state")
     for reader, following in zip(readers, [*readers[1:], None]):
         if len(readers) > 1 or first.number > 1:
             header = reader.header()
-            print(f"segment {header.number}, behind {header.changes} changes: {reader.path}")
+            print(f"segment {header.number}, after {header.changes} changes: {reader.path}")
             state = Archive(path).state_named(header.number, reader.notes())
             if state:
                 condition = state.condition()
-                print(f"it begins with the state {state.path}: {condition}")
+                print(f"it starts at the state {state.path}: {condition}")
                 status = status if condition == "whole" else REFUSED
         status = max(status, _check_segment(reader, path, following.header().bytes if following else None))
     return status
@@ -85,17 +85,19 @@ def _check_segment(reader: Reader, path: Path, size: int | None) -> int:
     status, found = DONE, list(intact_ranges(reader))
     copied = "" if size is None else f"copied to {path}, "
     for span, following in zip(found, [*found[1:], None]):
-        print(f"whole from byte {span.start} to {span.end}: {span.changes} changes in {span.frames} batches")
+        print(f"intact from byte {span.start} to {span.end}: {span.changes} changes in {span.frames} batches")
         if following:
             status = REFUSED
-            remedy = f"{copied}`cut --at {span.end}` makes a journal of what stands before"
+            remedy = f"{copied}`cut --at {span.end}` makes a journal of what is before"
             print(f"damaged from byte {span.end} to {following.start}: {remedy}")
     end = found[-1].end
     if size is not None and end != size:
         status = REFUSED
-        print(f"damaged from byte {end} to {size}, where it ended when the next segment was begun: {copied}it ends there")
+        print(
+            f"damaged from byte {end} to {size}, where it ended when the next segment was made: {copied}it ends there"
+        )
     elif tail := reader.trailing_bytes(end):
-        print(f"torn: {tail} bytes at byte {end} are no whole batch (a write that was cut off); a start removes them")
+        print(f"incomplete: {tail} bytes at byte {end} (an interrupted write); a start removes them")
     return status
 
 
@@ -130,8 +132,7 @@ def is_of(record: Record, team: str | None) -> bool:
 
 
 def cut(path: Path, at: int | None, takes_over: bool) -> int:
-    """Truncates a journal at the end of a batch, by default before its first damage. First it copies the whole journal.
-    """
+    """Truncates a journal at the end of a batch, by default before its first damage. First it copies the whole journal."""
     with open(path, "r+b") as file:
         lock(file.fileno(), path)
         reader = Reader(file.fileno(), path)
@@ -140,16 +141,19 @@ def cut(path: Path, at: int | None, takes_over: bool) -> int:
         first = next(intact_ranges(reader))
         at = first.end if at is None else at
         if at not in (first.start, *(frame.end for frame in reader.frames(first.start))):
-            raise Fault(REFUSED, f"{path}: no batch of its first whole stretch, from byte {first.start} to {first.end}, ends at byte {at}")
+            raise Fault(
+                REFUSED,
+                f"{path}: byte {at} is not the end of a batch in its first intact range, {first.start} to {first.end}",
+            )
         backup = path.with_name(f"{path.name}.before-cut-at-{at}")
         if backup.exists():
-            raise Fault(FAILED, f"{backup} is there already")
+            raise Fault(FAILED, f"{backup} already exists")
         with atomic_file(backup, 0o600) as copy:
             shutil.copyfileobj(file, copy, 1 << 20)
         os.ftruncate(file.fileno(), at)
         os.fsync(file.fileno())
         sync_folder(path.absolute().parent)
-    log(TOOL, f"{path}: cut off at byte {at}; as it was it is {backup}")
+    log(TOOL, f"{path}: truncated at byte {at}; the original is {backup}")
     return DONE
 
 
@@ -170,10 +174,10 @@ def export(path: Path, readers: list[Reader], team: str | None, start: int, outp
     first = readers[-1 if start else 0].header()
     frames = whole_frames(readers[-1], start) if start else itertools.chain.from_iterable(map(whole_frames, readers))
     if first.number > 1:
-        remedy = "" if start else f"; its lines are for a replay with --state {Archive(path).state(first.number)}"
-        log(TOOL, f"{path}: the first {first.changes} changes are not in it{remedy}")
+        remedy = "" if start else f"; replay its lines with --state {Archive(path).state(first.number)}"
+        log(TOOL, f"{path}: the first {first.changes} changes are missing{remedy}")
     if first.slots != SLOTS:
-        log(TOOL, f"{path}: its lines are for a program with --sessions {first.slots}")
+        log(TOOL, f"{path}: replay its lines with --sessions {first.slots}")
     if output is None:
         for frame in frames:
             sys.stdout.write("".join(f"{record.line.decode()}\n" for record in frame.records() if is_of(record, team)))
@@ -195,7 +199,10 @@ def verify(path: Path, given: list[Path], wanted: str | None, is_all: bool) -> i
         kept = [kept_text(path, text) for text in texts]
         paths = given or [found for found in kept if found]
         if len(paths) != len(texts):
-            raise Fault(REFUSED, f"{path}: {len(texts)} texts, of which {len(paths)} are {'given' if given else 'kept partial_file it'}")
+            raise Fault(
+                REFUSED,
+                f"{path}: {len(texts)} files, but {len(paths)} are {'given' if given else 'kept next to it'}",
+            )
         server = Server(Program(find_program(wanted), paths, header.slots), [text.sum for text in texts])
         state, following = last_state(path, readers, is_all)
         before = following[0].header().changes
@@ -209,17 +216,17 @@ def verify(path: Path, given: list[Path], wanted: str | None, is_all: bool) -> i
             finally:
                 await server.kill()
 
-        text = f"{asyncio.run(replay()) - before} changes" + (f" behind a state of {before}" if state else "")
-        log(TOOL, f"{path}: {text} are answered as recorded")
+        text = f"{asyncio.run(replay()) - before} changes" + (f" after a state of {before}" if state else "")
+        log(TOOL, f"{path}: {text} replayed with the recorded replies")
     return DONE
 
 
 def parser() -> Parser:
     made = Parser(
         TOOL,
-        "Tells what a journal of lefence-hub holds, and makes one that a hub takes of one that is damaged. `check` tells what\n"
-        "is whole (status 1 where anything is damaged), `list` who changed what when, `cut` cuts it off, `export` writes\n"
-        "lines for `lefence replay` or a journal for lefence-push, and `verify` compares each reply with the program's.",
+        "Inspects a journal of lefence-hub, and makes a damaged one usable. `check` prints what is intact (status 1 if\n"
+        "anything is damaged), `list` who changed what and when. `cut` truncates it, `export` writes lines for\n"
+        "`lefence replay` or a journal for lefence-push, and `verify` compares each reply with the program's.",
         f"{TOOL} check chip.journal\n{TOOL} list chip.journal --team A\n{TOOL} verify chip.journal",
     )
     verbs = made.add_subparsers(dest="verb", metavar="VERB", required=True, parser_class=argparse.ArgumentParser)
@@ -229,21 +236,29 @@ def parser() -> Parser:
         added.add_argument("journal", metavar="JOURNAL", type=Path, help="a journal of lefence-hub")
         return added
 
-    one_team = "the changes of this team alone"
-    verb("check", "tell what is whole, torn or damaged, and whether the texts are kept")
-    added = verb("list", "tell number, time (UTC), uid, pid, line and reply of each change")
+    one_team = "only the changes of this team"
+    verb("check", "print what is intact, incomplete or damaged, and whether the copies of the design are kept")
+    added = verb("list", "print number, time (UTC), uid, pid, line and reply of each change")
     added.add_argument("--team", metavar="NAME", help=one_team)
-    added = verb("cut", "cut its last segment off at the end of a batch; as it was it is kept beside it")
-    added.add_argument("--at", metavar="BYTE", type=int, help="where (before the first damage)")
-    added.add_argument("--takeover", action="store_true", help="also that of a hub of another host, which is gone for certain")
-    added = verb("export", "write the lines of all whole batches")
+    added = verb("cut", "truncate its last segment at the end of a batch, and keep a copy of the original")
+    added.add_argument("--at", metavar="BYTE", type=int, help="where (default: before the first damage)")
+    added.add_argument(
+        "--takeover", action="store_true", help="also if a hub of another host has not ended it; that hub must be gone"
+    )
+    added = verb("export", "write the lines of all intact batches")
     added.add_argument("--team", metavar="NAME", help=one_team)
-    added.add_argument("--from", dest="start", metavar="BYTE", type=int, default=0, help="from the batch on that begins there")
-    added.add_argument("-o", "--output", metavar="FILE", type=Path, help="write a journal of them for lefence-push")
-    added = verb("verify", "have the program answer the changes behind the last state, and compare each reply")
-    added.add_argument("texts", metavar="TEXT", type=Path, nargs="*", help="DEF and LEF texts (those that are kept)")
-    added.add_argument("--all", action="store_true", help="the changes behind the first state that is kept, or all")
-    added.add_argument("--program", metavar="PATH", help="the lefence program (that of the search path, or of this repository)")
+    added.add_argument(
+        "--from", dest="start", metavar="BYTE", type=int, default=0, help="start at the batch at this byte"
+    )
+    added.add_argument("-o", "--output", metavar="FILE", type=Path, help="write a journal for lefence-push instead")
+    added = verb("verify", "replay the changes after the last state, and compare each reply")
+    added.add_argument(
+        "texts", metavar="TEXT", type=Path, nargs="*", help="DEF and LEF files (default: the kept copies)"
+    )
+    added.add_argument("--all", action="store_true", help="replay all changes after the first kept state")
+    added.add_argument(
+        "--program", metavar="PATH", help="the lefence program (default: from the search path, else of this repository)"
+    )
     return made
 
 

@@ -79,7 +79,7 @@ def violations_of(cells: Iterable[Cell]) -> Iterator[Violation]:
         else:
             waiting.setdefault(cell.other, []).append((cell.name, cell.team, cell.rule))
     for other, (first, *_) in waiting.items():
-        raise Fault(FAILED, f"the program says that {first[0]} overlaps {other}, and tells of no such violation of {other}")
+        raise Fault(FAILED, f"the program reports that {first[0]} overlaps {other}, but no violation of {other}")
 
 
 def _box(packed: bytes) -> Box:
@@ -135,21 +135,26 @@ def technology_of(facts: Facts, libraries: Iterable[Path]) -> bytes:
     try:
         return _TECHNOLOGY.format(name=TOOL, dbu=format(unit, "f"), libraries=files).encode()
     except UnicodeEncodeError:
-        raise Fault(USAGE, "a technology can name no LEF text whose path is not in UTF-8") from None
+        raise Fault(USAGE, "a technology cannot name a LEF file whose path is not UTF-8") from None
 
 
 def parser() -> Parser:
     made = Parser(
         TOOL,
-        "Writes the violations of a design as a report database of KLayout: a category for each rule, and a marker for each\n"
-        "violation, with the boxes and the names of the cell and of the one that it overlaps.",
+        "Writes the violations of a design as a KLayout report database: a category for each rule and a marker for each\n"
+        "violation, with the boxes and names of the cell and of the one that it overlaps.",
         f"{TOOL} chip.def tech.lef cells.lef --output chip.lyrdb --technology chip.lyt\n"
         "klayout -nn chip.lyt chip.def -m chip.lyrdb",
     )
     made.add_design()
     add = made.add_argument
-    add("-o", "--output", metavar="FILE", type=Path, required=True, help="where the report database is written (.lyrdb)")
-    add("--technology", metavar="FILE", type=Path, help="also writes a technology, by which KLayout finds the LEF texts (.lyt)")
+    add("-o", "--output", metavar="FILE", type=Path, required=True, help="write the report database to FILE (.lyrdb)")
+    add(
+        "--technology",
+        metavar="FILE",
+        type=Path,
+        help="also write a technology with which KLayout finds the LEF files (.lyt)",
+    )
     made.add_program()
     return made
 
@@ -163,7 +168,9 @@ def main() -> int:
         for output in (options.output, options.technology):
             if output is not None:
                 refuse_inputs(output, inputs)
-        with atomic_file(options.output) as file, Description(program, options.design, options.libraries) as description:
+        with atomic_file(options.output) as file, Description(
+            program, options.design, options.libraries
+        ) as description:
             for piece in database_of(description):
                 file.write(piece.encode())
             if options.technology is not None:

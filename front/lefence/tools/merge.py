@@ -45,7 +45,7 @@ def merge(whole: Path, slices: list[Path], output: BinaryIO) -> int:
         _copy(text, at, len(text), output)
         unmatched = sorted((number, shown(entry.name)) for entry, number in heads.values())
     for number, name in unmatched:
-        raise Fault(REFUSED, f"{slices[number]}: component {name} is none of {whole}, or stands in another order there")
+        raise Fault(REFUSED, f"{slices[number]}: component {name} is not in {whole}, or is in another order there")
     return count
 
 

@@ -67,7 +67,9 @@ class Moves:
         return [move for _, _, move in sorted(self._longest, key=lambda entry: entry[1])]
 
 
-def drawing_of(program: str, design: Path, libraries: list[Path], before: Path | None = None, limit: int = LIMIT) -> Drawing:
+def drawing_of(
+    program: str, design: Path, libraries: list[Path], before: Path | None = None, limit: int = LIMIT
+) -> Drawing:
     """Reads a design for drawing. With a DEF file from before, arrows lead from the old places to the new ones."""
     with ExitStack() as both:
         description = both.enter_context(Description(program, design, libraries))
@@ -93,7 +95,12 @@ def png_of(drawing: Drawing, klayout: str) -> bytes:
         # Qt draws without a screen and keeps its files in the folder.
         environment = {**os.environ, "QT_QPA_PLATFORM": "offscreen", "HOME": folder, "KLAYOUT_HOME": folder}
         done = subprocess.run(
-            words, cwd=folder, env=environment, stdin=subprocess.DEVNULL, stdout=subprocess.PIPE, stderr=subprocess.STDOUT
+            words,
+            cwd=folder,
+            env=environment,
+            stdin=subprocess.DEVNULL,
+            stdout=subprocess.PIPE,
+            stderr=subprocess.STDOUT,
         )
         made = Path(folder) / "picture.png"
         if done.returncode != 0 or not made.exists():
@@ -106,7 +113,9 @@ def _klayout(outputs: list[Path]) -> str:
     is_needed = any(output.suffix.lower() == ".png" for output in outputs)
     found = shutil.which("klayout")
     if is_needed and found is None:
-        raise Fault(USAGE, "a PNG is made by klayout, which is not there: install the Debian package klayout, or ask for an SVG")
+        raise Fault(
+            USAGE, "a PNG needs klayout, which is not installed: install the Debian package klayout, or write an SVG"
+        )
     return found or ""
 
 
@@ -114,15 +123,21 @@ def parser() -> Parser:
     made = Parser(
         TOOL,
         "Draws a design: rows, fences, obstacles, and cells in the colour of their team; cells that break a rule are red.\n"
-        "Many cells are drawn as a map: bins that are the darker the more of them is taken.",
+        "Many cells are drawn as a map of bins: the darker a bin, the more of its area is taken.",
         f"{TOOL} chip.def tech.lef cells.lef -o chip.svg\n{TOOL} new.def tech.lef cells.lef --before chip.def -o moves.png",
     )
     made.add_design()
     add = made.add_argument
-    told = "an SVG, or a PNG if its name ends so; may be given twice (an SVG on standard output)"
+    told = "write an SVG, or a PNG if the name ends with .png; may be repeated (default: an SVG on standard output)"
     add("-o", "--output", metavar="FILE", type=Path, action="append", help=told)
-    add("--before", metavar="DEF", type=Path, help="arrows show which cells stand elsewhere in this DEF text, and where")
-    add("--limit", metavar="N", type=int, default=LIMIT, help=f"above so many cells a map is drawn ({LIMIT})")
+    add("--before", metavar="DEF", type=Path, help="draw arrows from the cells' places in this DEF file")
+    add(
+        "--limit",
+        metavar="N",
+        type=int,
+        default=LIMIT,
+        help=f"draw a map if the design has more than N cells ({LIMIT})",
+    )
     made.add_program()
     return made
 
@@ -135,7 +150,7 @@ def main() -> int:
         for output in outputs:
             refuse_inputs(output, [options.design, *options.libraries, *([options.before] if options.before else [])])
             if output.suffix.lower() not in ("", ".svg", ".png"):
-                raise Fault(USAGE, f"{output} would be no {output.suffix[1:]}: the name of a picture ends with .svg or .png")
+                raise Fault(USAGE, f"{output}: the name of a picture must end with .svg or .png, not {output.suffix}")
         klayout = _klayout(outputs)
         program = find_program(options.program)
         drawing = drawing_of(program, options.design, options.libraries, options.before, max(0, options.limit))

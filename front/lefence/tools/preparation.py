@@ -73,7 +73,7 @@ class Preparation:
             number = (self._words(statement)[3:4] or [b""])[0]
             if number.isdigit() and len(number) < 10 and int(number):
                 return int(number)
-        raise Fault(REFUSED, "the text has no UNITS DISTANCE MICRONS")
+        raise Fault(REFUSED, "the DEF file has no UNITS DISTANCE MICRONS")
 
     @property
     def has_rows(self) -> bool:
@@ -123,14 +123,16 @@ class Preparation:
         name = f"site {shown(site.name)}"
         width, height = (_whole(length * self.units, name) for length in (site.width, site.height))
         core = wanted.core or self._die()
-        core = Box(core.left + wanted.margin, core.bottom + wanted.margin, core.right - wanted.margin, core.top - wanted.margin)
+        core = Box(
+            core.left + wanted.margin, core.bottom + wanted.margin, core.right - wanted.margin, core.top - wanted.margin
+        )
         grid = self._grid(core, width, height)
         left, bottom = core.left + (grid.x - core.left) % width, core.bottom + (grid.y - core.bottom) % height
         sites, rows = (core.right - left) // width, (core.top - bottom) // height
         if sites < 1 or rows < 1:
-            raise Fault(REFUSED, f"no row of {name} has room in the core: {_box(core)} database units")
+            raise Fault(REFUSED, f"no row of {name} fits into the core: {_box(core)} database units")
         if rows > MOST_ROWS:
-            raise Fault(REFUSED, f"{rows} rows of {name} would have room in the core; the program loads {MOST_ROWS}")
+            raise Fault(REFUSED, f"{rows} rows of {name} fit into the core; the program loads at most {MOST_ROWS}")
         first = grid.is_upright == ((bottom - grid.y) // height % 2 == 0)
         text = b"".join(
             b"\nROW ROW_%d %b %d %d %b DO %d BY 1 STEP %d 0 ;"
@@ -154,10 +156,10 @@ class Preparation:
             words = self._words(statement)
             numbers = [int(Decimal(word.decode())) for word in words if _NUMBER.fullmatch(word)]
             if len(numbers) != 4 or len(words) != 10:
-                raise Fault(REFUSED, "DIEAREA is no rectangle in whole database units; --core says where rows are made")
+                raise Fault(REFUSED, "DIEAREA is not a rectangle in whole database units; use --core to place the rows")
             xs, ys = sorted(numbers[::2]), sorted(numbers[1::2])
             return Box(xs[0], ys[0], xs[1], ys[1])
-        raise Fault(REFUSED, "the text has no DIEAREA; --core says where rows are made")
+        raise Fault(REFUSED, "the DEF file has no DIEAREA; use --core to place the rows")
 
     def _grid(self, core: Box, width: int, height: int) -> Grid:
         """The grid of most placed cells; the core's corner if less than half of them agree."""
@@ -177,11 +179,11 @@ class Preparation:
         (x, count_x), (y, count_y) = (*columns.most_common(1), (0, 0))[0], (*row_levels.most_common(1), (0, 0))[0]
         if not cells or 2 * min(count_x, count_y) < cells:
             reason = f"less than half of the {cells} placed cells agree on a grid" if cells else "no cell is placed"
-            return Grid(core.left, core.bottom, True, f"{reason}: the rows begin at the core's corner with N")
+            return Grid(core.left, core.bottom, True, f"{reason}: the rows start at the core's corner with N")
         upright = row_pairs[y, False] + row_pairs[y + height, True]
         flipped = row_pairs[y, True] + row_pairs[y + height, False]
         reason = f"the rows follow the {cells} placed cells: {count_x} of them fit along x, {count_y} along y"
-        reason += f", and {max(upright, flipped)} face as their row"
+        reason += f", and {max(upright, flipped)} have their row's orientation"
         return Grid(x, y, upright >= flipped, reason)
 
     def remove_fillers(self, patterns: list[str]) -> None:
@@ -201,7 +203,11 @@ class Preparation:
                     kept += 1
             self._changes.append(_Change(section.count, section.after_count, b"%d" % kept))
         self.messages.append(f"{removed} fillers removed ({' '.join(patterns)})")
-        self.messages += [f"no component has a name or a macro like {pattern}" for pattern in patterns if pattern in unmatched and removed]
+        self.messages += [
+            f"no component has a name or a macro that matches {pattern}"
+            for pattern in patterns
+            if pattern in unmatched and removed
+        ]
 
     def add_fences(self, fences: dict[str, list[Box]]) -> None:
         """Adds FENCE regions of these rectangles."""
@@ -210,7 +216,7 @@ class Preparation:
         for name, boxes in fences.items():
             word = _word(name).encode()
             if word in known:
-                raise Fault(REFUSED, f"the text has a region {name} already")
+                raise Fault(REFUSED, f"the DEF file already has a region {name}")
             points = b" ".join(b"( %d %d ) ( %d %d )" % box for box in boxes)
             entries.append(b"\n- %b %b + TYPE FENCE ;" % (word, points))
             self.messages.append(f"fence {name} added: {len(boxes)} {'rectangles' if len(boxes) > 1 else 'rectangle'}")
@@ -224,7 +230,7 @@ class Preparation:
         for name, patterns in groups.items():
             fence = _word(name).encode()
             if fence not in known:
-                raise Fault(REFUSED, f"there is no fence {name} for the group; --fence {name} adds one")
+                raise Fault(REFUSED, f"no fence {name} for the group; --fence {name} adds one")
             names = (fence if number == 1 else b"%b_%d" % (fence, number) for number in itertools.count(1))
             group = next(each for each in names if each not in taken)
             members = b" ".join(_word(pattern).encode() for pattern in patterns)
@@ -279,20 +285,20 @@ def _placed(entry: Entry) -> tuple[int, int, bytes] | None:
 def whole_units(microns: str, units: int) -> int:
     """Converts a length of the command line, in microns, into database units."""
     if not re.fullmatch(r"[+-]?(\d{1,7}(\.\d{0,6})?|\.\d{1,6})", microns, re.ASCII):
-        raise Fault(USAGE, f"{microns} is no length in microns")
+        raise Fault(USAGE, f"{microns} is not a length in microns")
     return _whole(Decimal(microns) * units, f"{microns} microns")
 
 
 def _whole(length: Decimal, what: str) -> int:
     if length != int(length):
-        raise Fault(REFUSED, f"{what} is no whole number of database units: {length.normalize():f}")
+        raise Fault(REFUSED, f"{what} is not a whole number of database units: {length.normalize():f}")
     return int(length)
 
 
 def _word(word: str) -> str:
     """Returns the word. Raises a Fault if it cannot be a name or a pattern in a DEF file."""
     if not _NAME.fullmatch(word) or word in (";", "+", "-", "(", ")"):
-        raise Fault(USAGE, f"{word!r} can be no name in a DEF text")
+        raise Fault(USAGE, f"{word!r} cannot be a name in a DEF file")
     return word
 
 

@@ -31,7 +31,7 @@ def prepare(preparation: Preparation, wanted: PreparationOptions, libraries: lis
     if wanted.replaces_rows or not preparation.has_rows:
         preparation.add_rows(_core_site(libraries, site), wanted)
     elif site is not None or wanted.core is not None or wanted.margin:
-        raise Fault(USAGE, "the text has rows; --rows makes others in their place")
+        raise Fault(USAGE, "the DEF file has rows; --rows replaces them")
     if wanted.fillers:
         preparation.remove_fillers(wanted.fillers)
     if wanted.fences:
@@ -51,7 +51,7 @@ def _core_site(libraries: list[bytes], name: str | None) -> Site:
     if not wanted:
         found = ", ".join(shown(site.name) for site in usable) or "none"
         what = "a site" if name is None else f"a site {name}"
-        raise Fault(REFUSED, f"no LEF text has {what} with CLASS CORE and a SIZE; found: {found}")
+        raise Fault(REFUSED, f"no LEF file has {what} with CLASS CORE and a SIZE; found: {found}")
     return wanted[0]
 
 
@@ -78,7 +78,9 @@ class TextSummary:
 
     def in_words(self) -> str:
         """The totals."""
-        broken = ", ".join(f"{count} by rule {rule} {RULES.get(rule, '')}" for rule, count in sorted(self.rules.items()))
+        broken = ", ".join(
+            f"{count} by rule {rule} {RULES.get(rule, '')}" for rule, count in sorted(self.rules.items())
+        )
         illegal = f"{self.total.illegal} illegal ({broken})" if broken else "0 illegal"
         return f"it loads: {self.total.cells} cells, {self.total.unplaced} unplaced, {illegal}"
 
@@ -121,32 +123,40 @@ def wanted_of(options: argparse.Namespace, units: int) -> PreparationOptions:
 def _box(corners: list[str], units: int) -> Box:
     box = Box(*(whole_units(corner, units) for corner in corners))
     if box.width <= 0 or box.height <= 0:
-        raise Fault(USAGE, f"{' '.join(corners)} is no rectangle: {' '.join(_BOX_WORDS)} are left, bottom, right and top")
+        raise Fault(
+            USAGE, f"{' '.join(corners)} is not a rectangle: {' '.join(_BOX_WORDS)} are left, bottom, right and top"
+        )
     return box
 
 
 def parser() -> Parser:
     made = Parser(
         TOOL,
-        "Makes a DEF text loadable: puts in rows where it has none, and fences and groups, and takes out fillers. The\n"
-        "other bytes stay. The program reads the result, which is written if it loads. Lengths are microns.",
+        "Makes a DEF file loadable: adds rows if it has none, adds fences and groups, removes fillers. All other bytes\n"
+        "stay. The result is written if the program can load it. Lengths are microns.",
         f"{TOOL} chip.def tech.lef cells.lef --look\n"
         f"{TOOL} chip.def tech.lef cells.lef --output ready.def --fillers 'FILL*' \\\n"
         "    --fence A 0 0 100 50 --group A 'u1/*' 'u2/*'",
     )
     made.add_design()
     add = made.add_argument
-    add("-o", "--output", metavar="FILE", type=Path, help="where the prepared text is written")
-    add("--look", action="store_true", help="tells what in the text is passed over or odd, and writes nothing")
-    add("--rows", action="store_true", help="makes rows also where the text has some, in their place")
-    add("--site", metavar="NAME", help="the site of the rows (the first of the LEF texts with CLASS CORE)")
-    add("--core", metavar=_BOX_WORDS, nargs=4, help="where rows are made (DIEAREA)")
-    add("--margin", metavar="M", help="how far rows stay from the sides of the core (0)")
+    add("-o", "--output", metavar="FILE", type=Path, help="write the prepared DEF file to FILE")
+    add(
+        "--look",
+        action="store_true",
+        help="print what the program skips in the DEF file and what is odd there, and write nothing",
+    )
+    add("--rows", action="store_true", help="replace the rows if there are some")
+    add("--site", metavar="NAME", help="the site of the rows (default: the first one with CLASS CORE)")
+    add("--core", metavar=_BOX_WORDS, nargs=4, help="make the rows in this rectangle (default: DIEAREA)")
+    add("--margin", metavar="M", help="the distance of the rows from the sides of the core (0)")
     add_many = functools.partial(add, action="append", default=[])
-    add_many("--fillers", metavar="PATTERN", help="takes out components by name or macro, as FILL*; again for more")
-    add_many("--fence", metavar=("NAME", *_BOX_WORDS), nargs=5, help="adds a fence; again with its name for more rectangles")
-    add_many("--group", metavar=("NAME", "PATTERN"), nargs="+", help="binds components to the fence of that name")
-    add("--force", action="store_true", help="writes the text even if it does not load")
+    add_many(
+        "--fillers", metavar="PATTERN", help="remove components by name or macro, for example FILL*; may be repeated"
+    )
+    add_many("--fence", metavar=("NAME", *_BOX_WORDS), nargs=5, help="add a fence; repeat its name for more rectangles")
+    add_many("--group", metavar=("NAME", "PATTERN"), nargs="+", help="bind components to the fence of this name")
+    add("--force", action="store_true", help="write the DEF file even if it does not load")
     made.add_program()
     return made
 
@@ -159,7 +169,7 @@ def main() -> int:
         if options.look:
             return list_skipped(program, options)
         if options.output is None:
-            raise Fault(USAGE, "--output FILE says where the prepared text is written; --look writes none")
+            raise Fault(USAGE, "--output FILE is missing; only --look needs none")
         refuse_inputs(options.output, (options.design, *options.libraries))
         text = options.design.read_bytes()
         refuse_no_design(options.design, text)
@@ -174,7 +184,7 @@ def main() -> int:
             with atomic_file(options.output) as file:
                 file.write(text)
         else:
-            log(TOOL, "nothing is written; --force writes it even so")
+            log(TOOL, "nothing is written; --force writes it anyway")
         return status
 
     return run_tool(TOOL, work)
@@ -182,14 +192,23 @@ def main() -> int:
 
 def list_skipped(program: str, options: argparse.Namespace) -> int:
     """Prints what the program skips in the text as it is."""
-    if options.output or options.rows or options.site or options.core or options.margin or options.fillers or options.fence or options.group:
-        raise Fault(USAGE, "--look tells of the text as it is: it goes with no option that prepares or writes one")
+    if (
+        options.output
+        or options.rows
+        or options.site
+        or options.core
+        or options.margin
+        or options.fillers
+        or options.fence
+        or options.group
+    ):
+        raise Fault(USAGE, "--look cannot be combined with options that prepare or write a DEF file")
     text = options.design.read_bytes()
     refuse_no_design(options.design, text)
     result = check(program, text, options.libraries, str(options.design))
     lines = [_located(options.design, text, remark.place, remark.text) for remark in result.remarks]
     if not Preparation(text).has_rows:
-        lines.append("there is no ROW; a run with --output makes rows")
+        lines.append("no ROW; a run with --output adds rows")
     print("\n".join([*lines, *result.lines]).encode("utf-8", "backslashreplace").decode())
     return result.status or (NOT_LEGAL if lines else DONE)
 
@@ -214,10 +233,12 @@ def check(program: str, text: bytes, libraries: list[Path], name: str) -> CheckR
     if not summary.fits_rows:
         heights = ", ".join(f"{height / summary.facts.units:g}" for height in sorted(summary.heights)[:5])
         site = f"{summary.facts.site}, {summary.facts.site_height / summary.facts.units:g} microns high"
-        lines.append(f"no cell fits the rows of site {site}: the cells are {heights} microns high; --rows --site NAME takes another site")
+        lines.append(
+            f"no cell fits the rows of site {site}: the cells are {heights} microns high; use --rows --site NAME for another site"
+        )
         status = REFUSED
     elif summary.is_all_illegal:
-        lines.append("every cell breaks a rule; lefence-repair looks for places")
+        lines.append("every cell breaks a rule; lefence-repair finds legal places")
         status = NOT_LEGAL
     return CheckResult(status, lines, remarks_of(text, summary.facts), summary.teams)
 
@@ -227,9 +248,11 @@ def _located(path: Path, text: bytes, place: int | None, said: str) -> str:
     return said if place is None else f"{path}, line {line_of(text, place)}: {said}"
 
 
-def _report(program: str, preparation: Preparation, text: bytes, options: argparse.Namespace, wanted: PreparationOptions) -> int:
-    """Prints the check of the prepared text, with lines of the original text; returns the exit status."""
-    result = check(program, text, options.libraries, "the prepared text")
+def _report(
+    program: str, preparation: Preparation, text: bytes, options: argparse.Namespace, wanted: PreparationOptions
+) -> int:
+    """Prints the check of the prepared DEF file, with lines of the original text; returns the exit status."""
+    result = check(program, text, options.libraries, "the prepared DEF file")
     for remark in result.remarks:
         place = None if remark.place is None else preparation.position_before(remark.place)
         log(TOOL, _located(options.design, preparation.text, place, remark.text))

@@ -51,7 +51,7 @@ def _records_of_lines(path: Path, lines: Iterable[bytes]) -> Iterator[Record]:
     for number, line in enumerate(lines, 1):
         verb, team, *words = [*line.split(), b"", b""]
         if verb not in CHANGES or not team:
-            raise Fault(REFUSED, f"{path}: line {number} is no change of a team")
+            raise Fault(REFUSED, f"{path}: line {number} is not a change of a team")
         recorded = b"ok"
         if verb == b"open":
             session = next(free for free in itertools.count() if free not in sessions[team])
@@ -97,8 +97,11 @@ class Push:
         team = line.split()[1]
         if not is_recorded_reply(reply, recorded):
             at = f"team {_text(team)} at revision {self.revisions.get(team, 0)}, line {number}"
-            difference = f"{_text(line)!r} was answered {_text(recorded)!r}, and there {_text(reply)!r}"
-            raise Fault(REFUSED, f"{at}: {difference}; {self.count} lines before it were answered alike, and nothing more is sent")
+            difference = f"the recorded reply to {_text(line)!r} is {_text(recorded)!r}, but now it is {_text(reply)!r}"
+            raise Fault(
+                REFUSED,
+                f"{at}: {difference}; the {self.count} lines before it had their recorded replies, nothing more is sent",
+            )
         self.count += 1
         if (revision := revision_of(line, recorded)) is not None:
             self.revisions[team] = revision
@@ -119,7 +122,7 @@ def remaining_records(connection: Connection, records: list[Record], push: Push)
         own = [record for record in records if record[1].split()[1] == team]
         found = [at for at, record in enumerate(own) if revision_of(record[1], record[2]) == revision]
         if revision and not found:
-            raise Fault(REFUSED, f"team {team.decode()} is at revision {revision} there, which is none of these lines")
+            raise Fault(REFUSED, f"team {team.decode()} is now at revision {revision}, which none of these lines made")
         before = own[: found[0] + 1] if found else []
         skips[team] = before[-1][0] if before else 0
         push.revisions[team] = revision
@@ -151,7 +154,10 @@ def _open_again(connection: Connection, team: bytes, sessions: set[int], revisio
     for number in range(max(sessions, default=-1) + 1):
         reply = connection.ask_line(b"open " + team)
         if reply != b"ok %d %d\n" % (number, revision):
-            raise Fault(REFUSED, f"somebody else has a session of team {team.decode()}: open was answered {_text(reply)!r}")
+            raise Fault(
+                REFUSED,
+                f"another client has a session of team {team.decode()}: unexpected reply {_text(reply)!r} to open",
+            )
     for number in set(range(max(sessions, default=-1) + 1)) - sessions:
         connection.ask_line(b"close %b %d" % (team, number))
 
@@ -164,7 +170,9 @@ def push_file(path: Path, where: str, ahead: int, continues: bool) -> Push:
     try:
         push.send_all(remaining_records(endpoint.connection, records, push) if continues else records)
     except OSError as error:
-        raise Fault(FAILED, f"{error}; {push.count} lines were answered alike, and --continue sends the others") from None
+        raise Fault(
+            FAILED, f"{error}; {push.count} lines had their recorded replies, --continue sends the others"
+        ) from None
     finally:
         endpoint.close()
     return push
@@ -173,16 +181,26 @@ def push_file(path: Path, where: str, ahead: int, continues: bool) -> Push:
 def parser() -> Parser:
     found = Parser(
         TOOL,
-        "Sends the commands of a journal, as one that a hub over a slice wrote, or the lines of `lefence repair --lines` to\n"
-        "the hub of the whole design. Each reply must be the one that it was; at the first that is not, nothing more is\n"
-        "sent, and the status is 1.",
+        "Sends the commands of a journal, for example of a hub over a slice, or the lines of `lefence repair --lines`,\n"
+        "to the hub of the whole design. Each reply must be the recorded one. At the first other reply it stops, with\n"
+        "status 1.",
         f"{TOOL} A.journal /run/lefence/A.sock",
     )
     add = found.add_argument
     add("file", metavar="FILE", type=Path, help="a journal of lefence-hub, or the lines of a repair")
-    add("socket", metavar="SOCKET", help="the team's socket, the operator's where the file is of several teams, or HOST:PORT")
-    add("--continue", dest="continues", action="store_true", help="pass over what an earlier push of this file sent")
-    add("--ahead", metavar="N", type=int, default=1, help="lines in flight (1); with more, some behind a difference may be sent")
+    add(
+        "socket",
+        metavar="SOCKET",
+        help="the team's socket, the operator's for a file of several teams, or HOST:PORT",
+    )
+    add("--continue", dest="continues", action="store_true", help="skip what an earlier push of this file has sent")
+    add(
+        "--ahead",
+        metavar="N",
+        type=int,
+        default=1,
+        help="lines in flight (1); with more, some lines after a difference may be sent",
+    )
     return found
 
 
@@ -192,7 +210,11 @@ def main() -> int:
     def work() -> int:
         push = push_file(options.file, options.socket, options.ahead, options.continues)
         teams = ", ".join(f"{team.decode()} at revision {revision}" for team, revision in push.revisions.items())
-        log(TOOL, f"{push.count} {'line' if push.count == 1 else 'lines'} answered as recorded" + (f"; team {teams}" if teams else ""))
+        log(
+            TOOL,
+            f"{push.count} {'line' if push.count == 1 else 'lines'} answered as recorded"
+            + (f"; team {teams}" if teams else ""),
+        )
         return DONE
 
     return run_tool(TOOL, work)

@@ -58,28 +58,39 @@ def _end_of(total: dict[str, Any], is_written: bool, team: str | None = None) ->
         return DONE
     unrepaired = total["left_cells"]
     others = "other teams have cells that break a rule or have no place"
-    log(TOOL, "not fully legal: " + (f"{number(unrepaired, 'cell')} left" if unrepaired else others))
+    log(TOOL, "not fully legal: " + (f"{number(unrepaired, 'cell')} unrepaired" if unrepaired else others))
     return NOT_LEGAL
 
 
 def parser() -> Parser:
     made = Parser(
         TOOL,
-        "Gives each cell that is unplaced or breaks a rule a legal place near where it stood, by `lefence repair`, and writes\n"
-        "the DEF text with these places, or has a hub take them. The status is 4 if a cell found no place: it is named, and\n"
-        "has none in the text.",
+        "Runs `lefence repair`, which moves each cell that is unplaced or breaks a rule to a legal place near its old one.\n"
+        "It writes the DEF file with these places, or sends them to a hub. The status is 4 if some cell found no place: such\n"
+        "cells are listed, and are unplaced in the file.",
         f"{TOOL} chip.def tech.lef cells.lef --output new.def\n{TOOL} chip.def tech.lef cells.lef --dry-run --team A",
     )
     made.add_design()
     add = made.add_argument
     target = made.add_mutually_exclusive_group(required=True)
-    target.add_argument("-o", "--output", "--out", metavar="FILE", type=Path, help="what is written; it may be the DEF text that is read")
-    target.add_argument("--dry-run", action="store_true", help="tell what would move, and write no file")
-    target.add_argument("--socket", metavar="SOCKET", help="repair the team of a hub's socket as it stands there, by changes of a session")
-    add("--team", metavar="NAME", action="append", help="repair this team alone; may be given again (all teams)")
+    target.add_argument(
+        "-o",
+        "--output",
+        "--out",
+        metavar="FILE",
+        type=Path,
+        help="write the repaired DEF file to FILE; it may be the input",
+    )
+    target.add_argument("--dry-run", action="store_true", help="print what would move, and write no file")
+    target.add_argument(
+        "--socket",
+        metavar="SOCKET",
+        help="repair the team of a hub's socket at its present places, by changes of a session",
+    )
+    add("--team", metavar="NAME", action="append", help="repair only this team; may be repeated (default: all teams)")
     scope = made.add_mutually_exclusive_group()
-    scope.add_argument("--keep", action="store_true", help="legal cells stay, as `lefence repair` has it")
-    scope.add_argument("--all", action="store_true", help="legal cells may move too, as `lefence repair` has it")
+    scope.add_argument("--keep", action="store_true", help="do not move legal cells, as `lefence repair --keep`")
+    scope.add_argument("--all", action="store_true", help="legal cells may move too, as `lefence repair --all`")
     made.add_program()
     return made
 

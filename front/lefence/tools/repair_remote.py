@@ -30,12 +30,14 @@ def repair_remote(tool: str, where: str, teams: list[str], program: Program, opt
             sliced = Path(folder) / "slice.def"
             sliced.write_bytes(_current_slice(program.texts[0], session))
             texts = [sliced, *program.texts[1:]]
-            repair = RepairRun(tool, Program(program.path, texts), [f"--team={team}", *options], Path(folder), is_exported=False)
+            repair = RepairRun(
+                tool, Program(program.path, texts), [f"--team={team}", *options], Path(folder), is_exported=False
+            )
             push = Push(endpoint.connection, 1)
             push.revisions[team.encode()] = session.first_revision
             push.send_all(_in_session(repair.answers(), session))
             repair.report(repair.moves(is_all=False))
-            log(tool, f"team {team}: at revision {push.revisions[team.encode()]} there")
+            log(tool, f"team {team}: now at revision {push.revisions[team.encode()]}")
     except (ConnectionError, Refusal) as error:
         raise Fault(REFUSED if isinstance(error, Refusal) else FAILED, f"{where}: {error}") from None
     finally:
@@ -47,7 +49,7 @@ def _team_of(endpoint: Endpoint, teams: list[str]) -> str:
     """The requested team, else the socket's."""
     named = teams or endpoint.teams
     if len(named) != 1:
-        raise Fault(USAGE, "--team is needed, once")
+        raise Fault(USAGE, "exactly one --team is needed")
     return named[0]
 
 
@@ -56,8 +58,10 @@ def _current_slice(design: Path, session: Session) -> bytes:
     part = slice_of_design(complete_design(design, design.read_bytes()), session.team)
     cells = session.cells()
     if [cell.name for cell in cells] != [shown(name) for name in Design(part).cells_of(session.team.encode())]:
-        raise Fault(REFUSED, f"{design} has other cells of team {session.team} than the design there")
-    return with_spots(part, {cell.name: Spot(int(at.x), int(at.y), at.orient) if (at := cell.place) else None for cell in cells})
+        raise Fault(REFUSED, f"{design} has other cells of team {session.team} than the hub's design")
+    return with_spots(
+        part, {cell.name: Spot(int(at.x), int(at.y), at.orient) if (at := cell.place) else None for cell in cells}
+    )
 
 
 def _in_session(answers: list[tuple[bytes, bytes]], session: Session) -> Iterator[Record]:

@@ -39,11 +39,15 @@ def moves_of(program: Program, lines: Path, teams: Mapping[str, list[str]]) -> l
             verb, team, *words = line.split()
             if team in cells:
                 repair_lines.append(line)
-                cells[team].update((word, None) for word, kind in zip(words[1:], VERBS[verb.decode()].fields) if kind == "CELL")
+                cells[team].update(
+                    (word, None) for word, kind in zip(words[1:], VERBS[verb.decode()].fields) if kind == "CELL"
+                )
     pairs = [(team, cell) for team, names in cells.items() for cell in names]
     opens = [b"open %b\n" % team for team in cells]
     queries = [b"where %b 0 %b\n" % pair for pair in pairs]
-    replies = replies_of(program, [*opens, *queries, *(b"close %b 0\n" % team for team in cells), *repair_lines, *opens, *queries])
+    replies = replies_of(
+        program, [*opens, *queries, *(b"close %b 0\n" % team for team in cells), *repair_lines, *opens, *queries]
+    )
     before, after = len(opens) + len(queries), len(replies) - len(queries)
     for reply in replies[before:after]:
         if not is_accepted(reply):
@@ -59,7 +63,7 @@ def replies_of(program: Program, lines: list[bytes]) -> list[bytes]:
         file.seek(0)
         replies = file.readlines()
     if len(replies) != len(lines):
-        raise Fault(FAILED, "the program was lost: replies lack")
+        raise Fault(FAILED, "the program ended unexpectedly: replies are missing")
     return replies
 
 
@@ -75,7 +79,7 @@ def _spot_in(reply: bytes) -> Spot | None:
 
 def _unexpected(reply: bytes) -> Fault:
     """Makes the fault of an unexpected reply."""
-    return Fault(FAILED, f"the program answered {reply.decode('ascii', 'backslashreplace').rstrip()!r}")
+    return Fault(FAILED, f"unexpected reply of the program: {reply.decode('ascii', 'backslashreplace').rstrip()!r}")
 
 
 class RepairRun:
@@ -109,7 +113,9 @@ class RepairRun:
             with open(self._exported, "rb") as file:
                 shutil.copyfileobj(file, output)
             return
-        output.write(with_spots(self._exported.read_bytes(), {move.cell: move.new for move in moves if move.old != move.new}))
+        output.write(
+            with_spots(self._exported.read_bytes(), {move.cell: move.new for move in moves if move.old != move.new})
+        )
 
     def report(self, moves: list[Move]) -> None:
         """Prints the result of each team and its unrepaired cells on standard error."""
@@ -120,19 +126,30 @@ class RepairRun:
             self._report_counts(name, team, len(team["left"]))
             for cell, gap in zip(team["left"], team["gaps"], strict=True):
                 old = old_spots[name, cell]
-                origin = f"stood at {_spot_text(old)}" if old else "had none"
-                gap_text = f"the widest gap of the rows near it is {gap / self._units:.3f} microns" if gap else "no site near it is free"
+                origin = f"was at {_spot_text(old)}" if old else "had none"
+                gap_text = (
+                    f"the widest gap of the rows near it is {gap / self._units:.3f} microns"
+                    if gap
+                    else "no site near it is free"
+                )
                 log(self._tool, f"team {name}: no place for {cell}, which {origin}; {gap_text}")
         if len(text) > 1:
             self._report_counts("all", self.total, self.total["left_cells"])
 
     def _report_counts(self, name: str, counts: dict[str, Any], unrepaired: int) -> None:
         moved = counts["moved"]
-        text = f"{moved} moved, {counts['turned']} turned, {counts['placed']} newly placed, {counts['kept']} stay, {unrepaired} left"
+        text = f"{moved} moved, {counts['turned']} turned, {counts['placed']} newly placed, {counts['kept']} unmoved, {unrepaired} unrepaired"
         if counts["pushed"]:
             text += f"; {number(counts['pushed'], 'legal cell')} pushed"
-        mean, largest, least = (distance / self._units for distance in (counts["total"] / max(1, moved), counts["largest"], counts["least_largest"]))
-        distances = f"; moved by {mean:.3f} microns on average, {largest:.3f} at most, which is {least:.3f} or more in any repair" if moved else ""
+        mean, largest, least = (
+            distance / self._units
+            for distance in (counts["total"] / max(1, moved), counts["largest"], counts["least_largest"])
+        )
+        distances = (
+            f"; moved by {mean:.3f} microns on average, {largest:.3f} at most (no repair can do with less than {least:.3f})"
+            if moved
+            else ""
+        )
         log(self._tool, f"team {name}: {text}{distances}")
 
 

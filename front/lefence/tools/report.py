@@ -7,7 +7,6 @@ from __future__ import annotations
 
 import json
 import re
-import sys
 from collections import Counter
 from collections.abc import Iterator
 from contextlib import ExitStack
@@ -17,7 +16,7 @@ from pathlib import Path
 from urllib.parse import quote
 
 from .. import __version__
-from ..base.atomic_file import atomic_file, refuse_inputs
+from ..base.atomic_file import refuse_inputs, write_output
 from ..base.description import Box, Cell, Description, Frame, Obstacle
 from ..base.faults import DONE, Parser, log, run_tool
 from ..base.program import find_program
@@ -100,10 +99,14 @@ def _taken(scene: Scene, cells: Iterator[Cell]) -> Iterator[Cell]:
 
 
 def report_of(
-    program: str, design: Path, libraries: list[Path], limit: int = LIMIT, most: int = MOST_LISTED, before: Path | None = None
+    program: str,
+    design: Path,
+    libraries: list[Path],
+    limit: int = LIMIT,
+    most: int = MOST_LISTED,
+    before: Path | None = None,
 ) -> Report:
-    """Collects a report of a design with at most `most` violations; with `before`, also the differences to that file.
-    """
+    """Collects a report of a design with at most `most` violations; with `before`, also the differences to that file."""
     with ExitStack() as both:
         description = both.enter_context(Description(program, design, libraries))
         scene = Scene(description.frame, limit, most)
@@ -122,9 +125,11 @@ def report_of(
     elif scene.broken:
         near = Near(scene.broken, scene.frame.facts.site_height)
         if len(scene.obstacles) < len(scene.frame.obstacles):
-            report.obstacles = scene.obstacles + [each for each in scene.frame.obstacles if near.holds(each.name, each.box)]
+            report.obstacles = scene.obstacles + [
+                each for each in scene.frame.obstacles if near.holds(each.name, each.box)
+            ]
         with Description(program, design, libraries) as description:
-            cells = Progress(TOOL, "cells once more").over(description.cells())
+            cells = Progress(TOOL, "cells again").over(description.cells())
             report.cells = [cell for cell in cells if near.has(cell)]
         report.lacks = near.is_full
     return report
@@ -199,7 +204,9 @@ def _words(cell: Cell) -> str:
 
 
 def _swatch(frame: Frame, team: str) -> str:
-    at = len(frame.fences) if team == GROUND else next(at for at, fence in enumerate(frame.fences) if fence.name == team)
+    at = (
+        len(frame.fences) if team == GROUND else next(at for at, fence in enumerate(frame.fences) if fence.name == team)
+    )
     return f'<i class="swatch" style="background:{colour_of(at, team)}"></i>'
 
 
@@ -211,7 +218,7 @@ def _badges(scene: Scene) -> str:
     if unplaced:
         values.append(("warn", number(unplaced, "cell is unplaced", "cells are unplaced")))
     if scene.outside:
-        values.append(("warn", number(scene.outside, "cell stands", "cells stand") + " far outside of the rows"))
+        values.append(("warn", number(scene.outside, "cell is", "cells are") + " far outside the rows"))
     return "".join(f'<span class="badge {kind}">{text}</span>' for kind, text in values or [("good", "fully legal")])
 
 
@@ -219,11 +226,19 @@ def _legend(report: Report) -> str:
     scene, frame = report.scene, report.scene.frame
     kinds = {obstacle.name is None for obstacle in frame.obstacles}
     named = [("var(--fixed)", "FIXED")] * (False in kinds) + [("var(--blocked)", "blockage")] * (True in kinds)
-    named += [(BROKEN, "breaks a rule; from afar: more cells than room" if scene.map and scene.shows_too_full else "breaks a rule")] * bool(scene.broken)
+    named += [
+        (
+            BROKEN,
+            "breaks a rule; zoomed out: overfull bins" if scene.map and scene.shows_too_full else "breaks a rule",
+        )
+    ] * bool(scene.broken)
     teams = [(colour_of(at, team), shortened(team)) for at, team in enumerate(frame.teams[:-1])][:12]
     teams.append((colour_of(len(frame.fences), GROUND), "- (ground)"))
     named += legend_of(report.diff) if report.diff else []
-    text = [f'<span><i class="swatch" style="background:{colour}"></i>{text_of(name)}</span>' for colour, name in teams + named]
+    text = [
+        f'<span><i class="swatch" style="background:{colour}"></i>{text_of(name)}</span>'
+        for colour, name in teams + named
+    ]
     if len(frame.teams) > len(teams):
         text.append(f"<span>and {number(len(frame.teams) - len(teams), 'team')} more</span>")
     return "".join(text)
@@ -258,7 +273,9 @@ def _violations(scene: Scene) -> str:
         place = f"{cell.box.left / units:,.10g}, {cell.box.bottom / units:,.10g}"
         team = swatches[cell.team] + text_of(cell.team)
         rule = f"{cell.rule} {RULES.get(cell.rule, '')}"
-        fields = f'<td>{name}</td><td class="rule">{rule}</td><td class="team">{team}</td><td class="number">{place}</td>'
+        fields = (
+            f'<td>{name}</td><td class="rule">{rule}</td><td class="team">{team}</td><td class="number">{place}</td>'
+        )
         lines.append(f'<tr data-go="{anchor}">{fields}</tr>\n')
     head = '<tr><th>Cell</th><th>Rule</th><th>Team</th><th class="number">Place (µm)</th></tr>'
     return f"<table><thead>{head}</thead><tbody>\n{''.join(lines)}</tbody></table>"
@@ -266,7 +283,7 @@ def _violations(scene: Scene) -> str:
 
 def _teams(report: Report) -> str:
     """A row for each team, with a link to its fence."""
-    scene, square = report.scene, report.scene.frame.facts.units ** 2
+    scene, square = report.scene, report.scene.frame.facts.units**2
     lines = []
     for team, tally in scene.tallies.items():
         anchor = text_of("t=" + quote(team, safe="", errors="replace"))
@@ -283,7 +300,9 @@ def _teams(report: Report) -> str:
         cells = "".join(f'<td class="number">{value}</td>' for value in numbers)
         cells += "".join(f'<td class="number wide">{value}</td>' for value in areas)
         cells += f'<td class="number">{_utilization(tally.area, report.ground[team])}</td>'
-        lines.append(f'<tr data-go="{anchor}"><td>{_swatch(scene.frame, team)}<a href="#{anchor}">{name}</a></td>{cells}</tr>\n')
+        lines.append(
+            f'<tr data-go="{anchor}"><td>{_swatch(scene.frame, team)}<a href="#{anchor}">{name}</a></td>{cells}</tr>\n'
+        )
     head = "".join(f'<th class="number">{name}</th>' for name in ("Cells", "Placed", "Unplaced", "Illegal"))
     head += "".join(f'<th class="number wide">{name}</th>' for name in ("Cells, µm²", "Ground, µm²"))
     head = f'<tr><th>Team</th>{head}<th class="number">Utilization</th></tr>'
@@ -304,7 +323,7 @@ def _facts(scene: Scene) -> str:
     fixed = sum(obstacle.name is not None for obstacle in frame.obstacles)
     values = {
         "Design": facts.name,
-        "Units": f"{number(units, 'database unit')} in a micron",
+        "Units": f"{number(units, 'database unit')} per micron",
         "Core site": f"{facts.site}, {facts.site_width / units:g} × {facts.site_height / units:g} µm",
         "Extent": f"{box.width / units:,.10g} × {box.height / units:,.10g} µm",
         "Lower left corner": f"{box.left / units:,.10g}, {box.bottom / units:,.10g} µm",
@@ -321,16 +340,27 @@ def _facts(scene: Scene) -> str:
 def parser() -> Parser:
     made = Parser(
         TOOL,
-        "Writes a page about a design: its picture, in which one moves and zooms, the cells that break a rule, each with\n"
-        "a link to its place, and each team's cells and utilization. The page is one file that needs no network.",
+        "Writes a page about a design: a picture to move and zoom, the cells that break a rule with links to their places,\n"
+        "and each team's cells and utilization. The page is one file that needs no network.",
         f"{TOOL} chip.def tech.lef cells.lef -o report.html\n{TOOL} new.def tech.lef cells.lef --before chip.def -o report.html",
     )
     made.add_design()
     add = made.add_argument
-    add("-o", "--output", metavar="FILE", type=Path, help="where the page is written (standard output)")
-    add("--before", metavar="DEF", type=Path, help="tell also which cells stand elsewhere than in this DEF text, and how far they went")
-    add("--most", metavar="N", type=int, default=MOST_LISTED, help=f"list so many violations at most ({MOST_LISTED})")
-    add("--limit", metavar="N", type=int, default=LIMIT, help=f"above so many cells a map is drawn ({LIMIT})")
+    add("-o", "--output", metavar="FILE", type=Path, help="write the page to FILE (default: standard output)")
+    add(
+        "--before",
+        metavar="DEF",
+        type=Path,
+        help="also report which cells moved since this DEF file, and how far",
+    )
+    add("--most", metavar="N", type=int, default=MOST_LISTED, help=f"list at most N violations ({MOST_LISTED})")
+    add(
+        "--limit",
+        metavar="N",
+        type=int,
+        default=LIMIT,
+        help=f"draw a map if the design has more than N cells ({LIMIT})",
+    )
     made.add_program()
     return made
 
@@ -340,16 +370,16 @@ def main() -> int:
 
     def work() -> int:
         if options.output is not None:
-            refuse_inputs(options.output, [options.design, *options.libraries, *([options.before] if options.before else [])])
+            refuse_inputs(
+                options.output, [options.design, *options.libraries, *([options.before] if options.before else [])]
+            )
         program = find_program(options.program)
-        report = report_of(program, options.design, options.libraries, max(0, options.limit), max(0, options.most), options.before)
+        report = report_of(
+            program, options.design, options.libraries, max(0, options.limit), max(0, options.most), options.before
+        )
         page = page_of(report).encode()
-        if options.output is None:
-            sys.stdout.buffer.write(page)
-            sys.stdout.buffer.flush()
-        else:
-            with atomic_file(options.output) as file:
-                file.write(page)
+        write_output(options.output, page)
+        if options.output is not None:
             log(TOOL, f"{options.output}: {len(page)} bytes")
         return DONE
 

@@ -45,13 +45,16 @@ def placement_diff(file: Path, early: Description, late: Description, cells: Ite
 
 
 def data_of(diff: PlacementDiff) -> dict[str, object]:
-    """The data for the page's script: each arrow's ends, colour number and cell; and the places of the farthest cells.
-    """
+    """The data for the page's script: each arrow's ends, colour number and cell; and the places of the farthest cells."""
     arrows: list[list[object]] = []
     colours: list[str] = []
     for _, colour, moves in by_length(diff.moves, diff.row_height):
         for move in moves:
-            ends = [(box.left + box.right) / 2 if x else (box.bottom + box.top) / 2 for box in (move.before, move.after) for x in (True, False)]
+            ends = [
+                (box.left + box.right) / 2 if x else (box.bottom + box.top) / 2
+                for box in (move.before, move.after)
+                for x in (True, False)
+            ]
             arrows.append([*ends, len(colours), move.name])
         colours.append(colour)
     cell = [[each.name, *each.before[:2], *each.after[:2]] for each in diff.summary.farthest]
@@ -68,8 +71,8 @@ def section_of(diff: PlacementDiff) -> str:
     summary = diff.summary
     lines = [f"{number(diff.moved, 'cell')} moved, {summary.all.turned:,} only turned, {summary.all.kept:,} stayed."]
     if len(diff.moves) < diff.moved:
-        lines.append(f"The {len(diff.moves):,} longest ways have arrows.")
-    lines += [f"{number(len(names), 'cell')} in the design {where} alone." for names, where in _alone(summary) if names]
+        lines.append(f"The {len(diff.moves):,} longest moves have arrows.")
+    lines += [f"{number(len(names), 'cell')} only in the design {where}." for names, where in _alone(summary) if names]
     lines += [f"Note: {note}." for note in summary.notes]
     note = "<br>".join(map(text_of, lines))
     top = f'<div class="top"><h2>Since {text_of(diff.file.name)}</h2><p class="faint">{note}</p></div>'
@@ -85,7 +88,16 @@ def _alone(summary: Summary) -> tuple[tuple[list[str], str], tuple[list[str], st
 
 def _teams(summary: Summary) -> str:
     """A row for each team, with a link to its fence."""
-    heads = ("Moved", "Turned", "Newly placed", "Newly unplaced", "Mean way, µm", "Largest, µm", "Illegal", "Unplaced")
+    heads = (
+        "Moved",
+        "Turned",
+        "Newly placed",
+        "Newly unplaced",
+        "Mean distance, µm",
+        "Largest, µm",
+        "Illegal",
+        "Unplaced",
+    )
     return _table(["Team", *heads], (_team(team, summary) for team in summary.teams), 1)
 
 
@@ -106,10 +118,12 @@ def _farthest(summary: Summary) -> str:
     facts = summary.frame.facts
     lines = []
     for cell in summary.farthest:
-        places = [f"{place.x / facts.units:,.10g}, {place.y / facts.units:,.10g}" for place in (cell.before, cell.after)]
+        places = [
+            f"{place.x / facts.units:,.10g}, {place.y / facts.units:,.10g}" for place in (cell.before, cell.after)
+        ]
         distances = [f"{cell.distance / facts.units:,.2f}", f"{cell.distance / facts.site_height:,.1f}"]
         lines.append((_anchor_of("m", cell.name), [_link("m", cell.name), text_of(cell.team), *places, *distances]))
-    return _table(["Cell", "Team", "From (µm)", "To (µm)", "Way, µm", "In rows"], lines, 2)
+    return _table(["Cell", "Team", "From (µm)", "To (µm)", "Distance, µm", "In rows"], lines, 2)
 
 
 def _anchor_of(kind: str, name: str) -> str:

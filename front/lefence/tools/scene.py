@@ -20,7 +20,18 @@ LIMIT = 20_000
 BINS = 240
 SHADES = 8
 # The colours of the first fences, of the ground and of cells that break a rule. Other fences get hues far from red.
-_COLOURS = ("#3d7cc9", "#3f9d63", "#d79a1e", "#8d67c9", "#1f9fa6", "#a5713f", "#c46fb0", "#7f9a2d", "#5a63cf", "#4fabdc")
+_COLOURS = (
+    "#3d7cc9",
+    "#3f9d63",
+    "#d79a1e",
+    "#8d67c9",
+    "#1f9fa6",
+    "#a5713f",
+    "#c46fb0",
+    "#7f9a2d",
+    "#5a63cf",
+    "#4fabdc",
+)
 _GROUND = "#8798ae"
 BROKEN = "#d92b2b"
 
@@ -32,7 +43,9 @@ def colour_of(at: int, name: str) -> str:
     if at < len(_COLOURS):
         return _COLOURS[at]
     hue = (35 + 275 * (at * 0.618034 % 1)) / 360
-    return "#" + "".join(f"{round(part * 255):02x}" for part in colorsys.hls_to_rgb(hue, (0.42, 0.5, 0.58)[at % 3], 0.5))
+    return "#" + "".join(
+        f"{round(part * 255):02x}" for part in colorsys.hls_to_rgb(hue, (0.42, 0.5, 0.58)[at % 3], 0.5)
+    )
 
 
 def darker(colour: str) -> str:
@@ -100,7 +113,9 @@ class Bins:
             if area > most.get((up, along), (0, 0))[0]:
                 most[up, along] = area, team
         whole = self._whole()
-        return _paths((place, team, min(SHADES, -(-whole[place] * SHADES // self.side**2))) for place, (_, team) in most.items())
+        return _paths(
+            (place, team, min(SHADES, -(-whole[place] * SHADES // self.side**2))) for place, (_, team) in most.items()
+        )
 
     def too_full(self, others: Bins) -> dict[tuple[int, int], str]:
         """The bins that are more than full with both together, as `paths` of one team. The last shade is twice full or

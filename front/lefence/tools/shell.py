@@ -21,18 +21,18 @@ from ..client.verbs import Legalized, Place, Report, Tidied
 TOOL = "lefence-shell"
 _NAME_IN_ENTRY = re.compile(rb"^- (\S+)", re.M)
 # The advice if `tidy` finds no place (docs/PROTOCOL.md).
-_TIDY_HINT = "nothing has moved; cells that break a rule may stand where there is room: `check` names them, `unplace` takes one away"
+_TIDY_HINT = "nothing has moved; cells that break a rule may block the space: `check` lists them, `unplace` removes one"
 # The most violations printed.
 _MOST_ROWS = 200
 # The greatest padding (docs/PROTOCOL.md, "Lines and fields").
 _MOST_PADDING = 16
 
 SHELL_COMMANDS = {
-    "team": ("NAME", "opens a session of the team, or goes back to the one that is open; the verbs are for it"),
-    "teams": ("", "the teams that are known to be served here"),
-    "raw": ("LINE", "sends a line of the protocol as it is, and prints its reply"),
-    "export": ("PATH", "has the hub write the committed places of all teams to a file; the operator's socket alone"),
-    "help": ("[VERB]", "what a verb takes and does"),
+    "team": ("NAME", "opens a session of the team, or returns to its open one; the verbs then use it"),
+    "teams": ("", "lists the teams that are known here"),
+    "raw": ("LINE", "sends a line of the protocol unchanged, and prints its reply"),
+    "export": ("PATH", "has the hub write the committed places of all teams to a file; only on the operator's socket"),
+    "help": ("[VERB]", "shows what a verb takes and does"),
     "quit": ("", "ends"),
 }
 # Verbs of the protocol that `team` and `quit` replace.
@@ -41,7 +41,7 @@ _HIDDEN = ("open",)
 
 def report_lines(report: Report) -> list[str]:
     """Formats a report as a table."""
-    lines = [f"{report.cells} cells, {report.unplaced} without a place, {len(report.violations)} break a rule"]
+    lines = [f"{report.cells} cells, {report.unplaced} unplaced, {len(report.violations)} break a rule"]
     shown = report.violations[:_MOST_ROWS]
     if shown:
         width = max(4, *(len(each.cell) for each in shown))
@@ -61,9 +61,13 @@ def result_lines(verb: str, fields: list[str], result: object) -> list[str]:
     if isinstance(result, bytes):
         return result.decode("ascii", "backslashreplace").splitlines()
     if isinstance(result, Place):
-        return [f"{fields[0]} {'stands' if verb == 'where' else 'would best stand'} at ({result.x}, {result.y}), {result.orient}"]
+        return [
+            f"{fields[0]} {'is' if verb == 'where' else 'would best be'} at ({result.x}, {result.y}), {result.orient}"
+        ]
     if isinstance(result, Legalized):
-        return [f"{fields[0]} now stands at ({result.place.x}, {result.place.y}), {result.place.orient}; revision {result.revision}"]
+        return [
+            f"{fields[0]} is now at ({result.place.x}, {result.place.y}), {result.place.orient}; revision {result.revision}"
+        ]
     if isinstance(result, Tidied):
         return [f"{result.moved} cells moved; revision {result.revision}"]
     done = "synced" if verb == "sync" else "done"
@@ -110,7 +114,7 @@ class Shell(cmd.Cmd):
         if verb == "help":
             self.do_help(" ".join(fields))
         elif verb == "teams":
-            self._print([" ".join(self._teams) or "none is known; `team NAME` tries one"])
+            self._print([" ".join(self._teams) or "no team is known; `team NAME` tries one"])
         elif verb == "team":
             self._use(fields)
         elif verb == "raw":
@@ -147,7 +151,7 @@ class Shell(cmd.Cmd):
         if self._team is None and len(self._teams) == 1:
             self._use(self._teams)
         if self._team is None:
-            raise ValueError("name a team first: `team NAME`")
+            raise ValueError("choose a team first: `team NAME`")
         return self._sessions[self._team]
 
     def _verb(self, verb: str, fields: list[str]) -> None:
@@ -171,7 +175,9 @@ class Shell(cmd.Cmd):
 
     def do_help(self, arg: str) -> None:
         """Prints what a command takes and does, or all commands."""
-        rows = {name: (" ".join(verb.fields), verb.text) for name, verb in VERBS.items() if name not in _HIDDEN} | SHELL_COMMANDS
+        rows = {
+            name: (" ".join(verb.fields), verb.text) for name, verb in VERBS.items() if name not in _HIDDEN
+        } | SHELL_COMMANDS
         if arg in rows:
             fields, text = rows[arg]
             self._print([f"{arg} {fields}".rstrip(), f"  {text}"])
@@ -183,7 +189,9 @@ class Shell(cmd.Cmd):
     def completenames(self, text: str, *ignored: object) -> list[str]:
         return _matches(text, (name for name in [*VERBS, *SHELL_COMMANDS] if name not in _HIDDEN))
 
-    def completedefault(self, text: str = "", line: str = "", begidx: int = 0, endidx: int = 0, *ignored: object) -> list[str]:
+    def completedefault(
+        self, text: str = "", line: str = "", begidx: int = 0, endidx: int = 0, *ignored: object
+    ) -> list[str]:
         """Completes the fields of verbs: the team's cells, orientations; and teams after `team`."""
         verb, *before = line[:begidx].split()
         if verb == "team":
@@ -217,11 +225,11 @@ def _value(kind: str, field: str) -> str | int:
     """Converts a field for the client library. Raises ValueError if no request can have it."""
     if kind == "O" and field not in ORIENTS:
         hint = f", which calls it {OPENACCESS[field]}" if field in OPENACCESS else ""
-        raise ValueError(f"{field} is no orientation of DEF{hint}: {' '.join(ORIENTS)}")
+        raise ValueError(f"{field} is not an orientation of DEF{hint}: {' '.join(ORIENTS)}")
     if kind not in ("X", "Y", "P"):
         return field
     if not re.fullmatch(r"-?[0-9]+", field, re.ASCII):
-        raise ValueError(f"{field} is no whole number{' of database units' if kind != 'P' else ''}")
+        raise ValueError(f"{field} is not a whole number{' of database units' if kind != 'P' else ''}")
     if kind == "P" and not 0 <= int(field) <= _MOST_PADDING:
         raise ValueError(f"pad takes 0 to {_MOST_PADDING} core sites")
     return int(field)
@@ -275,12 +283,14 @@ def _relay(connection: Connection) -> None:
 def parser() -> Parser:
     made = Parser(
         TOOL,
-        "A session by hand: over a socket of a hub, over TCP to `lefence serve`, or over a program of its own.",
+        "An interactive session: over a hub's socket, over TCP to `lefence serve`, or with a program of its own.",
         f"{TOOL} /run/lefence/A.sock\n{TOOL} localhost:5800\n{TOOL} chip.def tech.lef cells.lef",
     )
     made.add_argument("where", metavar="WHERE", nargs="+", help="a socket, HOST:PORT, or DEF LEF...")
-    made.add_argument("--team", metavar="NAME", help="the team to begin with")
-    text = "sends the lines of standard input as they are, and writes the replies as they are: for programs that cannot reach a socket"
+    made.add_argument("--team", metavar="NAME", help="open a session of this team first")
+    text = (
+        "send the lines of standard input and write the replies, both unchanged: for programs that cannot use a socket"
+    )
     made.add_argument("--raw", action="store_true", help=text)
     made.add_program()
     return made
@@ -292,7 +302,9 @@ def _endpoint_of(options: argparse.Namespace) -> Endpoint:
     if more:
         return start_program(options.program, [Path(word) for word in options.where])
     if os.path.isfile(first):
-        raise Fault(USAGE, f"{first} is no socket; a design takes its LEF texts too: {TOOL} chip.def tech.lef ..")
+        raise Fault(
+            USAGE, f"{first} is not a socket; for a design, give its LEF files too: {TOOL} chip.def tech.lef .."
+        )
     return connect_to(first)
 
 

@@ -20,7 +20,9 @@ from ..base.protocol import GROUND
 MOST_ALIKE = 5
 # The words that DEF 5.8 allows after `+`, by section.
 CLAUSES = {
-    b"COMPONENTS": frozenset(b"EEQMASTER SOURCE FIXED COVER PLACED UNPLACED MASKSHIFT HALO ROUTEHALO WEIGHT REGION PROPERTY".split()),
+    b"COMPONENTS": frozenset(
+        b"EEQMASTER SOURCE FIXED COVER PLACED UNPLACED MASKSHIFT HALO ROUTEHALO WEIGHT REGION PROPERTY".split()
+    ),
     b"REGIONS": frozenset(b"TYPE PROPERTY".split()),
     b"GROUPS": frozenset(b"REGION PROPERTY".split()),
     b"BLOCKAGES": frozenset(
@@ -72,8 +74,8 @@ def _of_sections(design: Design) -> Iterator[Remark]:
             place = statement.start + len(before)
             announced = next(words_in(design.text[place : place + 20]), b"")
             if announced != b"%d" % count:
-                text = f"{shown(statement.keyword)} {shown(announced)}, and there are {count}"
-                yield Remark("counts that are wrong", text, place)
+                text = f"{shown(statement.keyword)} {shown(announced)}, but there are {count}"
+                yield Remark("wrong counts", text, place)
 
 
 def _of_words(section: bytes, entry: Entry) -> Iterator[Remark]:
@@ -84,9 +86,9 @@ def _of_words(section: bytes, entry: Entry) -> Iterator[Remark]:
     clauses = [word for plus, word in zip(entry.words, entry.words[1:]) if plus == b"+"]
     for word in clauses:
         if word not in known:
-            text = f"+ {shown(word)} of {_CALLED[section]} {shown(entry.name)} is no word of DEF 5.8, and is passed over"
+            text = f"+ {shown(word)} of {_CALLED[section]} {shown(entry.name)} is not in DEF 5.8 and is skipped"
             if section == b"COMPONENTS" and not any(clause in _PLACEMENTS for clause in clauses):
-                text += ": it has no place"
+                text += ": it is unplaced"
             yield Remark(f"+ {shown(word)} in {shown(section)}", text, _place_of(entry))
 
 
@@ -102,12 +104,12 @@ def _of_teams(design: Design) -> Iterator[Remark]:
             cells[team] += 1
             region = component.value_after(b"REGION") if b"REGION" in component.text else None
             if region in fences and region != team:
-                text = f"+ REGION {shown(region)} of component {shown(component.name)} binds it to no fence, as a group would: it is of"
+                text = f"+ REGION {shown(region)} of component {shown(component.name)} has no effect, only a group binds to a fence: it is in"
                 yield Remark("+ REGION of components", f"{text} team {shown(team)}", _place_of(component))
     yield from patterns.unmatched()
     for group in design.entries(b"GROUPS"):
         if (region := group.value_after(b"REGION")) is not None and region not in fences:
-            text = f"group {shown(group.name)} is bound to {shown(region)}, which is no fence: its cells are of team {GROUND}"
+            text = f"group {shown(group.name)} is bound to {shown(region)}, which is not a fence: its cells are in team {GROUND}"
             yield Remark("groups without a fence", text, _place_of(group))
     for region_entry in design.entries(b"REGIONS"):
         if region_entry.name in fences and not cells[region_entry.name]:
@@ -149,7 +151,9 @@ class _Patterns:
         remaining = [(group, word) for word, groups in self._names.items() for group in groups]
         remaining += [(group, word) for pairs in self._starred.values() for _, word, group in pairs]
         for group, word in sorted(remaining, key=lambda pair: pair[0].start):
-            yield Remark("names of groups", f"{shown(word)} of group {shown(group.name)} matches no component", _place_of(group))
+            yield Remark(
+                "names of groups", f"{shown(word)} of group {shown(group.name)} matches no component", _place_of(group)
+            )
 
 
 def _members(group: Entry) -> Iterator[bytes]:
@@ -170,7 +174,7 @@ def _of_rows(design: Design, site: str) -> Iterator[Remark]:
                 others.setdefault(name, []).append(statement.stop - 1)
     for name, places in others.items():
         rows = "1 row" if len(places) == 1 else f"{len(places)} rows"
-        yield Remark("rows of other sites", f"{rows} of site {name} passed over: the core site is {site}", places[0])
+        yield Remark("rows of other sites", f"{rows} of site {name} skipped: the core site is {site}", places[0])
 
 
 def _place_of(entry: Entry) -> int:

@@ -7,14 +7,13 @@ on the frame and on that team's cells and commands.
 from __future__ import annotations
 
 import os
-import sys
 import tempfile
 from array import array
 from collections.abc import Iterator
 from itertools import zip_longest
 from pathlib import Path
 
-from ..base.atomic_file import atomic_file, refuse_inputs
+from ..base.atomic_file import refuse_inputs, write_output
 from ..base.description import Cell, Description
 from ..base.design import Design, Entry, Statement, complete_design, section_parts
 from ..base.faults import DONE, REFUSED, Fault, Parser, log, run_tool
@@ -46,7 +45,11 @@ def slice_of_design(design: Design, team: str) -> bytes:
 
 def slices_of(design: Design, teams: list[bytes]) -> Iterator[Iterator[bytes]]:
     """Yields the slices for these teams of a design, each in pieces, after one pass over it."""
-    sections = {statement.start: _Entries(design, statement, teams) for statement in design.statements if statement.keyword in _SLICED}
+    sections = {
+        statement.start: _Entries(design, statement, teams)
+        for statement in design.statements
+        if statement.keyword in _SLICED
+    }
     for team in teams:
         yield _pieces(design, team, sections)
 
@@ -107,14 +110,16 @@ def refuse_difference(program: str, whole: Path, part: bytes, libraries: list[Pa
         file.flush()
         with Description(program, whole, libraries) as first, _described(program, Path(file.name), libraries) as second:
             if first.frame != second.frame:
-                raise Fault(REFUSED, "the program finds another frame in the slice than in the whole design; nothing is written")
+                raise Fault(
+                    REFUSED, "the program reads another frame in the slice than in the whole design; nothing is written"
+                )
             own = [_without_rule(cell) for cell in first.cells_of(team)]
             found = [_without_rule(cell) for cell in second.cells()]
     if own != found:
         pair = next(pair for pair in zip_longest(own, found) if pair[0] != pair[1])
-        counts = f"the program finds {len(own)} cells of team {team} in the whole design, and {len(found)} cells in the slice"
+        counts = f"the program reads {len(own)} cells of team {team} in the whole design, and {len(found)} cells in the slice"
         names = " and ".join(f"{cell.name} {place}" for cell, place in zip(pair, ("there", "here")) if cell)
-        raise Fault(REFUSED, f"{counts}; the first that differ are {names}; nothing is written")
+        raise Fault(REFUSED, f"{counts}; the first difference is {names}; nothing is written")
 
 
 def _described(program: str, part: Path, libraries: list[Path]) -> Description:
@@ -132,15 +137,26 @@ def _without_rule(cell: Cell) -> Cell:
 def parser() -> Parser:
     sliced = Parser(
         TOOL,
-        "Writes a DEF text with the frame and one team's cells alone. The program answers that team's commands on\n"
-        "it byte for byte as on the whole design. With the LEF texts, the slice is compared with what the program\n"
-        "reads in the whole design, and not written where it differs.",
+        "Writes a DEF file with the frame and one team's cells only. On it, the program answers that team's commands\n"
+        "as on the whole design, byte for byte. With the LEF files, the program checks that the slice has the same\n"
+        "frame and cells as the whole design; otherwise it is not written.",
         f"{TOOL} chip.def tech.lef cells.lef --team A --output A.def\nlefence replay A.def tech.lef cells.lef < session.txt",
     )
     sliced.add_argument("design", metavar="DEF", type=Path, help="the whole design")
-    sliced.add_argument("libraries", metavar="LEF", type=Path, nargs="*", default=[], help="its LEF texts; without them nothing is compared")
-    sliced.add_argument("--team", metavar="NAME", required=True, help="a FENCE region, or - for the ground outside all fences")
-    sliced.add_argument("-o", "--output", metavar="FILE", type=Path, help="where the slice is written (standard output)")
+    sliced.add_argument(
+        "libraries",
+        metavar="LEF",
+        type=Path,
+        nargs="*",
+        default=[],
+        help="its LEF files; without them the slice is not checked",
+    )
+    sliced.add_argument(
+        "--team", metavar="NAME", required=True, help="a FENCE region, or - for the ground outside all fences"
+    )
+    sliced.add_argument(
+        "-o", "--output", metavar="FILE", type=Path, help="write the slice to FILE (default: standard output)"
+    )
     sliced.add_program()
     return sliced
 
@@ -156,13 +172,8 @@ def main() -> int:
         if options.libraries:
             refuse_difference(find_program(options.program), options.design, sliced, options.libraries, options.team)
         else:
-            log(TOOL, "no LEF texts are given: the slice is not compared with what the program reads")
-        if options.output is None:
-            sys.stdout.buffer.write(sliced)
-            sys.stdout.buffer.flush()
-        else:
-            with atomic_file(options.output) as file:
-                file.write(sliced)
+            log(TOOL, "no LEF files are given: the slice is not checked with the program")
+        write_output(options.output, sliced)
         log(TOOL, f"team {options.team}: {len(sliced)} of {len(text)} bytes")
         return DONE
 

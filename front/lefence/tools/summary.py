@@ -32,22 +32,28 @@ def refuse_other_units(before: tuple[Path, Frame], after: tuple[Path, Frame]) ->
     """Raises a Fault if two DEF files have different database units: their places cannot be compared."""
     units = [frame.facts.units for _, frame in (before, after)]
     if units[0] != units[1]:
-        raise Fault(REFUSED, f"{before[0]} has {units[0]} database units in a micron, and {after[0]} has {units[1]}")
+        raise Fault(REFUSED, f"{before[0]} has {units[0]} database units per micron, but {after[0]} has {units[1]}")
 
 
 def parser() -> Parser:
     made = Parser(
         TOOL,
-        "Tells for each team, and for all together, how many cells moved from one placement to another and how far, what\n"
-        "they break, and how much of the ground they take.",
+        "Prints for each team, and for all teams together, how many cells moved between two placements and how far, their\n"
+        "violations, and their utilization of the ground.",
         f"{TOOL} before.def after.def tech.lef cells.lef",
     )
     add = made.add_argument
-    add("before", metavar="BEFORE", type=Path, help="the DEF text before")
-    add("after", metavar="AFTER", type=Path, help="the DEF text after")
-    add("libraries", metavar="LEF", type=Path, nargs="+", help="the LEF texts of both, in the order of the program")
-    add("--most", metavar="N", type=int, default=MOST_FAR, help=f"name so many of the cells that moved farthest ({MOST_FAR})")
-    add("--json", action="store_true", help="one JSON object in place of the tables")
+    add("before", metavar="BEFORE", type=Path, help="the DEF file before")
+    add("after", metavar="AFTER", type=Path, help="the DEF file after")
+    add("libraries", metavar="LEF", type=Path, nargs="+", help="the LEF files of both, in the program's order")
+    add(
+        "--most",
+        metavar="N",
+        type=int,
+        default=MOST_FAR,
+        help=f"list the N cells that moved farthest ({MOST_FAR})",
+    )
+    add("--json", action="store_true", help="print one JSON object instead of the tables")
     made.add_program()
     return made
 
@@ -56,7 +62,9 @@ def main() -> int:
     options = parser().parse_args()
 
     def work() -> int:
-        summary = summary_of_files(find_program(options.program), options.before, options.after, options.libraries, max(0, options.most))
+        summary = summary_of_files(
+            find_program(options.program), options.before, options.after, options.libraries, max(0, options.most)
+        )
         text = f"{json.dumps(object_of(summary))}\n" if options.json else text_of(summary)
         sys.stdout.write(text)
         return DONE
