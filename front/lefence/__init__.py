@@ -1,7 +1,7 @@
 """Clients and tools for the lefence program. docs/FRONT.md of the repository describes them.
 
-`connect` opens a connection, `lefence.aio.connect` one for asyncio. The exceptions are the refusals of docs/PROTOCOL.md,
-`ConnectionLost` and `ProtocolError`.
+`connect` opens a connection, `lefence.aio.connect` one for asyncio. The exceptions are the refusals of
+docs/PROTOCOL.md, `ConnectionLost` and `ProtocolError`.
 
 The sub-packages are `client`, the client library; `hub`, the server of many clients; `journal`, its record of changes;
 `tools`, the command-line tools; and `base`, what all of these use.

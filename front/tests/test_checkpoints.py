@@ -182,7 +182,7 @@ class Segments(unittest.TestCase):
         self.assertEqual(self.names(), ["4.journal", "4.state", "5.state"])
         with self.assertRaises(Fault) as caught:
             list(read_records(self.path))
-        self.assertIn("its first 5 changes are in a state alone", str(caught.exception))
+        self.assertIn("its first 5 changes exist only as a state", str(caught.exception))
         self.assertEqual((self.found(), self.said), (self.lines(8), []))
 
     def test_a_state_that_is_spoilt_is_made_up_for_by_the_one_before(self) -> None:
@@ -196,7 +196,7 @@ class Segments(unittest.TestCase):
         before = self.path.read_bytes()
         with self.assertRaises(Fault) as caught:
             self.open()
-        self.assertIn("no state is whole with which segment 3 begins, and", str(caught.exception))
+        self.assertIn("segment 3 has no intact state, and", str(caught.exception))
         self.assertEqual((caught.exception.status, self.path.read_bytes(), self.names()), (1, before, ["3.journal"]))
 
     def test_damage_to_a_segment_counts_where_no_state_behind_it_is_whole(self) -> None:
@@ -228,7 +228,7 @@ class Segments(unittest.TestCase):
         self.path.unlink()
         with self.assertRaises(Fault) as caught:
             self.open()
-        self.assertIn("who means to begin anew moves that away", str(caught.exception))
+        self.assertIn("move it away to start a new journal", str(caught.exception))
         self.assertEqual((caught.exception.status, self.names()), (1, ["1.journal", "2.journal", "2.state", "3.state"]))
 
     def test_a_journal_without_segments_is_read_and_gone_on_with(self) -> None:
@@ -344,7 +344,7 @@ class Checkpoints(HubCase):
         self.start(*self.OFTEN)
         talker = self.talk("f0")
         self.assertEqual(talker.ask("open f0", *self.places(50))[-1], "ok 50")
-        self.hub.wait_for("no state is made")
+        self.hub.wait_for("cannot save a state")
         self.assertEqual(talker.ask(*self.places(50, 50))[-1], "ok 100")
         self.assertEqual((self.hub.end(), Archive(self.journal).numbers("state")), (0, []))
         self.assertFalse(list(Archive(self.journal).folder.glob("*.making-*")))
@@ -439,7 +439,7 @@ class Pages(HubCase):
         self.talk("f0").ask("open f0", "place f0 0 f0c1 0 0 N")
         self.hub.kill()
         self.assertIn(
-            "--roll with that one makes a state first\nlefence-hub: change 2: the journal has b'ok 1", self.begin(serve)
+            "run that one with --roll first\nlefence-hub: change 2: the journal has b'ok 1", self.begin(serve)
         )
         self.assertEqual(
             (self.hub.process.wait(), "a state of 2 changes is kept" in self.begin(roll), self.hub.process.wait()),

@@ -106,8 +106,8 @@ class Verbs(HubCase):
             assert refusal is not None
             self.assertEqual((refusal.number, refusal.name, type(refusal).__name__), (number, name, name))
             self.assertTrue(refusal.words() and type(refusal).__doc__)
-        why = refusal_of(b"no 13 NotExported x cannot be written\n")
-        self.assertEqual(why and why.words(), "the file was not written: x cannot be written")
+        why = refusal_of(b"no 13 NotExported cannot write x\n")
+        self.assertEqual(why and why.words(), "the file was not written: cannot write x")
         self.assertEqual([refusal_of(reply) for reply in (b"ok", b"", b"no", b"no x y")], [None] * 4)
 
     def test_every_verb_of_the_protocol_is_a_method_of_all_three(self) -> None:
@@ -191,7 +191,7 @@ class Verbs(HubCase):
     def test_orientations_of_openaccess_where_asked(self) -> None:
         self.start()
         plain = self.session()
-        with self.assertRaisesRegex(ValueError, "R0 is no orientation of DEF, which calls it N"):
+        with self.assertRaisesRegex(ValueError, "R0 is not an orientation of DEF, which calls it N"):
             plain.place("f0c1", 0, 0, "R0")
         with plain.connection.session("f0", openaccess=True) as session:
             for at, (y, orient, same) in enumerate(

@@ -173,7 +173,7 @@ class Programs(HubCase):
         self.assertEqual(talker.ask("open f0", "place f0 0 f0c1 0 0 N"), ["ok 0 0", "ok 1"])
         text = b"where f0 0 f0c1\n" * 5000
         self.assertEqual(talker.converse(text, 20000), b"ok 0 0 N\n" * 5000)
-        self.assertIn("2 changes are restored", self.hub.told())
+        self.assertIn("restoring 2 changes", self.hub.told())
 
     def test_a_signal_while_it_is_restored_ends_the_hub(self) -> None:
         self.start("--tail-bytes", "0")

@@ -121,9 +121,7 @@ class Farms(FarmCase):
         (self.folder / "B.fails").touch()
         done = self.farm("--export", "new.def", "--processes", "4")
         self.assertEqual(done.returncode, 4, done.stderr)
-        self.assertIn(
-            f"team B is not in it: the command ended with 7; {self.work / '2' / 'log'} has more\n", done.stderr
-        )
+        self.assertIn(f"team B is missing: the command ended with 7; see {self.work / '2' / 'log'}\n", done.stderr)
         self.assertIn("the work of 2 of 3 teams\n", done.stderr)
         text = (self.folder / "new.def").read_text()
         self.assertEqual(("- b1 BUF ;" in text, "- b2 INV ;" in text, "- a2 INV ;" in text), (True, True, False))
@@ -163,14 +161,14 @@ class Farms(FarmCase):
         self.design.write_text(TEXT.replace("( 6000 2000 )", "( 4400 2000 )"))
         done = self.farm("--export", "new.def", has_command=False)
         self.assertEqual(done.returncode, 4, done.stderr)
-        self.assertRegex(done.stderr, "team B is not in it: the repair left [12] cells; ")
-        self.assertIn("lefence-farm: team A: 5 lines answered as over its slice\n", done.stderr)
+        self.assertRegex(done.stderr, "team B is missing: [12] cells remain unrepaired; ")
+        self.assertIn("lefence-farm: team A: 5 lines answered as on its slice\n", done.stderr)
         self.assertIn("the work of 2 of 3 teams\n", done.stderr)
         self.assertEqual((self.folder / "new.def").read_bytes(), self.repaired())
         # A command may be given later, and then counts.
         (self.work / "2/lines").write_text("open B\nplace B 0 b1 9999 0 N\n")
         done = self.farm("--export", "new.def")
-        self.assertIn("team B is not in it: the command ended with 1; ", done.stderr)
+        self.assertIn("team B is missing: the command ended with 1; ", done.stderr)
         self.assertFalse((self.work / "2/lines").exists())
 
     def test_what_is_answered_otherwise_over_the_whole_is_told_and_not_exported(self) -> None:
@@ -182,7 +180,7 @@ class Farms(FarmCase):
         self.assertEqual(done.returncode, 1, done.stderr)
         self.assertRegex(
             done.stderr.decode(),
-            "team A: line 4, 'unplace A 0 b1', was answered 'ok 3', and over the whole 'no 5 NoCell'\n",
+            "team A: line 4, 'unplace A 0 b1', was answered 'ok 3', and on the whole design 'no 5 NoCell'\n",
         )
         self.assertEqual(((self.folder / "new.def").read_bytes(), [*self.work.glob("whole*")]), (before, []))
 
@@ -190,10 +188,10 @@ class Farms(FarmCase):
         """A text that is written anew between the slices and the end, and before a farm is given again."""
         self.design.write_text(self.design.read_text().replace("a1 INV", "a1 BUF"))
         done = self.tool("lefence-farm", "work", "--collect")
-        told = f"lefence-farm: {self.design.resolve()} is another text than the slices were made of\n"
+        told = f"lefence-farm: {self.design.resolve()} has changed since the slices were made\n"
         self.assertEqual((done.returncode, done.stderr.decode()), (1, told))
         done = self.tool("lefence-farm", "work", "t.def", "t.lef", "--program", PROGRAM, "--", "true")
-        self.assertEqual((done.returncode, done.stderr.count(b"is of another text than")), (1, 1))
+        self.assertEqual((done.returncode, done.stderr.count(b"is of another design than")), (1, 1))
 
     def by_engine(self, name: str, engine: str, option: str, *words: str) -> str:
         """The line of a farm by a stand-in of an engine, whose tasks and last job did their work."""
@@ -210,11 +208,11 @@ class Farms(FarmCase):
 
     def test_a_job_array_of_slurm(self) -> None:
         told = self.by_engine("sbatch", "slurm", "--mem=100")
-        self.assertIn("lefence-farm: 3 teams are submitted; job 42 collects what they did", told)
+        self.assertIn("lefence-farm: 3 teams are submitted; job 42 collects their work", told)
 
     def test_a_job_array_of_lsf(self) -> None:
         told = self.by_engine("bsub", "lsf", "-q", "--wait")
-        self.assertIn("3 teams are submitted; the job that collects what they did is waited for\n", told)
+        self.assertIn("3 teams are submitted; waiting for the job that collects their work\n", told)
         self.assertIn("the work of 3 of 3 teams\n", told)
 
     def test_the_numbers_of_many_teams_are_a_short_word(self) -> None:
@@ -250,7 +248,9 @@ class Farms(FarmCase):
         for text in ('{"design": "t.def"}', "[]", "{"):
             (self.work / "farm.json").write_text(text)
             done = self.tool("lefence-farm", "work", "--collect")
-            self.assertEqual((done.returncode, done.stderr.count(b"is no plan of this version")), (1, 1), done.stderr)
+            self.assertEqual(
+                (done.returncode, done.stderr.count(b"is not a plan of this version")), (1, 1), done.stderr
+            )
 
     def test_an_engine_that_is_not_there_or_refuses_is_told(self) -> None:
         done = (
@@ -272,7 +272,7 @@ class Farms(FarmCase):
         done = self.tool("lefence-farm", "work", "t.def", "t.lef", "--program", PROGRAM, "--merge", "--", "./nothing")
         self.assertEqual(done.returncode, 4, done.stderr)
         for team in TEAMS:
-            self.assertIn(f"team {team} is not in it: ./nothing: No such file or directory; ", done.stderr.decode())
+            self.assertIn(f"team {team} is missing: ./nothing: No such file or directory; ", done.stderr.decode())
         self.assertEqual((self.work / "new.def").read_text(), TEXT)
 
     def test_words_that_lack_something(self) -> None:
@@ -280,12 +280,14 @@ class Farms(FarmCase):
             done = self.tool("lefence-farm", *words)
             self.assertEqual((done.returncode, done.stdout), (2, b""), done.stderr)
         done = self.tool("lefence-farm", "work", "--collect")
-        self.assertEqual((done.returncode, done.stderr), (3, b"lefence-farm: work is no work folder of lefence-farm\n"))
+        self.assertEqual(
+            (done.returncode, done.stderr), (3, b"lefence-farm: work is not a work folder of lefence-farm\n")
+        )
 
     def test_a_text_that_is_cut_off_is_refused_at_once(self) -> None:
         self.design.write_text(TEXT[: TEXT.index("- a2")])
         done = self.farm()
-        told = "lefence-farm: t.def ends without END DESIGN: it is cut off\n"
+        told = "lefence-farm: t.def ends without END DESIGN: it is truncated\n"
         self.assertEqual((done.returncode, done.stderr, self.work.exists()), (1, told, False))
 
 
@@ -299,7 +301,7 @@ class Cluster(FarmCase):
             with mock.patch.dict(os.environ, environment):
                 done = self.farm("--engine", "slurm", "--option=--mem=100", "--wait")
                 self.assertEqual(done.returncode, 4, done.stderr)
-                self.assertIn("lefence-farm: team B is not in it: the command ended with 7", done.stderr)
+                self.assertIn("lefence-farm: team B is missing: the command ended with 7", done.stderr)
                 self.assertIn("the work of 2 of 3 teams\n", done.stderr)
                 (self.folder / "B.fails").unlink()
                 done = self.farm("--engine", "slurm", "--option=--mem=100", "--wait")
@@ -335,7 +337,7 @@ class Merges(FrontCase):
         )
         self.assertEqual(merged.getvalue().decode(), want)
         paths[0].write_bytes(paths[0].read_bytes().replace(b"- f0c4 ", b"- f0d4 "))
-        with self.assertRaisesRegex(Fault, "slicef0.def: component f0d4 is none of .*t.def"):
+        with self.assertRaisesRegex(Fault, "slicef0.def: component f0d4 is not in .*t.def"):
             merge(self.design, paths, io.BytesIO())
 
 

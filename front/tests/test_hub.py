@@ -354,8 +354,8 @@ class Ends(HubCase):
         self.assertEqual(others.replies.readline(), b"ok 0 0\n")
         refused = [f"export {path}" for path in ("/nowhere/x.def", self.journal, self.design)]
         *told, last = operator.ask(*refused, "where f0 0 nil")
-        own = "is the journal or a text of the design"
-        reasons = ["/nowhere/x.def cannot be written", f"{self.journal} {own}", f"{self.design} {own}"]
+        own = "is the journal or a file of the design"
+        reasons = ["cannot write /nowhere/x.def", f"{self.journal} {own}", f"{self.design} {own}"]
         self.assertEqual((told, last), ([f"no 13 NotExported {reason}" for reason in reasons], "no 5 NoCell"))
 
     def test_a_signal_ends_it_with_everything_told(self) -> None:
@@ -393,11 +393,11 @@ class Ends(HubCase):
         for edit, said in (
             (
                 f's/{fence}/{fence[:-3]}Z"/',
-                "9 teams are found in the DEF text, and the program tells 9; found alone: f3; told alone: Z",
+                "the DEF text has 9 teams, the program reports 9; only in the DEF text: f3; only reported: Z",
             ),
             (
                 f"/{fence}/d",
-                "9 teams are found in the DEF text, and the program tells 8; found alone: f3; told alone: no other",
+                "the DEF text has 9 teams, the program reports 8; only in the DEF text: f3; only reported: none",
             ),
         ):
             self.program = self.describing(f"'{PROGRAM}' \"$@\" | sed '{edit}'")
@@ -437,7 +437,7 @@ class Ends(HubCase):
         self.talk("f0").ask("open f0", "place f0 0 f0c1 0 0 N")
         for words in (self.words(journal="other"), self.words(sockets="s2")):
             second = subprocess.run([*tool_words("lefence-hub"), *words], capture_output=True, timeout=PATIENCE)
-            self.assertEqual((second.returncode, b"another hub holds it" in second.stderr), (3, True))
+            self.assertEqual((second.returncode, b"another hub has locked it" in second.stderr), (3, True))
         self.hub.end()
         kept = self.journal.read_bytes()
         other = self.folder / "other.def"
@@ -474,7 +474,7 @@ class Ends(HubCase):
         for number in ("8", "10"):
             told = self.start("--sessions", number)
             self.assertEqual(self.hub.process.wait(PATIENCE), 1)
-            self.assertIn("begun with 9 session slots of each team", told)
+            self.assertIn("made for 9 session slots per team", told)
             self.assertEqual(self.journal.read_bytes(), kept)
         exported = self.folder / "new.def"
         for words in ((), ("--sessions", "9")):

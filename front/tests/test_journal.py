@@ -145,7 +145,7 @@ class Journals(unittest.TestCase):
                 file.unlink()
         before = self.path.read_bytes()
         for slots in (8, 10):
-            with self.assertRaisesRegex(Fault, "begun with 9 session slots of each team"):
+            with self.assertRaisesRegex(Fault, "made for 9 session slots per team"):
                 Journal(self.path, TEXTS, self.said.append, slots=slots)
         self.assertEqual(self.path.read_bytes(), before)
 
@@ -229,7 +229,7 @@ class Journals(unittest.TestCase):
         first = self.open()
         with self.assertRaises(Fault) as caught:
             self.open()
-        self.assertIn("another hub holds it", str(caught.exception))
+        self.assertIn("another hub has locked it", str(caught.exception))
         first.close()
         self.open().close()
 

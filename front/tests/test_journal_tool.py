@@ -65,7 +65,7 @@ class JournalTool(HubCase):
         )
         self.assertEqual(len(self.told("list", self.journal, "--team", "f1")), 2)
         self.assertIn(
-            "5 changes are answered as recorded",
+            "5 changes replayed with the recorded replies",
             self.tool("lefence-journal", "verify", self.journal, "--program", PROGRAM).stderr.decode(),
         )
 
@@ -89,9 +89,7 @@ class JournalTool(HubCase):
             (True, 1, True),
         )
         told = self.told("check", self.journal, status=1)
-        self.assertIn(
-            f"damaged from byte {start} to {end}: `cut --at {start}` makes a journal of what stands before", told
-        )
+        self.assertIn(f"damaged from byte {start} to {end}: `cut --at {start}` makes a journal of what is before", told)
         # What stands behind the damage can be read, listed and brought out.
         self.assertEqual(self.told("export", self.journal), [self.lines[0], *self.lines[2:]])
         self.assertEqual(self.told("list", self.journal, "--team", b"\xff"), [])
@@ -115,7 +113,7 @@ class JournalTool(HubCase):
         self.journal.write_bytes(whole + b"batch 1")
         told = self.told("check", self.journal)
         self.assertIn(
-            f"torn: 7 bytes at byte {len(whole)} are no whole batch (a write that was cut off); a start removes them",
+            f"incomplete: 7 bytes at byte {len(whole)} (an interrupted write); a start removes them",
             told,
         )
         (self.folder / "journal.texts").rename(self.folder / "away")
@@ -166,8 +164,8 @@ class Segments(HubCase):
     def test_all_of_it_is_told_listed_and_answered(self) -> None:
         told, _ = self.told("check", self.journal)
         for number, before in ((1, 0), (2, 4), (3, 7)):
-            self.assertIn(f"segment {number}, behind {before} changes: ", told)
-        states = [f"it begins with the state {self.archive.state(number)}: whole" in told for number in (1, 2, 3)]
+            self.assertIn(f"segment {number}, after {before} changes: ", told)
+        states = [f"it starts at the state {self.archive.state(number)}: whole" in told for number in (1, 2, 3)]
         self.assertEqual(states, [False, True, True])
         listed = [
             line.split("\t") for line in self.told("list", self.journal)[0].splitlines() if not line.startswith("-")
@@ -176,20 +174,21 @@ class Segments(HubCase):
         self.assertEqual(self.told("export", self.journal)[0].splitlines(), self.changes())
         program = ("--program", PROGRAM)
         self.assertIn(
-            "2 changes behind a state of 7 are answered as recorded", self.told("verify", self.journal, *program)[1]
+            "2 changes after a state of 7 replayed with the recorded replies",
+            self.told("verify", self.journal, *program)[1],
         )
-        self.assertIn("9 changes are answered as recorded", self.told("verify", self.journal, *program, "--all")[1])
+        self.assertIn(
+            "9 changes replayed with the recorded replies", self.told("verify", self.journal, *program, "--all")[1]
+        )
         self.assertEqual([record.line.decode() for record in read_records(self.journal)], self.changes())
 
     def test_what_is_not_kept_is_told_and_the_rest_goes_on_from_its_state(self) -> None:
         self.archive.prune(1)
         told, said = self.told("export", self.journal)
         self.assertEqual(told.splitlines(), self.changes()[7:])
-        self.assertIn(
-            f"the first 7 changes are not in it; its lines are for a replay with --state {self.archive.state(3)}", said
-        )
+        self.assertIn(f"the first 7 changes are missing; replay its lines with --state {self.archive.state(3)}", said)
         self.assertEqual(self.direct(told.encode(), "--state", str(self.archive.state(3))), b"ok\nok 0 3\n")
-        self.assertIn("the first 7 changes are in a state alone", self.told("check", self.journal)[0])
+        self.assertIn("the first 7 changes exist only as a state", self.told("check", self.journal)[0])
         self.assertTrue(self.told("list", self.journal, "--team", "f0")[0].startswith("9\t"))
         self.assertIn(
             "its first 7 changes are in a state alone",
@@ -207,18 +206,18 @@ class Segments(HubCase):
         self.told("verify", self.journal, "--program", PROGRAM)
         self.archive.segment(1).write_bytes(whole[:-20])
         self.assertIn(
-            f"to {len(whole)}, where it ended when the next segment was begun",
+            f"to {len(whole)}, where it ended when the next segment was made",
             self.told("check", self.journal, status=1)[0],
         )
         self.archive.state(3).write_bytes(b"x")
         self.assertIn(f"{self.archive.state(3)}: damaged", self.told("check", self.journal, status=1)[0])
         self.assertIn(
-            "5 changes behind a state of 4 are answered", self.told("verify", self.journal, "--program", PROGRAM)[1]
+            "5 changes after a state of 4 replayed", self.told("verify", self.journal, "--program", PROGRAM)[1]
         )
         self.archive.state(2).unlink()
         self.assertIn(f"{self.archive.state(2)}: not there", self.told("check", self.journal, status=1)[0])
         said = self.start()
-        self.assertIn(f"{self.archive.state(2)} is not there; what stands before it is answered again", said)
+        self.assertIn(f"{self.archive.state(2)} is not there; the changes before it are replayed", said)
         self.assertEqual(("1.journal: damaged at byte" in said, self.hub.process.wait()), (True, 1))
         shutil.copy(self.archive.segment(1), self.journal)
         # (what was cut off at its end were notes)

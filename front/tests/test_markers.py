@@ -162,7 +162,9 @@ class Markers(FrontCase):
             sorted(path.name for path in self.folder.iterdir()), ["apart", "early", "t.def", "t.lef", "t.lyrdb"]
         )
         done = self.tool("lefence-markers", self.design, self.lef, "--output", self.design, "--program", PROGRAM)
-        self.assertEqual((done.returncode, done.stderr.count(b"t.def is read, and would be written over")), (2, 1))
+        self.assertEqual(
+            (done.returncode, done.stderr.count(b"t.def is an input file, so it cannot be the output")), (2, 1)
+        )
 
 
 if __name__ == "__main__":

@@ -190,7 +190,7 @@ class Pictures(FrontCase):
         # Where the forty stand and where two overlap, but not where one stands alone.
         places = {(left + side * (x + at)) // 10000 for x, _, length in red for at in range(length)}
         self.assertEqual(places - {1}, {2, 6})
-        self.assertIn("red are\nbins with more cells than room", "".join(groups["legend"].itertext()))
+        self.assertIn("red\nbins are more than full", "".join(groups["legend"].itertext()))
 
     def test_designs_without_cells_or_places(self) -> None:
         bare = self.design.read_text().split("COMPONENTS")[0] + "END DESIGN\n"

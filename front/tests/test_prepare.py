@@ -81,7 +81,7 @@ class Preparations(FrontCase):
         text = text.replace("\nEND DESIGN", f"{groups}\nEND DESIGN")
         told = (
             "4 rows of site core added: 20 sites each, the first at 50 40 is FS",
-            "the rows follow the 5 placed cells: 3 of them fit along x, 3 along y, and 3 face as their row",
+            "the rows follow the 5 placed cells: 3 of them fit along x, 3 along y, and 3 have their row's orientation",
             "3 fillers removed (FILL*)",
             "fence A added: 2 rectangles",
             "fence B added: 1 rectangle",
@@ -101,7 +101,7 @@ class Preparations(FrontCase):
         ):
             preparation = Preparation(text.encode())
             prepare(preparation, PreparationOptions(), [LEF.encode()], None)
-            self.assertEqual(preparation.messages[1], f"{told}: the rows begin at the core's corner with N")
+            self.assertEqual(preparation.messages[1], f"{told}: the rows start at the core's corner with N")
             rows = b"\nROW ROW_0 core -100 -300 N DO 21 BY 1 STEP 200 0 ;\nROW ROW_1 core -100 1700 FS "
             self.assertIn(rows, preparation.result())
 
@@ -131,8 +131,10 @@ class Preparations(FrontCase):
         done = self.run_on()
         lines = TEXT.replace("\nTRACKS", f"{ROWS}\nTRACKS").split("\n")
         line = next(line for line in lines if line.startswith("- x FILL"))
-        told = f"it does not load: 14 NoMacro FILL; the prepared text, line {lines.index(line) + 1}: {line}\n".encode()
-        told += b"lefence-prepare: nothing is written; --force writes it even so\n"
+        told = (
+            f"it does not load: 14 NoMacro FILL; the prepared DEF file, line {lines.index(line) + 1}: {line}\n".encode()
+        )
+        told += b"lefence-prepare: nothing is written; --force writes it anyway\n"
         self.assertEqual((done.returncode, self.output.exists()), (1, False))
         self.assertTrue(done.stderr.endswith(told), done.stderr)
         done = self.run_on("--force")
@@ -144,12 +146,12 @@ class Preparations(FrontCase):
             (("DIEAREA", "HISTORY"), (), 1, "the text has no DIEAREA; --core says where rows are made"),
             (("( 4100 8100 )", "( 0 1 ) ( 0 0 )"), (), 1, "DIEAREA is no rectangle in whole database units; --core"),
             (("UNITS", "HISTORY"), (), 1, "the text has no UNITS DISTANCE MICRONS"),
-            (("MICRONS 1000", "MICRONS 1"), (), 1, "site core is no whole number of database units: 0.2"),
+            (("MICRONS 1000", "MICRONS 1"), (), 1, "site core is not a whole number of database units: 0.2"),
             (
                 ("( 4100 8100 )", "( 4100 2147483647 )"),
                 (),
                 1,
-                "1073741 rows of site core would have room in the core; the",
+                "1073741 rows of site core fit into the core; the",
             ),
             (
                 ("", ""),
@@ -162,7 +164,7 @@ class Preparations(FrontCase):
                 ("", ""),
                 ("--site", "pad"),
                 1,
-                "no LEF text has a site pad with CLASS CORE and a SIZE; found: core, tall",
+                "no LEF file has a site pad with CLASS CORE and a SIZE; found: core, tall",
             ),
             (("", ""), ("--group", "A", "x"), 1, "there is no fence A for the group; --fence A adds one"),
             (("", ""), ("--fence", "a;b c", *"0011"), 2, "'a;b c' can be no name in a DEF text"),
@@ -170,19 +172,19 @@ class Preparations(FrontCase):
                 ("", ""),
                 ("--fence", "A", *"1100"),
                 2,
-                "1 1 0 0 is no rectangle: X1 Y1 X2 Y2 are left, bottom, right and top",
+                "1 1 0 0 is not a rectangle: X1 Y1 X2 Y2 are left, bottom, right and top",
             ),
             (
                 ("", ""),
                 ("--fence", "A", "0.0001", *"011"),
                 1,
-                "0.0001 microns is no whole number of database units: 0.1",
+                "0.0001 microns is not a whole number of database units: 0.1",
             ),
             (
                 ("TRACKS", f"{ROWS} TRACKS"),
                 ("--margin", "1"),
                 2,
-                "the text has rows; --rows makes others in their place",
+                "the DEF file has rows; --rows replaces them",
             ),
         ):
             self.design.write_text(text.replace(*change, 1))

@@ -132,10 +132,10 @@ class Repairs(FrontCase):
         done = self.repair("--out", self.target)
         self.assertEqual(done.returncode, 4)
         gap = rb"; the widest gap of the rows near it is \d+\.\d{3} microns\n"
-        self.assertRegex(done.stderr, rb"team f2: no place for high, which stood at %d 0 N" % (2 * WIDTH + 1000) + gap)
+        self.assertRegex(done.stderr, rb"team f2: no place for high, which was at %d 0 N" % (2 * WIDTH + 1000) + gap)
         self.assertRegex(done.stderr, rb"team f2: no place for new, which had none" + gap)
         # (nothing is said of other teams where all were repaired)
-        self.assertIn(b"not fully legal: 2 cells left\n", done.stderr)
+        self.assertIn(b"not fully legal: 2 cells unrepaired\n", done.stderr)
         check = subprocess.run([PROGRAM, "check", self.target, self.lef], capture_output=True)
         self.assertEqual(json.loads(check.stdout), {"cells": 92, "unplaced": 2, "violations": []})
         self.assertIn("- high HIGH + UNPLACED ;", self.target.read_text())
@@ -218,9 +218,9 @@ class Repairs(FrontCase):
             done = self.repair("--out", self.target)
             self.assertEqual((done.returncode, told in done.stderr), (1, True), done.stderr)
             self.assertEqual([path.name for path in sorted(self.folder.iterdir())], ["t.def", "t.lef"])
-        for target, why in (("nowhere/x", " cannot be written: there is no such folder"), (".", ": Is a directory")):
+        for target, why in (("nowhere/x", "cannot write nowhere/x: no such folder"), (".", ".: Is a directory")):
             done = self.repair("-o", target)
-            self.assertEqual((done.returncode, done.stderr.decode()), (3, f"lefence-repair: {target}{why}\n"))
+            self.assertEqual((done.returncode, done.stderr.decode()), (3, f"lefence-repair: {why}\n"))
 
     def fails(self, script: str, told: bytes, *words: str) -> None:
         """A repair by a program that this script of a shell stands for is told so, and no file is left."""
@@ -233,10 +233,10 @@ class Repairs(FrontCase):
 
     def test_a_program_that_dies_is_told_and_no_file_is_left(self) -> None:
         for words in (("--out", str(self.target)), ("--dry-run",)):
-            self.fails("kill -9 $$", b"the program was lost: it ended with -9\n", *words)
-            self.fails("echo ok", b"the program was lost: it ended with 0\n", *words)
+            self.fails("kill -9 $$", b"the program ended unexpectedly with status -9\n", *words)
+            self.fails("echo ok", b"the program ended unexpectedly with status 0\n", *words)
         for end, told in (
-            ("kill -9 $$", b"the program was lost: it ended with -9\n"),
+            ("kill -9 $$", b"the program ended unexpectedly with status -9\n"),
             ("exit 0", b"the program was lost: replies lack\n"),
             (f"'{PROGRAM}' \"$@\" | sed 's/ok 7/no 7/'; exit 0", b"the program answered 'no 7"),
         ):

@@ -30,7 +30,7 @@ class RepairsThere(HubCase):
                 done.stderr,
             )
             revision = session.sync()
-            self.assertIn(f"lefence-repair: team f1: at revision {revision} there\n".encode(), done.stderr)
+            self.assertIn(f"lefence-repair: team f1: now at revision {revision}\n".encode(), done.stderr)
             report, place = session.check(), session.where("f1c1")
             self.assertEqual((report.unplaced, [*report.violations]), (0, []))
             self.assertEqual((place.x, place.y, place.orient), (9000, 4000, "N"))
@@ -50,7 +50,7 @@ class RepairsThere(HubCase):
     def test_the_operator_names_one_team(self) -> None:
         for words in ((), ("--team", "f1", "--team", "-")):
             done = self.repair("operator", *words)
-            self.assertEqual((done.returncode, done.stderr), (2, b"lefence-repair: --team is needed, once\n"))
+            self.assertEqual((done.returncode, done.stderr), (2, b"lefence-repair: exactly one --team is needed\n"))
         self.assertEqual(self.repair("operator", "--team", "-").returncode, 0)
         self.assertEqual(self.talk("-").ask("open -")[0][:5], "ok 0 ")
 
@@ -60,18 +60,19 @@ class RepairsThere(HubCase):
             done = self.repair("f1")
             self.assertEqual(done.returncode, 1, done.stderr)
             self.assertRegex(
-                done.stderr.decode(), "line [0-9]+: '[a-z]+ f1 1 f1c[0-9] .*' was answered 'ok .*', and there '(ok|no) "
+                done.stderr.decode(),
+                "line [0-9]+: the recorded reply to '[a-z]+ f1 1 f1c[0-9] .*' is 'ok .*', but now it is '(ok|no) ",
             )
             self.assertGreater(session.check().unplaced, 0)
 
     def test_a_design_with_other_cells_is_refused(self) -> None:
         self.design.write_text(self.design.read_text().replace("- f1c3 ", "- f1c33 "))
         done = self.repair("f1")
-        told = f"lefence-repair: {self.design} has other cells of team f1 than the design there\n"
+        told = f"lefence-repair: {self.design} has other cells of team f1 than the hub's design\n"
         self.assertEqual((done.returncode, done.stderr.decode()), (1, told))
         self.assertEqual(self.repair(f"f{TEAMS}").returncode, 3)
         done = self.tool("lefence-repair", "t.def", "t.lef", "--socket", "t.def", "--program", PROGRAM)
-        self.assertEqual((done.returncode, done.stderr), (3, b"lefence-repair: t.def: it is no socket\n"))
+        self.assertEqual((done.returncode, done.stderr), (3, b"lefence-repair: t.def: it is not a socket\n"))
         done = self.repair("operator", "--team", "Z")
         self.assertEqual((done.returncode, b"Traceback" in done.stderr), (1, False), done.stderr)
 

@@ -151,7 +151,7 @@ class Reports(ReportCase):
             "lefence-report", "t.def", "t.lef", "--program", self.program, "-o", "x.html", "--before", "early.def"
         )
         self.assertEqual((done.returncode, (self.folder / "x.html").exists()), (1, False), done.stderr)
-        self.assertIn(b"2000 database units in a micron", done.stderr)
+        self.assertIn(b"2000 database units per micron", done.stderr)
 
     def test_nothing_comes_from_elsewhere(self) -> None:
         self.assertIsNone(re.search(r"""(?:src|href)=["'](?!#|data:)|https?:|@import|url[(]""", self.page()))

@@ -57,15 +57,15 @@ class Texts(HubCase):
         self.lef.unlink()
         os.kill(self.hub.server_pid(), signal.SIGKILL)
         self.assertEqual(self.talk("f0").ask("open f0", "where f0 0 f0c1"), ["ok 1 3", "ok 0 0 N"])
-        refused = f"no 13 NotExported {self.design} is the journal or a text of the design"
+        refused = f"no 13 NotExported {self.design} is the journal or a file of the design"
         self.assertEqual(self.talk("operator").ask(f"export {exported}", f"export {self.design}"), ["ok", refused])
         self.assertIn("f0c1 INV + PLACED ( 0 0 ) N", exported.read_text())
         self.hub.kill()
         self.assertIn("ready", self.start())
-        self.assertIn("t.def is not what it was", self.hub.told())
+        self.assertIn("t.def has changed since the journal was made", self.hub.told())
         self.assertEqual(self.talk("f0").ask("open f0", "where f0 0 f0c1"), ["ok 0 3", "ok 0 0 N"])
         self.assertEqual(self.hub.end(), 0)
-        # Another file is not taken for the text, nor one of which no copy is kept.
+        # Another file is not taken for the text, nor one of which no copy of that is kept.
         self.lef.write_text("x")
         other = self.folder / "other.def"
         other.write_text(design_text() + "\n")
@@ -73,7 +73,7 @@ class Texts(HubCase):
         self.assertEqual((status, "of another design" in said), (1, True), said)
         shutil.rmtree(kept)
         status, said = self.start_refused(*self.words())
-        self.assertEqual((status, "no copy is kept" in said), (1, True), said)
+        self.assertEqual((status, "no copy of that is kept" in said), (1, True), said)
 
     def test_copies_that_are_gone_or_spoilt_are_made_again(self) -> None:
         self.start()
@@ -165,7 +165,7 @@ class Texts(HubCase):
         moved: Path = self.folder / "moved"
         self.journal.rename(moved)
         self.assertEqual(self.hub.process.wait(PATIENCE), 3)
-        self.assertIn("the journal is not there", self.hub.told())
+        self.assertIn("the journal is gone", self.hub.told())
         moved.rename(self.journal)
         self.assertIn("ready", self.start())
         self.assertEqual(self.talk("f0").ask("open f0", "where f0 0 f0c1"), ["ok 0 1", "ok 0 0 N"])
@@ -402,7 +402,7 @@ class Floods(unittest.TestCase):
         with mock.patch("time.monotonic", side_effect=[0, 1, 2, 3, 61, 61.5]):
             for kind in "aabaab":
                 calm(kind, kind)
-        self.assertEqual(said, ["a", "b", "a (and 2 times more since this was told last)"])
+        self.assertEqual(said, ["a", "b", "a (and 2 more since the last such line)"])
 
 
 class Operator(HubCase):
@@ -474,7 +474,7 @@ class Operator(HubCase):
             self.send_end(told)
             listener.join()
         self.assertEqual([b"READY=1\nSTATUS=ready" in words, b"STOPPING=1" in words], [True] * 2)
-        self.assertIn("changes that are not committed: 2 of f0\n", self.hub.told())
+        self.assertIn("uncommitted changes: 2 of f0\n", self.hub.told())
 
     def test_status_of_a_hub_that_is_gone_or_does_not_answer(self) -> None:
         self.start()
@@ -516,7 +516,7 @@ class Operator(HubCase):
         self.assertEqual(talker.ask("open f0", "place f0 0 f0c1 0 0 N"), ["ok 0 0", "ok 1"])
         os.kill(self.hub.server_pid(), signal.SIGSTOP)
         self.assertEqual(talker.ask("where f0 0 f0c1"), ["ok 0 0 N"])
-        self.assertIn("has said nothing for 2 seconds", self.hub.told())
+        self.assertIn("was silent for 2 seconds", self.hub.told())
         # Who has no session and says nothing is dropped.
         self.assertEqual(idle.replies.read(), b"")
         self.assertEqual(talker.ask("where f0 0 f0c1"), ["ok 0 0 N"])

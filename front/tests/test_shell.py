@@ -29,7 +29,7 @@ class Words(HubCase):
 
     def test_replies_are_told_in_words(self) -> None:
         lines = {
-            "place f0c1 0 0 N": "no: name a team first: `team NAME`",
+            "place f0c1 0 0 N": "no: choose a team first: `team NAME`",
             "teams": " ".join([f"f{team}" for team in range(TEAMS)] + ["-"]),
             "team f0": "session 0 of team f0, revision 0",
             "place f0c1 0 0 N ": "done; revision 1",
@@ -39,15 +39,15 @@ class Words(HubCase):
             "where f0c1": "f0c1 stands at (0, 0), N",
             "where f0c2": "no: f0c2 has no place",
             "find f0c2 0 0": "f0c2 would best stand at (400, 0), N",
-            "legalize f0c2 400 0": "f0c2 now stands at (400, 0), N; revision 2",
+            "legalize f0c2 400 0": "f0c2 is now at (400, 0), N; revision 2",
             "tidy": "8 cells moved; revision 3",
             "sync": "synced; revision 3",
             "undo": "done; revision 4",
-            "team Z": "no: there is no such team here",
-            "place f0c1 1.5 0 N": "no: 1.5 is no whole number of database units",
+            "team Z": "no: no such team here",
+            "place f0c1 1.5 0 N": "no: 1.5 is not a whole number of database units",
             "place f0c1": "no: place takes CELL X Y O",
-            "place f0c1 0 0 n": "no: n is no orientation of DEF: N W S E FN FW FS FE",
-            "place f0c1 0 0 MX": "no: MX is no orientation of DEF, which calls it FS: N W S E FN FW FS FE",
+            "place f0c1 0 0 n": "no: n is not an orientation of DEF: N W S E FN FW FS FE",
+            "place f0c1 0 0 MX": "no: MX is not an orientation of DEF, which calls it FS: N W S E FN FW FS FE",
             "raw open f0": "ok 1 4",
             "raw nonsense": "no 1 BadRequest",
             "pad 17": "no: pad takes 0 to 16 core sites",
@@ -65,7 +65,7 @@ class Words(HubCase):
 
     def test_a_report_is_a_table(self) -> None:
         said = self.say("team f0", "place f0c1 0 0 N", "place f0c2 400 0 N", "pad 1", "check")
-        head = ["10 cells, 8 without a place, 2 break a rule", "cell  rule  what"]
+        head = ["10 cells, 8 unplaced, 2 break a rule", "cell  rule  what"]
         near = "overlaps {} or is too near to it"
         self.assertEqual(
             said[-4:], [*head, f"f0c1     8  f0c1 {near.format('f0c2')}", f"f0c2     8  f0c2 {near.format('f0c1')}"]
@@ -83,7 +83,7 @@ class Words(HubCase):
         said = self.say("team f0", "tidy", "check")
         self.assertRegex(said[1], r"^no: there is no legal place for f0d\d+$")
         self.assertIn("nothing has moved", said[2])
-        self.assertEqual(said[3], "70 cells, 70 without a place, 0 break a rule")
+        self.assertEqual(said[3], "70 cells, 70 unplaced, 0 break a rule")
 
     def test_help_tells_each_verb(self) -> None:
         said = self.say("help", "help place", "help nonsense")
@@ -128,12 +128,10 @@ class Words(HubCase):
             self.assertEqual((done.returncode, done.stdout), (status, b""), done.stderr)
             self.assertNotIn(b"Traceback", done.stderr)
         done = self.tool("lefence-shell", "t.def")
-        told = (
-            b"lefence-shell: t.def is no socket; a design takes its LEF texts too: lefence-shell chip.def tech.lef ..\n"
-        )
+        told = b"lefence-shell: t.def is not a socket; for a design, give its LEF files too: lefence-shell chip.def tech.lef ..\n"
         self.assertEqual((done.returncode, done.stderr), (2, told))
         done = self.tool("lefence-shell", self.design, self.lef, "--program", PROGRAM, "--team", "Z")
-        self.assertEqual((done.returncode, done.stdout), (1, b"no: there is no such team here\n"))
+        self.assertEqual((done.returncode, done.stdout), (1, b"no: no such team here\n"))
         self.lef.write_text("")
         done = self.tool("lefence-shell", self.design, self.lef, "--program", PROGRAM)
         self.assertEqual((done.returncode, b"8 NoSite" in done.stderr), (1, True), done.stderr)

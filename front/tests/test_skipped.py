@@ -40,18 +40,18 @@ END GROUPS
 END DESIGN
 """
 REMARKS = """t.def, line 15: COMPONENTS 7, and there are 5
-t.def, line 13: + SOFTT of blockage PLACEMENT is no word of DEF 5.8, and is passed over
-t.def, line 17: + PLAECD of component a1 is no word of DEF 5.8, and is passed over: it has no place
-t.def, line 17: + WIEGHT of component a2 is no word of DEF 5.8, and is passed over
-t.def, line 21: + FIXD of component wall is no word of DEF 5.8, and is passed over: it has no place
-t.def, line 24: + REGOIN of group h is no word of DEF 5.8, and is passed over
-t.def, line 19: + REGION B of component b1 binds it to no fence, as a group would: it is of team -
+t.def, line 13: + SOFTT of blockage PLACEMENT is not in DEF 5.8 and is skipped
+t.def, line 17: + PLAECD of component a1 is not in DEF 5.8 and is skipped: it is unplaced
+t.def, line 17: + WIEGHT of component a2 is not in DEF 5.8 and is skipped
+t.def, line 21: + FIXD of component wall is not in DEF 5.8 and is skipped: it is unplaced
+t.def, line 24: + REGOIN of group h is not in DEF 5.8 and is skipped
+t.def, line 19: + REGION B of component b1 has no effect, only a group binds to a fence: it is in team -
 t.def, line 24: nobody of group g matches no component
 t.def, line 24: \\* of group g matches no component
 t.def, line 24: zz* of group g matches no component
-t.def, line 25: group i is bound to C, which is no fence: its cells are of team -
+t.def, line 25: group i is bound to C, which is not a fence: its cells are in team -
 t.def, line 10: fence B has no cells
-t.def, line 6: 2 rows of site wide passed over: the core site is core
+t.def, line 6: 2 rows of site wide skipped: the core site is core
 """
 
 
@@ -113,12 +113,12 @@ class Looks(FrontCase):
         told = [line.removeprefix("lefence-prepare: ") for line in done.stderr.decode().splitlines()]
         self.assertEqual(done.returncode, 0, told)
         for line in REMARKS.splitlines():
-            passed = "passed over: the core" in line or "COMPONENTS" in line
+            passed = "skipped: the core" in line or "COMPONENTS" in line
             self.assertEqual(line in told, not passed, (line, told))
         for line in (
             "fence D has no cells",
             "q* of group D matches no component",
-            "no component has a name or a macro like nothing",
+            "no component has a name or a macro that matches nothing",
         ):
             self.assertIn(line, told)
 
@@ -143,7 +143,7 @@ class Looks(FrontCase):
             self.lef.read_text().replace("INV CLASS CORE ; ORIGIN 0 0 ; SIZE 0.4 BY 2.0", "INV SIZE 0.4 BY 2.5")
         )
         done = self.run_on("--output", "y.def")
-        told = b"no cell fits the rows of site core, 2 microns high: the cells are 2.5 microns high; --rows --site NAME takes another site\n"
+        told = b"no cell fits the rows of site core, 2 microns high: the cells are 2.5 microns high; use --rows --site NAME for another site\n"
         self.assertEqual((done.returncode, (self.folder / "y.def").exists()), (1, False), done.stderr)
         self.assertIn(told, done.stderr)
         self.assertEqual(self.run_on("--output", "y.def", "--force").returncode, 1)
@@ -159,7 +159,7 @@ class Looks(FrontCase):
         )
         self.design.write_text("DESIGN t ;\nUNITS DISTANCE MICRONS 1000 ;\nEND DESIGN\n")
         done = self.run_on("--look")
-        told = b"there is no ROW; a run with --output makes rows\nit does not load: 9 NoRows t; t.def, line 1: DESIGN t ;\n"
+        told = b"no ROW; a run with --output adds rows\nit does not load: 9 NoRows t; t.def, line 1: DESIGN t ;\n"
         self.assertEqual((done.returncode, done.stdout), (1, told))
 
     def test_what_is_no_def_text_is_told_so(self) -> None:
@@ -171,7 +171,7 @@ class Looks(FrontCase):
             self.design.write_bytes(text)
             for words in (("--look",), ("-o", "x.def")):
                 done = self.run_on(*words)
-                said = f"lefence-prepare: t.def has no DESIGN: it is no DEF text{told}\n"
+                said = f"lefence-prepare: t.def has no DESIGN: it is not a DEF file{told}\n"
                 self.assertEqual((done.returncode, done.stdout, done.stderr.decode()), (1, b"", said))
 
     def test_a_look_goes_with_nothing_that_prepares(self) -> None:

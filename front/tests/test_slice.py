@@ -131,7 +131,7 @@ class Slices(HubCase):
     def test_a_text_that_is_cut_off_is_refused(self) -> None:
         self.design.write_bytes(self.design.read_bytes().partition(b"- f3c0")[0])
         done = self.tool("lefence-slice", "t.def", "--team", "f0", "-o", "f0.def")
-        told = b"lefence-slice: t.def ends without END DESIGN: it is cut off\n"
+        told = b"lefence-slice: t.def ends without END DESIGN: it is truncated\n"
         self.assertEqual((done.returncode, done.stderr, (self.folder / "f0.def").exists()), (1, told, False))
 
     def test_what_the_program_does_not_find_alike_is_refused(self) -> None:
@@ -161,7 +161,7 @@ class Slices(HubCase):
             for words in outputs:
                 done = self.tool("lefence-slice", self.design, self.lef, "--team", "f1", "--program", program, *words)
                 self.assertEqual((done.returncode, done.stdout, target.exists()), (1, b"", False), done.stderr)
-                self.assertIn(b"the program finds", done.stderr)
+                self.assertIn(b"the program reads", done.stderr)
 
     def test_the_design_itself_is_not_overwritten(self) -> None:
         before = self.design.read_bytes()
@@ -238,7 +238,9 @@ class Pushes(HubCase):
             before = session.def_text()
         status, said = self.push(pushed, team)
         self.assertEqual(status, 1)
-        difference = f"line 1: 'open {team}' was answered 'ok 0 0', and there 'ok 0 1'; 0 lines before it"
+        difference = (
+            f"line 1: the recorded reply to 'open {team}' is 'ok 0 0', but now it is 'ok 0 1'; the 0 lines before it"
+        )
         self.assertIn(f"team {team} at revision 0, {difference}", said)
         self.assertEqual(self.texts(team, "s"), before)
 
@@ -290,7 +292,7 @@ class Pushes(HubCase):
         for text, number in (("open f1\nwhere f1 0 f1c1\n", 2), ("open f1\n\n", 2), ("open \n", 1)):
             made.write_text(text)
             status, said = self.push(made, "f1")
-            self.assertEqual((status, f"line {number} is no change of a team\n" in said), (1, True), said)
+            self.assertEqual((status, f"line {number} is not a change of a team\n" in said), (1, True), said)
 
     def test_a_journal_without_its_first_changes_is_told_what_its_hub_needs(self) -> None:
         for _ in range(4):
@@ -321,7 +323,10 @@ class Pushes(HubCase):
         made = made_journal(self.folder / "made", journal, zip(lines, [b"ok 0 0\n", b"ok 1\n", b"ok 2\n", b"ok 3\n"]))
         status, said = self.push(made, "f1")
         self.assertEqual(status, 1)
-        self.assertIn("at revision 1, line 3: 'place f1 0 f1c2 8200 0 N' was answered 'ok 2', and there 'no 7", said)
+        self.assertIn(
+            "at revision 1, line 3: the recorded reply to 'place f1 0 f1c2 8200 0 N' is 'ok 2', but now it is 'no 7",
+            said,
+        )
         self.assertEqual(self.talk("f1").ask("open f1"), ["ok 0 1"])
 
     def test_what_cannot_be_pushed_is_told(self) -> None:

@@ -72,9 +72,9 @@ farthest  team       from       to    way  in rows
 far          A      1 0 N   2 2 FS  3.000     1.50
 near         A  0.801 0 N  0.8 0 N  0.001     0.00
 
-cells in the design before alone: 1 (lost)
+cells only in the design before: 1 (lost)
 
-cells in the design after alone: 1 (added)
+cells only in the design after: 1 (added)
 """
 
 
@@ -109,8 +109,8 @@ class Summaries(FrontCase):
         )
         summary = summary_of(BEFORE, [cell("still", "-", (0, 0, "N"))], other)
         self.assertEqual([(team.name, team.lost) for team in summary.teams], [("-", 2), ("A", 4)])
-        self.assertEqual(summary.notes, ["cells of another team than before: 1"])
-        self.assertEqual(text_of(summary).split("\n\n")[1], "note: cells of another team than before: 1")
+        self.assertEqual(summary.notes, ["cells that changed their team: 1"])
+        self.assertEqual(text_of(summary).split("\n\n")[1], "note: cells that changed their team: 1")
 
     def test_two_files_are_summed_up_for_scripts(self) -> None:
         text, after = self.design.read_text(), self.folder / "after.def"
@@ -143,7 +143,7 @@ class Summaries(FrontCase):
         other = self.folder / "other.def"
         other.write_text(self.design.read_text().replace("MICRONS 1000", "MICRONS 500").replace("STEP 200", "STEP 100"))
         done = self.tool("lefence-summary", "t.def", "other.def", "t.lef", "--program", PROGRAM)
-        told = b"lefence-summary: t.def has 1000 database units in a micron, and other.def has 500\n"
+        told = b"lefence-summary: t.def has 1000 database units per micron, but other.def has 500\n"
         self.assertEqual((done.returncode, done.stdout, done.stderr), (1, b"", told))
 
 

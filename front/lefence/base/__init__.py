@@ -1,4 +1,4 @@
-"""What all parts of the package use: the protocol, the faults of tools, the program and its description, and design files.
+"""The common base of all parts: the protocol, faults, the program and its description, and design files.
 
 Modules in reading order:
 - `protocol`: lines and replies of docs/PROTOCOL.md; `tables` has its verbs, and tools/verbs.py generates it.

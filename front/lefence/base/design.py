@@ -40,8 +40,8 @@ STAR = re.compile(rb"(?<!\\)\*")
 
 # Sections, which end with END and their keyword. Other statements end with a semicolon, except BEGINEXT and END DESIGN.
 SECTIONS = frozenset(
-    b"PROPERTYDEFINITIONS VIAS STYLES NONDEFAULTRULES PINS PINPROPERTIES SLOTS FILLS SPECIALNETS NETS SCANCHAINS REGIONS GROUPS "
-    b"COMPONENTS BLOCKAGES".split()
+    b"PROPERTYDEFINITIONS VIAS STYLES NONDEFAULTRULES PINS PINPROPERTIES SLOTS FILLS SPECIALNETS NETS SCANCHAINS "
+    b"REGIONS GROUPS COMPONENTS BLOCKAGES".split()
 )
 
 
@@ -52,9 +52,8 @@ def _parts_of(keyword: bytes) -> tuple[re.Pattern[bytes], re.Pattern[bytes]]:
         last = rb"END" + _ALONE + _SKIP + re.escape(keyword) + _ALONE
     else:
         last = rb"ENDEXT" + _ALONE if keyword == b"BEGINEXT" else _SEMICOLON
-    return re.compile(rb"(?:" + _SKIP + rb"(?!" + last + rb")" + _TOKEN + rb"){1,%d}" % _AT_ONCE, re.S), re.compile(
-        _SKIP + last
-    )
+    tokens = rb"(?:" + _SKIP + rb"(?!" + last + rb")" + _TOKEN + rb"){1,%d}" % _AT_ONCE
+    return re.compile(tokens, re.S), re.compile(_SKIP + last)
 
 
 def _end_of(text: bytes, keyword: re.Match[bytes]) -> int:
@@ -186,11 +185,8 @@ def fences_in(text: bytes) -> list[str]:
 
 def fences_of(text: bytes, found: list[Statement]) -> list[bytes]:
     """Lists the names of the FENCE regions in the order of the text."""
-    return list(
-        dict.fromkeys(
-            entry.name for entry in entries(text, found, b"REGIONS") if entry.value_after(b"TYPE") == b"FENCE"
-        )
-    )
+    regions = entries(text, found, b"REGIONS")
+    return list(dict.fromkeys(region.name for region in regions if region.value_after(b"TYPE") == b"FENCE"))
 
 
 class Design:

@@ -206,9 +206,8 @@ def lost_text(status: int) -> str:
 
 def output_lines(errors: IO[bytes]) -> list[str]:
     """Returns the lines that a program has written to this file so far."""
-    return (
-        os.pread(errors.fileno(), os.fstat(errors.fileno()).st_size, 0).decode(errors="backslashreplace").splitlines()
-    )
+    size = os.fstat(errors.fileno()).st_size
+    return os.pread(errors.fileno(), size, 0).decode(errors="backslashreplace").splitlines()
 
 
 def progress_line(errors: IO[bytes]) -> str | None:
@@ -218,7 +217,7 @@ def progress_line(errors: IO[bytes]) -> str | None:
 
 
 def fault_of(status: int, errors: IO[bytes], otherwise: str) -> Fault:
-    """Returns the fault of a program with this status and the errors in this file, or `otherwise` if it printed none."""
+    """Returns the fault of a program with this status and the errors in this file, or else `otherwise`."""
     text = "\n".join(line for line in output_lines(errors) if not line.startswith(REPAIRING)).strip() or otherwise
     return Fault(status if status in (1, 2, 3) else FAILED, text.removeprefix("lefence: ").replace("\nlefence: ", "; "))
 

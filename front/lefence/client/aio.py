@@ -136,7 +136,7 @@ class Connection:
         return result_of(request, await self.ask_line(request.line))
 
     async def export(self, path: str) -> None:
-        """Has a hub write the committed places of all teams to a file of its machine. Only for the operator's socket."""
+        """Has a hub write the committed places of all teams to a file of its machine, on the operator's socket."""
         await self.ask(Request(f"export {verbs.name(path)}".encode(), lambda words, text: None))
 
     async def bye(self) -> None:

@@ -56,7 +56,7 @@ class Tidied:
 
 @dataclass(frozen=True)
 class Violation:
-    """A placed cell, the first rule that it breaks, and for rule 8 the first cell that it overlaps or is too near to."""
+    """A placed cell, the first rule that it breaks, and for rule 8 the first cell that it conflicts with."""
 
     cell: str
     rule: int
@@ -79,7 +79,7 @@ class Report:
 
 @dataclass(frozen=True)
 class Request(Generic[T]):
-    """A line without its line feed, and a function that reads its accepted reply: the words after `ok`, and the text."""
+    """A line without its line feed, and a function that reads its accepted reply: words after `ok`, and text."""
 
     line: bytes
     read: Callable[[list[str], bytes], T]

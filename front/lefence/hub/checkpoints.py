@@ -98,8 +98,8 @@ class Checkpoints:
                 self._journal.keep_state(path, size, total)
                 self._prune()
             self.seconds, self._backoff, self.count = self.seconds - seconds, 1, self.count + 1
-            text = f"saved a state of {self._journal.header.changes} changes: {size} bytes in {time.monotonic() - begin:.1f} s"
-            self._log_limited("state", text)
+            what = f"saved a state of {self._journal.header.changes} changes"
+            self._log_limited("state", f"{what}: {size} bytes in {time.monotonic() - begin:.1f} s")
         except (Fault, OSError, ServerLost) as fault:
             for leftover in path.parent.glob(f"{path.name}*"):
                 leftover.unlink()

@@ -34,7 +34,8 @@ class Owner:
 
     def note(self) -> bytes:
         """Formats the owner as a note of the journal."""
-        return f"owner {self.host} {self.boot} {self.pid} {self.started} front {self.front} program {self.program}".encode()
+        process = f"{self.host} {self.boot} {self.pid} {self.started}"
+        return f"owner {process} front {self.front} program {self.program}".encode()
 
     def __str__(self) -> str:
         return f"process {self.pid} of host {self.host}"

@@ -2,7 +2,7 @@
 
 A tool `lefence-NAME` is the function `main` of module NAME.
 - `hub`, `journal`: start a hub; check, cut and export journals.
-- `shell`, `push`: type commands, or send the records of a journal to another hub. `endpoint` of the client library connects them.
+- `shell`, `push`: type commands, or send the records of a journal to another hub.
 - `prepare`, `preparation`, `skipped`: make a design ready for the program, and list what the program skips.
 - `slice`, `merge`, `splice`: cut a design into one file a team, and put places back.
 - `repair`, `repair_run`, `repair_remote`: repair a design by the program, here or through a hub.

@@ -105,8 +105,9 @@ class Drawing:
         yield "</g>\n"
         yield from self._names()
         # Cover what is drawn outside the chip, for example arrows from far away.
-        bounding_box = f"M0 0h{width:.2f}v{height:.2f}h-{width:.2f}zM{SPACE} {HEAD}h{self.wide:.2f}v{self.high:.2f}h-{self.wide:.2f}z"
-        yield f'<path fill="#ffffff" fill-rule="evenodd" d="{bounding_box}"/>\n'
+        outer = f"M0 0h{width:.2f}v{height:.2f}h-{width:.2f}z"
+        inner = f"M{SPACE} {HEAD}h{self.wide:.2f}v{self.high:.2f}h-{self.wide:.2f}z"
+        yield f'<path fill="#ffffff" fill-rule="evenodd" d="{outer}{inner}"/>\n'
         heading = text_of(shortened(facts.name, 60))
         yield f'<text x="{SPACE}" y="38" font-size="20" font-weight="bold" fill="{_INK}">{heading}</text>\n'
         yield f'<text x="{SPACE}" y="60" font-size="13" fill="{_FAINT}">{self._summary()}</text>\n'
@@ -253,7 +254,8 @@ class Drawing:
                 x = SPACE + ((part.left + part.right) / 2 - self.view.left) * self.scale
                 y = HEAD + (self.view.top - (part.bottom + part.top) / 2) * self.scale
                 wide = size * (0.75 * len(name) + 1)
-                yield f'<rect x="{x - wide / 2:.1f}" y="{y - size * 0.8:.1f}" width="{wide:.1f}" height="{size * 1.6:.1f}" '
+                yield f'<rect x="{x - wide / 2:.1f}" y="{y - size * 0.8:.1f}" width="{wide:.1f}" '
+                yield f'height="{size * 1.6:.1f}" '
                 yield f'rx="{size * 0.4:.1f}" fill="#ffffff" fill-opacity="0.85"/>\n'
                 style = f'font-size="{size:.1f}" fill="{darker(colour_of(at, fence.name))}"'
                 yield f'<text x="{x:.1f}" y="{y + size * 0.36:.1f}" {style}>{text_of(name)}</text>\n'

@@ -156,10 +156,10 @@ ENGINES = {"local": local, "slurm": slurm, "lsf": lsf}
 def parser() -> Parser:
     made = Parser(
         TOOL,
-        "Runs the teams of a design on a farm, each on its slice with a hub of its own on any machine. The journals are in\n"
-        "WORK, which all machines share. COMMAND gets its team's socket as LEFENCE_SOCKET and the team's name as\n"
-        "LEFENCE_TEAM. Without `-- COMMAND` each team is repaired, as by `lefence repair`. At the end the work of all teams\n"
-        "is merged into one design. A second run repeats only the teams that failed.",
+        "Runs the teams of a design on a farm, each on its slice with a hub of its own on any machine. The\n"
+        "journals are in WORK, which all machines share. COMMAND gets its team's socket as LEFENCE_SOCKET and the\n"
+        "team's name as LEFENCE_TEAM. Without `-- COMMAND` each team is repaired, as by `lefence repair`. At the\n"
+        "end the work of all teams is merged into one design. A second run repeats only the teams that failed.",
         f"{TOOL} work chip.def tech.lef cells.lef --engine slurm --option=--mem=2G -- python3 place.py",
     )
     add = made.add_argument

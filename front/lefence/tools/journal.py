@@ -132,7 +132,7 @@ def is_of(record: Record, team: str | None) -> bool:
 
 
 def cut(path: Path, at: int | None, takes_over: bool) -> int:
-    """Truncates a journal at the end of a batch, by default before its first damage. First it copies the whole journal."""
+    """Copies a journal, then truncates it at the end of a batch, by default before its first damage."""
     with open(path, "r+b") as file:
         lock(file.fileno(), path)
         reader = Reader(file.fileno(), path)
@@ -224,8 +224,8 @@ def verify(path: Path, given: list[Path], wanted: str | None, is_all: bool) -> i
 def parser() -> Parser:
     made = Parser(
         TOOL,
-        "Inspects a journal of lefence-hub, and makes a damaged one usable. `check` prints what is intact (status 1 if\n"
-        "anything is damaged), `list` who changed what and when. `cut` truncates it, `export` writes lines for\n"
+        "Inspects a journal of lefence-hub, and makes a damaged one usable. `check` prints what is intact (status 1\n"
+        "if anything is damaged), `list` who changed what and when. `cut` truncates it, `export` writes lines for\n"
         "`lefence replay` or a journal for lefence-push, and `verify` compares each reply with the program's.",
         f"{TOOL} check chip.journal\n{TOOL} list chip.journal --team A\n{TOOL} verify chip.journal",
     )

@@ -141,8 +141,8 @@ def technology_of(facts: Facts, libraries: Iterable[Path]) -> bytes:
 def parser() -> Parser:
     made = Parser(
         TOOL,
-        "Writes the violations of a design as a KLayout report database: a category for each rule and a marker for each\n"
-        "violation, with the boxes and names of the cell and of the one that it overlaps.",
+        "Writes the violations of a design as a KLayout report database: a category for each rule and a marker for\n"
+        "each violation, with the boxes and names of the cell and of the one that it overlaps.",
         f"{TOOL} chip.def tech.lef cells.lef --output chip.lyrdb --technology chip.lyt\n"
         "klayout -nn chip.lyt chip.def -m chip.lyrdb",
     )

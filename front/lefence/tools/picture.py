@@ -122,9 +122,10 @@ def _klayout(outputs: list[Path]) -> str:
 def parser() -> Parser:
     made = Parser(
         TOOL,
-        "Draws a design: rows, fences, obstacles, and cells in the colour of their team; cells that break a rule are red.\n"
-        "Many cells are drawn as a map of bins: the darker a bin, the more of its area is taken.",
-        f"{TOOL} chip.def tech.lef cells.lef -o chip.svg\n{TOOL} new.def tech.lef cells.lef --before chip.def -o moves.png",
+        "Draws a design: rows, fences, obstacles, and cells in the colour of their team. Cells that break a rule are\n"
+        "red. Many cells are drawn as a map of bins: the darker a bin, the more of its area is taken.",
+        f"{TOOL} chip.def tech.lef cells.lef -o chip.svg\n"
+        f"{TOOL} new.def tech.lef cells.lef --before chip.def -o moves.png",
     )
     made.add_design()
     add = made.add_argument

@@ -132,8 +132,8 @@ def _box(corners: list[str], units: int) -> Box:
 def parser() -> Parser:
     made = Parser(
         TOOL,
-        "Makes a DEF file loadable: adds rows if it has none, adds fences and groups, removes fillers. All other bytes\n"
-        "stay. The result is written if the program can load it. Lengths are microns.",
+        "Makes a DEF file loadable: adds rows if it has none, adds fences and groups, removes fillers. All other\n"
+        "bytes stay. The result is written if the program can load it. Lengths are microns.",
         f"{TOOL} chip.def tech.lef cells.lef --look\n"
         f"{TOOL} chip.def tech.lef cells.lef --output ready.def --fillers 'FILL*' \\\n"
         "    --fence A 0 0 100 50 --group A 'u1/*' 'u2/*'",
@@ -234,7 +234,8 @@ def check(program: str, text: bytes, libraries: list[Path], name: str) -> CheckR
         heights = ", ".join(f"{height / summary.facts.units:g}" for height in sorted(summary.heights)[:5])
         site = f"{summary.facts.site}, {summary.facts.site_height / summary.facts.units:g} microns high"
         lines.append(
-            f"no cell fits the rows of site {site}: the cells are {heights} microns high; use --rows --site NAME for another site"
+            f"no cell fits the rows of site {site}: the cells are {heights} microns high;"
+            " use --rows --site NAME for another site"
         )
         status = REFUSED
     elif summary.is_all_illegal:

@@ -100,7 +100,7 @@ class Push:
             difference = f"the recorded reply to {_text(line)!r} is {_text(recorded)!r}, but now it is {_text(reply)!r}"
             raise Fault(
                 REFUSED,
-                f"{at}: {difference}; the {self.count} lines before it had their recorded replies, nothing more is sent",
+                f"{at}: {difference}; the {self.count} lines before it had their recorded replies, no more is sent",
             )
         self.count += 1
         if (revision := revision_of(line, recorded)) is not None:
@@ -181,9 +181,9 @@ def push_file(path: Path, where: str, ahead: int, continues: bool) -> Push:
 def parser() -> Parser:
     found = Parser(
         TOOL,
-        "Sends the commands of a journal, for example of a hub over a slice, or the lines of `lefence repair --lines`,\n"
-        "to the hub of the whole design. Each reply must be the recorded one. At the first other reply it stops, with\n"
-        "status 1.",
+        "Sends the commands of a journal, for example of a hub over a slice, or the lines of `lefence repair\n"
+        "--lines`, to the hub of the whole design. Each reply must be the recorded one. At the first other reply it\n"
+        "stops, with status 1.",
         f"{TOOL} A.journal /run/lefence/A.sock",
     )
     add = found.add_argument

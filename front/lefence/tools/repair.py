@@ -65,9 +65,9 @@ def _end_of(total: dict[str, Any], is_written: bool, team: str | None = None) ->
 def parser() -> Parser:
     made = Parser(
         TOOL,
-        "Runs `lefence repair`, which moves each cell that is unplaced or breaks a rule to a legal place near its old one.\n"
-        "It writes the DEF file with these places, or sends them to a hub. The status is 4 if some cell found no place: such\n"
-        "cells are listed, and are unplaced in the file.",
+        "Runs `lefence repair`, which moves each cell that is unplaced or breaks a rule to a legal place near its old\n"
+        "one. It writes the DEF file with these places, or sends them to a hub. The status is 4 if some cell found no\n"
+        "place: such cells are listed, and are unplaced in the file.",
         f"{TOOL} chip.def tech.lef cells.lef --output new.def\n{TOOL} chip.def tech.lef cells.lef --dry-run --team A",
     )
     made.add_design()

@@ -120,37 +120,33 @@ class RepairRun:
     def report(self, moves: list[Move]) -> None:
         """Prints the result of each team and its unrepaired cells on standard error."""
         old_spots = {(move.team, move.cell): move.old for move in moves}
-        text = [team for team in self.teams if team["cells"] or team["moved"] or team["turned"]]
-        for team in text:
+        reported = [team for team in self.teams if team["cells"] or team["moved"] or team["turned"]]
+        for team in reported:
             name = team["team"]
             self._report_counts(name, team, len(team["left"]))
             for cell, gap in zip(team["left"], team["gaps"], strict=True):
                 old = old_spots[name, cell]
                 origin = f"was at {_spot_text(old)}" if old else "had none"
-                gap_text = (
-                    f"the widest gap of the rows near it is {gap / self._units:.3f} microns"
-                    if gap
-                    else "no site near it is free"
-                )
-                log(self._tool, f"team {name}: no place for {cell}, which {origin}; {gap_text}")
-        if len(text) > 1:
+                widest = f"the widest gap of the rows near it is {gap / self._units:.3f} microns"
+                near = widest if gap else "no site near it is free"
+                log(self._tool, f"team {name}: no place for {cell}, which {origin}; {near}")
+        if len(reported) > 1:
             self._report_counts("all", self.total, self.total["left_cells"])
 
     def _report_counts(self, name: str, counts: dict[str, Any], unrepaired: int) -> None:
         moved = counts["moved"]
-        text = f"{moved} moved, {counts['turned']} turned, {counts['placed']} newly placed, {counts['kept']} unmoved, {unrepaired} unrepaired"
+        text = f"{moved} moved, {counts['turned']} turned, {counts['placed']} newly placed, {counts['kept']} unmoved"
+        text += f", {unrepaired} unrepaired"
         if counts["pushed"]:
             text += f"; {number(counts['pushed'], 'legal cell')} pushed"
+        log(self._tool, f"team {name}: {text}")
+        if not moved:
+            return
         mean, largest, least = (
-            distance / self._units
-            for distance in (counts["total"] / max(1, moved), counts["largest"], counts["least_largest"])
+            distance / self._units for distance in (counts["total"] / moved, counts["largest"], counts["least_largest"])
         )
-        distances = (
-            f"; moved by {mean:.3f} microns on average, {largest:.3f} at most (no repair can do with less than {least:.3f})"
-            if moved
-            else ""
-        )
-        log(self._tool, f"team {name}: {text}{distances}")
+        distances = f"mean {mean:.3f}, largest {largest:.3f} (at least {least:.3f} in any repair)"
+        log(self._tool, f"team {name}: displacement in microns: {distances}")
 
 
 def print_moves(moves: list[Move], unrepaired: Mapping[str, list[str]]) -> None:

@@ -106,7 +106,7 @@ def report_of(
     most: int = MOST_LISTED,
     before: Path | None = None,
 ) -> Report:
-    """Collects a report of a design with at most `most` violations; with `before`, also the differences to that file."""
+    """Collects a report of a design with at most `most` violations; with `before`, also the changes since."""
     with ExitStack() as both:
         description = both.enter_context(Description(program, design, libraries))
         scene = Scene(description.frame, limit, most)
@@ -340,9 +340,10 @@ def _facts(scene: Scene) -> str:
 def parser() -> Parser:
     made = Parser(
         TOOL,
-        "Writes a page about a design: a picture to move and zoom, the cells that break a rule with links to their places,\n"
-        "and each team's cells and utilization. The page is one file that needs no network.",
-        f"{TOOL} chip.def tech.lef cells.lef -o report.html\n{TOOL} new.def tech.lef cells.lef --before chip.def -o report.html",
+        "Writes a page about a design: a picture to move and zoom, the cells that break a rule with links to their\n"
+        "places, and each team's cells and utilization. The page is one file that needs no network.",
+        f"{TOOL} chip.def tech.lef cells.lef -o report.html\n"
+        f"{TOOL} new.def tech.lef cells.lef --before chip.def -o report.html",
     )
     made.add_design()
     add = made.add_argument

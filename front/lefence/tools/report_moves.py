@@ -45,7 +45,7 @@ def placement_diff(file: Path, early: Description, late: Description, cells: Ite
 
 
 def data_of(diff: PlacementDiff) -> dict[str, object]:
-    """The data for the page's script: each arrow's ends, colour number and cell; and the places of the farthest cells."""
+    """The data for the page's script: each arrow's ends, colour number and cell; places of the farthest cells."""
     arrows: list[list[object]] = []
     colours: list[str] = []
     for _, colour, moves in by_length(diff.moves, diff.row_height):
@@ -78,7 +78,8 @@ def section_of(diff: PlacementDiff) -> str:
     top = f'<div class="top"><h2>Since {text_of(diff.file.name)}</h2><p class="faint">{note}</p></div>'
     tables = f'<div class="scroll" style="max-height: 34rem">{_teams(summary)}</div>'
     if summary.farthest:
-        tables += f'<div class="top"><h2>Moved farthest</h2></div><div class="scroll" style="max-height: 34rem">{_farthest(summary)}</div>'
+        tables += '<div class="top"><h2>Moved farthest</h2></div>'
+        tables += f'<div class="scroll" style="max-height: 34rem">{_farthest(summary)}</div>'
     return f'<section class="card">\n{top}\n{tables}\n</section>'
 
 

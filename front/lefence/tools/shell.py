@@ -66,7 +66,8 @@ def result_lines(verb: str, fields: list[str], result: object) -> list[str]:
         ]
     if isinstance(result, Legalized):
         return [
-            f"{fields[0]} is now at ({result.place.x}, {result.place.y}), {result.place.orient}; revision {result.revision}"
+            f"{fields[0]} is now at ({result.place.x}, {result.place.y}), {result.place.orient};"
+            f" revision {result.revision}"
         ]
     if isinstance(result, Tidied):
         return [f"{result.moved} cells moved; revision {result.revision}"]

@@ -104,12 +104,14 @@ def _of_teams(design: Design) -> Iterator[Remark]:
             cells[team] += 1
             region = component.value_after(b"REGION") if b"REGION" in component.text else None
             if region in fences and region != team:
-                text = f"+ REGION {shown(region)} of component {shown(component.name)} has no effect, only a group binds to a fence: it is in"
-                yield Remark("+ REGION of components", f"{text} team {shown(team)}", _place_of(component))
+                what = f"+ REGION {shown(region)} of component {shown(component.name)} has no effect"
+                text = f"{what}, only a group binds to a fence: it is in team {shown(team)}"
+                yield Remark("+ REGION of components", text, _place_of(component))
     yield from patterns.unmatched()
     for group in design.entries(b"GROUPS"):
         if (region := group.value_after(b"REGION")) is not None and region not in fences:
-            text = f"group {shown(group.name)} is bound to {shown(region)}, which is not a fence: its cells are in team {GROUND}"
+            what = f"group {shown(group.name)} is bound to {shown(region)}, which is not a fence"
+            text = f"{what}: its cells are in team {GROUND}"
             yield Remark("groups without a fence", text, _place_of(group))
     for region_entry in design.entries(b"REGIONS"):
         if region_entry.name in fences and not cells[region_entry.name]:

@@ -117,7 +117,7 @@ def refuse_difference(program: str, whole: Path, part: bytes, libraries: list[Pa
             found = [_without_rule(cell) for cell in second.cells()]
     if own != found:
         pair = next(pair for pair in zip_longest(own, found) if pair[0] != pair[1])
-        counts = f"the program reads {len(own)} cells of team {team} in the whole design, and {len(found)} cells in the slice"
+        counts = f"the program reads {len(own)} cells of team {team} in the whole design, but {len(found)} in the slice"
         names = " and ".join(f"{cell.name} {place}" for cell, place in zip(pair, ("there", "here")) if cell)
         raise Fault(REFUSED, f"{counts}; the first difference is {names}; nothing is written")
 
@@ -140,7 +140,8 @@ def parser() -> Parser:
         "Writes a DEF file with the frame and one team's cells only. On it, the program answers that team's commands\n"
         "as on the whole design, byte for byte. With the LEF files, the program checks that the slice has the same\n"
         "frame and cells as the whole design; otherwise it is not written.",
-        f"{TOOL} chip.def tech.lef cells.lef --team A --output A.def\nlefence replay A.def tech.lef cells.lef < session.txt",
+        f"{TOOL} chip.def tech.lef cells.lef --team A --output A.def\n"
+        "lefence replay A.def tech.lef cells.lef < session.txt",
     )
     sliced.add_argument("design", metavar="DEF", type=Path, help="the whole design")
     sliced.add_argument(

@@ -38,8 +38,8 @@ def refuse_other_units(before: tuple[Path, Frame], after: tuple[Path, Frame]) ->
 def parser() -> Parser:
     made = Parser(
         TOOL,
-        "Prints for each team, and for all teams together, how many cells moved between two placements and how far, their\n"
-        "violations, and their utilization of the ground.",
+        "Prints for each team, and for all teams together, how many cells moved between two placements and how far,\n"
+        "their violations, and their utilization of the ground.",
         f"{TOOL} before.def after.def tech.lef cells.lef",
     )
     add = made.add_argument

@@ -42,7 +42,7 @@ class _Sweep:
         self._here: list[tuple[Box, str]] = []
 
     def between(self, bottom: int, top: int) -> list[tuple[Box, str]]:
-        """Returns disjoint boxes of each owner between two heights, by their left sides. The heights must not decrease."""
+        """Returns disjoint boxes of each owner between two heights, by left sides. The heights must not decrease."""
         self._here = [pair for pair in self._here if pair[0].top > bottom]
         while self._later and self._later[-1][0].bottom < top:
             pair = self._later.pop()
