@@ -45,13 +45,15 @@ LOOK = re.compile(r"is_query \(To team \(Within session \(?(\w+)(?: \w+)*\)?\)\)
 NUMBERED = re.compile(r'b"(\d+)"\)?,\s*(?:Word::Text\()?b"(\w+)"')
 HEADING = '''"""The verbs, refusals, rules and orientations of the program.
 
-tools/verbs.py --write makes this file of the program's sources: change those.
+tools/verbs.py --write generates this file from the program's sources: edit those.
 """
 
 from __future__ import annotations
 
-# A verb of a team: its name, its fields behind TEAM (and N), the words of its reply behind `ok`, whether an accepted one changes
-# what later replies are, whether it makes a revision of the team, and what it does.'''
+# A verb of a team: its name, its fields after TEAM (and N), the words of its reply after `ok`, whether an accepted one
+# changes later replies, whether it makes a revision of the team, and what it does.'''
+# The most columns of a line of the front.
+WIDEST = 120
 
 
 class NotThere(Exception):
@@ -137,11 +139,12 @@ def front_verbs(request: str, verb_text: str) -> list[str]:
     said = orders | actions | changes
     if left := (said.keys() - {verb.variant for verb in verbs}) - {"Within", "Change"}:
         raise NotThere(f"VERBS lacks {', '.join(sorted(left))}")
-    return [front_verb(verb, said.get(verb.variant, [""]), verb.variant not in unchanging, verb.variant in changes) for verb in verbs]
+    rows = (front_verb(verb, said.get(verb.variant, [""]), verb.variant not in unchanging, verb.variant in changes) for verb in verbs)
+    return [line for row in rows for line in row]
 
 
-def front_verb(verb: Verb, said: list[str], is_change: bool, makes_revision: bool) -> str:
-    """The line of a verb in the front's table."""
+def front_verb(verb: Verb, said: list[str], is_change: bool, makes_revision: bool) -> list[str]:
+    """The line of a verb in the front's table, or two lines if it is too long."""
     answers = ANSWERS.fullmatch(said[-1])
     reply = WORDS.match(answers[1]) if answers else None
     if len(said) != 2 or not reply:
@@ -149,8 +152,9 @@ def front_verb(verb: Verb, said: list[str], is_change: bool, makes_revision: boo
     if makes_revision and not reply[1].startswith(" REV"):
         raise NotThere(f"the reply of {verb.name} does not begin with its revision")
     what = said[0][0].lower() + said[0][1:].removesuffix(".")
-    told = (quoted(verb.name), listed(verb.fields.split()), listed(reply[1].split()), str(is_change), str(makes_revision), quoted(what))
-    return f"    ({', '.join(told)}),"
+    words = (quoted(verb.name), listed(verb.fields.split()), listed(reply[1].split()), str(is_change), str(makes_revision))
+    line = f"    ({', '.join(words)}, {quoted(what)}),"
+    return [line] if len(line) <= WIDEST else [f"    ({', '.join(words)},", f"     {quoted(what)}),"]
 
 
 def quoted(text: str) -> str:
@@ -196,13 +200,17 @@ def front_tables() -> list[str]:
 
 def tcl_tables(tables: list[str]) -> list[str]:
     """The lines of the table of Tcl, by those of the front's tables: of each verb what a proc of it needs."""
-    rows = [ast.literal_eval(line.strip().rstrip(",")) for line in tables if line.startswith('    ("')]
-    lines = ["# The verbs of the program: of each its fields behind TEAM and N, the words of its reply behind ok, and what it does."]
-    lines += ["# tools/verbs.py --write makes this file of the program's sources: change those.", "", "namespace eval lefence {", "    variable VERBS {"]
+    [verbs] = [each.value for each in ast.parse("\n".join(tables)).body if isinstance(each, ast.AnnAssign) and each.value]
+    rows = ast.literal_eval(verbs)
+    lines = ["# The verbs of the program: the fields after TEAM and N, the words of the reply after ok, and what the verb does."]
+    lines += ["# tools/verbs.py --write generates this file from the program's sources: edit those.", ""]
+    lines += ["namespace eval lefence {", "    variable VERBS {"]
     for name, fields, reply, _, _, text in rows:
         if set(text) & set("{}\\"):
             raise NotThere(f"what {name} does is told with braces or backslashes, which the table of Tcl cannot have")
-        lines.append(f"        {name} {{fields {{{' '.join(fields)}}} reply {{{' '.join(reply)}}} does {{{text}}}}}")
+        head = f"        {name} {{fields {{{' '.join(fields)}}} reply {{{' '.join(reply)}}}"
+        line = f"{head} does {{{text}}}}}"
+        lines += [line] if len(line) <= WIDEST else [head, f"            does {{{text}}}}}"]
     return [*lines, "    }", "}", ""]
 
 
