@@ -84,11 +84,11 @@ class Browser:
         text = json.dumps(request).encode() + b"\0"
         while text:
             text = text[os.write(self._asking, text) :]
-        while (told := self._next()).get("id") != number:
-            self.events.append(told)
-        if "error" in told:
-            raise AssertionError(f"{method}: {told['error']}")
-        result: dict[str, Any] = told["result"]
+        while (message := self._next()).get("id") != number:
+            self.events.append(message)
+        if "error" in message:
+            raise AssertionError(f"{method}: {message['error']}")
+        result: dict[str, Any] = message["result"]
         return result
 
     def _next(self) -> dict[str, Any]:
@@ -101,8 +101,8 @@ class Browser:
                 raise AssertionError("the browser has ended")
             self._text += piece
         text, self._text = self._text.split(b"\0", 1)
-        told: dict[str, Any] = json.loads(text)
-        return told
+        message: dict[str, Any] = json.loads(text)
+        return message
 
     def open(self, address: str) -> None:
         """Loads a page."""

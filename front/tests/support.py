@@ -100,12 +100,12 @@ class Script:
             f"def {session}": 0.7,
         }
         text = rng.choices(list(verbs), list(verbs.values()))[0].encode()
-        return self.spoilt(text) if self.hostile and rng.random() < 0.25 else text
+        return self.corrupted(text) if self.hostile and rng.random() < 0.25 else text
 
     def lines(self, count: int) -> bytes:
         return b"".join(self.line() + b"\n" for _ in range(count))
 
-    def spoilt(self, line: bytes) -> bytes:
+    def corrupted(self, line: bytes) -> bytes:
         rng, at = self.rng, self.rng.randrange(len(line))
         odd = bytes([rng.choice([byte for byte in range(256) if byte != 10])])
         return rng.choice(
@@ -269,28 +269,28 @@ class Hub:
 
     def __init__(self, folder: Path, words: list[str], log: str = "log") -> None:
         self.log = folder / log
-        with open(self.log, "wb") as told:
-            self.process = subprocess.Popen([*tool_words("lefence-hub"), *words], stderr=told)
+        with open(self.log, "wb") as errors:
+            self.process = subprocess.Popen([*tool_words("lefence-hub"), *words], stderr=errors)
 
-    def told(self) -> str:
+    def log_text(self) -> str:
         return self.log.read_text()
 
     def wait_ready(self) -> str:
         """Its line when it is ready, or all that it said where it ended."""
         last = time.monotonic() + PATIENCE
         while self.process.poll() is None and time.monotonic() < last:
-            for line in self.told().splitlines():
+            for line in self.log_text().splitlines():
                 if ": ready:" in line:
                     return line
             time.sleep(0.01)
-        return self.told()
+        return self.log_text()
 
     def wait_for(self, text: str) -> None:
         """Waits until the hub has said this."""
         last = time.monotonic() + PATIENCE
-        while text not in self.told():
+        while text not in self.log_text():
             if time.monotonic() > last:
-                raise AssertionError(f"not said: {text}; but: {self.told()}")
+                raise AssertionError(f"not said: {text}; but: {self.log_text()}")
             time.sleep(0.01)
 
     def kill(self) -> None:

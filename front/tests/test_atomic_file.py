@@ -17,7 +17,7 @@ from lefence.base.atomic_file import atomic_file
 
 
 class WholeFiles(FrontCase):
-    def test_it_takes_the_name_at_the_end(self) -> None:
+    def test_the_file_gets_its_name_at_the_end(self) -> None:
         target, link = self.folder / "x", self.folder / "link"
         link.symlink_to(target)
         with atomic_file(link, 0o600) as file:
@@ -34,7 +34,7 @@ class WholeFiles(FrontCase):
         self.assertEqual((target.read_bytes(), target.stat().st_mode & 0o777, link.is_symlink()), (b"two", 0o640, True))
         self.assertEqual(sorted(os.listdir(self.folder)), ["link", "t.def", "t.lef", "x", "x.partial0"])
 
-    def test_the_disk_has_it_before_it_takes_the_name(self) -> None:
+    def test_the_bytes_are_synced_before_the_file_gets_its_name(self) -> None:
         steps, sizes = mock.Mock(), []
         steps.replace.side_effect = os.rename
         steps.fsync.side_effect = lambda end: sizes.append(os.fstat(end).st_size)
@@ -44,7 +44,7 @@ class WholeFiles(FrontCase):
             file.write(b"one")
         self.assertEqual(([call[0] for call in steps.mock_calls], sizes[0]), (["fsync", "replace", "fsync"], 3))
 
-    def test_a_fault_leaves_what_was_there(self) -> None:
+    def test_an_exception_keeps_the_old_file(self) -> None:
         target = self.folder / "x"
         listings: tuple[list[str], ...] = ([], ["x"])
         for before in listings:
@@ -55,7 +55,7 @@ class WholeFiles(FrontCase):
             target.write_bytes(b"old")
         self.assertEqual(target.read_bytes(), b"old")
 
-    def test_a_full_disk_leaves_the_file_that_a_tool_would_write_over(self) -> None:
+    def test_a_full_disk_keeps_the_old_file(self) -> None:
         target = self.folder / "x.svg"
         for words in (
             ["slice", "t.def", "--team", "f0", "--output"],
@@ -71,7 +71,7 @@ class WholeFiles(FrontCase):
             )
             self.assertEqual(sorted(os.listdir(self.folder)), ["t.def", "t.lef", "x.svg"])
 
-    def test_a_tool_that_is_told_to_end_leaves_nothing_behind(self) -> None:
+    def test_a_terminated_tool_leaves_no_partial_file(self) -> None:
         words = ["t.def", "t.lef", "--output", "x", "--program", self.describing("exec sleep 10")]
         before = sorted(os.listdir(self.folder))
         with subprocess.Popen([*tool_words("lefence-markers"), *words], cwd=self.folder) as tool:
@@ -82,7 +82,7 @@ class WholeFiles(FrontCase):
             tool.terminate()
         self.assertEqual((tool.returncode, sorted(os.listdir(self.folder))), (128 + signal.SIGTERM, before))
 
-    def test_a_device_is_written_to_as_it_is(self) -> None:
+    def test_a_device_is_written_directly(self) -> None:
         reader, writer = os.pipe()
         with atomic_file(Path(f"/dev/fd/{writer}")) as file:
             file.write(b"x")

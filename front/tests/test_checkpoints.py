@@ -90,10 +90,10 @@ class Segments(unittest.TestCase):
     def setUp(self) -> None:
         self.folder = Path(self.enterContext(tempfile.TemporaryDirectory()))
         self.path = self.folder / "journal"
-        self.said: list[str] = []
+        self.messages: list[str] = []
 
     def open(self) -> Journal:
-        return Journal(self.path, TEXTS, self.said.append)
+        return Journal(self.path, TEXTS, self.messages.append)
 
     def lines_of(self, journal: Journal) -> list[bytes]:
         """What the state and the tail come to."""
@@ -150,13 +150,13 @@ class Segments(unittest.TestCase):
             self.fill(4, lambda: os.write(writing, b"x"))
             os._exit(0)
         os.close(writing)
-        with open(reading, "rb") as told:
-            count = len(told.read())
+        with open(reading, "rb") as log:
+            count = len(log.read())
         return count if os.waitstatus_to_exitcode(os.waitpid(child, 0)[1]) else None
 
     @mock.patch("os.fsync", mock.Mock())
     @mock.patch("os.fdatasync", mock.Mock())
-    def test_at_each_step_a_kill_and_a_cut_of_the_power_lose_nothing(self) -> None:
+    def test_a_kill_or_a_power_cut_at_any_step_loses_nothing(self) -> None:
         for is_cut in (False, True):
             for step in itertools.count():
                 count = self.end_at(step, is_cut)
@@ -177,20 +177,20 @@ class Segments(unittest.TestCase):
             self.path.unlink()
             shutil.rmtree(Archive(self.path).folder)
 
-    def test_two_states_are_kept_with_the_journal_from_the_first_on(self) -> None:
+    def test_two_states_are_kept_with_the_journal_from_the_first(self) -> None:
         self.fill(4)
         self.assertEqual(self.names(), ["4.journal", "4.state", "5.state"])
         with self.assertRaises(Fault) as caught:
             list(read_records(self.path))
         self.assertIn("its first 5 changes exist only as a state", str(caught.exception))
-        self.assertEqual((self.found(), self.said), (self.lines(8), []))
+        self.assertEqual((self.found(), self.messages), (self.lines(8), []))
 
-    def test_a_state_that_is_spoilt_is_made_up_for_by_the_one_before(self) -> None:
+    def test_the_state_before_replaces_a_damaged_one(self) -> None:
         self.fill(3)
         past = Archive(self.path)
         past.state(4).write_bytes(b"pad A 0 7\n" * 5)
         self.assertEqual(self.found(), self.lines(6))
-        self.assertIn("4.state is not the state that the journal names", self.said[0])
+        self.assertIn("4.state is not the state that the journal names", self.messages[0])
         self.assertEqual(self.names(), ["3.journal", "3.state"])
         past.state(3).unlink()
         before = self.path.read_bytes()
@@ -199,7 +199,7 @@ class Segments(unittest.TestCase):
         self.assertIn("segment 3 has no intact state, and", str(caught.exception))
         self.assertEqual((caught.exception.status, self.path.read_bytes(), self.names()), (1, before, ["3.journal"]))
 
-    def test_damage_to_a_segment_counts_where_no_state_behind_it_is_whole(self) -> None:
+    def test_damage_to_a_segment_matters_if_no_later_state_is_intact(self) -> None:
         self.fill(1)
         past = Archive(self.path)
         whole = past.segment(1).read_bytes()
@@ -223,7 +223,7 @@ class Segments(unittest.TestCase):
         self.fill(3)
         self.assertEqual(self.found(), self.lines(10))
 
-    def test_a_past_whose_journal_is_gone_is_not_passed_over(self) -> None:
+    def test_an_archive_without_its_journal_is_refused(self) -> None:
         self.fill(2)
         self.path.unlink()
         with self.assertRaises(Fault) as caught:
@@ -231,7 +231,7 @@ class Segments(unittest.TestCase):
         self.assertIn("move it away to start a new journal", str(caught.exception))
         self.assertEqual((caught.exception.status, self.names()), (1, ["1.journal", "2.journal", "2.state", "3.state"]))
 
-    def test_a_journal_without_segments_is_read_and_gone_on_with(self) -> None:
+    def test_a_journal_without_segments_is_read_and_continued(self) -> None:
         journal = self.open()
         self.append(journal)
         journal.close()
@@ -268,10 +268,10 @@ class Checkpoints(HubCase):
         """Waits until a state is kept with which a segment of that number or a later one begins."""
         last = time.monotonic() + PATIENCE
         while max(Archive(self.journal).numbers("state"), default=0) < count:
-            self.assertLess(time.monotonic(), last, self.hub.told())
+            self.assertLess(time.monotonic(), last, self.hub.log_text())
             time.sleep(0.01)
 
-    def test_clients_are_told_the_same_over_checkpoints_starts_and_restored_programs(self) -> None:
+    def test_replies_are_the_same_over_checkpoints_starts_and_restored_programs(self) -> None:
         scripts = [Script(self.rng, team) for team in (0, 1, TEAMS)]
         lines = [self.rng.choice(scripts).line() for _ in range(1500)]
         found, talkers = b"", 0
@@ -288,7 +288,7 @@ class Checkpoints(HubCase):
         self.assertEqual(found, self.direct(b"\n".join(lines) + b"\n"))
         self.assertEqual(self.hub.end(), 0)
 
-    def test_sessions_undo_padding_and_what_is_not_committed_are_there_after_a_start(self) -> None:
+    def test_a_start_restores_sessions_undo_padding_and_uncommitted_changes(self) -> None:
         self.start(*self.OFTEN)
         talker = self.talk("f0")
         talker.ask(
@@ -314,7 +314,7 @@ class Checkpoints(HubCase):
             status["past_bytes"], sum(path.stat().st_size for path in Path(f"{self.journal}.past").iterdir())
         )
 
-    def test_an_export_is_that_of_all_changes(self) -> None:
+    def test_an_export_has_all_changes(self) -> None:
         self.start(*self.OFTEN, "--export", str(self.folder / "end.def"))
         talker, operator, lines = self.talk("f0"), self.talk("operator"), ["open f0"]
         for turn in range(5):
@@ -326,7 +326,7 @@ class Checkpoints(HubCase):
         self.assertEqual(self.hub.end(), 0)
         self.assertEqual((self.folder / "end.def").read_bytes(), (self.folder / "want.def").read_bytes())
 
-    def test_an_end_leaves_a_state_where_it_is_worth_it(self) -> None:
+    def test_the_last_checkpoint_is_made_if_it_is_worth_its_time(self) -> None:
         for words, is_made in (
             (("--tail-bytes", "100000"), False),
             (("--tail-bytes", "10000"), True),
@@ -339,7 +339,7 @@ class Checkpoints(HubCase):
         self.assertIn("ready", self.start())
         self.assertEqual(self.talk("f0").ask("open f0", "where f0 0 f0c9"), ["ok 0 120", f"ok {spot(0, 39)}"])
 
-    def test_a_state_that_cannot_be_made_is_told_and_nothing_is_lost(self) -> None:
+    def test_a_state_that_cannot_be_made_is_reported_and_nothing_is_lost(self) -> None:
         self.take_program('case "$*" in *--save*) exit 3;; esac')
         self.start(*self.OFTEN)
         talker = self.talk("f0")
@@ -352,7 +352,7 @@ class Checkpoints(HubCase):
         self.assertIn("ready", self.start(*self.OFTEN))
         self.assertEqual(self.talk("f0").ask("open f0", "where f0 0 f0c9"), ["ok 0 100", f"ok {spot(0, 99)}"])
 
-    def test_a_program_whose_hub_was_killed_spoils_no_state(self) -> None:
+    def test_the_program_of_a_killed_hub_damages_no_state(self) -> None:
         # It takes the end of its input for the end of the lines, and saves what it has.
         self.take_program(f"""case "$*" in *--save*) '{PROGRAM}' "$@"; sleep 1; exit;; esac""")
         for turn in range(3):
@@ -362,7 +362,7 @@ class Checkpoints(HubCase):
         self.assertIn("ready", self.start())
         self.assertEqual(self.talk("f0").ask("open f0", "where f0 0 f0c9"), ["ok 0 150", f"ok {spot(0, 149)}"])
 
-    def test_a_program_whose_hub_was_killed_writes_no_export(self) -> None:
+    def test_the_program_of_a_killed_hub_writes_no_export(self) -> None:
         self.take_program('case "$*" in *--export*) sleep 1;; esac')
         target = self.folder / "new.def"
         target.write_text("older")
@@ -371,13 +371,13 @@ class Checkpoints(HubCase):
         self.talk("operator").socket.sendall(b"export %b\n" % bytes(target))
         last = time.monotonic() + PATIENCE
         while not list(self.folder.glob("new.def.partial*")):
-            self.assertLess(time.monotonic(), last, self.hub.told())
+            self.assertLess(time.monotonic(), last, self.hub.log_text())
             time.sleep(0.01)
         # Nobody else reads it before its end, nor what the program writes beside it.
         self.assertEqual([path.stat().st_mode & 0o777 for path in self.folder.glob("new.def.partial*")], [0o600])
         # (the program may not be begun yet)
         while "Umask:\t0077\n" not in Path(f"/proc/{self.hub.children()[-1]}/status").read_text():
-            self.assertLess(time.monotonic(), last, self.hub.told())
+            self.assertLess(time.monotonic(), last, self.hub.log_text())
             time.sleep(0.01)
         time.sleep(0.2)
         wait_gone(self.hub.kill_alone())
@@ -422,7 +422,7 @@ class Pages(HubCase):
         self.hub = Hub(self.folder, [*words, *extra])
         self.addCleanup(self.hub.kill)
         self.hub.wait_ready()
-        return self.hub.told()
+        return self.hub.log_text()
 
     def test_an_upgrade(self) -> None:
         roll, serve = self.lines(

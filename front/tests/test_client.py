@@ -138,7 +138,7 @@ class Verbs(HubCase):
 
         asyncio.run(ask())
 
-    def test_microns_where_asked_and_only_whole_database_units(self) -> None:
+    def test_microns_on_request_and_only_whole_database_units(self) -> None:
         self.start()
         session = self.session(microns=True)
         session.place("f0c1", 0.4, Decimal("2"), "FS")
@@ -152,7 +152,7 @@ class Verbs(HubCase):
         with self.assertRaises(ValueError):
             self.enterContext(session.connection.session("f0")).place("f0c1", 0.5, 0, "N")
 
-    def test_microns_cost_no_text_of_the_team_where_a_hub_is_asked(self) -> None:
+    def test_a_hub_gives_the_units_without_the_text_of_the_team(self) -> None:
         self.start()
         connection = self.enterContext(lefence.connect(self.folder / "s/f0.sock", timeout=PATIENCE))
         with mock.patch.object(connection, "send", side_effect=connection.send) as send:
@@ -188,7 +188,7 @@ class Verbs(HubCase):
         other = self.enterContext(session.connection.session("f0", microns=True, openaccess=True))
         self.assertEqual(other.cells(self.lef)[1], lefence.Cell("f0c1", "INV", Place(0.4, 2.0, "MX"), 0.4, 2.0))
 
-    def test_orientations_of_openaccess_where_asked(self) -> None:
+    def test_orientations_of_openaccess_on_request(self) -> None:
         self.start()
         plain = self.session()
         with self.assertRaisesRegex(ValueError, "R0 is not an orientation of DEF, which calls it N"):
@@ -212,9 +212,9 @@ class Verbs(HubCase):
             .replace("/run/lefence/A.sock", str(self.folder / "s/f0.sock"))
         )
         names: dict[str, object] = {"moves": [("f0c2", 200, 0), ("f0c2", 1200, 0)]}
-        with contextlib.redirect_stdout(io.StringIO()) as told:
+        with contextlib.redirect_stdout(io.StringIO()) as printed:
             exec(code.replace('"A"', '"f0"').replace('"u', '"f0c'), names)
-        self.assertEqual(told.getvalue(), "Overlap f0c1\nPlace(x=1400, y=0, orient='N')\n()\n")
+        self.assertEqual(printed.getvalue(), "Overlap f0c1\nPlace(x=1400, y=0, orient='N')\n()\n")
         refused = names["refused"]
         assert isinstance(refused, list)
         self.assertEqual([str(each) for each in refused], ["7 Illegal: f0c2 would overlap f0c1 or be too near to it"])
@@ -229,7 +229,7 @@ class Verbs(HubCase):
             session.connection.ask_line(b"a\nb")
         self.assertEqual(session.sync(), 0)
 
-    def test_stale_is_retried_where_the_caller_says_so(self) -> None:
+    def test_stale_is_retried_on_request(self) -> None:
         self.start()
         first, again = self.session(), self.session(retries=2)
         first.place("f0c1", 0, 0, "N")
@@ -255,7 +255,7 @@ class Flights(HubCase):
             self.assertIsInstance(flying[-1].refusal, lefence.Illegal)
             self.assertTrue(all(text.result().endswith(b"END DESIGN\n") for text in texts))
 
-    def test_a_pipeline_raises_the_first_refusal_that_nobody_was_told(self) -> None:
+    def test_a_pipeline_raises_the_first_refusal_that_nobody_has_read(self) -> None:
         self.start()
         with lefence.connect(self.folder / "s/f0.sock") as connection, connection.session("f0") as session:
             with self.assertRaises(lefence.NoCell), session.pipeline() as pipeline:
@@ -267,7 +267,7 @@ class Flights(HubCase):
                 raise ZeroDivisionError
             self.assertEqual(session.sync(), 0)
 
-    def test_a_pipeline_sends_again_what_was_stale_where_the_session_says_so(self) -> None:
+    def test_a_pipeline_sends_stale_requests_again_on_request(self) -> None:
         self.start()
         with lefence.connect(self.folder / "s/f0.sock") as connection, connection.session("f0") as other:
             with connection.session("f0", retries=1) as session, session.pipeline() as pipeline:
@@ -290,7 +290,7 @@ class Flights(HubCase):
                 flying = [pipeline.check() for _ in range(3000)]
             self.assertEqual(flying[-1].result(), Report(CELLS, CELLS, ()))
 
-    def test_asyncio_has_what_runs_at_once_in_flight(self) -> None:
+    def test_concurrent_coroutines_are_in_flight_together(self) -> None:
         self.start()
 
         async def work() -> None:
@@ -318,7 +318,7 @@ class Flights(HubCase):
 
         asyncio.run(work())
 
-    def test_a_connection_that_is_lost_is_told(self) -> None:
+    def test_a_lost_connection_is_reported(self) -> None:
         self.start()
 
         async def wait() -> None:
@@ -346,7 +346,7 @@ class Flights(HubCase):
                 with self.assertRaisesRegex(OSError, f"{host}:{port}"):
                     lefence.connect(host, port)
 
-    def test_a_block_that_was_told_of_the_loss_does_not_tell_it_again(self) -> None:
+    def test_a_block_reports_a_lost_connection_once(self) -> None:
         self.start()
         caught = []
 
@@ -355,18 +355,18 @@ class Flights(HubCase):
                 "f0"
             ) as session:
                 self.hub.kill()
-                with self.assertRaises(lefence.ConnectionLost) as told:
+                with self.assertRaises(lefence.ConnectionLost) as raised:
                     await session.sync()
-                caught.append(told.exception)
+                caught.append(raised.exception)
 
         with lefence.connect(self.folder / "s/f1.sock") as connection, connection.session("f1") as session:
             asyncio.run(work())
-            with self.assertRaises(lefence.ConnectionLost) as told:
+            with self.assertRaises(lefence.ConnectionLost) as raised:
                 session.sync()
-            caught.append(told.exception)
+            caught.append(raised.exception)
         self.assertEqual(len(caught), 2)
 
-    def test_a_reply_that_takes_too_long_is_told(self) -> None:
+    def test_a_late_reply_is_reported(self) -> None:
         self.start()
         connection = self.enterContext(lefence.connect(self.folder / "s/f1.sock", timeout=0.2))
         os.kill(self.hub.process.pid, signal.SIGSTOP)
@@ -405,7 +405,7 @@ class Others(HubCase):
 
             self.assertEqual(asyncio.run(work()), Place(0, 0, "N"))
 
-    def test_an_end_that_talks_otherwise_is_told(self) -> None:
+    def test_an_end_with_another_protocol_is_reported(self) -> None:
         for reply in (b"hello\n", b"ok\n", b"ok x y\n", b"\xff\xfe\n", b"no\n"):
             near, far = socket.socketpair()
             with far, lefence.Connection(near, timeout=5) as connection:
@@ -420,7 +420,7 @@ class Others(HubCase):
             with self.assertRaisesRegex(lefence.ProtocolError, "abc"):
                 session.def_text()
 
-    def test_a_session_whose_units_are_not_told_is_closed_again(self) -> None:
+    def test_a_session_without_units_is_closed_again(self) -> None:
         near, far = socket.socketpair()
         asked: list[bytes] = []
 
@@ -440,26 +440,26 @@ class Others(HubCase):
     async def aio_connection(self, end: socket.socket, timeout: float) -> lefence.aio.Connection:
         return lefence.aio.Connection(*await asyncio.open_connection(sock=end), timeout)
 
-    def test_asyncio_tells_all_that_wait_where_an_end_talks_otherwise_or_reads_nothing(self) -> None:
+    def test_asyncio_ends_all_pending_calls_if_the_end_is_broken(self) -> None:
         async def ask(reply: bytes, line: bytes, *errors: type[Exception]) -> None:
             near, far = socket.socketpair()
             with far:
                 asyncio.get_running_loop().call_later(0.1, far.sendall, reply)
                 async with asyncio.timeout(PATIENCE), await self.aio_connection(near, 1) as connection:
-                    told = await asyncio.gather(
+                    results = await asyncio.gather(
                         *(connection.ask_line(line) for _ in range(200)), return_exceptions=True
                     )
-                    self.assertEqual([type(each) for each in told[:2]], [*errors])
+                    self.assertEqual([type(each) for each in results[:2]], [*errors])
 
         asyncio.run(ask(b"ok abc\n", b"def A 0", lefence.ProtocolError, lefence.ConnectionLost))
         asyncio.run(ask(b"", b"x" * 4000, TimeoutError, TimeoutError))
 
-    def test_one_that_is_cancelled_leaves_no_session_open_and_hears_of_no_loss(self) -> None:
-        said: list[object] = []
+    def test_a_cancelled_call_leaves_no_session_open(self) -> None:
+        output: list[object] = []
 
         async def cancel(is_late: bool) -> None:
             near, far = socket.socketpair()
-            asyncio.get_running_loop().set_exception_handler(lambda loop, context: said.append(context))
+            asyncio.get_running_loop().set_exception_handler(lambda loop, context: output.append(context))
             connection = await self.aio_connection(near, PATIENCE)
             with far:
                 opening = asyncio.create_task(connection.session("A", microns=True).__aenter__())
@@ -481,9 +481,9 @@ class Others(HubCase):
         asyncio.run(cancel(False))
         asyncio.run(cancel(True))
         gc.collect()
-        self.assertEqual(said, [])
+        self.assertEqual(output, [])
 
-    def test_what_an_end_that_is_gone_has_answered_is_told(self) -> None:
+    def test_the_last_replies_of_an_end_that_is_gone_are_read(self) -> None:
         near, far = socket.socketpair()
         with lefence.Connection(near, timeout=PATIENCE) as connection:
             sent = [connection.send(b"sync A 0") for _ in range(3)]
@@ -494,7 +494,7 @@ class Others(HubCase):
             connection.send(b"sync A 0")
             self.assertEqual([connection.wait(each) for each in sent], [b"ok 1\n", b"ok 2\n", b"ok 3\n"])
 
-    def test_a_reply_that_drips_takes_too_long(self) -> None:
+    def test_a_reply_in_slow_pieces_is_late(self) -> None:
         near, far = socket.socketpair()
 
         def drip() -> None:
@@ -511,7 +511,7 @@ class Others(HubCase):
             with self.assertRaises(TimeoutError):
                 connection.ask_line(b"sync A 0")
 
-    def test_a_number_that_is_none_is_refused_before_it_is_sent(self) -> None:
+    def test_a_bad_number_is_refused_before_it_is_sent(self) -> None:
         for pad in (1.9, float("inf")):
             with self.assertRaises(ValueError):
                 verbs.pad(verbs.Scope("A", 0), cast(int, pad))

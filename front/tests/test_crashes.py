@@ -52,7 +52,7 @@ class Crashes(HubCase):
     def under_load(self, strike: Callable[[], None], keeps_clients: bool = False) -> None:
         """Strikes while four teams change; after each, what each was told stands, and at most what it asked for."""
         self.start(*self.extra)
-        revisions, told, kept, cut = [0] * 4, 0, 0, set()
+        revisions, total, kept, cut = [0] * 4, 0, 0, set()
         for turn in range(TURNS):
             talkers = [self.changes(team, revision) for team, revision in enumerate(revisions)]
             time.sleep(self.rng.uniform(0, 0.04))
@@ -66,10 +66,10 @@ class Crashes(HubCase):
                 revisions[team] = self.revision(team)
                 self.assertTrue((begun + MANY if keeps_clients else acknowledged) <= revisions[team] <= begun + MANY)
                 self.check_team(team, revisions[team])
-                told, kept = told + acknowledged - begun, kept + revisions[team] - acknowledged
+                total, kept = total + acknowledged - begun, kept + revisions[team] - acknowledged
                 cut |= {turn} if acknowledged < begun + MANY else set()
         print(
-            f"\n  {TURNS} crashes, {len(cut)} amid changes: {told} acknowledged, 0 lost, {kept} more kept",
+            f"\n  {TURNS} crashes, {len(cut)} amid changes: {total} acknowledged, 0 lost, {kept} more kept",
             file=sys.stderr,
         )
 
@@ -145,7 +145,7 @@ class Programs(HubCase):
         wrapper.chmod(0o755)
         self.program = str(wrapper)
 
-    def test_one_that_dies_again_while_it_is_restored_is_started_again(self) -> None:
+    def test_a_program_that_dies_while_it_is_restored_is_started_again(self) -> None:
         self.wrap('[ "$starts" -eq 1 ] || [ "$starts" -gt 4 ] || kill -9 $$')
         self.start()
         talker = self.talk("f0")
@@ -154,28 +154,28 @@ class Programs(HubCase):
         self.assertEqual(talker.ask("where f0 0 f0c1", "place f0 0 f0c1 200 0 N"), ["ok 0 0 N", "ok 2"])
         self.assertEqual((self.hub.end(), (self.folder / "starts").read_text().count("x")), (0, 5))
 
-    def test_one_that_always_dies_ends_the_hub_and_nothing_is_lost(self) -> None:
+    def test_a_program_that_always_dies_ends_the_hub_and_nothing_is_lost(self) -> None:
         self.wrap('[ "$starts" -eq 1 ] || kill -9 $$')
         self.start()
         talker = self.talk("f0")
         self.assertEqual(talker.ask("open f0", "place f0 0 f0c1 0 0 N"), ["ok 0 0", "ok 1"])
         os.kill(self.hub.server_pid(), signal.SIGKILL)
         self.assertEqual((talker.ask("where f0 0 f0c1"), self.hub.process.wait(PATIENCE)), ([""], 3))
-        self.assertIn("given up", self.hub.told())
+        self.assertIn("given up", self.hub.log_text())
         self.program = PROGRAM
         self.start()
         self.assertEqual(self.talk("f0").ask("open f0", "where f0 0 f0c1"), ["ok 0 1", "ok 0 0 N"])
 
-    def test_one_that_has_answered_its_last_line_is_restored(self) -> None:
+    def test_a_program_that_has_answered_its_last_line_is_restored(self) -> None:
         self.wrap('for word; do shift; [ "$word" != 4294967295 ] || word=1500; set -- "$@" "$word"; done')
         self.start()
         talker = self.talk("f0")
         self.assertEqual(talker.ask("open f0", "place f0 0 f0c1 0 0 N"), ["ok 0 0", "ok 1"])
         text = b"where f0 0 f0c1\n" * 5000
         self.assertEqual(talker.converse(text, 20000), b"ok 0 0 N\n" * 5000)
-        self.assertIn("restoring 2 changes", self.hub.told())
+        self.assertIn("restoring 2 changes", self.hub.log_text())
 
-    def test_a_signal_while_it_is_restored_ends_the_hub(self) -> None:
+    def test_a_signal_during_a_restart_ends_the_hub(self) -> None:
         self.start("--tail-bytes", "0")
         self.assertEqual(
             self.talk("f0").ask("open f0", "open f0", "place f0 0 f0c1 0 0 N"), ["ok 0 0", "ok 1 0", "ok 1"]

@@ -41,7 +41,7 @@ class Day(FrontCase):
                 with contextlib.suppress(ProcessLookupError):
                     os.killpg(process.pid, signal.SIGKILL)
 
-    def test_the_day_goes_as_its_script_tells(self) -> None:
+    def test_the_script_of_the_day_prints_what_it_says(self) -> None:
         self.maxDiff = None
         text = SCRIPT.read_text()
         self.assertEqual(len(KLAYOUT.findall(text)), 2)

@@ -55,8 +55,8 @@ class Descriptions(FrontCase):
             self.assertEqual((len(found), found), (CELLS, [cell for cell in cells if cell.team == team]))
             self.assertEqual(description.total.cells, len(cells))
 
-    def test_what_is_refused_is_told_with_its_status(self) -> None:
-        for text, status, told in (
+    def test_a_refusal_has_its_status_and_message(self) -> None:
+        for text, status, expected in (
             (b"VERSION 5.8 ;", 1, "2 UnexpectedEnd line 1; DEF file "),
             (None, 3, "File; DEF file "),
         ):
@@ -66,9 +66,9 @@ class Descriptions(FrontCase):
             with self.assertRaises(Fault) as caught:
                 self.read()
             self.assertEqual(caught.exception.status, status)
-            self.assertTrue(str(caught.exception).startswith(told), caught.exception)
+            self.assertTrue(str(caught.exception).startswith(expected), caught.exception)
 
-    def test_a_program_that_ends_early_is_told(self) -> None:
+    def test_a_program_that_ends_early_is_reported(self) -> None:
         facts = '{"kind":"design","name":"t","site":"core","site_height":2000,"site_width":200,"units":1000}'
         for lines, status in ((facts, 9), (f'{facts}\n{{"kind":"cell"', 0), ("", 0)):
             early = self.folder / "early"

@@ -117,7 +117,7 @@ class FarmCase(FrontCase):
 
 
 class Farms(FarmCase):
-    def test_a_team_that_fails_is_named_and_given_again_it_alone_is_at_work(self) -> None:
+    def test_a_failed_team_is_listed_and_a_second_run_repeats_only_it(self) -> None:
         (self.folder / "B.fails").touch()
         done = self.farm("--export", "new.def", "--processes", "4")
         self.assertEqual(done.returncode, 4, done.stderr)
@@ -135,8 +135,8 @@ class Farms(FarmCase):
         self.assertIn("lefence-farm: 1 of 3 teams have work to do\n", done.stderr)
         self.assertEqual((self.folder / "new.def").read_bytes(), self.wanted())
         # The second run went on from what the first had done.
-        told = (self.work / "2/log").read_text()
-        self.assertEqual((told.count("0 2\n"), told.count("1 0\n")), (1, 1))
+        log = (self.work / "2/log").read_text()
+        self.assertEqual((log.count("0 2\n"), log.count("1 0\n")), (1, 1))
         done = self.farm("--merge", "--export", "merged.def")
         self.assertEqual((done.returncode, (self.folder / "merged.def").read_bytes()), (0, self.wanted()), done.stderr)
         self.refused_when_the_text_changes()
@@ -171,7 +171,7 @@ class Farms(FarmCase):
         self.assertIn("team B is missing: the command ended with 1; ", done.stderr)
         self.assertFalse((self.work / "2/lines").exists())
 
-    def test_what_is_answered_otherwise_over_the_whole_is_told_and_not_exported(self) -> None:
+    def test_a_reply_that_differs_on_the_whole_design_is_reported(self) -> None:
         self.assertEqual(self.farm("--export", "new.def", has_command=False).returncode, 0)
         before = (self.folder / "new.def").read_bytes()
         lines = self.work / "1/lines"
@@ -188,8 +188,8 @@ class Farms(FarmCase):
         """A text that is written anew between the slices and the end, and before a farm is given again."""
         self.design.write_text(self.design.read_text().replace("a1 INV", "a1 BUF"))
         done = self.tool("lefence-farm", "work", "--collect")
-        told = f"lefence-farm: {self.design.resolve()} has changed since the slices were made\n"
-        self.assertEqual((done.returncode, done.stderr.decode()), (1, told))
+        expected = f"lefence-farm: {self.design.resolve()} has changed since the slices were made\n"
+        self.assertEqual((done.returncode, done.stderr.decode()), (1, expected))
         done = self.tool("lefence-farm", "work", "t.def", "t.lef", "--program", PROGRAM, "--", "true")
         self.assertEqual((done.returncode, done.stderr.count(b"is of another design than")), (1, 1))
 
@@ -207,15 +207,15 @@ class Farms(FarmCase):
         return done.stderr
 
     def test_a_job_array_of_slurm(self) -> None:
-        told = self.by_engine("sbatch", "slurm", "--mem=100")
-        self.assertIn("lefence-farm: 3 teams are submitted; job 42 collects their work", told)
+        output = self.by_engine("sbatch", "slurm", "--mem=100")
+        self.assertIn("lefence-farm: 3 teams are submitted; job 42 collects their work", output)
 
     def test_a_job_array_of_lsf(self) -> None:
-        told = self.by_engine("bsub", "lsf", "-q", "--wait")
-        self.assertIn("3 teams are submitted; waiting for the job that collects their work\n", told)
-        self.assertIn("the work of 3 of 3 teams\n", told)
+        output = self.by_engine("bsub", "lsf", "-q", "--wait")
+        self.assertIn("3 teams are submitted; waiting for the job that collects their work\n", output)
+        self.assertIn("the work of 3 of 3 teams\n", output)
 
-    def test_the_numbers_of_many_teams_are_a_short_word(self) -> None:
+    def test_many_team_numbers_make_a_short_argument(self) -> None:
         self.assertEqual(
             [ranges_of(numbers) for numbers in ([7], [1, 2, 3, 5, 8, 9], [*range(1, 5001)])],
             ["7", "1-3,5,8-9", "1-5000"],
@@ -236,7 +236,7 @@ class Farms(FarmCase):
             {(self.work / str(number) / "failed").read_text() for number in (1, 2, 3)}, {"ended by signal 15\n"}
         )
 
-    def test_a_team_or_a_plan_that_is_none_is_refused(self) -> None:
+    def test_an_unknown_team_and_a_bad_plan_are_refused(self) -> None:
         self.assertEqual(self.farm("--merge").returncode, 0)
         for number in ("0", "4", "-1"):
             done = self.tool("lefence-farm", "work", f"--task={number}")
@@ -252,7 +252,7 @@ class Farms(FarmCase):
                 (done.returncode, done.stderr.count(b"is not a plan of this version")), (1, 1), done.stderr
             )
 
-    def test_an_engine_that_is_not_there_or_refuses_is_told(self) -> None:
+    def test_a_missing_or_failing_engine_is_reported(self) -> None:
         done = (
             self.farm("--engine", "slurm", folder="nowhere")
             if subprocess.run(["which", "sbatch"], capture_output=True).returncode
@@ -268,14 +268,14 @@ class Farms(FarmCase):
         done = self.farm("--engine", "lsf", folder=str(self.folder))
         self.assertEqual((done.returncode, "bsub ended with 255: no queue" in done.stderr), (3, True))
 
-    def test_a_command_that_is_not_there_is_told(self) -> None:
+    def test_a_missing_command_is_reported(self) -> None:
         done = self.tool("lefence-farm", "work", "t.def", "t.lef", "--program", PROGRAM, "--merge", "--", "./nothing")
         self.assertEqual(done.returncode, 4, done.stderr)
         for team in TEAMS:
             self.assertIn(f"team {team} is missing: ./nothing: No such file or directory; ", done.stderr.decode())
         self.assertEqual((self.work / "new.def").read_text(), TEXT)
 
-    def test_words_that_lack_something(self) -> None:
+    def test_incomplete_command_lines(self) -> None:
         for words in (("work",), ("work", "t.def"), ("work", "t.def", "--", "true")):
             done = self.tool("lefence-farm", *words)
             self.assertEqual((done.returncode, done.stdout), (2, b""), done.stderr)
@@ -284,11 +284,11 @@ class Farms(FarmCase):
             (done.returncode, done.stderr), (3, b"lefence-farm: work is not a work folder of lefence-farm\n")
         )
 
-    def test_a_text_that_is_cut_off_is_refused_at_once(self) -> None:
+    def test_a_truncated_design_is_refused_at_once(self) -> None:
         self.design.write_text(TEXT[: TEXT.index("- a2")])
         done = self.farm()
-        told = "lefence-farm: t.def ends without END DESIGN: it is truncated\n"
-        self.assertEqual((done.returncode, done.stderr, self.work.exists()), (1, told, False))
+        expected = "lefence-farm: t.def ends without END DESIGN: it is truncated\n"
+        self.assertEqual((done.returncode, done.stderr, self.work.exists()), (1, expected, False))
 
 
 @unittest.skipIf(
@@ -321,7 +321,7 @@ class Merges(FrontCase):
         slices = [b"".join(pieces) for pieces in slices_of(design, [team.encode() for team in teams])]
         self.assertEqual(slices, [slice_of(text, team) for team in teams])
 
-    def test_slices_go_back_into_the_text(self) -> None:
+    def test_slices_are_merged_back_into_the_design(self) -> None:
         more = "COMPONENTS 3 ;\n- wall BUF + FIXED ( 0 6000 ) N ; # a\n - f0x INV ; - lid INV + COVER ( 0 0 ) N ;\nEND COMPONENTS\n"
         whole = self.design.read_text().replace("END DESIGN", f"{more}END DESIGN")
         self.design.write_text(whole)

@@ -59,7 +59,7 @@ def send_until_broken(end: socket.socket, text: bytes) -> None:
 class Replies(HubCase):
     """Each client is told, byte for byte, what the program answers."""
 
-    def test_the_operator_is_told_what_the_program_answers(self) -> None:
+    def test_the_operator_gets_the_replies_of_the_program(self) -> None:
         for _ in range(3):
             scripts = [Script(self.rng, team, hostile=True) for team in (0, 1, TEAMS)]
             text = b"".join(self.rng.choice(scripts).line() + b"\n" for _ in range(1200))
@@ -71,7 +71,7 @@ class Replies(HubCase):
             self.assertEqual(self.hub.end(), 0)
             self.journal.unlink()
 
-    def test_teams_at_once_are_told_what_their_own_commands_alone_are_told(self) -> None:
+    def test_concurrent_teams_get_the_replies_to_their_own_commands(self) -> None:
         for _ in range(2):
             self.start()
             texts = {team: Script(self.rng, team).lines(1200) for team in (0, 1, 2, TEAMS)}
@@ -83,7 +83,7 @@ class Replies(HubCase):
             self.hub.end()
             self.journal.unlink()
 
-    def test_a_team_socket_names_its_team_alone(self) -> None:
+    def test_a_team_socket_can_name_only_its_team(self) -> None:
         self.start()
         mine, other = self.talk("f0"), self.talk("f1")
         self.assertEqual(other.ask("open f1"), ["ok 0 0"])
@@ -194,7 +194,7 @@ class ManyClients(HubCase):
             # All 64 sessions were closed, so that slot 0 is free.
             self.assertEqual(self.talk(f"f{team}").ask(f"open f{team}"), [f"ok 0 {8 * rounds}"])
 
-    def test_neither_a_slow_reader_nor_a_flood_nor_a_crowd_holds_others(self) -> None:
+    def test_slow_readers_floods_and_many_clients_do_not_block_others(self) -> None:
         self.start("--patience", "1")
         slow, flood, quick = (self.talk(f"f{team}") for team in range(3))
         for team, talker in enumerate((slow, flood, quick)):
@@ -221,7 +221,7 @@ class ManyClients(HubCase):
         self.assertEqual(crowd[-1].ask("close f3 0"), ["no 3 NoSession"])
         self.assertEqual((self.talk("f3").replies.read(), quick.ask("sync f2 0")), (b"", ["ok 0"]))
 
-    def test_the_sessions_of_clients_that_go_are_closed_and_no_others(self) -> None:
+    def test_only_the_sessions_of_clients_that_leave_are_closed(self) -> None:
         self.start()
 
         def send_and_wait(talker: Talker) -> None:
@@ -328,7 +328,7 @@ class Disk(HubCase):
 class Ends(HubCase):
     """Exports, signals, and what is refused at the start."""
 
-    def test_an_export_while_serving_is_that_of_a_replay(self) -> None:
+    def test_an_export_while_serving_equals_that_of_a_replay(self) -> None:
         self.start()
         others, head = self.talk("f1"), "place f1 0 f1c"
         # A team that commits nothing, at work all the while.
@@ -353,12 +353,12 @@ class Ends(HubCase):
             done += b"\n".join(later) + b"\n"
         self.assertEqual(others.replies.readline(), b"ok 0 0\n")
         refused = [f"export {path}" for path in ("/nowhere/x.def", self.journal, self.design)]
-        *told, last = operator.ask(*refused, "where f0 0 nil")
+        *refusals, last = operator.ask(*refused, "where f0 0 nil")
         own = "is the journal or a file of the design"
         reasons = ["cannot write /nowhere/x.def", f"{self.journal} {own}", f"{self.design} {own}"]
-        self.assertEqual((told, last), ([f"no 13 NotExported {reason}" for reason in reasons], "no 5 NoCell"))
+        self.assertEqual((refusals, last), ([f"no 13 NotExported {reason}" for reason in reasons], "no 5 NoCell"))
 
-    def test_a_signal_ends_it_with_everything_told(self) -> None:
+    def test_a_signal_ends_it_after_all_replies(self) -> None:
         target = self.folder / "end.def"
         # A hub passes over SIGHUP where nohup started it, but not over SIGINT, which a shell has its jobs in the background ignore.
         for number, how in ((signal.SIGHUP, signal.SIG_DFL), (signal.SIGINT, signal.SIG_IGN)):
@@ -378,7 +378,7 @@ class Ends(HubCase):
             with self.assertRaises(ConnectionRefusedError):
                 self.talk("f0")
 
-    def test_a_refused_design_or_team_serves_nothing(self) -> None:
+    def test_a_refused_design_or_team_is_not_served(self) -> None:
         self.assertIn("no team: Z", self.start("--team", "Z"))
         self.assertEqual((self.hub.process.returncode, list((self.folder / "s").iterdir())), (1, []))
         self.assertIn("ready: 1 teams", self.start("--team", "f3"))
@@ -388,9 +388,9 @@ class Ends(HubCase):
         self.assertIn("7 NoUnits", self.start())
         self.assertEqual(self.hub.process.returncode, 1)
 
-    def test_other_teams_than_the_programs_serve_nothing(self) -> None:
+    def test_a_hub_with_other_teams_than_the_program_is_refused(self) -> None:
         fence = '"kind":"fence","name":"f3"'
-        for edit, said in (
+        for edit, output in (
             (
                 f's/{fence}/{fence[:-3]}Z"/',
                 "the DEF text has 9 teams, the program reports 9; only in the DEF text: f3; only reported: Z",
@@ -401,20 +401,20 @@ class Ends(HubCase):
             ),
         ):
             self.program = self.describing(f"'{PROGRAM}' \"$@\" | sed '{edit}'")
-            self.assertIn(said, self.start())
+            self.assertIn(output, self.start())
             self.assertEqual((self.hub.process.wait(PATIENCE), list((self.folder / "s").iterdir())), (1, []))
 
-    def test_a_program_that_tells_no_teams_serves_nothing(self) -> None:
-        for script, said, status in (
+    def test_a_program_that_reports_no_teams_is_refused(self) -> None:
+        for script, output, status in (
             ("echo no such verb >&2; exit 2", "no such verb", 2),
             ("exit 0", "does not tell the teams", 3),
             ('printf \'{"kind":"fen\'; kill -9 $$', "does not tell the teams", 3),
         ):
             self.program = self.describing(script)
-            self.assertIn(said, self.start())
+            self.assertIn(output, self.start())
             self.assertEqual((self.hub.process.wait(PATIENCE), list((self.folder / "s").iterdir())), (status, []))
 
-    def test_what_is_left_unread_at_the_end_resets_nobody(self) -> None:
+    def test_unread_lines_at_the_end_reset_no_connection(self) -> None:
         for last in (b"bye\n" + b"where f0 0 f0c1\n" * 3000, b"where f0 0 f0c1\n" * 6000):
             self.start()
             talker = self.talk("f0")
@@ -425,11 +425,11 @@ class Ends(HubCase):
             self.assertEqual(talker.replies.read()[: 499 * 5], b"ok 0\n" * 499)
             self.assertEqual(self.hub.process.wait(PATIENCE), 0)
 
-    def test_an_export_that_cannot_be_is_refused_at_the_start(self) -> None:
+    def test_an_impossible_export_is_refused_at_the_start(self) -> None:
         for path in (self.design, self.lef, self.journal, self.folder, self.folder / "nowhere" / "x.def"):
             self.start("--export", str(path))
             self.assertEqual(self.hub.process.wait(PATIENCE), 3, path)
-            self.assertNotIn("ready", self.hub.told())
+            self.assertNotIn("ready", self.hub.log_text())
         self.assertEqual(self.design.read_text(), design_text())
 
     def test_a_second_hub_another_design_and_other_replies_are_refused(self) -> None:
@@ -454,8 +454,8 @@ class Ends(HubCase):
         self.assertEqual(self.hub.process.returncode, 1)
         self.journal.write_bytes(kept[: kept.rindex(b"batch") - 4])
         self.start()
-        self.assertIn("torn batch", self.hub.told())
-        self.assertIn("ready", self.hub.told())
+        self.assertIn("torn batch", self.hub.log_text())
+        self.assertIn("ready", self.hub.log_text())
 
     def test_the_number_of_sessions_is_that_of_the_journal(self) -> None:
         for number in ("0", "65", "x"):
@@ -472,14 +472,14 @@ class Ends(HubCase):
         kept = self.journal.read_bytes()
         self.assertIn(b"\nsessions 9\nsegment 1 ", kept)
         for number in ("8", "10"):
-            told = self.start("--sessions", number)
+            output = self.start("--sessions", number)
             self.assertEqual(self.hub.process.wait(PATIENCE), 1)
-            self.assertIn("made for 9 session slots per team", told)
+            self.assertIn("made for 9 session slots per team", output)
             self.assertEqual(self.journal.read_bytes(), kept)
         exported = self.folder / "new.def"
         for words in ((), ("--sessions", "9")):
             self.start(*words, "--tail-bytes", "1", "--export", str(exported))
-            self.assertIn("ready", self.hub.told())
+            self.assertIn("ready", self.hub.log_text())
             talker = self.talk("operator")
             self.assertEqual(talker.ask("place f0 0 f0c1 0 0 N"), ["no 3 NoSession"])
             self.assertEqual(talker.ask(*["open f0"] * 10), full)

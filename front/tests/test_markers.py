@@ -96,8 +96,8 @@ class Markers(FrontCase):
     def write(self) -> None:
         words = (self.design, self.lef, "--output", self.markers, "--technology", self.technology)
         done = self.tool("lefence-markers", *words, "--program", PROGRAM)
-        told = b"lefence-markers: 11 of 13 cells break a rule; 1 without a place have no marker\n"
-        self.assertEqual((done.returncode, done.stdout, done.stderr), (0, b"", told))
+        expected = b"lefence-markers: 11 of 13 cells break a rule; 1 without a place have no marker\n"
+        self.assertEqual((done.returncode, done.stdout, done.stderr), (0, b"", expected))
 
     def test_a_marker_for_each_violation(self) -> None:
         self.write()
@@ -136,7 +136,7 @@ class Markers(FrontCase):
         lines = klayout(self.folder, SHOWN, *"-z -nc -rx -nn t.lyt t.def -m t.lyrdb".split())
         self.assertEqual(lines, ["1 11 0.0005 12"])
 
-    def test_the_other_cell_may_come_before_or_behind(self) -> None:
+    def test_the_other_cell_may_come_earlier_or_later(self) -> None:
         cells = [cell("a", 8, "c"), cell("b", 8, "a"), cell("legal", None), cell("c", 2)]
         box = Box(0, 0, 400, 2000)
         expected = [
@@ -149,7 +149,7 @@ class Markers(FrontCase):
             list(violations_of(cells[:3]))
         self.assertEqual(caught.exception.status, 3)
 
-    def test_a_fault_leaves_the_file_as_it_was(self) -> None:
+    def test_a_fault_keeps_the_old_file(self) -> None:
         self.markers.write_text("old")
         early = self.folder / "early"
         early.write_text(f'#!/bin/sh\n{PROGRAM} "$@" | head -4\n')

@@ -54,7 +54,7 @@ class Pictures(FrontCase):
         root = ElementTree.parse(self.folder / "x.svg").getroot()
         return {"": root, **{found.attrib["id"]: found for found in root.iter() if "id" in found.attrib}}
 
-    def test_each_thing_stands_where_the_description_has_it(self) -> None:
+    def test_each_thing_is_drawn_at_its_described_place(self) -> None:
         groups = self.picture()
         with Description(self.program, self.design, [self.lef]) as description:
             frame, cells = description.frame, list(description.cells())
@@ -66,7 +66,7 @@ class Pictures(FrontCase):
         self.assertEqual(boxes(groups["soft"]), frame.soft)
         legal = {cell.name: cell.box for cell in cells if cell.box and cell.rule is None}
         drawn = {
-            rect.findtext(f"{SVG}title"): boxes(bounding_box)[0] for bounding_box, rect in self.alone(groups["cells"])
+            rect.findtext(f"{SVG}title"): boxes(group)[0] for group, rect in self.alone(groups["cells"])
         }
         self.assertEqual(drawn, legal)
         self.assertEqual(boxes(groups["broken"]), [cell.box for cell in cells if cell.name in ("one", "two")])
@@ -86,9 +86,9 @@ class Pictures(FrontCase):
         """The rectangles of a group, each in a group of its own too."""
         found = []
         for rect in group.iter(f"{SVG}rect"):
-            bounding_box = ElementTree.Element("g")
-            bounding_box.append(rect)
-            found.append((bounding_box, rect))
+            group = ElementTree.Element("g")
+            group.append(rect)
+            found.append((group, rect))
         return found
 
     def test_up_is_up(self) -> None:
@@ -147,11 +147,11 @@ class Pictures(FrontCase):
         self.design.write_text(text.replace("- far", near.format(66000) + far.format(16000) + "- far"))
         (self.folder / "old.def").write_text(text.replace("- far", near.format(65800) + far.format(40000) + "- far"))
         groups = self.picture("--before", "old.def")
-        told = {
-            bounding_box.attrib["stroke"]: [arrow.findtext(f"{SVG}title") for arrow in bounding_box]
-            for bounding_box in groups["moves"]
+        drawn = {
+            group.attrib["stroke"]: [arrow.findtext(f"{SVG}title") for arrow in group]
+            for group in groups["moves"]
         }
-        self.assertEqual(told, {MOVE_COLOURS[0][1]: ["near"], MOVE_COLOURS[3][1]: ["away"]})
+        self.assertEqual(drawn, {MOVE_COLOURS[0][1]: ["near"], MOVE_COLOURS[3][1]: ["away"]})
         legend = "".join(groups["legend"].itertext())
         self.assertIn("→ 2 moved\nup to 2 rows 1\nup to 20 rows 1\n", legend)
 
@@ -169,13 +169,13 @@ class Pictures(FrontCase):
             left = float(line.attrib["transform"][10:].split()[0])
             text = line.find(f"{SVG}text")
             assert text is not None
-            said = "".join(text.itertext())
+            output = "".join(text.itertext())
             # DejaVu Sans: a W is as wide as high, a small letter or a digit two thirds of that.
-            wide = 13 * sum(0.99 if each in "W…→" else 0.6 for each in said)
-            self.assertLessEqual(left + float(text.get("x", 0)) + wide, float(root.attrib["width"]), said)
+            wide = 13 * sum(0.99 if each in "W…→" else 0.6 for each in output)
+            self.assertLessEqual(left + float(text.get("x", 0)) + wide, float(root.attrib["width"]), output)
         self.assertIn("51,850 moved", "".join(legend.itertext()))
 
-    def test_where_most_cells_break_a_rule_a_map_shows_what_is_too_full(self) -> None:
+    def test_if_most_cells_break_a_rule_a_map_shows_overfull_bins(self) -> None:
         astray = "".join(f"- x{at} INV + PLACED ( {20000 + 13 * at} 3 ) N ;\n" for at in range(40))
         self.design.write_text(
             self.design.read_text().replace("- far", f"{astray}- lone INV + PLACED ( 50007 1 ) N ;\n- far")
@@ -225,7 +225,7 @@ class Pictures(FrontCase):
             self.assertEqual(done.returncode, 2)
             self.assertIn(b"install the Debian package klayout", done.stderr)
 
-    def test_what_is_read_is_not_overwritten(self) -> None:
+    def test_inputs_are_not_overwritten(self) -> None:
         done = self.tool("lefence-picture", "t.def", "t.lef", "--program", self.program, "-o", "t.lef")
         self.assertEqual(
             (done.returncode, done.stderr), (2, b"lefence-picture: t.lef is read, and would be written over\n")

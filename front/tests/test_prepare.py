@@ -71,7 +71,7 @@ class Preparations(FrontCase):
         sites = [(site.name, site.is_core, float(site.width), float(site.height)) for site in sites_of(LEF.encode())]
         self.assertEqual(sites, [(b"pad", False, 10, 10), (b"core", True, 0.2, 2), (b"tall", True, 0.2, 4)])
 
-    def test_rows_fences_and_groups_come_in_and_fillers_go(self) -> None:
+    def test_rows_fences_and_groups_are_added_and_fillers_removed(self) -> None:
         fences = "--fence A 0 0 2 8.04 --fence B 3 0 4 .1 --fence A 2 0 2.5 0.1 --group A a/* --group B nothing".split()
         done = self.run_on("--fillers", "FILL*", *fences)
         text = TEXT.replace("\nTRACKS", f"{ROWS}\nTRACKS").replace("\n\nCOMPONENTS 7", f"{FENCES}\n\nCOMPONENTS 4")
@@ -79,7 +79,7 @@ class Preparations(FrontCase):
             text = text.replace(filler, "")
         groups = "\nGROUPS 2 ;\n- A a/* + REGION A ;\n- B nothing + REGION B ;\nEND GROUPS"
         text = text.replace("\nEND DESIGN", f"{groups}\nEND DESIGN")
-        told = (
+        expected = (
             "4 rows of site core added: 20 sites each, the first at 50 40 is FS",
             "the rows follow the 5 placed cells: 3 of them fit along x, 3 along y, and 3 have their row's orientation",
             "3 fillers removed (FILL*)",
@@ -91,21 +91,21 @@ class Preparations(FrontCase):
             "it loads: 4 cells, 0 unplaced, 2 illegal (1 by rule 2 Row, 1 by rule 6 Fence)",
         )
         self.assertEqual((done.returncode, done.stdout), (0, b""), done.stderr)
-        self.assertEqual(done.stderr.decode().splitlines(), [f"lefence-prepare: {line}" for line in told])
+        self.assertEqual(done.stderr.decode().splitlines(), [f"lefence-prepare: {line}" for line in expected])
         self.assertEqual(self.output.read_text(), text)
 
-    def test_rows_begin_at_the_corner_where_cells_tell_no_grid(self) -> None:
-        for text, told in (
+    def test_rows_start_at_the_corner_if_the_cells_have_no_grid(self) -> None:
+        for text, expected in (
             (TEXT.replace("PLACED", "UNPLACED"), "no cell is placed"),
             (TEXT.replace("( 50 4040 )", "( 3 77 )"), "less than half of the 5 placed cells agree on a grid"),
         ):
             preparation = Preparation(text.encode())
             prepare(preparation, PreparationOptions(), [LEF.encode()], None)
-            self.assertEqual(preparation.messages[1], f"{told}: the rows start at the core's corner with N")
+            self.assertEqual(preparation.messages[1], f"{expected}: the rows start at the core's corner with N")
             rows = b"\nROW ROW_0 core -100 -300 N DO 21 BY 1 STEP 200 0 ;\nROW ROW_1 core -100 1700 FS "
             self.assertIn(rows, preparation.result())
 
-    def test_sections_that_are_there_are_added_to(self) -> None:
+    def test_existing_sections_are_extended(self) -> None:
         self.design.write_text(self.output_of("--fence", "A", *"0011", "--group", "A", "a/*"))
         text = self.output_of("--fence", "B", *"1021", "--group", "A", "b/*", "--group", "B", "x")
         regions = "- A ( 0 0 ) ( 1000 1000 ) + TYPE FENCE ;\n- B ( 1000 0 ) ( 2000 1000 ) + TYPE FENCE ;\n"
@@ -126,23 +126,23 @@ class Preparations(FrontCase):
         self.assertEqual(done.returncode, status, done.stderr)
         return self.output.read_text()
 
-    def test_what_does_not_load_is_written_by_force_alone(self) -> None:
+    def test_a_design_that_does_not_load_is_written_only_by_force(self) -> None:
         self.lef.write_text(LEF.replace("MACRO FILL", "MACRO GAP").replace("END FILL", "END GAP"))
         done = self.run_on()
         lines = TEXT.replace("\nTRACKS", f"{ROWS}\nTRACKS").split("\n")
         line = next(line for line in lines if line.startswith("- x FILL"))
-        told = (
+        expected = (
             f"it does not load: 14 NoMacro FILL; the prepared DEF file, line {lines.index(line) + 1}: {line}\n".encode()
         )
-        told += b"lefence-prepare: nothing is written; --force writes it anyway\n"
+        expected += b"lefence-prepare: nothing is written; --force writes it anyway\n"
         self.assertEqual((done.returncode, self.output.exists()), (1, False))
-        self.assertTrue(done.stderr.endswith(told), done.stderr)
+        self.assertTrue(done.stderr.endswith(expected), done.stderr)
         done = self.run_on("--force")
         self.assertEqual((done.returncode, self.output.read_text()), (1, TEXT.replace("\nTRACKS", f"{ROWS}\nTRACKS")))
 
-    def test_what_cannot_be_done_is_told(self) -> None:
+    def test_impossible_requests_are_reported(self) -> None:
         text = self.design.read_text()
-        for change, words, status, told in (
+        for change, words, status, expected in (
             (("DIEAREA", "HISTORY"), (), 1, "the text has no DIEAREA; --core says where rows are made"),
             (("( 4100 8100 )", "( 0 1 ) ( 0 0 )"), (), 1, "DIEAREA is no rectangle in whole database units; --core"),
             (("UNITS", "HISTORY"), (), 1, "the text has no UNITS DISTANCE MICRONS"),
@@ -190,7 +190,7 @@ class Preparations(FrontCase):
             self.design.write_text(text.replace(*change, 1))
             done = self.run_on(*words)
             self.assertEqual((done.returncode, self.output.exists()), (status, False), done.stderr)
-            self.assertTrue(done.stderr.decode().startswith(f"lefence-prepare: {told}"), done.stderr)
+            self.assertTrue(done.stderr.decode().startswith(f"lefence-prepare: {expected}"), done.stderr)
 
     def test_any_bytes_end_without_a_traceback(self) -> None:
         for _ in range(300):

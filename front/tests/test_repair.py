@@ -86,7 +86,7 @@ class Repairs(FrontCase):
         text = self.design.read_text().replace("END COMPONENTS", f"{component} ;\nEND COMPONENTS")
         self.design.write_text(text.replace("END GROUPS", f"{group} ;\nEND GROUPS") if group else text)
 
-    def test_every_cell_is_legal_behind_it_and_legal_cells_may_be_kept(self) -> None:
+    def test_a_repair_makes_every_cell_legal_and_may_keep_legal_cells(self) -> None:
         before = self.cells(self.design)
         done = self.repair("--out", self.target, "--keep")
         self.assertEqual((done.returncode, done.stdout), (0, b""), done.stderr)
@@ -104,14 +104,14 @@ class Repairs(FrontCase):
         self.assertEqual([path.name for path in sorted(self.folder.iterdir())], ["new.def", "t.def", "t.lef"])
 
     @with_klayout
-    def test_klayout_finds_no_overlap_behind_it(self) -> None:
+    def test_klayout_finds_no_overlap_after_it(self) -> None:
         self.assertEqual(self.repair("--out", self.target).returncode, 0)
         for design, is_repaired in ((self.design, False), (self.target, True)):
             [line] = klayout(self.folder, AREAS, "-b", "-rd", f"design={design}", "-rd", f"lef={self.lef}")
             count, area, covered = map(float, line.split())
             self.assertEqual((count == CELLS * (TEAMS + 1), area == covered), (is_repaired, is_repaired), line)
 
-    def test_what_is_spliced_is_what_the_program_exports(self) -> None:
+    def test_a_splice_equals_the_export_of_the_program(self) -> None:
         self.assertEqual(self.repair("--out", self.target).returncode, 0)
         before, after = self.cells(self.design), self.cells(self.target)
         spots = {
@@ -125,7 +125,7 @@ class Repairs(FrontCase):
             {name for name, cell in self.cells(self.folder / "unplaced.def").items() if cell.box is None}, {*spots}
         )
 
-    def test_a_cell_without_room_is_named_and_unplaced_and_all_others_are_repaired(self) -> None:
+    def test_a_cell_without_room_is_reported_and_unplaced_and_all_others_are_repaired(self) -> None:
         self.lef.write_text(LEF.replace("END LIBRARY", HIGH))
         self.add(f"- high HIGH + PLACED ( {2 * WIDTH + 1000} 0 ) N", "- more high + REGION f2")
         self.add("- new HIGH", "- other new + REGION f2")
@@ -158,7 +158,7 @@ class Repairs(FrontCase):
         self.assertEqual((done.returncode, done.stdout), (0, b"- g 0 0 N -> 1000 0 N by 1000\n"), done.stderr)
         self.assertEqual(self.repair("--dry-run", "--team", "A").returncode, 4)
 
-    def test_a_dry_run_tells_what_would_move_and_writes_nothing(self) -> None:
+    def test_a_dry_run_prints_what_would_move_and_writes_nothing(self) -> None:
         before = self.cells(self.design)
         done = self.repair("--dry-run")
         self.assertEqual(done.returncode, 0)
@@ -166,9 +166,9 @@ class Repairs(FrontCase):
         self.repair("--out", self.target)
         after = self.cells(self.target)
         moved = [name for name, cell in before.items() if spot_of(cell) != spot_of(after[name])]
-        told = dict(line.split(" ", 2)[1:] for line in done.stdout.decode().splitlines())
-        self.assertEqual(sorted(told), sorted(moved))
-        for name, text in told.items():
+        moves = dict(line.split(" ", 2)[1:] for line in done.stdout.decode().splitlines())
+        self.assertEqual(sorted(moves), sorted(moved))
+        for name, text in moves.items():
             spot = spot_of(after[name])
             assert spot
             self.assertIn(f" -> {spot.x} {spot.y} {spot.orient}", text)
@@ -184,7 +184,7 @@ class Repairs(FrontCase):
         self.assertEqual((done.returncode, self.target.read_bytes()), (0, self.design.read_bytes()))
         self.assertIn(b"lefence-repair: nothing moves\n", done.stderr)
 
-    def test_the_named_teams_alone_are_repaired(self) -> None:
+    def test_only_the_named_teams_are_repaired(self) -> None:
         before = self.cells(self.design)
         done = self.repair("--out", self.target, "--team", "f1", "--team", "-")
         self.assertEqual(done.returncode, 4)
@@ -200,7 +200,7 @@ class Repairs(FrontCase):
         done = self.repair("--out", self.target, "--team", "Z")
         self.assertEqual((done.returncode, done.stderr), (1, b"lefence-repair: NoTeam; team Z is not in the design\n"))
 
-    def test_a_program_that_takes_its_time_is_waited_for_with_a_line_a_second(self) -> None:
+    def test_a_slow_program_has_a_progress_line_each_second(self) -> None:
         slow = self.folder / "slow"
         slow.write_text(f"#!/bin/sh\n[ $1 = repair ] && sleep 2.5\nexec '{PROGRAM}' \"$@\"\n")
         slow.chmod(0o755)
@@ -208,39 +208,39 @@ class Repairs(FrontCase):
         self.assertEqual(done.returncode, 0)
         self.assertRegex(done.stderr, rb"^(lefence-repair: the program repairs, \d+ s\n)+lefence-repair: team ")
 
-    def test_what_is_refused_is_told_and_no_file_is_left(self) -> None:
+    def test_a_refusal_is_reported_and_no_file_remains(self) -> None:
         text = self.design.read_text()
-        for broken, told in (
+        for broken, expected in (
             (text[:400], b"2 UnexpectedEnd line"),
             (text.replace("UNITS", "#"), b"7 NoUnits t; DEF file"),
         ):
             self.design.write_text(broken)
             done = self.repair("--out", self.target)
-            self.assertEqual((done.returncode, told in done.stderr), (1, True), done.stderr)
+            self.assertEqual((done.returncode, expected in done.stderr), (1, True), done.stderr)
             self.assertEqual([path.name for path in sorted(self.folder.iterdir())], ["t.def", "t.lef"])
         for target, why in (("nowhere/x", "cannot write nowhere/x: no such folder"), (".", ".: Is a directory")):
             done = self.repair("-o", target)
             self.assertEqual((done.returncode, done.stderr.decode()), (3, f"lefence-repair: {why}\n"))
 
-    def fails(self, script: str, told: bytes, *words: str) -> None:
+    def fails(self, script: str, expected: bytes, *words: str) -> None:
         """A repair by a program that this script of a shell stands for is told so, and no file is left."""
         odd = self.folder / "odd"
         odd.write_text(f"#!/bin/sh\n{script}\n")
         odd.chmod(0o755)
         done = self.repair(*words, program=str(odd))
-        self.assertEqual((done.returncode, told in done.stderr), (3, True), done.stderr)
+        self.assertEqual((done.returncode, expected in done.stderr), (3, True), done.stderr)
         self.assertEqual([path.name for path in sorted(self.folder.iterdir())], ["odd", "t.def", "t.lef"])
 
-    def test_a_program_that_dies_is_told_and_no_file_is_left(self) -> None:
+    def test_a_program_that_dies_is_reported_and_no_file_remains(self) -> None:
         for words in (("--out", str(self.target)), ("--dry-run",)):
             self.fails("kill -9 $$", b"the program ended unexpectedly with status -9\n", *words)
             self.fails("echo ok", b"the program ended unexpectedly with status 0\n", *words)
-        for end, told in (
+        for end, expected in (
             ("kill -9 $$", b"the program ended unexpectedly with status -9\n"),
             ("exit 0", b"the program was lost: replies lack\n"),
             (f"'{PROGRAM}' \"$@\" | sed 's/ok 7/no 7/'; exit 0", b"the program answered 'no 7"),
         ):
-            self.fails(f"if [ $1 = replay ]; then\n{end}\nfi\nexec '{PROGRAM}' \"$@\"", told, "--dry-run")
+            self.fails(f"if [ $1 = replay ]; then\n{end}\nfi\nexec '{PROGRAM}' \"$@\"", expected, "--dry-run")
 
 
 if __name__ == "__main__":

@@ -20,7 +20,7 @@ class RepairsThere(HubCase):
         where = self.folder / "s" / f"{socket}.sock"
         return self.tool("lefence-repair", self.design, self.lef, "--socket", where, "--program", PROGRAM, *words)
 
-    def test_a_team_is_repaired_as_it_stands_there(self) -> None:
+    def test_a_team_is_repaired_at_its_present_places(self) -> None:
         with lefence.connect(self.folder / "s/f1.sock") as connection, connection.session("f1") as session:
             session.place("f1c1", 9000, 4000, "N")
             done = self.repair("f1", "--keep")
@@ -44,8 +44,8 @@ class RepairsThere(HubCase):
         placed = [each.name for each in exported.entries(b"COMPONENTS") if each.has(b"PLACED")]
         self.assertEqual(placed, exported.cells_of(b"f1"))
         done = self.repair("f1")
-        told = b"lefence-repair: nothing moves; team f1 is committed\nlefence-repair: every cell of team f1 is legal\n"
-        self.assertEqual((done.returncode, done.stderr.endswith(told)), (0, True), done.stderr)
+        expected = b"lefence-repair: nothing moves; team f1 is committed\nlefence-repair: every cell of team f1 is legal\n"
+        self.assertEqual((done.returncode, done.stderr.endswith(expected)), (0, True), done.stderr)
 
     def test_the_operator_names_one_team(self) -> None:
         for words in ((), ("--team", "f1", "--team", "-")):
@@ -54,7 +54,7 @@ class RepairsThere(HubCase):
         self.assertEqual(self.repair("operator", "--team", "-").returncode, 0)
         self.assertEqual(self.talk("-").ask("open -")[0][:5], "ok 0 ")
 
-    def test_a_reply_that_is_another_one_there_is_told_and_nothing_more_is_sent(self) -> None:
+    def test_a_reply_that_differs_is_reported_and_nothing_more_is_sent(self) -> None:
         with lefence.connect(self.folder / "s/f1.sock") as connection, connection.session("f1") as session:
             session.pad(16)
             done = self.repair("f1")
@@ -68,8 +68,8 @@ class RepairsThere(HubCase):
     def test_a_design_with_other_cells_is_refused(self) -> None:
         self.design.write_text(self.design.read_text().replace("- f1c3 ", "- f1c33 "))
         done = self.repair("f1")
-        told = f"lefence-repair: {self.design} has other cells of team f1 than the hub's design\n"
-        self.assertEqual((done.returncode, done.stderr.decode()), (1, told))
+        expected = f"lefence-repair: {self.design} has other cells of team f1 than the hub's design\n"
+        self.assertEqual((done.returncode, done.stderr.decode()), (1, expected))
         self.assertEqual(self.repair(f"f{TEAMS}").returncode, 3)
         done = self.tool("lefence-repair", "t.def", "t.lef", "--socket", "t.def", "--program", PROGRAM)
         self.assertEqual((done.returncode, done.stderr), (3, b"lefence-repair: t.def: it is not a socket\n"))

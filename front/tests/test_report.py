@@ -79,7 +79,7 @@ class Reports(ReportCase):
         read: dict[str, Any] = json.loads(text.data)
         return read
 
-    def test_what_the_tables_tell(self) -> None:
+    def test_the_contents_of_the_tables(self) -> None:
         text = Text(self.page())
         self.assertIn(["twooverlaps one", "8 Overlap", "-", "64.2, 0"], text.lines)
         self.assertIn("#v=" + quote(ODD, safe=""), text.links)
@@ -94,7 +94,7 @@ class Reports(ReportCase):
         self.assertEqual(data["obstacles"], [[0, 6000, 600, 2000, "</script>wall"], [70000, 4000, 1000, 4000, None]])
         self.assertEqual((data["soft"], data["map"]), ([[9000, 0, 400, 2000]], None))
 
-    def test_above_the_limit_there_is_a_map_and_what_is_near_violations(self) -> None:
+    def test_above_the_limit_there_is_a_map_with_the_cells_near_violations(self) -> None:
         page = self.page("--limit", "2", "--most", "1")
         self.assertIn("The first 1 of 4 are listed", page)
         data = self.data(Text(page))
@@ -114,13 +114,13 @@ class Reports(ReportCase):
     def test_cells_near_a_huge_one_are_bounded(self) -> None:
         huge = Cell("huge", "-", "M", 10**9, 10**9, Box(0, 0, 10**9, 10**9), "N", 1, None)
         near = Near([huge], 2000)
-        partial_file = Cell("a", "-", "M", 400, 2000, Box(0, 0, 400, 2000), "N", None, None)
-        far = partial_file._replace(name="b", box=Box(9**9, 0, 9**9 + 400, 2000))
-        self.assertEqual([near.has(cell) for cell in (huge, partial_file, far)], [False, True, False])
-        self.assertTrue(near.has(partial_file._replace(name="x" * 3_000_000)))
-        self.assertFalse(near.has(partial_file))
+        nearby = Cell("a", "-", "M", 400, 2000, Box(0, 0, 400, 2000), "N", None, None)
+        far = nearby._replace(name="b", box=Box(9**9, 0, 9**9 + 400, 2000))
+        self.assertEqual([near.has(cell) for cell in (huge, nearby, far)], [False, True, False])
+        self.assertTrue(near.has(nearby._replace(name="x" * 3_000_000)))
+        self.assertFalse(near.has(nearby))
 
-    def test_when_and_by_what_it_was_made(self) -> None:
+    def test_the_page_has_its_date_and_version(self) -> None:
         self.assertRegex(
             self.page(),
             rf"<dd>\d{{4}}-\d\d-\d\d \d\d:\d\d UTC, by lefence-report {re.escape(lefence.__version__)}</dd>",
@@ -144,7 +144,7 @@ class Reports(ReportCase):
         )
         self.assertIsNone(self.data(Text(self.page()))["since"])
 
-    def test_texts_of_other_units_are_not_compared(self) -> None:
+    def test_designs_with_other_units_are_not_compared(self) -> None:
         text = "DESIGN t ;\nUNITS DISTANCE MICRONS 2000 ;\nROW r0 core 0 0 N DO 10 BY 1 STEP 400 0 ;\nEND DESIGN\n"
         (self.folder / "early.def").write_text(text)
         done = self.tool(
@@ -153,7 +153,7 @@ class Reports(ReportCase):
         self.assertEqual((done.returncode, (self.folder / "x.html").exists()), (1, False), done.stderr)
         self.assertIn(b"2000 database units per micron", done.stderr)
 
-    def test_nothing_comes_from_elsewhere(self) -> None:
+    def test_the_page_loads_nothing_else(self) -> None:
         self.assertIsNone(re.search(r"""(?:src|href)=["'](?!#|data:)|https?:|@import|url[(]""", self.page()))
 
 

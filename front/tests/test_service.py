@@ -48,7 +48,7 @@ class Texts(HubCase):
         done = subprocess.run([*tool_words("lefence-hub"), *words], capture_output=True, text=True, timeout=PATIENCE)
         return done.returncode, done.stderr
 
-    def test_a_design_that_is_written_anew_changes_nothing(self) -> None:
+    def test_a_changed_design_file_does_not_matter(self) -> None:
         exported, kept = self.folder / "new.def", self.folder / "journal.texts"
         self.start()
         lines = ["open f0", "place f0 0 f0c1 0 0 N", "tidy f0 0", "commit f0 0"]
@@ -62,24 +62,24 @@ class Texts(HubCase):
         self.assertIn("f0c1 INV + PLACED ( 0 0 ) N", exported.read_text())
         self.hub.kill()
         self.assertIn("ready", self.start())
-        self.assertIn("t.def has changed since the journal was made", self.hub.told())
+        self.assertIn("t.def has changed since the journal was made", self.hub.log_text())
         self.assertEqual(self.talk("f0").ask("open f0", "where f0 0 f0c1"), ["ok 0 3", "ok 0 0 N"])
         self.assertEqual(self.hub.end(), 0)
         # Another file is not taken for the text, nor one of which no copy of that is kept.
         self.lef.write_text("x")
         other = self.folder / "other.def"
         other.write_text(design_text() + "\n")
-        status, said = self.start_refused(*self.words(design=other))
-        self.assertEqual((status, "of another design" in said), (1, True), said)
+        status, output = self.start_refused(*self.words(design=other))
+        self.assertEqual((status, "of another design" in output), (1, True), output)
         shutil.rmtree(kept)
-        status, said = self.start_refused(*self.words())
-        self.assertEqual((status, "no copy of that is kept" in said), (1, True), said)
+        status, output = self.start_refused(*self.words())
+        self.assertEqual((status, "no copy of that is kept" in output), (1, True), output)
 
-    def test_copies_that_are_gone_or_spoilt_are_made_again(self) -> None:
+    def test_missing_or_damaged_copies_are_made_again(self) -> None:
         self.start()
         self.talk("f0").ask("open f0", "place f0 0 f0c1 0 0 N")
         spoils: tuple[Callable[[Path], object], ...] = (lambda path: path.unlink(), lambda path: path.write_bytes(b"x"))
-        for spoil in spoils:
+        for flip_bit in spoils:
             self.hub.kill()
             copies = [path for path in (self.folder / "journal.texts").rglob("*") if path.is_file()]
             self.assertEqual(sorted(path.name for path in copies), ["t.def", "t.lef"])
@@ -87,7 +87,7 @@ class Texts(HubCase):
                 # Nor does one stay that a hub was killed at.
                 path.with_name(f"{path.name}.partial0").write_bytes(b"x")
                 path.chmod(0o600)
-                spoil(path)
+                flip_bit(path)
             self.assertIn("ready", self.start())
         self.assertEqual(self.talk("f0").ask("open f0"), ["ok 0 1"])
 
@@ -109,7 +109,7 @@ class Texts(HubCase):
         self.assertIn("ready", self.hub.wait_ready())
         self.assertEqual(self.talk("f0").ask("open f0", "where f0 0 f0c1"), ["ok 0 1", "ok 0 0 N"])
 
-    def test_another_program_is_told_with_the_first_reply_that_differs(self) -> None:
+    def test_another_program_is_reported_with_the_first_reply_that_differs(self) -> None:
         self.start()
         self.talk("f0").ask("open f0", "place f0 0 f0c1 0 0 N")
         self.hub.kill()
@@ -120,9 +120,9 @@ class Texts(HubCase):
         script.chmod(0o755)
         self.program = str(script)
         self.assertIn("the journal was written with another program", self.start())
-        self.assertIn("change 2: the journal has b'ok 1", self.hub.told())
+        self.assertIn("change 2: the journal has b'ok 1", self.hub.log_text())
 
-    def test_a_first_start_may_be_cut_off_at_any_step(self) -> None:
+    def test_a_first_start_may_be_interrupted_at_any_step(self) -> None:
         journal, steps = self.folder / "j", ("fsync", "replace", "pwrite", "ftruncate", "mkdir", "fdatasync")
 
         def start() -> list[Path]:
@@ -153,7 +153,7 @@ class Texts(HubCase):
             journal.unlink()
         self.assertGreater(number, 12)
 
-    def test_a_journal_without_changes_is_begun_anew_with_another_design(self) -> None:
+    def test_a_journal_without_changes_can_get_another_design(self) -> None:
         self.design.write_text("DESIGN x ;\nEND DESIGN\n")
         self.assertIn("7 NoUnits", self.start())
         self.design.write_text(design_text())
@@ -165,7 +165,7 @@ class Texts(HubCase):
         moved: Path = self.folder / "moved"
         self.journal.rename(moved)
         self.assertEqual(self.hub.process.wait(PATIENCE), 3)
-        self.assertIn("the journal is gone", self.hub.told())
+        self.assertIn("the journal is gone", self.hub.log_text())
         moved.rename(self.journal)
         self.assertIn("ready", self.start())
         self.assertEqual(self.talk("f0").ask("open f0", "where f0 0 f0c1"), ["ok 0 1", "ok 0 0 N"])
@@ -180,7 +180,7 @@ class Sockets(FrontCase):
         found = path.lstat()
         return found.st_mode & 0o777, found.st_gid
 
-    def test_modes_are_those_of_ones_own_sockets(self) -> None:
+    def test_modes_are_taken_from_own_sockets(self) -> None:
         path, other = self.folder / "A.sock", self.folder / "other.sock"
         mine = os.getegid()
         self.assertEqual(self.bound(None), (0o660, mine))
@@ -236,10 +236,10 @@ class Shares(unittest.TestCase):
             return [b"ok %d 0\n" % number if line.startswith(b"open") else b"ok\n" for number, line in enumerate(lines)]
 
         self.asked: list[bytes] = []
-        self.said: list[str] = []
+        self.messages: list[str] = []
         server = mock.Mock(**{"execute": mock.AsyncMock(side_effect=execute), "pid": None})
-        journal = Journal(Path(self.enterContext(tempfile.TemporaryDirectory())) / "j", [], self.said.append)
-        self.hub = Hub(server, journal, HubLimits(), self.said.append)
+        journal = Journal(Path(self.enterContext(tempfile.TemporaryDirectory())) / "j", [], self.messages.append)
+        self.hub = Hub(server, journal, HubLimits(), self.messages.append)
         self.hub.teams, self.hub.unused_name, self.hub.pool.most_clients = ["f0", "f1"], b"~", 8
 
     def client(self, team: bytes, uid: int = 4242) -> Client:
@@ -264,12 +264,12 @@ class Shares(unittest.TestCase):
         asyncio.run(answer())
         return self.asked[:]
 
-    def test_one_user_has_a_part_of_a_sockets_connections(self) -> None:
+    def test_one_user_can_have_only_a_part_of_the_connections(self) -> None:
         self.assertEqual([self.hub.admit(self.client(b"f0")) for _ in range(7)], [True] * 6 + [False])
         self.assertEqual((self.hub.admit(self.client(b"f0", 7)), self.hub.admit(self.client(b"f1"))), (True, True))
         self.assertEqual([self.hub.admit(self.client(b"f1", os.geteuid())) for _ in range(7)], [True] * 7)
 
-    def test_one_user_has_a_part_of_a_teams_sessions(self) -> None:
+    def test_one_user_can_have_only_a_part_of_the_sessions(self) -> None:
         other, many = self.client(b"f0", 7), self.client(b"f0")
         self.send(many, b"open f0\n" * 4)
         self.answer_all()
@@ -282,7 +282,7 @@ class Shares(unittest.TestCase):
         self.send(self.client(b"f0", 9), b"open f1\n" * 8)
         self.assertEqual(self.answer_all(), [b"open ~"] * 8)
 
-    def test_long_replies_wait_for_those_that_are_not_read(self) -> None:
+    def test_long_replies_wait_for_unread_ones(self) -> None:
         first, second, third, other = (self.client(team) for team in (b"f0", b"f0", b"f0", b"f1"))
         for client in (first, second):
             client.is_slow = True
@@ -299,7 +299,7 @@ class Shares(unittest.TestCase):
             self.hub.remove(second)
             self.assertEqual(self.answer_all(), [b"def f1 0"])
 
-    def test_an_export_is_told_when_the_disk_has_its_name(self) -> None:
+    def test_an_export_is_answered_when_its_name_is_on_the_disk(self) -> None:
         steps, target = mock.Mock(), Path(self.hub.journal.path).with_name("new.def")
         second = mock.Mock(start=mock.AsyncMock(), restore=mock.AsyncMock(), kill=mock.AsyncMock())
         second.end = mock.AsyncMock(side_effect=lambda: [steps.end(), 0][1])
@@ -321,7 +321,7 @@ class Shares(unittest.TestCase):
         client = self.client(b"f0")
         self.transport.get_extra_info.return_value = near
 
-        async def judge() -> list[bool]:
+        async def check_waiting() -> list[bool]:
             found = []
             with mock.patch.object(asyncio.get_running_loop(), "call_later") as later:
                 client.pause_writing()
@@ -333,9 +333,9 @@ class Shares(unittest.TestCase):
                     found.append(self.transport.abort.called)
             return found
 
-        self.assertEqual(asyncio.run(judge()), [False, False, True])
+        self.assertEqual(asyncio.run(check_waiting()), [False, False, True])
 
-    def test_who_goes_and_reads_no_more_is_dropped(self) -> None:
+    def test_a_client_that_leaves_without_reading_is_dropped(self) -> None:
         self.hub.patience = 0.1
 
         async def disconnect(unread: int, read: int) -> None:
@@ -367,7 +367,7 @@ class Shares(unittest.TestCase):
 
 
 class Faults(FrontCase):
-    def test_behind_a_fault_nothing_more_is_answered(self) -> None:
+    def test_after_a_fault_nothing_more_is_answered(self) -> None:
         ended = []
 
         async def wait_forever() -> None:
@@ -396,13 +396,13 @@ class Faults(FrontCase):
 
 
 class Floods(unittest.TestCase):
-    def test_a_line_of_each_kind_is_said_once_a_minute(self) -> None:
-        said: list[str] = []
-        calm = RateLimitedLog(said.append)
+    def test_a_line_of_each_kind_is_printed_once_a_minute(self) -> None:
+        output: list[str] = []
+        log_limited = RateLimitedLog(output.append)
         with mock.patch("time.monotonic", side_effect=[0, 1, 2, 3, 61, 61.5]):
             for kind in "aabaab":
-                calm(kind, kind)
-        self.assertEqual(said, ["a", "b", "a (and 2 more since the last such line)"])
+                log_limited(kind, kind)
+        self.assertEqual(output, ["a", "b", "a (and 2 more since the last such line)"])
 
 
 class Operator(HubCase):
@@ -417,7 +417,7 @@ class Operator(HubCase):
         with socket.socket(socket.AF_UNIX, socket.SOCK_DGRAM) as end, contextlib.suppress(OSError):
             end.sendto(b"end", str(path))
 
-    def test_a_socket_of_systemd_that_takes_nothing_holds_nobody(self) -> None:
+    def test_a_full_socket_of_systemd_blocks_nobody(self) -> None:
         path = self.folder / "told"
         with socket.socket(socket.AF_UNIX, socket.SOCK_DGRAM) as systemd, mock.patch.dict(
             os.environ, {"NOTIFY_SOCKET": str(path)}
@@ -428,35 +428,35 @@ class Operator(HubCase):
             self.assertEqual(systemd.recv(100), b"WATCHDOG=1")
 
     def test_status_metrics_and_what_is_not_committed(self) -> None:
-        told, words = self.folder / "told", bytearray()
+        address, words = self.folder / "told", bytearray()
 
         def hear(systemd: socket.socket) -> None:
             while (piece := systemd.recv(1 << 12)) != b"end":
                 words.extend(piece + b"\n")
 
         with socket.socket(socket.AF_UNIX, socket.SOCK_DGRAM) as systemd:
-            systemd.bind(str(told))
+            systemd.bind(str(address))
             listener = threading.Thread(target=hear, args=(systemd,))
             listener.start()
             self.addCleanup(listener.join)
-            self.addCleanup(self.send_end, told)
-            with mock.patch.dict(os.environ, {"NOTIFY_SOCKET": str(told)}):
+            self.addCleanup(self.send_end, address)
+            with mock.patch.dict(os.environ, {"NOTIFY_SOCKET": str(address)}):
                 self.start()
             talker = self.talk("f0")
             talker.ask("open f0", "place f0 0 f0c1 0 0 N", "place f0 0 f0c2 2000 0 N")
             self.talk("f1").ask("open f1", "tidy f1 0", "commit f1 0")
-            text_summary_of = json.loads(self.ask_hub("--status"))
-            teams = {each["team"]: each for each in text_summary_of["teams"]}
+            hub_status = json.loads(self.ask_hub("--status"))
+            teams = {each["team"]: each for each in hub_status["teams"]}
             self.assertEqual([teams["f0"][key] for key in ("revision", "uncommitted", "clients")], [2, 2, 1])
             [session] = teams["f0"]["sessions"]
             self.assertEqual((session["number"], session["uid"], session["pid"]), (0, os.geteuid(), os.getpid()))
             self.assertEqual(
-                (teams["f1"]["revision"], teams["f1"]["uncommitted"], text_summary_of["changes_total"]), (2, 0, 6)
+                (teams["f1"]["revision"], teams["f1"]["uncommitted"], hub_status["changes_total"]), (2, 0, 6)
             )
             self.assertTrue(
-                text_summary_of["sync_seconds_p99"] > 0
-                and text_summary_of["program_bytes"] > 1 << 20
-                and text_summary_of["journal_bytes"] > 300
+                hub_status["sync_seconds_p99"] > 0
+                and hub_status["program_bytes"] > 1 << 20
+                and hub_status["journal_bytes"] > 300
             )
             metrics = self.ask_hub("--metrics")
             self.assertIn('lefence_team_revision{team="f0"} 2\n', metrics)
@@ -471,10 +471,10 @@ class Operator(HubCase):
                 self.assertLess(time.monotonic(), last)
                 time.sleep(0.01)
             self.assertEqual(self.hub.end(), 0)
-            self.send_end(told)
+            self.send_end(address)
             listener.join()
         self.assertEqual([b"READY=1\nSTATUS=ready" in words, b"STOPPING=1" in words], [True] * 2)
-        self.assertIn("uncommitted changes: 2 of f0\n", self.hub.told())
+        self.assertIn("uncommitted changes: 2 of f0\n", self.hub.log_text())
 
     def test_status_of_a_hub_that_is_gone_or_does_not_answer(self) -> None:
         self.start()
@@ -488,10 +488,10 @@ class Operator(HubCase):
             with self.assertRaisesRegex(Fault, "no reply for 0.2 seconds"):
                 status.ask_status(self.folder)
 
-    def test_numbers_that_a_hub_cannot_go_by_are_refused(self) -> None:
+    def test_bad_numbers_are_refused(self) -> None:
         needed = ["t.def", "t.lef", "--sockets", "s", "--journal", "j"]
         seconds, least = "a number of seconds, 0 or more", "0 or more"
-        for option, value, told in (
+        for option, value, expected in (
             *(
                 (option, value, seconds)
                 for option in ("--grace", "--idle", "--patience", "--deadline")
@@ -502,12 +502,12 @@ class Operator(HubCase):
             ("--keep", "1", "0, or 2 or more"),
             ("--sessions", "99", "1 to 64"),
         ):
-            with contextlib.redirect_stderr(io.StringIO()) as said, self.assertRaises(SystemExit) as ended:
+            with contextlib.redirect_stderr(io.StringIO()) as output, self.assertRaises(SystemExit) as ended:
                 hub_tool.parser().parse_args([*needed, option, value])
             self.assertEqual(
-                (ended.exception.code, f"argument {option}: {value}: {told}\n" in said.getvalue()),
+                (ended.exception.code, f"argument {option}: {value}: {expected}\n" in output.getvalue()),
                 (2, True),
-                said.getvalue(),
+                output.getvalue(),
             )
 
     def test_a_program_that_hangs_is_restored_and_cannot_hold_the_end(self) -> None:
@@ -516,7 +516,7 @@ class Operator(HubCase):
         self.assertEqual(talker.ask("open f0", "place f0 0 f0c1 0 0 N"), ["ok 0 0", "ok 1"])
         os.kill(self.hub.server_pid(), signal.SIGSTOP)
         self.assertEqual(talker.ask("where f0 0 f0c1"), ["ok 0 0 N"])
-        self.assertIn("was silent for 2 seconds", self.hub.told())
+        self.assertIn("was silent for 2 seconds", self.hub.log_text())
         # Who has no session and says nothing is dropped.
         self.assertEqual(idle.replies.read(), b"")
         self.assertEqual(talker.ask("where f0 0 f0c1"), ["ok 0 0 N"])
@@ -528,7 +528,7 @@ class Operator(HubCase):
         talker.socket.sendall(b"sync f0 0\n")
         time.sleep(0.1)
         self.assertEqual(self.hub.end(), 3)
-        self.assertIn("given up", self.hub.told())
+        self.assertIn("given up", self.hub.log_text())
 
     def test_spent_descriptors_make_no_flood_of_lines(self) -> None:
         self.start()
@@ -542,7 +542,7 @@ class Operator(HubCase):
                 end.connect(str(self.folder / "s/f0.sock"))
         self.hub.wait_for("accept")
         time.sleep(1.5)
-        self.assertLess(len(self.hub.told().splitlines()), 8)
+        self.assertLess(len(self.hub.log_text().splitlines()), 8)
         for end in ends:
             end.close()
         resource.prlimit(pid, resource.RLIMIT_NOFILE, (4096, 4096))
@@ -563,9 +563,9 @@ class Unit(unittest.TestCase):
             text = (FRONT / "lefence-hub.service").read_text()
             unit.write_text(text.replace("/usr/local/bin/lefence-hub ", "/bin/true "))
             self.assertEqual(self.analyze("verify", str(unit)), "")
-            told = self.analyze("security", "--offline=yes", "--no-pager", str(unit))
-        found = re.search(r"Overall exposure level for lefence-hub.service: ([0-9.]+)", told)
-        self.assertTrue(found and float(found[1]) < 1, told)
+            output = self.analyze("security", "--offline=yes", "--no-pager", str(unit))
+        found = re.search(r"Overall exposure level for lefence-hub.service: ([0-9.]+)", output)
+        self.assertTrue(found and float(found[1]) < 1, output)
 
 
 if __name__ == "__main__":

@@ -27,7 +27,7 @@ class Words(HubCase):
         self.assertEqual((done.returncode, done.stderr), (0, b""))
         return done.stdout.decode("utf-8", "backslashreplace").splitlines()
 
-    def test_replies_are_told_in_words(self) -> None:
+    def test_replies_are_printed_in_words(self) -> None:
         lines = {
             "place f0c1 0 0 N": "no: choose a team first: `team NAME`",
             "teams": " ".join([f"f{team}" for team in range(TEAMS)] + ["-"]),
@@ -58,38 +58,38 @@ class Words(HubCase):
         }
         self.assertEqual(self.say(*lines), list(lines.values()))
 
-    def test_lines_and_replies_as_they_are_where_asked(self) -> None:
+    def test_raw_lines_and_replies(self) -> None:
         text = b"open f0\nplace f0 0 f0c1 0 0 N\ndef f0 0\n\nwhere f0 0 f0c2\r\nx\nsync f0 0"
         done = self.tool("lefence-shell", "t.def", "t.lef", "--program", PROGRAM, "--raw", lines=text)
         self.assertEqual((done.returncode, done.stdout, done.stderr), (0, self.direct(text), b""))
 
     def test_a_report_is_a_table(self) -> None:
-        said = self.say("team f0", "place f0c1 0 0 N", "place f0c2 400 0 N", "pad 1", "check")
+        output = self.say("team f0", "place f0c1 0 0 N", "place f0c2 400 0 N", "pad 1", "check")
         head = ["10 cells, 8 unplaced, 2 break a rule", "cell  rule  what"]
         near = "overlaps {} or is too near to it"
         self.assertEqual(
-            said[-4:], [*head, f"f0c1     8  f0c1 {near.format('f0c2')}", f"f0c2     8  f0c2 {near.format('f0c1')}"]
+            output[-4:], [*head, f"f0c1     8  f0c1 {near.format('f0c2')}", f"f0c2     8  f0c2 {near.format('f0c1')}"]
         )
         self.assertEqual(violation_text(8, "a", "b", is_there=True), "a overlaps b")
         for rule in RULES:
             self.assertTrue(violation_text(rule, "a", "b").startswith("a "))
 
-    def test_where_tidy_finds_no_place_the_way_out_is_told(self) -> None:
+    def test_if_tidy_finds_no_place_there_is_a_hint(self) -> None:
         # Four rows of forty sites have room for eighty cells of two sites; of three, less.
         parts = "".join(f"- f0d{at} BUF ;\n" for at in range(60))
         self.design.write_text(
             self.design.read_text().replace("END COMPONENTS", f"{parts}END COMPONENTS").replace("f0c*", "f0*")
         )
-        said = self.say("team f0", "tidy", "check")
-        self.assertRegex(said[1], r"^no: there is no legal place for f0d\d+$")
-        self.assertIn("nothing has moved", said[2])
-        self.assertEqual(said[3], "70 cells, 70 unplaced, 0 break a rule")
+        output = self.say("team f0", "tidy", "check")
+        self.assertRegex(output[1], r"^no: there is no legal place for f0d\d+$")
+        self.assertIn("nothing has moved", output[2])
+        self.assertEqual(output[3], "70 cells, 70 unplaced, 0 break a rule")
 
-    def test_help_tells_each_verb(self) -> None:
-        said = self.say("help", "help place", "help nonsense")
+    def test_help_lists_each_verb(self) -> None:
+        output = self.say("help", "help place", "help nonsense")
         place = ["place CELL X Y O", "  sets the cell's working place, if the place breaks no rule"]
-        self.assertEqual(said[-3:], [*place, "no such command: nonsense"])
-        self.assertTrue(all(any(line.startswith(word) for line in said) for word in SHELL_COMMANDS))
+        self.assertEqual(output[-3:], [*place, "no such command: nonsense"])
+        self.assertTrue(all(any(line.startswith(word) for line in output) for word in SHELL_COMMANDS))
 
     def test_any_bytes_are_answered(self) -> None:
         lines = [
@@ -103,52 +103,52 @@ class Words(HubCase):
             b"def",
             b"\r",
         ]
-        said = self.say(*lines, b"quit", b"never")
-        self.assertEqual(len([line for line in said if line.startswith("no")]), 6)
-        self.assertIn("END DESIGN", said)
+        output = self.say(*lines, b"quit", b"never")
+        self.assertEqual(len([line for line in output if line.startswith("no")]), 6)
+        self.assertIn("END DESIGN", output)
 
     def test_a_hub_and_a_service_are_ends_too(self) -> None:
         self.start()
         sockets = self.folder / "s"
-        said = self.say("place f0c1 0 0 N", words=(str(sockets / "f0.sock"),))
-        self.assertEqual(said, ["session 0 of team f0, revision 0", "done; revision 1"])
+        output = self.say("place f0c1 0 0 N", words=(str(sockets / "f0.sock"),))
+        self.assertEqual(output, ["session 0 of team f0, revision 0", "done; revision 1"])
         target = self.folder / "new.def"
-        said = self.say("teams", "tidy", f"export {target}", words=(str(sockets / "operator.sock"), "--team", "f1"))
-        self.assertEqual(said[0], "session 0 of team f1, revision 0")
-        self.assertEqual(said[2:], ["10 cells moved; revision 1", "written"])
-        self.assertEqual(sorted(said[1].split()), sorted([f"f{team}" for team in range(TEAMS)] + ["-"]))
+        output = self.say("teams", "tidy", f"export {target}", words=(str(sockets / "operator.sock"), "--team", "f1"))
+        self.assertEqual(output[0], "session 0 of team f1, revision 0")
+        self.assertEqual(output[2:], ["10 cells moved; revision 1", "written"])
+        self.assertEqual(sorted(output[1].split()), sorted([f"f{team}" for team in range(TEAMS)] + ["-"]))
         with self.service(1) as port:
             self.assertEqual(
                 self.say("team f0", "tidy", words=(f"127.0.0.1:{port}",))[1:], ["10 cells moved; revision 1"]
             )
 
-    def test_an_end_that_is_not_there_is_told(self) -> None:
+    def test_a_missing_end_is_reported(self) -> None:
         for where, status in (("nowhere.sock", 3), ("127.0.0.1:1", 3), ("a" * 300, 3), ("x:99999", 2)):
             done = self.tool("lefence-shell", where)
             self.assertEqual((done.returncode, done.stdout), (status, b""), done.stderr)
             self.assertNotIn(b"Traceback", done.stderr)
         done = self.tool("lefence-shell", "t.def")
-        told = b"lefence-shell: t.def is not a socket; for a design, give its LEF files too: lefence-shell chip.def tech.lef ..\n"
-        self.assertEqual((done.returncode, done.stderr), (2, told))
+        expected = b"lefence-shell: t.def is not a socket; for a design, give its LEF files too: lefence-shell chip.def tech.lef ..\n"
+        self.assertEqual((done.returncode, done.stderr), (2, expected))
         done = self.tool("lefence-shell", self.design, self.lef, "--program", PROGRAM, "--team", "Z")
         self.assertEqual((done.returncode, done.stdout), (1, b"no: no such team here\n"))
         self.lef.write_text("")
         done = self.tool("lefence-shell", self.design, self.lef, "--program", PROGRAM)
         self.assertEqual((done.returncode, b"8 NoSite" in done.stderr), (1, True), done.stderr)
 
-    def test_teams_are_those_that_the_program_tells(self) -> None:
+    def test_teams_are_those_that_the_program_reports(self) -> None:
         fence = '"kind":"fence","name":"f3"'
         other = self.describing(f"'{PROGRAM}' \"$@\" | sed 's/{fence}/{fence[:-3]}Z\"/'")
         done = self.tool("lefence-shell", self.design, self.lef, "--program", other, lines=b"teams\n")
         self.assertEqual((done.returncode, done.stdout, done.stderr), (0, b"f0 f1 f2 Z f4 f5 f6 f7 -\n", b""))
-        for script, said, status in (
+        for script, output, status in (
             ("echo no such verb >&2; exit 2", "no such verb", 2),
             ("exit 0", "does not tell the teams", 3),
         ):
             silent = self.describing(script)
             done = self.tool("lefence-shell", self.design, self.lef, "--program", silent)
             self.assertEqual(
-                (done.returncode, done.stdout, done.stderr.decode().count(said)), (status, b"", 1), done.stderr
+                (done.returncode, done.stdout, done.stderr.decode().count(output)), (status, b"", 1), done.stderr
             )
 
 

@@ -66,15 +66,15 @@ class Looks(FrontCase):
     def run_on(self, *words: str | Path) -> subprocess.CompletedProcess[bytes]:
         return self.tool("lefence-prepare", "t.def", "t.lef", "--program", PROGRAM, *words)
 
-    def test_what_is_passed_over_is_told_with_its_line(self) -> None:
+    def test_what_is_skipped_is_listed_with_its_line(self) -> None:
         done = self.run_on("--look")
         self.assertEqual((done.returncode, done.stderr), (4, b""))
-        *told, last = done.stdout.decode().splitlines()
-        self.assertEqual(sorted(told), sorted(REMARKS.splitlines()))
+        *remarks, last = done.stdout.decode().splitlines()
+        self.assertEqual(sorted(remarks), sorted(REMARKS.splitlines()))
         self.assertEqual(last, "it loads: 5 cells, 2 unplaced, 0 illegal")
         self.assertEqual(sorted(path.name for path in self.folder.iterdir()), ["t.def", "t.lef"])
 
-    def test_a_text_without_odd_words_has_nothing_to_tell(self) -> None:
+    def test_a_text_without_odd_words_has_no_remarks(self) -> None:
         clean = (
             TEXT.replace("ROW r1 wide", "HISTORY")
             .replace("ROW r2 wide", "HISTORY")
@@ -94,7 +94,7 @@ class Looks(FrontCase):
             (done.returncode, done.stdout), (0, b"it loads: 4 cells, 0 unplaced, 1 illegal (1 by rule 6 Fence)\n")
         )
 
-    def test_a_preparing_run_tells_so_too_by_the_lines_of_the_text_that_it_read(self) -> None:
+    def test_a_preparing_run_lists_it_with_the_lines_of_its_input(self) -> None:
         done = self.run_on(
             "--output",
             "x.def",
@@ -110,27 +110,27 @@ class Looks(FrontCase):
             "--fillers",
             "c1",
         )
-        told = [line.removeprefix("lefence-prepare: ") for line in done.stderr.decode().splitlines()]
-        self.assertEqual(done.returncode, 0, told)
+        lines = [line.removeprefix("lefence-prepare: ") for line in done.stderr.decode().splitlines()]
+        self.assertEqual(done.returncode, 0, lines)
         for line in REMARKS.splitlines():
             passed = "skipped: the core" in line or "COMPONENTS" in line
-            self.assertEqual(line in told, not passed, (line, told))
+            self.assertEqual(line in lines, not passed, (line, lines))
         for line in (
             "fence D has no cells",
             "q* of group D matches no component",
             "no component has a name or a macro that matches nothing",
         ):
-            self.assertIn(line, told)
+            self.assertIn(line, lines)
 
-    def test_of_many_alike_the_first_are_told(self) -> None:
+    def test_only_the_first_of_many_alike_are_listed(self) -> None:
         self.design.write_text(
             TEXT.replace(
                 "END COMPONENTS", "".join(f"- x{at} INV + PLCED ( 0 0 ) N ;\n" for at in range(9)) + "END COMPONENTS"
             )
         )
-        told = self.run_on("--look").stdout.decode()
-        self.assertEqual([f"of component x{at} " in told for at in range(9)], [True] * 5 + [False] * 4)
-        self.assertIn("\nand 4 more: + PLCED in COMPONENTS\n", told)
+        output = self.run_on("--look").stdout.decode()
+        self.assertEqual([f"of component x{at} " in output for at in range(9)], [True] * 5 + [False] * 4)
+        self.assertIn("\nand 4 more: + PLCED in COMPONENTS\n", output)
 
     def test_one_that_makes_every_cell_illegal_does_not_end_with_0(self) -> None:
         text = "".join(f"- x{at} INV + PLACED ( {at * 400 + 50} 0 ) N ;\n" for at in range(3))
@@ -143,13 +143,13 @@ class Looks(FrontCase):
             self.lef.read_text().replace("INV CLASS CORE ; ORIGIN 0 0 ; SIZE 0.4 BY 2.0", "INV SIZE 0.4 BY 2.5")
         )
         done = self.run_on("--output", "y.def")
-        told = b"no cell fits the rows of site core, 2 microns high: the cells are 2.5 microns high; use --rows --site NAME for another site\n"
+        expected = b"no cell fits the rows of site core, 2 microns high: the cells are 2.5 microns high; use --rows --site NAME for another site\n"
         self.assertEqual((done.returncode, (self.folder / "y.def").exists()), (1, False), done.stderr)
-        self.assertIn(told, done.stderr)
+        self.assertIn(expected, done.stderr)
         self.assertEqual(self.run_on("--output", "y.def", "--force").returncode, 1)
         self.assertTrue((self.folder / "y.def").exists())
 
-    def test_a_look_at_a_text_that_does_not_load(self) -> None:
+    def test_look_at_a_text_that_does_not_load(self) -> None:
         self.design.write_text(TEXT.replace("UNITS", "HISTORY"))
         done = self.run_on("--look")
         self.assertEqual(done.returncode, 1)
@@ -159,11 +159,11 @@ class Looks(FrontCase):
         )
         self.design.write_text("DESIGN t ;\nUNITS DISTANCE MICRONS 1000 ;\nEND DESIGN\n")
         done = self.run_on("--look")
-        told = b"no ROW; a run with --output adds rows\nit does not load: 9 NoRows t; t.def, line 1: DESIGN t ;\n"
-        self.assertEqual((done.returncode, done.stdout), (1, told))
+        expected = b"no ROW; a run with --output adds rows\nit does not load: 9 NoRows t; t.def, line 1: DESIGN t ;\n"
+        self.assertEqual((done.returncode, done.stdout), (1, expected))
 
-    def test_what_is_no_def_text_is_told_so(self) -> None:
-        for text, told in (
+    def test_a_file_that_is_not_def_is_reported(self) -> None:
+        for text, expected in (
             (b"", ""),
             (self.lef.read_bytes(), ""),
             (gzip.compress(TEXT.encode()), ", but compressed by gzip"),
@@ -171,10 +171,10 @@ class Looks(FrontCase):
             self.design.write_bytes(text)
             for words in (("--look",), ("-o", "x.def")):
                 done = self.run_on(*words)
-                said = f"lefence-prepare: t.def has no DESIGN: it is not a DEF file{told}\n"
-                self.assertEqual((done.returncode, done.stdout, done.stderr.decode()), (1, b"", said))
+                output = f"lefence-prepare: t.def has no DESIGN: it is not a DEF file{expected}\n"
+                self.assertEqual((done.returncode, done.stdout, done.stderr.decode()), (1, b"", output))
 
-    def test_a_look_goes_with_nothing_that_prepares(self) -> None:
+    def test_look_excludes_options_that_prepare(self) -> None:
         for words in (
             ("--output", "x"),
             ("--rows",),

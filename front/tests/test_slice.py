@@ -75,7 +75,7 @@ class Slices(HubCase):
         self.assertNotIn(b"not compared", done.stderr)
         return target
 
-    def test_a_slice_has_the_frame_and_the_teams_cells_alone(self) -> None:
+    def test_a_slice_has_only_the_frame_and_the_cells_of_the_team(self) -> None:
         text = slice_of(self.design.read_bytes(), "f1")
         design = Design(text)
         self.assertEqual(design.fences, [f"f{team}".encode() for team in range(TEAMS)])
@@ -98,7 +98,7 @@ class Slices(HubCase):
             )
             self.assertEqual(self.direct(text, design=self.slice(name)), self.direct(text))
 
-    def test_a_busy_whole_answers_a_team_as_its_slice_does(self) -> None:
+    def test_a_busy_whole_design_answers_a_team_as_its_slice_does(self) -> None:
         sliced = self.slice("f2")
         self.start()
         texts = {team: b"open f%d\n" % team + Script(self.rng, team).lines(1000) for team in (0, 1, 2)}
@@ -107,7 +107,7 @@ class Slices(HubCase):
             found = list(pool.map(converse, talkers, texts.values()))
         self.assertEqual(found[2], self.direct(texts[2], design=sliced))
 
-    def test_what_is_no_team_is_refused(self) -> None:
+    def test_an_unknown_team_is_refused(self) -> None:
         for team in ("Z", "\udcff", ""):
             done = self.tool("lefence-slice", self.design, "--team", team)
             self.assertEqual((done.returncode, done.stdout), (1, b""))
@@ -116,29 +116,29 @@ class Slices(HubCase):
         self.assertEqual((done.returncode, done.stdout), (0, slice_of(self.design.read_bytes(), "f1")))
         self.assertIn(b"not compared", done.stderr)
 
-    def test_what_is_no_def_text_is_told_so(self) -> None:
+    def test_a_file_that_is_not_def_is_reported(self) -> None:
         text = self.design.read_bytes()
-        for other, told in (
+        for other, expected in (
             (LEF.encode(), "it is no DEF text"),
             (gzip.compress(text), "it is no DEF text, but compressed by gzip"),
         ):
             self.design.write_bytes(other)
             done = self.tool("lefence-slice", self.design, "--team", "f0")
             self.assertEqual(
-                (done.returncode, done.stderr.decode()), (1, f"lefence-slice: {self.design} has no DESIGN: {told}\n")
+                (done.returncode, done.stderr.decode()), (1, f"lefence-slice: {self.design} has no DESIGN: {expected}\n")
             )
 
-    def test_a_text_that_is_cut_off_is_refused(self) -> None:
+    def test_a_truncated_design_is_refused(self) -> None:
         self.design.write_bytes(self.design.read_bytes().partition(b"- f3c0")[0])
         done = self.tool("lefence-slice", "t.def", "--team", "f0", "-o", "f0.def")
-        told = b"lefence-slice: t.def ends without END DESIGN: it is truncated\n"
-        self.assertEqual((done.returncode, done.stderr, (self.folder / "f0.def").exists()), (1, told, False))
+        expected = b"lefence-slice: t.def ends without END DESIGN: it is truncated\n"
+        self.assertEqual((done.returncode, done.stderr, (self.folder / "f0.def").exists()), (1, expected, False))
 
-    def test_what_the_program_does_not_find_alike_is_refused(self) -> None:
+    def test_a_slice_that_the_program_reads_differently_is_refused(self) -> None:
         whole = self.design.read_bytes()
         part = slice_of(whole, "f1")
         refuse_difference(PROGRAM, self.design, part, [self.lef], "f1")
-        for other, said in (
+        for other, output in (
             (whole, "finds 12 cells of team f1 in the whole design, and 92 cells in the slice"),
             (slice_of(whole, "f2"), "the first that differ are f1c0 there and f2c0 here"),
             (part.replace(b"- f1c9 BUF", b"- f1c9 INV"), "the first that differ are f1c9 there and f1c9 here"),
@@ -149,7 +149,7 @@ class Slices(HubCase):
             self.assertNotEqual(other, part)
             with self.assertRaises(Fault) as caught:
                 refuse_difference(PROGRAM, self.design, other, [self.lef], "f1")
-            self.assertEqual((caught.exception.status, said in str(caught.exception)), (1, True), caught.exception)
+            self.assertEqual((caught.exception.status, output in str(caught.exception)), (1, True), caught.exception)
 
     def test_a_slice_that_differs_is_not_written(self) -> None:
         target = self.folder / "f1.def"
@@ -168,7 +168,7 @@ class Slices(HubCase):
         self.assertEqual(self.tool("lefence-slice", self.design, "--team", "f1", "--output", self.design).returncode, 2)
         self.assertEqual(self.design.read_bytes(), before)
 
-    def test_any_bytes_are_cut_without_a_traceback(self) -> None:
+    def test_any_bytes_are_sliced_without_a_traceback(self) -> None:
         whole = self.design.read_bytes()
         texts = [b"", b'"', b"#", b"COMPONENTS", b"REGIONS 1 ; - - ; END REGIONS", b"GROUPS x - + REGION ; END GROUPS"]
         texts.append(bytes(range(256)) * 9)
@@ -236,36 +236,36 @@ class Pushes(HubCase):
         with lefence.connect(self.folder / f"s/{team}.sock") as connection, connection.session(team) as session:
             session.place(*change)
             before = session.def_text()
-        status, said = self.push(pushed, team)
+        status, output = self.push(pushed, team)
         self.assertEqual(status, 1)
         difference = (
             f"line 1: the recorded reply to 'open {team}' is 'ok 0 0', but now it is 'ok 0 1'; the 0 lines before it"
         )
-        self.assertIn(f"team {team} at revision 0, {difference}", said)
+        self.assertIn(f"team {team} at revision 0, {difference}", output)
         self.assertEqual(self.texts(team, "s"), before)
 
-    def test_what_was_done_on_slices_is_done_on_the_whole(self) -> None:
+    def test_the_work_on_slices_is_repeated_on_the_whole_design(self) -> None:
         journals = [self.work_away(team) for team in (0, 1, 2)]
         for team, journal in enumerate(journals):
-            status, said = self.push(journal, f"f{team}" if team else "operator")
-            self.assertEqual(status, 0, said)
+            status, output = self.push(journal, f"f{team}" if team else "operator")
+            self.assertEqual(status, 0, output)
             again = self.push(journal, f"f{team}", "--continue")
             self.assertEqual(again[0], 0, again)
         exported = self.exported()
         moved = [each.name for each in exported.entries(b"COMPONENTS") if each.has(b"PLACED")]
         self.assertEqual(set(moved), {cell for team in (b"f0", b"f1", b"f2") for cell in exported.cells_of(team)})
 
-    def test_a_push_goes_on_where_the_last_one_ended(self) -> None:
+    def test_a_push_continues_where_the_last_one_ended(self) -> None:
         for options in ((), ("--continue",), ("--continue", "--ahead", "50")):
-            status, said = self.push(self.work_away(1, 60), "f1", *options)
-            self.assertEqual(status, 0, said)
+            status, output = self.push(self.work_away(1, 60), "f1", *options)
+            self.assertEqual(status, 0, output)
         with lefence.connect(self.folder / "s/f1.sock") as connection, connection.session("f1") as session:
             session.undo()
-        status, said = self.push(self.folder / "jf1", "f1", "--continue")
+        status, output = self.push(self.folder / "jf1", "f1", "--continue")
         self.assertEqual(status, 1)
-        self.assertIn("none of these lines", said)
+        self.assertIn("none of these lines", output)
 
-    def test_a_repair_of_slices_comes_back_to_the_whole(self) -> None:
+    def test_a_repair_of_slices_is_sent_to_the_whole_design(self) -> None:
         wanted = {}
         for team, socket in (("f1", "f1"), ("-", "operator")):
             lines, exported = self.repair_away(team)
@@ -273,8 +273,8 @@ class Pushes(HubCase):
             wanted.update(
                 {each.name: each.words for each in cells.entries(b"COMPONENTS") if cells.team_of(each) == team.encode()}
             )
-            status, said = self.push(lines, socket)
-            self.assertEqual((status, f"; team {team} at revision " in said), (0, True), said)
+            status, output = self.push(lines, socket)
+            self.assertEqual((status, f"; team {team} at revision " in output), (0, True), output)
             self.assertEqual(self.push(lines, socket, "--continue")[0], 0)
         self.assertGreater(len(wanted), 20)
         self.assertEqual({words[2] for words in wanted.values()} & {b"+"}, {b"+"})
@@ -283,7 +283,7 @@ class Pushes(HubCase):
         placed = [name for name, words in found.items() if b"PLACED" in words]
         self.assertEqual({*placed}, {*wanted})
 
-    def test_a_repair_is_not_sent_where_somebody_else_has_changed_the_team(self) -> None:
+    def test_a_repair_is_not_sent_if_another_client_has_changed_the_team(self) -> None:
         lines, _ = self.repair_away("f1")
         self.refuse_after(lines, "f1", ("f1c1", 8000, 0, "N"))
 
@@ -291,20 +291,20 @@ class Pushes(HubCase):
         made = self.folder / "made"
         for text, number in (("open f1\nwhere f1 0 f1c1\n", 2), ("open f1\n\n", 2), ("open \n", 1)):
             made.write_text(text)
-            status, said = self.push(made, "f1")
-            self.assertEqual((status, f"line {number} is not a change of a team\n" in said), (1, True), said)
+            status, output = self.push(made, "f1")
+            self.assertEqual((status, f"line {number} is not a change of a team\n" in output), (1, True), output)
 
-    def test_a_journal_without_its_first_changes_is_told_what_its_hub_needs(self) -> None:
+    def test_a_journal_without_its_first_changes_is_refused_with_advice(self) -> None:
         for _ in range(4):
             journal = self.work_away(0, 20, "--tail-bytes", "1")
-        status, said = self.push(journal, "f0")
+        status, output = self.push(journal, "f0")
         self.assertEqual(
-            (status, "are in a state alone; for a push the hub needs --keep 0 from the first line on\n" in said),
+            (status, "are in a state alone; for a push the hub needs --keep 0 from the first line on\n" in output),
             (1, True),
-            said,
+            output,
         )
-        status, said = self.push(self.work_away(1, 20, "--tail-bytes", "1", "--keep", "0"), "f1")
-        self.assertEqual(status, 0, said)
+        status, output = self.push(self.work_away(1, 20, "--tail-bytes", "1", "--keep", "0"), "f1")
+        self.assertEqual(status, 0, output)
 
     def test_the_number_of_a_session_is_no_revision(self) -> None:
         lines = [b"open f1", b"open f1", b"place f1 0 f1c1 8200 0 N"]
@@ -314,22 +314,22 @@ class Pushes(HubCase):
         for options in ((), ("--continue",)):
             self.assertEqual(self.push(made, "f1", *options)[0], 0)
 
-    def test_where_somebody_else_wrote_the_first_difference_is_told_and_nothing_more_is_sent(self) -> None:
+    def test_the_first_difference_is_reported_and_nothing_more_is_sent(self) -> None:
         self.refuse_after(self.work_away(0), "f0", ("f0c1", 0, 2000, "FS"))
 
-    def test_a_difference_in_the_middle_leaves_the_team_where_it_is_told(self) -> None:
+    def test_a_difference_in_the_middle_reports_where_the_team_stays(self) -> None:
         journal = self.work_away(0, 100)
         lines = [b"open f1", b"place f1 0 f1c1 8200 0 N", b"place f1 0 f1c2 8200 0 N", b"place f1 0 f1c3 12000 0 N"]
         made = made_journal(self.folder / "made", journal, zip(lines, [b"ok 0 0\n", b"ok 1\n", b"ok 2\n", b"ok 3\n"]))
-        status, said = self.push(made, "f1")
+        status, output = self.push(made, "f1")
         self.assertEqual(status, 1)
         self.assertIn(
             "at revision 1, line 3: the recorded reply to 'place f1 0 f1c2 8200 0 N' is 'ok 2', but now it is 'no 7",
-            said,
+            output,
         )
         self.assertEqual(self.talk("f1").ask("open f1"), ["ok 0 1"])
 
-    def test_what_cannot_be_pushed_is_told(self) -> None:
+    def test_a_file_that_cannot_be_pushed_is_reported(self) -> None:
         self.assertEqual(self.push(self.folder / "none", "f0")[0], 3)
         self.assertEqual(self.push(self.design, "f0")[0], 1)
         self.assertEqual(self.push(self.work_away(0, 10), "nobody")[0], 3)

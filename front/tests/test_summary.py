@@ -82,13 +82,13 @@ class Summaries(FrontCase):
     def test_a_text_for_terminals(self) -> None:
         self.assertEqual(text_of(summary_of(BEFORE, AFTER, FRAME)), TEXT)
 
-    def test_the_order_of_the_cells_plays_no_part(self) -> None:
+    def test_the_order_of_the_cells_does_not_matter(self) -> None:
         text = text_of(summary_of(BEFORE, AFTER, FRAME))
         for _ in range(50):
             early, late = (self.rng.sample(cells, len(cells)) for cells in (BEFORE, AFTER))
             self.assertEqual(text_of(summary_of(early, late, FRAME)), text)
 
-    def test_the_farthest_movers_are_named(self) -> None:
+    def test_the_farthest_cells_are_listed(self) -> None:
         names = [f"c{at:03}" for at in range(500)]
         early = [cell(name, "A", (0, 0, "N")) for name in names]
         late = [cell(name, "A", (200 + 200 * (at // 3), 0, "N")) for at, name in enumerate(names)]
@@ -112,7 +112,7 @@ class Summaries(FrontCase):
         self.assertEqual(summary.notes, ["cells that changed their team: 1"])
         self.assertEqual(text_of(summary).split("\n\n")[1], "note: cells that changed their team: 1")
 
-    def test_two_files_are_summed_up_for_scripts(self) -> None:
+    def test_two_files_are_summarized_for_scripts(self) -> None:
         text, after = self.design.read_text(), self.folder / "after.def"
         self.design.write_text(text.replace("- f0c1 INV ;", "- f0c1 INV + PLACED ( 100 0 ) N ;"))
         after.write_text(text.replace("- f0c1 INV ;", "- f0c1 INV + PLACED ( 5000 4000 ) N ;"))
@@ -143,8 +143,8 @@ class Summaries(FrontCase):
         other = self.folder / "other.def"
         other.write_text(self.design.read_text().replace("MICRONS 1000", "MICRONS 500").replace("STEP 200", "STEP 100"))
         done = self.tool("lefence-summary", "t.def", "other.def", "t.lef", "--program", PROGRAM)
-        told = b"lefence-summary: t.def has 1000 database units per micron, but other.def has 500\n"
-        self.assertEqual((done.returncode, done.stdout, done.stderr), (1, b"", told))
+        expected = b"lefence-summary: t.def has 1000 database units per micron, but other.def has 500\n"
+        self.assertEqual((done.returncode, done.stdout, done.stderr), (1, b"", expected))
 
 
 if __name__ == "__main__":

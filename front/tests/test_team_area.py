@@ -40,7 +40,7 @@ class Ground(FrontCase):
         self.assertEqual((areas["f0"], areas["f1"]), (8000 * 8000 - 200 * 2000, 8000 * 8000 - 400 * 2000))
         self.assertEqual((areas["f2"], areas["-"]), (8000 * 8000, 8000 * 8000))
 
-    def test_boxes_that_overlap_and_stand_anywhere(self) -> None:
+    def test_boxes_that_overlap_anywhere(self) -> None:
         rng = random.Random(f"{SEED} ground")
 
         def box(left: int, right: int, most: int) -> Box:

@@ -45,12 +45,12 @@ class TailLimits:
 class Checkpoints:
     """Makes one state at a time."""
 
-    def __init__(self, second: SideProgram, journal: Journal, limits: TailLimits, log_limited: RateLimitedLog) -> None:
+    def __init__(self, side_program: SideProgram, journal: Journal, limits: TailLimits, log_limited: RateLimitedLog) -> None:
         """Makes the checkpoints of a journal."""
         # The program's approximate seconds for the changes after the last state, and the number of states made.
         self.seconds = 0.0
         self.count = 0
-        self._side_program = second
+        self._side_program = side_program
         self._journal = journal
         self._limits = limits
         self._log_limited = log_limited

@@ -65,11 +65,11 @@ class Near:
         self._broken = {cell.name for cell in broken}
         self._tiles = {tile for cell in broken if cell.box for tile in self._tiles_of(cell.box, NEAR * height)}
 
-    def _tiles_of(self, box: Box, bounding_box: int) -> Iterator[tuple[int, int]]:
+    def _tiles_of(self, box: Box, distance: int) -> Iterator[tuple[int, int]]:
         side = self._side
-        left, bottom = (box.left - bounding_box) // side, (box.bottom - bounding_box) // side
-        for along in range(left, min(left + LARGEST, (box.right + bounding_box) // side) + 1):
-            for up in range(bottom, min(bottom + LARGEST, (box.top + bounding_box) // side) + 1):
+        left, bottom = (box.left - distance) // side, (box.bottom - distance) // side
+        for along in range(left, min(left + LARGEST, (box.right + distance) // side) + 1):
+            for up in range(bottom, min(bottom + LARGEST, (box.top + distance) // side) + 1):
                 yield along, up
 
     @property
