@@ -1,4 +1,7 @@
-"""A cluster of one machine for tests: Slurm's controller and node and Munge, by Debian's slurm-wlm and munge, as root, without systemd."""
+"""A Slurm cluster of one machine for tests: controller, node and Munge, without systemd.
+
+It needs Debian's slurm-wlm and munge, and root.
+"""
 
 from __future__ import annotations
 
@@ -44,7 +47,7 @@ PartitionName=batch Nodes={host} Default=YES MaxTime=INFINITE State=UP
 
 
 def lacking() -> str:
-    """What a cluster lacks here; nothing where it can be started."""
+    """What is missing for a cluster; empty if it can be started."""
     if os.geteuid():
         return "a root user"
     return ", ".join(
@@ -61,7 +64,7 @@ def _free_ports() -> list[int]:
 
 @contextlib.contextmanager
 def cluster() -> Iterator[dict[str, str]]:
-    """The environment in which commands of Slurm talk to a cluster, whose processes end with the block."""
+    """Runs a cluster; yields the environment for commands of Slurm."""
     with tempfile.TemporaryDirectory(prefix="cluster") as name, contextlib.ExitStack() as started:
         folder = Path(name)
         folder.chmod(0o711)
@@ -90,7 +93,7 @@ def cluster() -> Iterator[dict[str, str]]:
 
 
 def _munge(folder: Path) -> subprocess.Popen[bytes]:
-    """Munge with a key of its own, as its own user, once its socket is there."""
+    """Starts Munge with its own key and user, and waits for its socket."""
     user = pwd.getpwnam("munge")
     (folder / "key").write_bytes(os.urandom(128))
     (folder / "key").chmod(0o400)

@@ -1,4 +1,4 @@
-"""Segments and states of a journal: what was acknowledged is found again after each step, and clients notice nothing."""
+"""Segments and states of a journal: no crash loses acknowledged changes, and clients notice nothing."""
 
 from __future__ import annotations
 
@@ -30,13 +30,16 @@ TEXTS = [Text("0" * 64, Path("/a.def")), Text("f" * 64, Path("/b.lef"))]
 
 
 class Disk:
-    """Ends this process at the step of a number. Then a cut of the power undoes each step that no sync of its file or folder followed."""
+    """Ends this process at a given step.
+
+    A power cut then reverts each step whose file or folder was not synced after it.
+    """
 
     STEPS = ("pwrite", "ftruncate", "replace", "link", "unlink", "mkdir", "fsync", "fdatasync")
 
     def __init__(self, saved: Path, last: int, is_cut: bool) -> None:
         self.saved, self.last, self.is_cut, self.count = saved, last, is_cut, itertools.count()
-        # Of each step that is not on the disk yet, the inode of its file or folder, and what undoes it.
+        # For each step that is not synced: the inode of its file or folder, and how to revert it.
         self.undo: list[tuple[int, Callable[[], object]]] = []
         self.real = {name: getattr(os, name) for name in self.STEPS}
         for name in self.STEPS:
@@ -96,7 +99,7 @@ class Segments(unittest.TestCase):
         return Journal(self.path, TEXTS, self.messages.append)
 
     def lines_of(self, journal: Journal) -> list[bytes]:
-        """What the state and the tail come to."""
+        """The lines of the state and of the tail."""
         with journal.tail(journal.position) as tail:
             return (tail.state.path.read_bytes().splitlines() if tail.state else []) + [
                 record.line for record in tail.records
@@ -115,7 +118,7 @@ class Segments(unittest.TestCase):
         journal.append([Record(line, b"ok %d\n" % (journal.changes + 1))])
 
     def keep(self, journal: Journal) -> None:
-        """Makes the state of all before the last segment."""
+        """Saves the state at the start of the last segment."""
         path = journal.archive.temporary_state(journal.header.number)
         lines = self.lines_of(journal)[: journal.header.changes]
         path.write_bytes(b"".join(b"%b\n" % line for line in lines))
@@ -123,7 +126,7 @@ class Segments(unittest.TestCase):
         journal.archive.prune(2)
 
     def fill(self, rounds: int, tell: Callable[[], object] = lambda: None) -> None:
-        """A change, a new segment, a change that others make meanwhile, and the state, so many times."""
+        """Appends a change, starts a segment, appends a change meanwhile, and saves the state; `count` times."""
         journal = self.open()
         for _ in range(rounds):
             self.append(journal)
@@ -141,7 +144,7 @@ class Segments(unittest.TestCase):
         return sorted(path.name for path in Archive(self.path).folder.iterdir())
 
     def end_at(self, step: int, is_cut: bool) -> int | None:
-        """How many changes were acknowledged by a process that ends at that step; None where it comes to its end."""
+        """The changes acknowledged by a process that ends at this step; None if it ran to its end."""
         saved = self.folder / "saved"
         saved.mkdir()
         reading, writing = os.pipe()
@@ -167,7 +170,7 @@ class Segments(unittest.TestCase):
                     lines = self.found()
                     self.assertEqual(lines, self.lines(len(lines)))
                     self.assertIn(len(lines), (count, count + 1))
-                    # And it goes on as any journal.
+                    # Then it continues as any journal.
                     self.fill(1)
                     self.assertEqual(self.found(), self.lines(len(lines) + 2))
                 shutil.rmtree(self.folder / "saved")
@@ -250,7 +253,7 @@ class Segments(unittest.TestCase):
 
 
 class Checkpoints(HubCase):
-    """A hub that makes a state as often as it can."""
+    """A hub that saves a state as often as it can."""
 
     OFTEN = ("--tail-bytes", "1")
 
@@ -258,14 +261,14 @@ class Checkpoints(HubCase):
         return [f"place f0 0 f0c{at % CELLS} {spot(0, at)}" for at in range(begin, begin + count)]
 
     def take_program(self, lines: str) -> None:
-        """Hubs that start from here on take a program that runs these lines of a shell first, and then is the proved one."""
+        """Makes later hubs run these lines of a shell before the proved program."""
         script = self.folder / "taken"
         script.write_text(f"#!/bin/sh\n{lines}\nexec '{PROGRAM}' \"$@\"\n")
         script.chmod(0o755)
         self.program = str(script)
 
     def wait_states(self, count: int) -> None:
-        """Waits until a state is kept with which a segment of that number or a later one begins."""
+        """Waits until the state of this segment or a later one is saved."""
         last = time.monotonic() + PATIENCE
         while max(Archive(self.journal).numbers("state"), default=0) < count:
             self.assertLess(time.monotonic(), last, self.hub.log_text())
@@ -353,7 +356,7 @@ class Checkpoints(HubCase):
         self.assertEqual(self.talk("f0").ask("open f0", "where f0 0 f0c9"), ["ok 0 100", f"ok {spot(0, 99)}"])
 
     def test_the_program_of_a_killed_hub_damages_no_state(self) -> None:
-        # It takes the end of its input for the end of the lines, and saves what it has.
+        # It takes the end of its input for the end of the lines, and saves a state.
         self.take_program(f"""case "$*" in *--save*) '{PROGRAM}' "$@"; sleep 1; exit;; esac""")
         for turn in range(3):
             self.start(*self.OFTEN)
@@ -373,9 +376,9 @@ class Checkpoints(HubCase):
         while not list(self.folder.glob("new.def.partial*")):
             self.assertLess(time.monotonic(), last, self.hub.log_text())
             time.sleep(0.01)
-        # Nobody else reads it before its end, nor what the program writes beside it.
+        # Until its end only its owner can read it, and what the program writes next to it.
         self.assertEqual([path.stat().st_mode & 0o777 for path in self.folder.glob("new.def.partial*")], [0o600])
-        # (the program may not be begun yet)
+        # (the program may not run yet)
         while "Umask:\t0077\n" not in Path(f"/proc/{self.hub.children()[-1]}/status").read_text():
             self.assertLess(time.monotonic(), last, self.hub.log_text())
             time.sleep(0.01)
@@ -403,7 +406,7 @@ class Limited(unittest.TestCase):
 
 
 class Pages(HubCase):
-    """What docs/FRONT.md has of backups and upgrades, line by line."""
+    """The commands of docs/FRONT.md for backups and upgrades, line by line."""
 
     def setUp(self) -> None:
         super().setUp()
@@ -412,12 +415,12 @@ class Pages(HubCase):
             (self.folder / name).write_text(text)
 
     def lines(self, begin: str) -> list[str]:
-        """The lines of the page's block that begins so."""
+        """The lines of the page's block with this beginning."""
         page = (FRONT.parent / "docs/FRONT.md").read_text()
         return next(block for block in page.split("```\n")[1::2] if block.startswith(begin)).splitlines()
 
     def begin(self, line: str, *extra: str) -> str:
-        """What a hub of that line says until it is ready or ends."""
+        """Starts a hub by this line; returns its output until it is ready or ends."""
         words = [word if word.startswith("-") else str(self.folder / word) for word in shlex.split(line)[1:]]
         self.hub = Hub(self.folder, [*words, *extra])
         self.addCleanup(self.hub.kill)

@@ -1,4 +1,4 @@
-"""The client library over a hub's sockets and over `lefence serve`: what it returns, raises and has in flight."""
+"""The client library over a hub's sockets and over `lefence serve`: results, exceptions, and lines in flight."""
 
 from __future__ import annotations
 
@@ -31,7 +31,7 @@ from lefence.client.refusals import refusal_of
 
 
 class Verbs(HubCase):
-    """Each verb, with the field's names."""
+    """Each verb with its fields."""
 
     def session(self, retries: int = 0, microns: bool = False) -> lefence.Session:
         connection = self.enterContext(lefence.connect(self.folder / "s/f0.sock", timeout=PATIENCE))
@@ -247,7 +247,7 @@ class Flights(HubCase):
         with lefence.connect(self.folder / "s/f0.sock") as connection, connection.session("f0") as session:
             with session.pipeline(raises=False) as pipeline:
                 flying = [pipeline.place("f0c1", 200 * at, 0, "N") for at in range(60)]
-                # A plain request in between has its own reply.
+                # A plain request in between gets its own reply.
                 self.assertEqual(session.where("f0c2") if flying[0].result() > 1 else flying[1].result(), 2)
                 texts = [pipeline.def_text() for _ in range(40)]
             last = [at for at, each in enumerate(flying) if each.refusal is None][-1]
@@ -275,7 +275,7 @@ class Flights(HubCase):
                 flying = [pipeline.place("f0c1", 200 * at, 0, "N") for at in range(10)]
                 self.assertEqual(flying[3].result(), 5)
                 flying.append(pipeline.place("f0c1", 2000, 0, "N"))
-                # A look in between is sent once.
+                # A query in between is sent once.
                 place = pipeline.where("f0c1")
             self.assertEqual([each.result() for each in flying], list(range(2, 13)))
             self.assertEqual((place.result(), place.times_sent), (Place(2000, 0, "N"), 1))
@@ -383,7 +383,7 @@ class Flights(HubCase):
 
 
 class Others(HubCase):
-    """Over `lefence serve`, and against ends that are no lefence."""
+    """Over `lefence serve`, and with other ends than lefence."""
 
     def test_the_program_itself_is_served_over_tcp(self) -> None:
         with self.service(2) as port:

@@ -1,4 +1,4 @@
-"""Nothing acknowledged is lost, whatever is killed at whatever moment. TURNS says how many crashes of each kind there are."""
+"""No crash loses acknowledged changes. TURNS is the number of crashes of each kind."""
 
 from __future__ import annotations
 
@@ -21,11 +21,11 @@ MANY = 2000
 
 
 class Crashes(HubCase):
-    # More words of the hub.
+    # More options of the hub.
     extra: tuple[str, ...] = ()
 
     def changes(self, team: int, revision: int) -> Talker:
-        """A client that has asked for many changes, and been told of none."""
+        """A client that has sent many changes and got no replies."""
         talker = self.talk(f"f{team}")
         head = f"place f{team} {talker.ask(f'open f{team}')[0].split()[1]} f{team}c"
         lines = [f"{head}{at % CELLS} {spot(team, at)}\n" for at in range(revision, revision + MANY)]
@@ -33,7 +33,7 @@ class Crashes(HubCase):
         return talker
 
     def check_team(self, team: int, revision: int) -> None:
-        """What a team is told of its places is what so many changes come to."""
+        """Checks that a team's places are the result of this many changes."""
         watch = self.talk(f"f{team}")
         _, session, found = watch.ask(f"open f{team}")[0].split()
         self.assertEqual(int(found), revision)
@@ -50,7 +50,9 @@ class Crashes(HubCase):
         return revision
 
     def under_load(self, strike: Callable[[], None], keeps_clients: bool = False) -> None:
-        """Strikes while four teams change; after each, what each was told stands, and at most what it asked for."""
+        """Crashes while four teams make changes. After each crash, all acknowledged changes are there, and at most
+        those sent.
+        """
         self.start(*self.extra)
         revisions, total, kept, cut = [0] * 4, 0, 0, set()
         for turn in range(TURNS):
@@ -75,7 +77,7 @@ class Crashes(HubCase):
 
     def start_anew(self) -> None:
         while self.rng.random() < 0.3:
-            # And once more, on the way up.
+            # And again during the restart.
             again = Hub(self.folder, self.words(*self.extra))
             time.sleep(self.rng.uniform(0, 0.4))
             again.kill()
@@ -92,7 +94,7 @@ class Crashes(HubCase):
         self.addCleanup(wait_gone, self.hub.children())
         for pid in self.rng.sample([self.hub.server_pid(), self.hub.process.pid], 2):
             with contextlib.suppress(ProcessLookupError):
-                # The program goes with the hub.
+                # The program ends with the hub.
                 os.kill(pid, signal.SIGKILL)
             time.sleep(self.rng.choice([0, 0.001, 0.03]))
         self.hub.process.wait()
@@ -118,7 +120,7 @@ class Crashes(HubCase):
 
     def test_kill_9_of_a_program_amid_checkpoints_is_not_noticed(self) -> None:
         self.extra = ("--tail-bytes", "1")
-        # The one that serves, or the one that makes a state.
+        # The program that serves, or the one that saves a state.
         self.under_load(lambda: os.kill(self.rng.choice(self.hub.children()), signal.SIGKILL), keeps_clients=True)
 
     def test_undo_and_padding_are_there_after_a_crash(self) -> None:
@@ -137,7 +139,7 @@ class Programs(HubCase):
     """A program that dies by itself."""
 
     def wrap(self, script: str) -> None:
-        """Puts a script before the program that answers lines, which counts its starts in a file."""
+        """Runs a script before the program that answers lines; it counts its starts in a file."""
         wrapper = self.folder / "wrapper"
         count = f"echo x >> '{self.folder}/starts'\nstarts=$(wc -l < '{self.folder}/starts')"
         describes = f'[ "$1" = replay ] || exec \'{PROGRAM}\' "$@"'
@@ -190,12 +192,12 @@ class Programs(HubCase):
                 time.sleep(0.01)
             self.assertEqual((hub.end(), Archive(self.journal).numbers("state")), (status, []))
         self.program = PROGRAM
-        # The sessions of the killed hub are known, and closed.
+        # The sessions of the killed hub are known and get closed.
         self.start()
         self.assertEqual(
             self.talk("f0").ask("open f0", "close f0 1", "sync f0 0"), ["ok 0 1", "no 3 NoSession", "ok 1"]
         )
-        # One of which a journal does not tell who had it may be closed too.
+        # A session without an owner in the journal may be closed too.
         ClientPool(8).note([b"close", b"f0", b"0"], b"ok\n", None)
 
 

@@ -1,4 +1,4 @@
-"""The description as the tools read it."""
+"""The description, as the tools read it."""
 
 from __future__ import annotations
 

@@ -1,4 +1,4 @@
-"""DEF texts as the front reads them: tokens, statements and entries, on any Python."""
+"""The front's reader of DEF files: tokens, statements and entries, on any Python."""
 
 from __future__ import annotations
 
@@ -10,7 +10,7 @@ from support import SEED
 from lefence.base.design import entries, statements, words_in
 
 WHITE = b" \t\r\n"
-# What random texts are made of: white space, comments, quotes that end and that do not, words with all of them inside.
+# The parts of random texts: white space, comments, complete and incomplete quotes, and words that contain them.
 PIECES = (
     *(
         b" ",
@@ -47,7 +47,7 @@ PIECES = (
 
 
 def plain_tokens(text: bytes) -> list[bytes]:
-    """The tokens of a text, byte by byte."""
+    """Splits a text into tokens, byte by byte."""
     found, at = [], 0
     while at < len(text):
         if text[at] in WHITE:
@@ -63,7 +63,7 @@ def plain_tokens(text: bytes) -> list[bytes]:
 
 
 def quote_end(text: bytes, start: int) -> int | None:
-    """Where a quoted text ends that begins there; None where none begins there, or it does not end."""
+    """The end of the quoted text that starts here; None if there is none or it does not end."""
     at = start + 1
     while text[start : start + 1] == b'"' and at < len(text):
         if text[at : at + 1] == b'"':
@@ -73,7 +73,7 @@ def quote_end(text: bytes, start: int) -> int | None:
 
 
 def plain_statement(tokens: list[bytes]) -> int:
-    """How many tokens the first statement of these takes, all of them where it does not end."""
+    """The number of tokens in the first statement; all if it does not end."""
     section = tokens[0] in (b"COMPONENTS", b"REGIONS")
     last = [b"END", tokens[0]] if section else [b"ENDEXT"] if tokens[0] == b"BEGINEXT" else [b";"]
     if tokens[0] == b"END":

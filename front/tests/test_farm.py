@@ -1,4 +1,4 @@
-"""A farm: every team at work over its slice, by each engine, and all of it in one design."""
+"""A farm: each team works on its slice, with each engine, and the work is merged into one design."""
 
 from __future__ import annotations
 
@@ -45,7 +45,7 @@ GROUPS 2 ;
 END GROUPS
 END DESIGN
 """
-# A team's worker: it places its cells and commits; where a file of the team's name stands it ends with 7 before the commit.
+# A team's worker places its cells and commits. If a file with the team's name exists, it ends with 7 before the commit.
 WORKER = """import os, sys
 sys.path.insert(0, FRONT)
 import lefence
@@ -56,7 +56,7 @@ with lefence.connect(os.environ["LEFENCE_SOCKET"]) as connection, connection.ses
         sys.exit(7)
     session.commit()
 """
-# What stands for Slurm and LSF: jobs run at once, and behind one another. It knows the options that the tool gives.
+# A substitute for Slurm and LSF, which runs jobs at once, one after another. It knows the options that the tool uses.
 ENGINE = """import os, re, subprocess, sys
 lsf = os.path.basename(sys.argv[0]) == "bsub"
 words, array, output = sys.argv[1:], [], ""
@@ -94,7 +94,7 @@ class FarmCase(FrontCase):
         self.work = self.folder / "work"
 
     def farm(self, *words: str, folder: str = "", has_command: bool = True) -> subprocess.CompletedProcess[str]:
-        """A farm that runs to its end, and finds the engines in a folder; without a command it repairs."""
+        """Runs a farm to its end, with the engines in a folder; without a command it repairs."""
         command = [*tool_words("lefence-farm"), "work", "t.def", "t.lef", "--program", PROGRAM, *words]
         worker = ["--", sys.executable, "-B", "worker.py"] if has_command else []
         path = os.pathsep.join([folder, os.environ["PATH"]])
@@ -110,7 +110,7 @@ class FarmCase(FrontCase):
         return done
 
     def wanted(self) -> bytes:
-        """The design with all teams tidy, by the program alone."""
+        """The design after a tidy of all teams, by the program."""
         text = "".join(f"open {team}\ntidy {team} 0\ncommit {team} 0\n" for team in TEAMS)
         self.direct(text.encode(), "--export", str(self.folder / "want.def"))
         return (self.folder / "want.def").read_bytes()
@@ -126,7 +126,7 @@ class Farms(FarmCase):
         text = (self.folder / "new.def").read_text()
         self.assertEqual(("- b1 BUF ;" in text, "- b2 INV ;" in text, "- a2 INV ;" in text), (True, True, False))
         (self.folder / "B.fails").unlink()
-        # As if the task had been at work on another machine, which is gone.
+        # As if the task had run on another machine, which is gone.
         journal = self.work / "2/journal"
         os.close(Journal(journal, texts_in(journal) or [], self.fail, owner=replace(this_process(), host="farm2"))._fd)
         done = self.farm("--export", "new.def")
@@ -134,7 +134,7 @@ class Farms(FarmCase):
         self.assertEqual([*self.work.glob("whole*"), *self.work.rglob("*.texts")], [])
         self.assertIn("lefence-farm: 1 of 3 teams have work to do\n", done.stderr)
         self.assertEqual((self.folder / "new.def").read_bytes(), self.wanted())
-        # The second run went on from what the first had done.
+        # The second run continued from the work of the first.
         log = (self.work / "2/log").read_text()
         self.assertEqual((log.count("0 2\n"), log.count("1 0\n")), (1, 1))
         done = self.farm("--merge", "--export", "merged.def")
@@ -142,7 +142,7 @@ class Farms(FarmCase):
         self.refused_when_the_text_changes()
 
     def repaired(self) -> bytes:
-        """The design with all teams repaired, by the program alone."""
+        """The design after a repair of all teams, by the program."""
         words = [PROGRAM, "repair", str(self.design), str(self.lef), "--export", str(self.folder / "want.def")]
         subprocess.run(words, stdout=subprocess.DEVNULL)
         return (self.folder / "want.def").read_bytes()
@@ -165,7 +165,7 @@ class Farms(FarmCase):
         self.assertIn("lefence-farm: team A: 5 lines answered as on its slice\n", done.stderr)
         self.assertIn("the work of 2 of 3 teams\n", done.stderr)
         self.assertEqual((self.folder / "new.def").read_bytes(), self.repaired())
-        # A command may be given later, and then counts.
+        # A command may be given later; then it counts.
         (self.work / "2/lines").write_text("open B\nplace B 0 b1 9999 0 N\n")
         done = self.farm("--export", "new.def")
         self.assertIn("team B is missing: the command ended with 1; ", done.stderr)
@@ -185,7 +185,7 @@ class Farms(FarmCase):
         self.assertEqual(((self.folder / "new.def").read_bytes(), [*self.work.glob("whole*")]), (before, []))
 
     def refused_when_the_text_changes(self) -> None:
-        """A text that is written anew between the slices and the end, and before a farm is given again."""
+        """The design changes between the slices and the end, or before a second run."""
         self.design.write_text(self.design.read_text().replace("a1 INV", "a1 BUF"))
         done = self.tool("lefence-farm", "work", "--collect")
         expected = f"lefence-farm: {self.design.resolve()} has changed since the slices were made\n"
@@ -194,7 +194,7 @@ class Farms(FarmCase):
         self.assertEqual((done.returncode, done.stderr.count(b"is of another design than")), (1, 1))
 
     def by_engine(self, name: str, engine: str, option: str, *words: str) -> str:
-        """The line of a farm by a stand-in of an engine, whose tasks and last job did their work."""
+        """Runs a farm with a substitute engine; returns its output."""
         folder = self.folder / "engines"
         folder.mkdir(exist_ok=True)
         stand_in = folder / name

@@ -1,4 +1,4 @@
-"""What clients of a hub meet: the same replies as of the program itself, many at once, and its end."""
+"""A hub from outside: the program's replies, many clients at once, and its end."""
 
 from __future__ import annotations
 
@@ -42,7 +42,7 @@ from lefence.journal.journal import Journal, texts_in
 
 
 def flood_until_broken(end: socket.socket, text: bytes) -> None:
-    """Sends and reads on until somebody breaks the connection off."""
+    """Sends and reads until somebody breaks the connection."""
     with contextlib.suppress(OSError):
         sender = threading.Thread(target=send_until_broken, args=(end, text))
         sender.start()
@@ -57,7 +57,7 @@ def send_until_broken(end: socket.socket, text: bytes) -> None:
 
 
 class Replies(HubCase):
-    """Each client is told, byte for byte, what the program answers."""
+    """Each client gets the program's replies, byte for byte."""
 
     def test_the_operator_gets_the_replies_of_the_program(self) -> None:
         for _ in range(3):
@@ -115,7 +115,7 @@ class Replies(HubCase):
 
 
 class Sockets(HubCase):
-    """Who may connect to which socket."""
+    """Permissions of sockets."""
 
     def modes(self) -> dict[str, int]:
         return {path.name: path.stat().st_mode & 0o777 for path in (self.folder / "s").iterdir()}
@@ -169,7 +169,7 @@ class Sockets(HubCase):
 
 
 class ManyClients(HubCase):
-    """Nobody holds the others."""
+    """No client blocks the others."""
 
     def test_64_clients_share_eight_teams(self) -> None:
         self.start()
@@ -191,7 +191,7 @@ class ManyClients(HubCase):
         with ThreadPoolExecutor(64) as pool:
             list(pool.map(work, range(64)))
         for team in range(TEAMS):
-            # All 64 sessions were closed, so that slot 0 is free.
+            # All 64 sessions were closed, so slot 0 is free.
             self.assertEqual(self.talk(f"f{team}").ask(f"open f{team}"), [f"ok 0 {8 * rounds}"])
 
     def test_slow_readers_floods_and_many_clients_do_not_block_others(self) -> None:
@@ -201,7 +201,7 @@ class ManyClients(HubCase):
             self.assertEqual(talker.ask(f"open f{team}"), ["ok 0 0"])
         slow.socket.settimeout(0.2)
         with self.assertRaises(TimeoutError):
-            # It is not even read to its end.
+            # The flood is not even read to its end.
             slow.socket.sendall(b"def f0 0\n" * 1_000_000)
         flooder = threading.Thread(target=flood_until_broken, args=(flood.socket, b"check f1 0\ntidy f1 0\n" * 8000))
         flooder.start()
@@ -243,13 +243,13 @@ class ManyClients(HubCase):
             talker.close()
         watch, replies = self.talk("f0"), []
         for _ in range(200):
-            # What was sent just before a close may be answered a little later.
+            # Lines sent just before a close may be answered a little later.
             replies = watch.ask(*["open f0"] * 9, *[f"close f0 {n}" for n in range(8)])
             if replies[7] == "ok 7 0":
                 break
             time.sleep(0.02)
         self.assertEqual(replies[:9], [f"ok {n} 0" for n in range(8)] + ["no 10 SessionsFull"])
-        # A slot that another client took since is not closed.
+        # A slot that another client took since then is not closed.
         first, second = self.talk("f0"), self.talk("f0")
         self.assertEqual(
             [first.ask("open f0"), watch.ask("close f0 0"), second.ask("open f0")], [["ok 0 0"], ["ok"], ["ok 0 0"]]
@@ -273,7 +273,7 @@ class ManyClients(HubCase):
 
 
 class Disk(HubCase):
-    """What is told only when it lasts."""
+    """Replies wait for the disk."""
 
     def test_a_full_disk_refuses_changes_and_answers_the_rest(self) -> None:
         self.start()
@@ -283,7 +283,7 @@ class Disk(HubCase):
         hard = resource.prlimit(pid, resource.RLIMIT_FSIZE)[1]
         resource.prlimit(pid, resource.RLIMIT_FSIZE, (self.journal.stat().st_size, hard))
         accepted = 0
-        # As long as the room lasts that was set aside; of many at once none is accepted where there is room for few.
+        # Until the reserved bytes are used; of many changes at once, none is accepted if only some fit.
         for many in (500, 1):
             reply = ["ok"]
             while reply[-1][:2] == "ok":
@@ -326,12 +326,12 @@ class Disk(HubCase):
 
 
 class Ends(HubCase):
-    """Exports, signals, and what is refused at the start."""
+    """Exports, signals, and refusals at the start."""
 
     def test_an_export_while_serving_equals_that_of_a_replay(self) -> None:
         self.start()
         others, head = self.talk("f1"), "place f1 0 f1c"
-        # A team that commits nothing, at work all the while.
+        # Another team works all the while and commits nothing.
         text = "open f1\n" + "".join(f"{head}{at % CELLS} {spot(1, at)}\n" for at in range(2000))
         others.socket.sendall(text.encode())
         done, operator, target, want = b"", self.talk("operator"), self.folder / "new.def", self.folder / "want.def"
@@ -360,7 +360,7 @@ class Ends(HubCase):
 
     def test_a_signal_ends_it_after_all_replies(self) -> None:
         target = self.folder / "end.def"
-        # A hub passes over SIGHUP where nohup started it, but not over SIGINT, which a shell has its jobs in the background ignore.
+        # A hub under nohup ignores SIGHUP, but not SIGINT, which a shell makes its background jobs ignore.
         for number, how in ((signal.SIGHUP, signal.SIG_DFL), (signal.SIGINT, signal.SIG_IGN)):
             self.addCleanup(signal.signal, number, signal.signal(number, how))
         for number in (signal.SIGTERM, signal.SIGINT, signal.SIGHUP):
@@ -463,7 +463,7 @@ class Ends(HubCase):
             self.assertEqual(self.hub.process.wait(PATIENCE), 2, number)
         self.assertFalse(self.journal.exists())
         full = [f"ok {number} 0" for number in range(9)] + ["no 10 SessionsFull"]
-        # (one that has no change yet is begun anew)
+        # (a journal without changes is written anew)
         self.start()
         self.hub.end()
         self.start("--sessions", "9")

@@ -1,4 +1,4 @@
-"""The journal on its own: what is found again after damage at any byte."""
+"""The journal by itself: what can be read after damage at any byte."""
 
 from __future__ import annotations
 
@@ -54,7 +54,7 @@ class Journals(unittest.TestCase):
         return str(caught.exception)
 
     def fill(self) -> list[int]:
-        """A frame for each record behind that of the start; where each ends."""
+        """Appends a frame for each record after the first frame; returns the end of each."""
         journal = self.open()
         ends = [journal.end]
         for record in RECORDS:
@@ -213,7 +213,7 @@ class Journals(unittest.TestCase):
                     self.open()
                 self.assertEqual((caught.exception.status, self.path.read_bytes()), (3, before))
             Journal(self.path, TEXTS, self.messages.append, takes_over=is_refused).close()
-            # What has ended is anybody's.
+            # After its end a journal has no owner.
             self.open().close()
 
     def test_a_journal_without_changes_is_written_anew(self) -> None:

@@ -1,4 +1,4 @@
-"""What lefence-journal tells of journals, and the ways on from one that is damaged."""
+"""lefence-journal on intact and damaged journals."""
 
 from __future__ import annotations
 
@@ -46,7 +46,7 @@ class JournalTool(HubCase):
             return [(frame.start, frame.end) for frame in reader.frames(reader.header().length)]
 
     def flip_bit(self, number: int) -> tuple[int, int]:
-        """Flips a bit in the frame of that number."""
+        """Flips a bit in the frame with this number."""
         start, end = self.frames()[number]
         whole = bytearray(self.journal.read_bytes())
         whole[end - 2] ^= 4
@@ -89,8 +89,10 @@ class JournalTool(HubCase):
             (True, 1, True),
         )
         checked = self.output_of("check", self.journal, status=1)
-        self.assertIn(f"damaged from byte {start} to {end}: `cut --at {start}` makes a journal of what is before", checked)
-        # What stands behind the damage can be read, listed and brought out.
+        self.assertIn(
+            f"damaged from byte {start} to {end}: `cut --at {start}` makes a journal of what is before", checked
+        )
+        # The part after the damage can be read, listed and exported.
         self.assertEqual(self.output_of("export", self.journal), [self.lines[0], *self.lines[2:]])
         self.assertEqual(self.output_of("list", self.journal, "--team", b"\xff"), [])
         self.assertEqual(self.output_of("export", self.journal, "--from", str(end)), self.lines[2:])
@@ -157,7 +159,7 @@ class Segments(HubCase):
         return done.stdout.decode(), done.stderr.decode()
 
     def changes(self) -> list[str]:
-        """The lines of the changes, with those by which the hub closed sessions."""
+        """The lines of the changes, with those of the hub that closed sessions."""
         first, second, third = self.LINES
         return [*first, "close f0 0", *second, "close f1 0", *third]
 
@@ -168,7 +170,9 @@ class Segments(HubCase):
         states = [f"it starts at the state {self.archive.state(number)}: whole" in output for number in (1, 2, 3)]
         self.assertEqual(states, [False, True, True])
         listed = [
-            line.split("\t") for line in self.output_of("list", self.journal)[0].splitlines() if not line.startswith("-")
+            line.split("\t")
+            for line in self.output_of("list", self.journal)[0].splitlines()
+            if not line.startswith("-")
         ]
         self.assertEqual([(int(words[0]), words[4]) for words in listed], list(enumerate(self.changes(), 1)))
         self.assertEqual(self.output_of("export", self.journal)[0].splitlines(), self.changes())
@@ -201,7 +205,8 @@ class Segments(HubCase):
         expected = r"damaged from byte \d+ to \d+: copied to \S*/journal, `cut --at \d+`"
         self.assertRegex(self.output_of("check", self.journal, status=1)[0], expected)
         self.assertIn(
-            "1.journal: damaged at byte", self.output_of("verify", self.journal, "--program", PROGRAM, "--all", status=1)[1]
+            "1.journal: damaged at byte",
+            self.output_of("verify", self.journal, "--program", PROGRAM, "--all", status=1)[1],
         )
         self.output_of("verify", self.journal, "--program", PROGRAM)
         self.archive.segment(1).write_bytes(whole[:-20])
@@ -220,7 +225,7 @@ class Segments(HubCase):
         self.assertIn(f"{self.archive.state(2)} is not there; the changes before it are replayed", output)
         self.assertEqual(("1.journal: damaged at byte" in output, self.hub.process.wait()), (True, 1))
         shutil.copy(self.archive.segment(1), self.journal)
-        # (what was cut off at its end were notes)
+        # (its truncated end had only notes)
         self.assertIn("ready: 9 teams, 4 changes restored", self.start())
 
 

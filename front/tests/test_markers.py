@@ -1,4 +1,4 @@
-"""The violations as a report database, read by KLayout itself beside its own reading of the same DEF and LEF texts."""
+"""The report database of violations, read by KLayout next to its own reading of the same DEF and LEF files."""
 
 from __future__ import annotations
 
@@ -14,7 +14,7 @@ from lefence.base.faults import Fault
 from lefence.base.protocol import ORIENTS
 from lefence.tools.markers import Violation, violations_of
 
-# Each item of the database with its tagged values, and the box of the instance of that name by KLayout's own reading.
+# Each item of the database with its tagged values, and the box of the cell with that name in KLayout's own reading.
 ITEMS = """
 import json, pya
 options = pya.LoadLayoutOptions()
@@ -43,7 +43,7 @@ for item in database.each_item():
     print(json.dumps(found))
 print(json.dumps([database.description, database.top_cell_name, layout.top_cell().name]))
 """
-# What KLayout shows once it has opened files by its command line.
+# What KLayout shows after it has opened files by its command line.
 SHOWN = """
 view = __import__("pya").MainWindow.instance().current_view()
 layout = view.cellview(0).layout()
@@ -55,7 +55,7 @@ MACRO INV CLASS CORE ; ORIGIN 0 0 ; FOREIGN INV 0 0 ; SIZE 0.4 BY 2.0 ; SYMMETRY
 MACRO OFF CLASS CORE ; ORIGIN 0.1 0.3 ; SIZE 0.6 BY 2.0 ; SYMMETRY X Y ; SITE core ; END OFF
 END LIBRARY
 """
-# Cells off the rows in each orientation, an overlap each way round, a legal cell and one without a place.
+# Cells off the rows in each orientation, overlaps in both directions, a legal cell and an unplaced one.
 TEXT = """VERSION 5.8 ;
 DESIGN top:<1>&'t' ;
 UNITS DISTANCE MICRONS 2000 ;

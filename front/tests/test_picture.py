@@ -1,4 +1,4 @@
-"""Pictures: what is drawn, and where."""
+"""Pictures: the drawn things and their places."""
 
 from __future__ import annotations
 
@@ -15,7 +15,8 @@ from lefence.tools.drawing import MOVE_COLOURS, Drawing, Move, shortened, text_o
 from lefence.tools.scene import Scene, colour_of
 
 SVG = "{http://www.w3.org/2000/svg}"
-# A FIXED component, a blockage, a soft one, two cells that overlap, one far outside, and one with a name that XML must escape.
+# A FIXED component, a blockage, a soft one, two cells that overlap, one far outside, and one with a name that needs
+# escapes in XML.
 MORE = """BLOCKAGES 2 ;
 - PLACEMENT RECT ( 70000 4000 ) ( 71000 8000 ) ;
 - PLACEMENT + SOFT RECT ( 9000 0 ) ( 9400 2000 ) ;
@@ -38,7 +39,7 @@ def boxes(group: ElementTree.Element) -> list[Box]:
 
 
 def titled(group: ElementTree.Element, name: str) -> list[ElementTree.Element]:
-    """What stands in a group under that name."""
+    """The elements of a group with this title."""
     return [found for found in group.iter() if found.findtext(f"{SVG}title") == name]
 
 
@@ -48,7 +49,7 @@ class Pictures(FrontCase):
         self.design.write_text(self.design.read_text().replace("END DESIGN", f"{MORE}END DESIGN"))
 
     def picture(self, *words: str, design: str = "t.def") -> dict[str, ElementTree.Element]:
-        """The groups of the picture by their names, and the whole under ``."""
+        """The groups of the picture by name; the whole picture has the empty name."""
         done = self.tool("lefence-picture", design, "t.lef", "--program", self.program, "-o", "x.svg", *words)
         self.assertEqual(done.returncode, 0, done.stderr)
         root = ElementTree.parse(self.folder / "x.svg").getroot()
@@ -65,9 +66,7 @@ class Pictures(FrontCase):
         )
         self.assertEqual(boxes(groups["soft"]), frame.soft)
         legal = {cell.name: cell.box for cell in cells if cell.box and cell.rule is None}
-        drawn = {
-            rect.findtext(f"{SVG}title"): boxes(group)[0] for group, rect in self.alone(groups["cells"])
-        }
+        drawn = {rect.findtext(f"{SVG}title"): boxes(group)[0] for group, rect in self.alone(groups["cells"])}
         self.assertEqual(drawn, legal)
         self.assertEqual(boxes(groups["broken"]), [cell.box for cell in cells if cell.name in ("one", "two")])
         self.assertEqual(len(titled(groups["broken"], "two overlaps one")), 1)
@@ -83,7 +82,7 @@ class Pictures(FrontCase):
             self.assertIn(text, legend)
 
     def alone(self, group: ElementTree.Element) -> list[tuple[ElementTree.Element, ElementTree.Element]]:
-        """The rectangles of a group, each in a group of its own too."""
+        """The rectangles of a group, each in a group of its own."""
         found = []
         for rect in group.iter(f"{SVG}rect"):
             group = ElementTree.Element("g")
@@ -132,7 +131,7 @@ class Pictures(FrontCase):
     def test_arrows_lead_from_the_old_places(self) -> None:
         text = self.design.read_text()
         old = text.replace("( 8400 0 ) N", "( 12400 4000 ) N").replace("two INV + PLACED ( 64200 0 ) N", "two INV")
-        # The order of the components is another one.
+        # The components have another order.
         first = "- far INV + PLACED ( 2000000 0 ) N ;\n"
         (self.folder / "old.def").write_text(old.replace(first, "").replace("- one", f"{first}- one"))
         groups = self.picture("--before", "old.def")
@@ -148,8 +147,7 @@ class Pictures(FrontCase):
         (self.folder / "old.def").write_text(text.replace("- far", near.format(65800) + far.format(40000) + "- far"))
         groups = self.picture("--before", "old.def")
         drawn = {
-            group.attrib["stroke"]: [arrow.findtext(f"{SVG}title") for arrow in group]
-            for group in groups["moves"]
+            group.attrib["stroke"]: [arrow.findtext(f"{SVG}title") for arrow in group] for group in groups["moves"]
         }
         self.assertEqual(drawn, {MOVE_COLOURS[0][1]: ["near"], MOVE_COLOURS[3][1]: ["away"]})
         legend = "".join(groups["legend"].itertext())
@@ -170,7 +168,7 @@ class Pictures(FrontCase):
             text = line.find(f"{SVG}text")
             assert text is not None
             output = "".join(text.itertext())
-            # DejaVu Sans: a W is as wide as high, a small letter or a digit two thirds of that.
+            # DejaVu Sans: a W is as wide as high, a small letter or a digit has two thirds of that.
             wide = 13 * sum(0.99 if each in "W…→" else 0.6 for each in output)
             self.assertLessEqual(left + float(text.get("x", 0)) + wide, float(root.attrib["width"]), output)
         self.assertIn("51,850 moved", "".join(legend.itertext()))
@@ -187,7 +185,7 @@ class Pictures(FrontCase):
             for run in re.findall(r"M(\d+) (\d+)h(\d+)v1h-\d+z", path.attrib["d"])
         ]
         side, _, _, _, left, _ = map(int, groups["map"].attrib["transform"][7:-1].split())
-        # Where the forty stand and where two overlap, but not where one stands alone.
+        # The bins of the forty cells and of the two that overlap are red, but not that of a single cell.
         places = {(left + side * (x + at)) // 10000 for x, _, length in red for at in range(length)}
         self.assertEqual(places - {1}, {2, 6})
         self.assertIn("red\nbins are more than full", "".join(groups["legend"].itertext()))
@@ -219,7 +217,7 @@ class Pictures(FrontCase):
             self.assertEqual(made[:8], b"\x89PNG\r\n\x1a\n")
             with Description(self.program, self.design, [self.lef]) as description:
                 drawing = Drawing(Scene(description.frame))
-            # The picture is there, and twice as wide as the chip at least.
+            # The picture exists and is at least twice as wide as the chip.
             self.assertGreater(int.from_bytes(made[16:20]), 2 * drawing.wide)
         else:
             self.assertEqual(done.returncode, 2)

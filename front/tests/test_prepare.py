@@ -1,4 +1,4 @@
-"""From a DEF text without rows or fences to one that loads."""
+"""Preparing a DEF file without rows or fences for the program."""
 
 from __future__ import annotations
 
@@ -23,7 +23,7 @@ MACRO INV CLASS CORE ; ORIGIN 0 0 ; SIZE 0.4 BY 2.0 ; SYMMETRY X Y ; SITE core ;
 MACRO FILL CLASS CORE ; ORIGIN 0 0 ; SIZE 0.2 BY 2.0 ; SYMMETRY X Y ; SITE core ; END FILL
 END LIBRARY
 """
-# Cells on a grid off the die's corner, of which one stands astray; fillers by name and by macro.
+# Cells on a grid off the die's corner, one of them off the grid; fillers by name and by macro.
 TEXT = """VERSION 5.8 ;
 DESIGN t ;
 UNITS DISTANCE MICRONS 1000 ;

@@ -1,4 +1,4 @@
-"""Repairs: cells that have room get legal places near where they stood; those that have none are named and unplaced."""
+"""Repairs: cells get legal places near their old ones if there is room; the others are listed and unplaced."""
 
 from __future__ import annotations
 
@@ -15,7 +15,7 @@ from lefence.tools.splice import Spot, with_spots
 
 # A macro that is higher than all rows.
 HIGH = "MACRO HIGH CLASS CORE ; ORIGIN 0 0 ; SIZE 0.4 BY 10.0 ; SYMMETRY X Y ; SITE core ; END HIGH\nEND LIBRARY"
-# A fence of five sites of one row, in which a cell of two sites and one of three have room side by side alone.
+# A fence of five sites in one row. A cell of two sites and one of three fit there only next to each other.
 TIGHT = """VERSION 5.8 ; DESIGN tight ; UNITS DISTANCE MICRONS 1000 ;
 ROW r core 0 0 N DO 5 BY 1 STEP 200 0 ;
 REGIONS 1 ; - A ( 0 0 ) ( 1000 2000 ) + TYPE FENCE ; END REGIONS
@@ -26,7 +26,7 @@ END COMPONENTS
 GROUPS 1 ; - g two three + REGION A ; END GROUPS
 END DESIGN
 """
-# How many cells KLayout reads of a design, the sum of the areas of their boxes, and the area that these cover together.
+# The number of cells that KLayout reads, the sum of their areas, and the area of their union.
 AREAS = """
 import pya
 options = pya.LoadLayoutOptions()
@@ -39,7 +39,7 @@ outline = layout.find_layer(99, 0)
 boxes = [each.bbox_per_layer(outline) for each in layout.top_cell().each_inst()]
 print(len(boxes), sum(box.area() for box in boxes), pya.Region(boxes).merged().area())
 """
-# Ways to write where a cell is, and none.
+# Forms of a placement clause, and none.
 CLAUSES = (
     "+ PLACED ( {x} {y} ) N",
     "+ SOURCE DIST + PLACED ( {x}\t{y} ) S + WEIGHT 2",
@@ -52,7 +52,7 @@ CLAUSES = (
 
 
 def spot_of(cell: Cell) -> Spot | None:
-    """Where a cell stands."""
+    """The place of a cell."""
     return None if cell.box is None or cell.orient is None else Spot(cell.box.left, cell.box.bottom, cell.orient)
 
 
@@ -63,7 +63,7 @@ class Repairs(FrontCase):
         self.jumble()
 
     def jumble(self) -> None:
-        """Puts each cell anywhere in its own fence or outside all, in one row in two, on and off sites."""
+        """Places each cell anywhere in its own fence or outside all, in one of two rows, on and off sites."""
 
         def place(found: re.Match[str]) -> str:
             left = WIDTH * int(found[2] or 8)
@@ -134,7 +134,7 @@ class Repairs(FrontCase):
         gap = rb"; the widest gap of the rows near it is \d+\.\d{3} microns\n"
         self.assertRegex(done.stderr, rb"team f2: no place for high, which was at %d 0 N" % (2 * WIDTH + 1000) + gap)
         self.assertRegex(done.stderr, rb"team f2: no place for new, which had none" + gap)
-        # (nothing is said of other teams where all were repaired)
+        # (teams that were fully repaired are not mentioned)
         self.assertIn(b"not fully legal: 2 cells unrepaired\n", done.stderr)
         check = subprocess.run([PROGRAM, "check", self.target, self.lef], capture_output=True)
         self.assertEqual(json.loads(check.stdout), {"cells": 92, "unplaced": 2, "violations": []})
@@ -223,7 +223,7 @@ class Repairs(FrontCase):
             self.assertEqual((done.returncode, done.stderr.decode()), (3, f"lefence-repair: {why}\n"))
 
     def fails(self, script: str, expected: bytes, *words: str) -> None:
-        """A repair by a program that this script of a shell stands for is told so, and no file is left."""
+        """Checks that a repair by this script instead of the program fails with this message and leaves no file."""
         odd = self.folder / "odd"
         odd.write_text(f"#!/bin/sh\n{script}\n")
         odd.chmod(0o755)

@@ -1,4 +1,4 @@
-"""Repairs of a hub's teams: as they stand there, by changes of a session, which others see and can take back."""
+"""Repairs of a hub's teams from their present places, by changes of a session that others see and can undo."""
 
 from __future__ import annotations
 
@@ -34,7 +34,7 @@ class RepairsThere(HubCase):
             report, place = session.check(), session.where("f1c1")
             self.assertEqual((report.unplaced, [*report.violations]), (0, []))
             self.assertEqual((place.x, place.y, place.orient), (9000, 4000, "N"))
-            # Its session is closed, and what it did is committed and can be taken back.
+            # Its session is closed; its changes are committed and can be undone.
             session.undo()
             self.assertEqual(session.check().unplaced, 1)
             session.revert()
@@ -44,7 +44,9 @@ class RepairsThere(HubCase):
         placed = [each.name for each in exported.entries(b"COMPONENTS") if each.has(b"PLACED")]
         self.assertEqual(placed, exported.cells_of(b"f1"))
         done = self.repair("f1")
-        expected = b"lefence-repair: nothing moves; team f1 is committed\nlefence-repair: every cell of team f1 is legal\n"
+        expected = (
+            b"lefence-repair: nothing moves; team f1 is committed\nlefence-repair: every cell of team f1 is legal\n"
+        )
         self.assertEqual((done.returncode, done.stderr.endswith(expected)), (0, True), done.stderr)
 
     def test_the_operator_names_one_team(self) -> None:

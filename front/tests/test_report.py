@@ -1,4 +1,4 @@
-"""The page about a design: what it tells, and that it works in a real browser."""
+"""The page about a design: its contents, and its behaviour in a real browser."""
 
 from __future__ import annotations
 
@@ -16,7 +16,8 @@ import lefence
 from lefence.base.description import Box, Cell
 from lefence.tools.report import Near
 
-# Cells that break rules, two of them with odd names; a soft blockage, a FIXED component with such a name, and a blockage.
+# Cells that break rules, two of them with odd names; a soft blockage, a FIXED component with such a name, and a
+# blockage.
 ODD = "f0c</script><b>&\"'%41"
 MORE = f"""BLOCKAGES 2 ;
 - PLACEMENT RECT ( 70000 4000 ) ( 71000 8000 ) ;
@@ -34,7 +35,7 @@ END COMPONENTS
 
 
 class Text(HTMLParser):
-    """The text of the cells of tables, line by line, and the embedded data."""
+    """Parses the text of tables, row by row, and the embedded data."""
 
     def __init__(self, page: str) -> None:
         super().__init__()
@@ -83,7 +84,8 @@ class Reports(ReportCase):
         text = Text(self.page())
         self.assertIn(["twooverlaps one", "8 Overlap", "-", "64.2, 0"], text.lines)
         self.assertIn("#v=" + quote(ODD, safe=""), text.links)
-        # Of f0: eleven cells of 10 * 400 and 4 * 200 by 2000 more, ten unplaced, one off its site; the wall stands in its ground.
+        # Team f0: ten cells of 400 * 2000 and four of 600 * 2000 have these areas; ten are unplaced, one is off its
+        # site.
         self.assertIn(["f0", "11", "1", "10", "1Row 1", "10.4", "62.8", "16.6%"], text.lines)
         self.assertIn(["f1", "11", "1", "10", "0", "10.4", "64.0", "16.2%"], text.lines)
         ground = ["-the ground outside all fences", "13", "3", "10", "3Row 1, Overlap 2", "12.0", "60.0", "20.0%"]
@@ -133,7 +135,7 @@ class Reports(ReportCase):
         page = self.page("--before", "early.def")
         text = Text(page)
         self.assertIn("1 cell moved, 0 only turned, 4 stayed.", page)
-        # Two overlap no more; the cell that is far outside is illegal still.
+        # Two cells no longer overlap; the cell far outside is still illegal.
         self.assertIn(["-", "1", "0", "0", "0", "4.00", "4.00", "3 → 1", "10 → 10"], text.lines)
         self.assertIn(["f0", "0", "0", "0", "0", "–", "–", "1 → 1", "10 → 10"], text.lines)
         self.assertIn(["one", "-", "64, 0", "66, 2", "4.00", "2.0"], text.lines)
@@ -172,7 +174,7 @@ class InABrowser(ReportCase):
         browser = self.browser
         browser.open((self.folder / "x.html").as_uri())
         browser.screen(1400)
-        # All is shown at first; a click on a violation's line shows its place.
+        # Initially all is visible; a click on a violation's row shows its place.
         x, y, all_scale, chosen = self.where()
         self.assertEqual((x, y, chosen), (36000, 4000, -1))
         browser.click("tr[data-go='v=two']")
@@ -181,13 +183,13 @@ class InABrowser(ReportCase):
         self.assertGreater(scale, 1.5 * all_scale)
         self.assertEqual(browser.value("location.hash"), "#v=two")
         self.assertEqual(browser.value("document.querySelector('tr.here a').textContent"), "two")
-        # The cell is there in red, its frame beside it.
+        # The cell is drawn in red, with its frame next to it.
         pixels = "pen.getImageData(across(64200), down(2000), 400 * at.scale, 2000 * at.scale).data"
         count = "(p => [p.filter((v, n) => n % 4 == 0 && v == 217 && p[n + 1] == 43).length, p.length / 4])"
         red, all_ = browser.value(f"{count}([...{pixels}])")
         self.assertGreater(red, all_ / 3)
         self.look_around(scale)
-        # Lines of teams, odd names, and widths and colours of the screen.
+        # Rows of teams, odd names, and widths and colours of the screen.
         browser.click("tr[data-go='t=f1']")
         self.assertEqual(self.where()[:2], [12000, 4000])
         browser.click(f"a[href='#v={quote(ODD, safe='')}']")
@@ -231,7 +233,7 @@ class InABrowser(ReportCase):
         self.browser.open((self.folder / "x.html").as_uri())
         self.browser.click("tr[data-go='m=one']")
         self.assertEqual(self.where()[:2], [65000, 1000])
-        # The arrow is drawn in the colour of short ways; a button hides it.
+        # The arrow has the colour of short moves; a button hides it.
         line = "pen.getImageData(across(65200) - 1, down(2000) - 1, 3, 3).data"
         self.assertTrue(self.browser.value(f"[...{line}].some((v, n) => n % 4 == 0 && v < 90)"))
         self.browser.click("#ways")

@@ -1,4 +1,4 @@
-"""A hub that serves for long: what stands beside its journal, and what its operator sees and bounds."""
+"""A hub in long service: its files, its operator's view, and its limits."""
 
 from __future__ import annotations
 
@@ -42,7 +42,7 @@ from lefence.tools import hub as hub_tool
 
 
 class Texts(HubCase):
-    """The hub stands on the texts with which its journal was begun."""
+    """The hub uses the files with which its journal was made."""
 
     def start_refused(self, *words: str) -> tuple[int, str]:
         done = subprocess.run([*tool_words("lefence-hub"), *words], capture_output=True, text=True, timeout=PATIENCE)
@@ -65,7 +65,7 @@ class Texts(HubCase):
         self.assertIn("t.def has changed since the journal was made", self.hub.log_text())
         self.assertEqual(self.talk("f0").ask("open f0", "where f0 0 f0c1"), ["ok 0 3", "ok 0 0 N"])
         self.assertEqual(self.hub.end(), 0)
-        # Another file is not taken for the text, nor one of which no copy of that is kept.
+        # Another file is not accepted, nor one without a copy.
         self.lef.write_text("x")
         other = self.folder / "other.def"
         other.write_text(design_text() + "\n")
@@ -84,7 +84,7 @@ class Texts(HubCase):
             copies = [path for path in (self.folder / "journal.texts").rglob("*") if path.is_file()]
             self.assertEqual(sorted(path.name for path in copies), ["t.def", "t.lef"])
             for path in copies:
-                # Nor does one stay that a hub was killed at.
+                # A copy that a killed hub did not finish does not stay.
                 path.with_name(f"{path.name}.partial0").write_bytes(b"x")
                 path.chmod(0o600)
                 flip_bit(path)
@@ -102,7 +102,7 @@ class Texts(HubCase):
         for path in (self.journal, self.design, self.lef):
             path.unlink()
         shutil.rmtree(self.folder / "journal.texts")
-        # Another place and no other text: the copies may be given themselves.
+        # Another path but the same bytes: the copies themselves may be given.
         self.design, self.lef = (next((saved / "journal.texts").rglob(name)) for name in ("t.def", "t.lef"))
         self.hub = RunningHub(self.folder, self.words(journal="saved/journal"))
         self.addCleanup(self.hub.kill)
@@ -131,7 +131,7 @@ class Texts(HubCase):
             return [path for text, path in zip(texts, kept) if sum_of(path) == text.sum]
 
         def begin(last: int) -> bool:
-            """Whether a process that ends at the step of that number comes to the end of a start."""
+            """Whether a process that is to end at this step completes a start."""
             if child := os.fork():
                 return os.waitpid(child, 0)[1] == 0
             count = itertools.count()
@@ -172,7 +172,7 @@ class Texts(HubCase):
 
 
 class Sockets(FrontCase):
-    """Whose a socket is, and its folder."""
+    """Owners of sockets, and their folder."""
 
     def bound(self, *words: Any) -> tuple[int, int]:
         path = self.folder / "A.sock"
@@ -228,7 +228,7 @@ class Sockets(FrontCase):
 
 
 class Shares(unittest.TestCase):
-    """Nobody takes all there is: a hub with clients by hand, and a program that accepts."""
+    """Limits per user: a hub with hand-made clients, and a program that accepts everything."""
 
     def setUp(self) -> None:
         def execute(lines: list[bytes]) -> list[bytes]:
@@ -254,7 +254,7 @@ class Shares(unittest.TestCase):
         client.buffer_updated(len(text))
 
     def answer_all(self) -> list[bytes]:
-        """The lines that the program is asked."""
+        """The lines that the program gets."""
         self.asked.clear()
 
         async def answer() -> None:
@@ -278,7 +278,7 @@ class Shares(unittest.TestCase):
         self.assertEqual(self.answer_all().count(b"open f0"), 3)
         replies = b"".join(call.args[0] for call in self.transport.write.mock_calls)
         self.assertEqual(replies.count(b"no 10 SessionsFull\n"), 3)
-        # That another team is not his is the program's to say, however often he asks.
+        # The program refuses another team's lines, however often they come.
         self.send(self.client(b"f0", 9), b"open f1\n" * 8)
         self.assertEqual(self.answer_all(), [b"open ~"] * 8)
 
@@ -361,7 +361,7 @@ class Shares(unittest.TestCase):
                     while self.hub.pool.clients:
                         await asyncio.sleep(0.01)
 
-        # What is left is little from the first on, or once the client has read some of it.
+        # Few bytes remain, initially or after the client has read some.
         asyncio.run(disconnect(1000, 0))
         asyncio.run(disconnect(100_000, 1 << 12))
 
@@ -406,7 +406,7 @@ class Floods(unittest.TestCase):
 
 
 class Operator(HubCase):
-    """What the operator sees and bounds."""
+    """The operator's view, and limits."""
 
     def ask_hub(self, option: str) -> str:
         return subprocess.check_output(
@@ -517,7 +517,7 @@ class Operator(HubCase):
         os.kill(self.hub.server_pid(), signal.SIGSTOP)
         self.assertEqual(talker.ask("where f0 0 f0c1"), ["ok 0 0 N"])
         self.assertIn("was silent for 2 seconds", self.hub.log_text())
-        # Who has no session and says nothing is dropped.
+        # A silent client without a session is dropped.
         self.assertEqual(idle.replies.read(), b"")
         self.assertEqual(talker.ask("where f0 0 f0c1"), ["ok 0 0 N"])
         self.hub.kill()
@@ -550,7 +550,7 @@ class Operator(HubCase):
 
 
 class Unit(unittest.TestCase):
-    """The example of a systemd unit, as far as systemd's own tools can tell."""
+    """The example of a systemd unit, checked by systemd's own tools."""
 
     def analyze(self, *words: str) -> str:
         done = subprocess.run(["systemd-analyze", *words], stdout=subprocess.PIPE, stderr=subprocess.STDOUT, text=True)

@@ -1,4 +1,4 @@
-"""The shell: words for replies, tables for reports, completion, and all three kinds of ends."""
+"""The shell: replies in words, reports as tables, completion, and all three kinds of connections."""
 
 from __future__ import annotations
 
@@ -18,7 +18,7 @@ from lefence.tools.shell import SHELL_COMMANDS, Shell
 
 
 class Words(HubCase):
-    """A session whose lines come over a pipe."""
+    """A session with lines from a pipe."""
 
     def say(self, *lines: str | bytes, words: tuple[str, ...] = ()) -> list[str]:
         text = b"".join((line if isinstance(line, bytes) else line.encode()) + b"\n" for line in lines)
@@ -75,7 +75,7 @@ class Words(HubCase):
             self.assertTrue(violation_text(rule, "a", "b").startswith("a "))
 
     def test_if_tidy_finds_no_place_there_is_a_hint(self) -> None:
-        # Four rows of forty sites have room for eighty cells of two sites; of three, less.
+        # Four rows of forty sites have room for eighty cells of two sites, but for fewer of three.
         parts = "".join(f"- f0d{at} BUF ;\n" for at in range(60))
         self.design.write_text(
             self.design.read_text().replace("END COMPONENTS", f"{parts}END COMPONENTS").replace("f0c*", "f0*")

@@ -1,4 +1,4 @@
-"""What `lefence-prepare` tells of a text that the program would pass over without a word."""
+"""The list by `lefence-prepare` of what the program skips in a text."""
 
 from __future__ import annotations
 

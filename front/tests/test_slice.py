@@ -1,4 +1,4 @@
-"""Slices and pushes: work on one team's part of a design, a repair too, is answered as on the whole, and is sent there later."""
+"""Slices and pushes: work on a team's slice, or a repair of it, can be repeated on the whole design later."""
 
 from __future__ import annotations
 
@@ -19,7 +19,7 @@ from lefence.journal.frames import Record
 from lefence.journal.journal import Journal, texts_in
 from lefence.tools.slice import refuse_difference, slice_of
 
-# What a design of a flow holds beside the small one: sections that a slice drops, comments, quotes, FIXED and COVER components.
+# Parts of a real design: sections that a slice drops, comments, quotes, FIXED and COVER components.
 SECTIONS = """PINS 1 ;
 - p + NET n + DIRECTION INPUT ;
 END PINS
@@ -52,7 +52,7 @@ def rich_text() -> str:
 
 
 def made_journal(path: Path, like: Path, records: Iterable[tuple[bytes, bytes]]) -> Path:
-    """A journal with these records, of the design of another one."""
+    """Makes a journal with these records for the design of another one."""
     journal = Journal(path, texts_in(like) or [], mock.Mock())
     journal.append([Record(line, reply) for line, reply in records])
     journal.close()
@@ -60,7 +60,7 @@ def made_journal(path: Path, like: Path, records: Iterable[tuple[bytes, bytes]])
 
 
 class Slices(HubCase):
-    """On its slice a team is answered byte for byte as on the whole design."""
+    """On its slice, a team gets the same replies as on the whole design, byte for byte."""
 
     def setUp(self) -> None:
         super().setUp()
@@ -125,7 +125,8 @@ class Slices(HubCase):
             self.design.write_bytes(other)
             done = self.tool("lefence-slice", self.design, "--team", "f0")
             self.assertEqual(
-                (done.returncode, done.stderr.decode()), (1, f"lefence-slice: {self.design} has no DESIGN: {expected}\n")
+                (done.returncode, done.stderr.decode()),
+                (1, f"lefence-slice: {self.design} has no DESIGN: {expected}\n"),
             )
 
     def test_a_truncated_design_is_refused(self) -> None:
@@ -178,7 +179,7 @@ class Slices(HubCase):
 
 
 class Pushes(HubCase):
-    """A journal of a slice, or the lines of its repair, are sent to the whole."""
+    """The journal of a slice, or the lines of its repair, are sent to the whole design."""
 
     def setUp(self) -> None:
         super().setUp()
@@ -186,7 +187,7 @@ class Pushes(HubCase):
         self.start()
 
     def work_away(self, team: int, count: int = 80, *more: str) -> Path:
-        """Random work on a hub of a team's slice, with these words more; its journal, to which a second call adds."""
+        """Does random work on a hub of a team's slice; returns its journal. A second call continues it."""
         name = f"f{team}"
         sliced = self.folder / f"{name}.def"
         sliced.write_bytes(slice_of(self.design.read_bytes(), name))
@@ -201,7 +202,7 @@ class Pushes(HubCase):
         return self.folder / f"j{name}"
 
     def repair_away(self, team: str) -> tuple[Path, Path]:
-        """The lines of a repair of a team's slice, and the slice that is exported then."""
+        """Repairs a team's slice; returns the lines and the exported slice."""
         sliced, lines, exported = (self.folder / f"{team}.{name}" for name in ("def", "lines", "new.def"))
         sliced.write_bytes(slice_of(self.design.read_bytes(), team))
         words = [
@@ -218,7 +219,7 @@ class Pushes(HubCase):
         return lines, exported
 
     def exported(self) -> Design:
-        """What the hub over the whole exports."""
+        """The export of the hub over the whole design."""
         target = self.folder / "new.def"
         self.assertEqual(self.talk("operator").ask(f"export {target}"), ["ok"])
         return Design(target.read_bytes())
@@ -232,7 +233,7 @@ class Pushes(HubCase):
             return session.def_text()
 
     def refuse_after(self, pushed: Path, team: str, change: tuple[str, int, int, str]) -> None:
-        """What is pushed is refused at its first line, and nothing of it is done, where somebody has placed a cell of the team there."""
+        """Checks that a push is refused at its first line, and does nothing, if another client has placed a cell."""
         with lefence.connect(self.folder / f"s/{team}.sock") as connection, connection.session(team) as session:
             session.place(*change)
             before = session.def_text()

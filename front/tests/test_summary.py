@@ -1,4 +1,4 @@
-"""The summary of what became of each team's cells from one placement to another."""
+"""The summary of each team's cells between two placements."""
 
 from __future__ import annotations
 

@@ -19,7 +19,7 @@ TCLSH = shutil.which("tclsh")
 @unittest.skipIf(TCLSH is None, "tclsh is not here; Debian has it as the package tcl")
 class Tcl(HubCase):
     def run_tcl(self, script: str, *words: str | Path, expected: str = "") -> list[str]:
-        """What a script prints; on standard error it prints what is told."""
+        """Runs a script; returns its output. Its standard error must be the expected one."""
         path = self.folder / "script.tcl"
         path.write_text(script)
         done = subprocess.run(
@@ -102,7 +102,7 @@ class Tcl(HubCase):
         ]
         codes += ["NoTeam 2", "ConnectionLost"]
         self.assertEqual(output[:-2], [*(f"LEFENCE {code}" for code in codes), "trapped", "1"])
-        # No channel is left open but that of the connection.
+        # No channel stays open except that of the connection.
         self.assertEqual(output[-2], output[-1])
 
     def test_each_digit_of_a_length_counts(self) -> None:

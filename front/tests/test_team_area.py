@@ -1,4 +1,4 @@
-"""How much ground each team has."""
+"""The area of each team's ground."""
 
 from __future__ import annotations
 
@@ -14,7 +14,7 @@ FACTS = Facts("t", 1000, "core", 1, 4)
 
 
 def counted(frame: Frame) -> dict[str, int]:
-    """The same point by point."""
+    """Counts the same point by point."""
     areas = dict.fromkeys(frame.teams, 0)
     for x in range(40):
         for y in range(40):
@@ -36,7 +36,7 @@ class Ground(FrontCase):
         with Description(self.program, self.design, [self.lef]) as description:
             areas = areas_of(description.frame)
         self.assertEqual(list(areas), description.frame.teams)
-        # The wall is 600 by 2000; 200 of its width stand in f0, 400 in f1.
+        # The wall is 600 by 2000: 200 of its width are in f0, 400 in f1.
         self.assertEqual((areas["f0"], areas["f1"]), (8000 * 8000 - 200 * 2000, 8000 * 8000 - 400 * 2000))
         self.assertEqual((areas["f2"], areas["-"]), (8000 * 8000, 8000 * 8000))
 

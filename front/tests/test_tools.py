@@ -1,4 +1,4 @@
-"""What all tools share: help with an example, statuses, and no traceback whatever the words are."""
+"""The common behaviour of all tools: help with an example, exit statuses, and no traceback for any command line."""
 
 from __future__ import annotations
 
@@ -122,7 +122,7 @@ class Tools(FrontCase):
 
 
 class Faults(unittest.TestCase):
-    """What a tool says where it fails."""
+    """The message of a tool that fails."""
 
     def output_of(self, work: Callable[[], int]) -> tuple[int, str]:
         with mock.patch("sys.stderr", io.StringIO()) as output:
@@ -154,7 +154,7 @@ class Package(FrontCase):
             raise unittest.SkipTest(reason)
 
     def installed(self, *words: str) -> Path:
-        """The commands of an environment in which a copy of the package was installed without a network."""
+        """Installs a copy of the package without a network; returns the folder with its commands."""
         copy, made = self.folder / "copy", self.folder / "made"
         shutil.copytree(FRONT / "lefence", copy / "lefence", ignore=shutil.ignore_patterns("__pycache__"))
         shutil.copy(FRONT / "pyproject.toml", copy)

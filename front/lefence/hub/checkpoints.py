@@ -45,7 +45,9 @@ class TailLimits:
 class Checkpoints:
     """Makes one state at a time."""
 
-    def __init__(self, side_program: SideProgram, journal: Journal, limits: TailLimits, log_limited: RateLimitedLog) -> None:
+    def __init__(
+        self, side_program: SideProgram, journal: Journal, limits: TailLimits, log_limited: RateLimitedLog
+    ) -> None:
         """Makes the checkpoints of a journal."""
         # The program's approximate seconds for the changes after the last state, and the number of states made.
         self.seconds = 0.0
