@@ -19,7 +19,8 @@ from support import PATIENCE
 
 CHROMIUM = shutil.which("chromium")
 _FLAGS = (
-    "--headless --no-sandbox --disable-gpu --disable-dev-shm-usage --no-first-run --remote-debugging-pipe --window-size=1400,1000"
+    "--headless --no-sandbox --disable-gpu --disable-dev-shm-usage --no-first-run --remote-debugging-pipe"
+    " --window-size=1400,1000"
 ).split()
 
 
@@ -128,10 +129,9 @@ class Browser:
 
     def click(self, selector: str) -> None:
         """Clicks into the middle of an element."""
-        code = f"(() => {{ const e = document.querySelector({json.dumps(selector)}); e.scrollIntoView({{block: 'center'}});"
-        x, y = self.value(
-            code + "const b = e.getBoundingClientRect(); return [b.x + b.width / 2, b.y + b.height / 2]; })()"
-        )
+        code = f"const e = document.querySelector({json.dumps(selector)}); e.scrollIntoView({{block: 'center'}});"
+        code += "const b = e.getBoundingClientRect(); return [b.x + b.width / 2, b.y + b.height / 2];"
+        x, y = self.value(f"(() => {{ {code} }})()")
         for kind in ("mousePressed", "mouseReleased"):
             self.mouse(kind, x, y, button="left", clickCount=1)
         self.drawn()

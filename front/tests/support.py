@@ -67,7 +67,8 @@ def design_text(sections: str = "") -> str:
     groups = "".join(f"- g{team} f{team}c* + REGION f{team} ;\n" for team in range(TEAMS))
     return (
         f"VERSION 5.8 ;\nDESIGN t ;\nUNITS DISTANCE MICRONS 1000 ;\n{rows}REGIONS {TEAMS} ;\n{fences}END REGIONS\n"
-        f"COMPONENTS {len(names) * CELLS} ;\n{parts}END COMPONENTS\nGROUPS {TEAMS} ;\n{groups}END GROUPS\n{sections}END DESIGN\n"
+        f"COMPONENTS {len(names) * CELLS} ;\n{parts}END COMPONENTS\n"
+        f"GROUPS {TEAMS} ;\n{groups}END GROUPS\n{sections}END DESIGN\n"
     )
 
 

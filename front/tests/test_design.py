@@ -102,7 +102,8 @@ class Texts(unittest.TestCase):
             self.assertEqual([list(words_in(text[each.start : each.stop])) for each in statements(text)], found, text)
 
     def test_entries_have_their_words(self) -> None:
-        text = b'COMPONENTS 4 ; # ; END COMPONENTS\n- a INV ; - b;\n"; - x" x ;\n- # -\n; - ; -c ;\nEND COMPONENTS END DESIGN'
+        text = b'COMPONENTS 4 ; # ; END COMPONENTS\n- a INV ; - b;\n"; - x" x ;\n- # -\n; - ; -c ;\n'
+        text += b"END COMPONENTS END DESIGN"
         found = list(entries(text, statements(text), b"COMPONENTS"))
         words = [(b"a", [b"a", b"INV"]), (b"b;", [b"b;", b'"; - x"', b"x"]), (b"", []), (b"", [])]
         self.assertEqual([(each.name, each.words) for each in found], words)

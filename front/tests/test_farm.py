@@ -322,7 +322,8 @@ class Merges(FrontCase):
         self.assertEqual(slices, [slice_of(text, team) for team in teams])
 
     def test_slices_are_merged_back_into_the_design(self) -> None:
-        more = "COMPONENTS 3 ;\n- wall BUF + FIXED ( 0 6000 ) N ; # a\n - f0x INV ; - lid INV + COVER ( 0 0 ) N ;\nEND COMPONENTS\n"
+        more = "COMPONENTS 3 ;\n- wall BUF + FIXED ( 0 6000 ) N ; # a\n - f0x INV ; - lid INV + COVER ( 0 0 ) N ;\n"
+        more += "END COMPONENTS\n"
         whole = self.design.read_text().replace("END DESIGN", f"{more}END DESIGN")
         self.design.write_text(whole)
         paths = []

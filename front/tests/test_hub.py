@@ -454,7 +454,7 @@ class Ends(HubCase):
         self.assertEqual(self.hub.process.returncode, 1)
         self.journal.write_bytes(kept[: kept.rindex(b"batch") - 4])
         self.start()
-        self.assertIn("torn batch", self.hub.log_text())
+        self.assertIn("removed an incomplete batch", self.hub.log_text())
         self.assertIn("ready", self.hub.log_text())
 
     def test_the_number_of_sessions_is_that_of_the_journal(self) -> None:

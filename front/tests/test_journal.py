@@ -84,7 +84,7 @@ class Journals(unittest.TestCase):
             self.assertEqual(list(read_records(self.path)), RECORDS[:kept])
             self.assertEqual(self.found(), RECORDS[:kept])
             is_torn = bool(found[max([start, *ends[:frames]]) :].strip(b"\0"))
-            self.assertEqual("torn" in "".join(self.messages), is_torn)
+            self.assertEqual("incomplete batch" in "".join(self.messages), is_torn)
 
     def test_damage_before_the_end_is_refused_with_its_position(self) -> None:
         ends = self.fill()

@@ -56,7 +56,7 @@ class JournalTool(HubCase):
     def test_an_intact_journal_is_checked_and_listed(self) -> None:
         self.assertRegex(
             "\n".join(self.output_of("check", self.journal)),
-            r"^text \w{64} of \S+/t.def: kept\ntext .*: kept\nwhole from .*: 5 changes",
+            r"^text \w{64} of \S+/t.def: kept\ntext .*: kept\nintact from .*: 5 changes",
         )
         number = r"\d+\t20\d\d-\d\d-\d\dT\d\d:\d\d:\d\d\.\d{3}Z\t\d+\t\d+\t"
         listed = [line for line in self.output_of("list", self.journal) if not line.startswith("-")]

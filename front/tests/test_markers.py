@@ -32,7 +32,8 @@ database = pya.ReportDatabase("")
 database.load(markers)
 tags = {database.user_tag_id(name): name for name in ("cell", "team", "other")}
 for item in database.each_item():
-    found = {"rule": database.category_by_id(item.category_id()).name(), "top": database.cell_by_id(item.cell_id()).name()}
+    rule, top = database.category_by_id(item.category_id()), database.cell_by_id(item.cell_id())
+    found = {"rule": rule.name(), "top": top.name()}
     for value in item.each_value():
         if value.is_box():
             found["other box" if value.tag_id else "box"] = units(value.box())

@@ -81,7 +81,7 @@ class Preparations(FrontCase):
         text = text.replace("\nEND DESIGN", f"{groups}\nEND DESIGN")
         expected = (
             "4 rows of site core added: 20 sites each, the first at 50 40 is FS",
-            "the rows follow the 5 placed cells: 3 of them fit along x, 3 along y, and 3 have their row's orientation",
+            "the rows follow the 5 placed cells: 3 fit along x, 3 along y, 3 have their row's orientation",
             "3 fillers removed (FILL*)",
             "fence A added: 2 rectangles",
             "fence B added: 1 rectangle",

@@ -84,8 +84,8 @@ class Reports(ReportCase):
         text = Text(self.page())
         self.assertIn(["twooverlaps one", "8 Overlap", "-", "64.2, 0"], text.lines)
         self.assertIn("#v=" + quote(ODD, safe=""), text.links)
-        # Team f0: ten cells of 400 * 2000 and four of 600 * 2000 have these areas; ten are unplaced, one is off its
-        # site.
+        # Team f0 has seven cells of 400 * 2000 and four of 600 * 2000. Ten are unplaced, one is off its site. The wall
+        # is in its ground.
         self.assertIn(["f0", "11", "1", "10", "1Row 1", "10.4", "62.8", "16.6%"], text.lines)
         self.assertIn(["f1", "11", "1", "10", "0", "10.4", "64.0", "16.2%"], text.lines)
         ground = ["-the ground outside all fences", "13", "3", "10", "3Row 1, Overlap 2", "12.0", "60.0", "20.0%"]

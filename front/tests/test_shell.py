@@ -35,10 +35,10 @@ class Words(HubCase):
             "place f0c1 0 0 N ": "done; revision 1",
             "place f0c2 200 0 N": "no: f0c2 would overlap f0c1 or be too near to it",
             "place f1c1 0 0 N": "no: the team has no such cell",
-            "place f0c2 100 0 N": "no: f0c2 would stand on no core row, off its x grid or beyond its ends",
-            "where f0c1": "f0c1 stands at (0, 0), N",
+            "place f0c2 100 0 N": "no: f0c2 would be on no core row, off its x grid or beyond its ends",
+            "where f0c1": "f0c1 is at (0, 0), N",
             "where f0c2": "no: f0c2 has no place",
-            "find f0c2 0 0": "f0c2 would best stand at (400, 0), N",
+            "find f0c2 0 0": "f0c2 would best be at (400, 0), N",
             "legalize f0c2 400 0": "f0c2 is now at (400, 0), N; revision 2",
             "tidy": "8 cells moved; revision 3",
             "sync": "synced; revision 3",
@@ -128,7 +128,8 @@ class Words(HubCase):
             self.assertEqual((done.returncode, done.stdout), (status, b""), done.stderr)
             self.assertNotIn(b"Traceback", done.stderr)
         done = self.tool("lefence-shell", "t.def")
-        expected = b"lefence-shell: t.def is not a socket; for a design, give its LEF files too: lefence-shell chip.def tech.lef ..\n"
+        expected = b"lefence-shell: t.def is not a socket; for a design, give its LEF files too:"
+        expected += b" lefence-shell chip.def tech.lef ..\n"
         self.assertEqual((done.returncode, done.stderr), (2, expected))
         done = self.tool("lefence-shell", self.design, self.lef, "--program", PROGRAM, "--team", "Z")
         self.assertEqual((done.returncode, done.stdout), (1, b"no: no such team here\n"))

@@ -39,7 +39,7 @@ GROUPS 3 ;
 END GROUPS
 END DESIGN
 """
-REMARKS = """t.def, line 15: COMPONENTS 7, and there are 5
+REMARKS = """t.def, line 15: COMPONENTS 7, but there are 5
 t.def, line 13: + SOFTT of blockage PLACEMENT is not in DEF 5.8 and is skipped
 t.def, line 17: + PLAECD of component a1 is not in DEF 5.8 and is skipped: it is unplaced
 t.def, line 17: + WIEGHT of component a2 is not in DEF 5.8 and is skipped
@@ -143,7 +143,8 @@ class Looks(FrontCase):
             self.lef.read_text().replace("INV CLASS CORE ; ORIGIN 0 0 ; SIZE 0.4 BY 2.0", "INV SIZE 0.4 BY 2.5")
         )
         done = self.run_on("--output", "y.def")
-        expected = b"no cell fits the rows of site core, 2 microns high: the cells are 2.5 microns high; use --rows --site NAME for another site\n"
+        expected = b"no cell fits the rows of site core, 2 microns high: the cells are 2.5 microns high;"
+        expected += b" use --rows --site NAME for another site\n"
         self.assertEqual((done.returncode, (self.folder / "y.def").exists()), (1, False), done.stderr)
         self.assertIn(expected, done.stderr)
         self.assertEqual(self.run_on("--output", "y.def", "--force").returncode, 1)
@@ -166,7 +167,7 @@ class Looks(FrontCase):
         for text, expected in (
             (b"", ""),
             (self.lef.read_bytes(), ""),
-            (gzip.compress(TEXT.encode()), ", but compressed by gzip"),
+            (gzip.compress(TEXT.encode()), " but compressed by gzip"),
         ):
             self.design.write_bytes(text)
             for words in (("--look",), ("-o", "x.def")):

@@ -120,7 +120,7 @@ class Slices(HubCase):
         text = self.design.read_bytes()
         for other, expected in (
             (LEF.encode(), "it is no DEF text"),
-            (gzip.compress(text), "it is no DEF text, but compressed by gzip"),
+            (gzip.compress(text), "it is not a DEF file but compressed by gzip"),
         ):
             self.design.write_bytes(other)
             done = self.tool("lefence-slice", self.design, "--team", "f0")

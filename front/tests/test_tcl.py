@@ -51,7 +51,8 @@ class Tcl(HubCase):
             puts [lefence::commit $s]
             puts [lefence::pad $s 2]
             set report [lefence::check $s]
-            puts [dict get $report cells],[dict get $report unplaced],[lsort -unique [lmap v [dict get $report violations] {dict get $v rule}]]
+            set rules [lsort -unique [lmap v [dict get $report violations] {dict get $v rule}]]
+            puts [dict get $report cells],[dict get $report unplaced],$rules
             puts [lindex [dict get $report violations] 0]
             puts [lefence::revert $s]
             puts [lindex [split [lefence::def $s] \\n] end-1]
@@ -75,8 +76,9 @@ class Tcl(HubCase):
             set s [lefence::open $c f0]
             lefence::place $s f0c1 400 0 N
             foreach line {
-                {lefence::place $s f0c2 600 0 N} {lefence::where $s f0c2} {lefence::where $s nobody} {lefence::pad $s 17}
-                {lefence::place $s "f0c1 0 0 N\\nbye" 0 0 N} {lefence::place $s f0c2 0.5 0 N} {lefence::where nothing f0c2}
+                {lefence::place $s f0c2 600 0 N} {lefence::where $s f0c2} {lefence::where $s nobody}
+                {lefence::pad $s 17} {lefence::place $s "f0c1 0 0 N\\nbye" 0 0 N}
+                {lefence::place $s f0c2 0.5 0 N} {lefence::where nothing f0c2}
                 {lefence::export $c /tmp/x} {lefence::open $c f1} {lefence::connect /no/such.sock}
             } {
                 catch $line message options
@@ -117,8 +119,9 @@ class Tcl(HubCase):
             "abc 0",
             "NaN 0",
         )
-        script = "package require lefence; foreach {length units} [lindex $argv 0] {catch {lefence::Whole $length $units} told options\n"
-        script += "puts [expr {[dict exists $options -errorcode] ? [dict get $options -errorcode] : $told}]}"
+        script = "package require lefence; foreach {length units} [lindex $argv 0] {\n"
+        script += "catch {lefence::Whole $length $units} result options\n"
+        script += "puts [expr {[dict exists $options -errorcode] ? [dict get $options -errorcode] : $result}]}"
         refused = ["LEFENCE BadLength"] * 4
         self.assertEqual(
             self.run_tcl(script, " ".join(lengths)), ["10", "7250", "-400", "1", "9007199254740993", *refused]

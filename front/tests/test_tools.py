@@ -196,8 +196,11 @@ class Package(FrontCase):
         commands = self.installed()
         self.run_each(commands)
         [package] = commands.parent.glob("lib/python*/site-packages/lefence")
-        names = {path.name for path in (FRONT / "lefence").iterdir()} - {"__pycache__"}
-        self.assertEqual({path.name for path in package.iterdir()} - {"__pycache__"}, names)
+
+        def files_of(folder: Path) -> set[str]:
+            return {str(path.relative_to(folder)) for path in folder.rglob("*") if "__pycache__" not in path.parts}
+
+        self.assertEqual(files_of(package), files_of(FRONT / "lefence"))
 
     def test_an_editable_installation_runs_the_files_of_the_folder(self) -> None:
         commands = self.installed("--editable")

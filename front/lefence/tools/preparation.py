@@ -182,8 +182,8 @@ class Preparation:
             return Grid(core.left, core.bottom, True, f"{reason}: the rows start at the core's corner with N")
         upright = row_pairs[y, False] + row_pairs[y + height, True]
         flipped = row_pairs[y, True] + row_pairs[y + height, False]
-        reason = f"the rows follow the {cells} placed cells: {count_x} of them fit along x, {count_y} along y"
-        reason += f", and {max(upright, flipped)} have their row's orientation"
+        reason = f"the rows follow the {cells} placed cells: {count_x} fit along x, {count_y} along y"
+        reason += f", {max(upright, flipped)} have their row's orientation"
         return Grid(x, y, upright >= flipped, reason)
 
     def remove_fillers(self, patterns: list[str]) -> None:
