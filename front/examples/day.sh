@@ -89,4 +89,13 @@ lefence-repair new.def day.lef -o done.def
 lefence check done.def day.lef
 #> {"cells":10,"unplaced":0,"violations":[]}
 klayout -zz -r day_cells.py
-#> ua/u1 0,0; ua/u2 0.4,0; ua/u3 m0 1,4; ua/u4 2.2,4; ub/u1 9,0; ub/u2 9.6,0; ub/u3 m0 10,8; ub/u4 m0 8,4; top 6,0; new 4,0
+#> ua/u1 0,0
+#> ua/u2 0.4,0
+#> ua/u3 m0 1,4
+#> ua/u4 2.2,4
+#> ub/u1 9,0
+#> ub/u2 9.6,0
+#> ub/u3 m0 10,8
+#> ub/u4 m0 8,4
+#> top 6,0
+#> new 4,0

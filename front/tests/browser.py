@@ -33,9 +33,9 @@ class Browser:
         self._numbers = itertools.count(1)
         self._text = b""
         # The browser reads from descriptor 3 and writes to 4; move ours away from both.
-        asks, self._asking = os.pipe()
-        self._told, tells = os.pipe()
-        mine = [fcntl.fcntl(end, fcntl.F_DUPFD_CLOEXEC, 10) for end in (asks, tells)]
+        requests, self._requests = os.pipe()
+        self._replies, replies = os.pipe()
+        mine = [fcntl.fcntl(end, fcntl.F_DUPFD_CLOEXEC, 10) for end in (requests, replies)]
         words = [CHROMIUM, *_FLAGS, f"--user-data-dir={folder}", "about:blank"]
         ends: dict[str, Any] = {name: subprocess.DEVNULL for name in ("stdin", "stdout", "stderr")}
 
@@ -50,7 +50,7 @@ class Browser:
         self._process = subprocess.Popen(
             words, close_fds=False, preexec_fn=place, start_new_session=True, env=surroundings, **ends
         )
-        for end in (asks, tells, *mine):
+        for end in (requests, replies, *mine):
             os.close(end)
         self._session: str | None = None
         target = self.ask("Target.createTarget", url="about:blank")["targetId"]
@@ -65,8 +65,8 @@ class Browser:
         with contextlib.suppress(ProcessLookupError):
             os.killpg(self._process.pid, signal.SIGKILL)
         self._process.wait()
-        os.close(self._asking)
-        os.close(self._told)
+        os.close(self._requests)
+        os.close(self._replies)
         # Its other processes may still write into the folder for a moment.
         last = time.monotonic() + PATIENCE
         while self._folder.exists() and time.monotonic() < last:
@@ -84,7 +84,7 @@ class Browser:
         }
         text = json.dumps(request).encode() + b"\0"
         while text:
-            text = text[os.write(self._asking, text) :]
+            text = text[os.write(self._requests, text) :]
         while (message := self._next()).get("id") != number:
             self.events.append(message)
         if "error" in message:
@@ -95,9 +95,9 @@ class Browser:
     def _next(self) -> dict[str, Any]:
         last = time.monotonic() + 3 * PATIENCE
         while b"\0" not in self._text:
-            if not select.select([self._told], [], [], max(0, last - time.monotonic()))[0]:
+            if not select.select([self._replies], [], [], max(0, last - time.monotonic()))[0]:
                 raise AssertionError("the browser says nothing")
-            piece = os.read(self._told, 1 << 20)
+            piece = os.read(self._replies, 1 << 20)
             if not piece:
                 raise AssertionError("the browser has ended")
             self._text += piece

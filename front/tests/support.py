@@ -294,7 +294,7 @@ class Hub:
         last = time.monotonic() + PATIENCE
         while text not in self.log_text():
             if time.monotonic() > last:
-                raise AssertionError(f"not said: {text}; but: {self.log_text()}")
+                raise AssertionError(f"not printed: {text}; but: {self.log_text()}")
             time.sleep(0.01)
 
     def kill(self) -> None:

@@ -125,15 +125,15 @@ class Segments(unittest.TestCase):
         journal.keep_state(path, *_sync_and_hash(path))
         journal.archive.prune(2)
 
-    def fill(self, rounds: int, tell: Callable[[], object] = lambda: None) -> None:
+    def fill(self, rounds: int, report: Callable[[], object] = lambda: None) -> None:
         """Appends a change, starts a segment, appends a change meanwhile, and saves the state; `count` times."""
         journal = self.open()
         for _ in range(rounds):
             self.append(journal)
-            tell()
+            report()
             journal.roll([b"team A %d 0 0,2" % journal.changes])
             self.append(journal)
-            tell()
+            report()
             self.keep(journal)
         journal.close()
 
@@ -206,8 +206,8 @@ class Segments(unittest.TestCase):
         self.fill(1)
         past = Archive(self.path)
         whole = past.segment(1).read_bytes()
-        for spoilt in (whole[:-9], whole[:-9] + b"x" + whole[-8:]):
-            past.segment(1).write_bytes(spoilt)
+        for damaged in (whole[:-9], whole[:-9] + b"x" + whole[-8:]):
+            past.segment(1).write_bytes(damaged)
             self.assertEqual(self.found(), self.lines(2))
         past.state(2).rename(past.folder / "away")
         with self.assertRaises(Fault) as caught:
@@ -445,7 +445,7 @@ class Pages(HubCase):
             "run that one with --roll first\nlefence-hub: change 2: the journal has b'ok 1", self.begin(serve)
         )
         self.assertEqual(
-            (self.hub.process.wait(), "a state of 2 changes is kept" in self.begin(roll), self.hub.process.wait()),
+            (self.hub.process.wait(), "saved a state of 2 changes" in self.begin(roll), self.hub.process.wait()),
             (1, True, 0),
         )
         self.assertIn("ready", self.begin(serve))

@@ -79,16 +79,16 @@ class Verbs(HubCase):
         with self.assertRaises(lefence.Unplaced) as unplaced:
             session.where("f0c2")
         self.assertEqual(unplaced.exception.cell, "f0c2")
-        asked: tuple[tuple[type[lefence.Refusal], Callable[[], object]], ...] = (
+        calls: tuple[tuple[type[lefence.Refusal], Callable[[], object]], ...] = (
             (lefence.NoCell, lambda: session.where("f1c1")),
             (lefence.BadRequest, lambda: session.pad(17)),
             (lefence.BadRequest, lambda: session.find("f0c1", 1 << 40, 0)),
             (lefence.NoTeam, lambda: session.connection.session("f1").open()),
             (lefence.BadRequest, lambda: session.connection.export("/tmp/x")),
         )
-        for error, ask in asked:
+        for error, call in calls:
             with self.assertRaises(error):
-                ask()
+                call()
         self.assertEqual(session.undo(), 2)
         for refusal in (illegal, unplaced.exception):
             same = pickle.loads(pickle.dumps(refusal))
@@ -395,7 +395,7 @@ class Others(HubCase):
                 with self.assertRaises(lefence.NoSession):
                     session.close()
                 session.open()
-                with self.assertRaisesRegex(ValueError, "open already"):
+                with self.assertRaisesRegex(ValueError, "already open"):
                     session.open()
 
             async def work() -> Place:
@@ -422,12 +422,12 @@ class Others(HubCase):
 
     def test_a_session_without_units_is_closed_again(self) -> None:
         near, far = socket.socketpair()
-        asked: list[bytes] = []
+        received: list[bytes] = []
 
         def answer() -> None:
             with far, far.makefile("rb") as lines:
                 for reply in (b"ok 3 0\n", b"hello\n", b"ok\n"):
-                    asked.append(lines.readline())
+                    received.append(lines.readline())
                     far.sendall(reply)
 
         answering = threading.Thread(target=answer)
@@ -435,7 +435,7 @@ class Others(HubCase):
         with lefence.Connection(near, timeout=5) as connection, self.assertRaisesRegex(lefence.ProtocolError, "hello"):
             connection.session("A", microns=True).open()
         answering.join()
-        self.assertEqual(asked, [b"open A\n", b"units\n", b"close A 3\n"])
+        self.assertEqual(received, [b"open A\n", b"units\n", b"close A 3\n"])
 
     async def aio_connection(self, end: socket.socket, timeout: float) -> lefence.aio.Connection:
         return lefence.aio.Connection(*await asyncio.open_connection(sock=end), timeout)
@@ -519,11 +519,11 @@ class Others(HubCase):
             listener.bind(("127.0.0.1", 0))
             listener.listen()
             port = listener.getsockname()[1] + 65536
-            with self.assertRaisesRegex(ValueError, "is no port"):
+            with self.assertRaisesRegex(ValueError, "is not a port"):
                 lefence.connect("127.0.0.1", port)
-            with self.assertRaisesRegex(ValueError, "is no port"):
+            with self.assertRaisesRegex(ValueError, "is not a port"):
                 asyncio.run(lefence.aio.connect("127.0.0.1", port))
-            with self.assertRaisesRegex(Fault, "is no port") as refused:
+            with self.assertRaisesRegex(Fault, "is not a port") as refused:
                 connect_to("127.0.0.1:65536")
             self.assertEqual(refused.exception.status, 2)
 

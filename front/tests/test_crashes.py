@@ -163,7 +163,7 @@ class Programs(HubCase):
         self.assertEqual(talker.ask("open f0", "place f0 0 f0c1 0 0 N"), ["ok 0 0", "ok 1"])
         os.kill(self.hub.server_pid(), signal.SIGKILL)
         self.assertEqual((talker.ask("where f0 0 f0c1"), self.hub.process.wait(PATIENCE)), ([""], 3))
-        self.assertIn("given up", self.hub.log_text())
+        self.assertIn("giving up", self.hub.log_text())
         self.program = PROGRAM
         self.start()
         self.assertEqual(self.talk("f0").ask("open f0", "where f0 0 f0c1"), ["ok 0 1", "ok 0 0 N"])

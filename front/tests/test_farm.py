@@ -77,8 +77,8 @@ while words and words[0].startswith("-"):
 assert len(words) == 1, words
 for number in array or [""]:
     variables = {"LSB_JOBINDEX" if lsf else "SLURM_ARRAY_TASK_ID": number}
-    with open(output.replace("%I" if lsf else "%a", number), "ab") as told:
-        subprocess.run(words, stdout=told, stderr=told, env={**os.environ, **variables})
+    with open(output.replace("%I" if lsf else "%a", number), "ab") as log:
+        subprocess.run(words, stdout=log, stderr=log, env={**os.environ, **variables})
 number = 41 if array else 42
 print(f"Job <{number}> is submitted to default queue <normal>." if lsf else number)
 """
@@ -260,7 +260,7 @@ class Farms(FarmCase):
         )
         if done:
             self.assertEqual(
-                (done.returncode, "sbatch is not there; --engine names another engine" in done.stderr), (2, True)
+                (done.returncode, "sbatch is not installed; choose another --engine" in done.stderr), (2, True)
             )
         refusing = self.folder / "bsub"
         refusing.write_text("#!/bin/sh\necho 'no queue' >&2; exit 255\n")

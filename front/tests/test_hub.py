@@ -407,8 +407,8 @@ class Ends(HubCase):
     def test_a_program_that_reports_no_teams_is_refused(self) -> None:
         for script, output, status in (
             ("echo no such verb >&2; exit 2", "no such verb", 2),
-            ("exit 0", "does not tell the teams", 3),
-            ('printf \'{"kind":"fen\'; kill -9 $$', "does not tell the teams", 3),
+            ("exit 0", "does not report the teams", 3),
+            ('printf \'{"kind":"fen\'; kill -9 $$', "does not report the teams", 3),
         ):
             self.program = self.describing(script)
             self.assertIn(output, self.start())

@@ -91,9 +91,9 @@ class Journals(unittest.TestCase):
         whole = self.path.read_bytes()
         starts = [whole.index(b"batch"), *ends]
         for at in range(starts[0], ends[-2]):
-            spoilt = bytearray(whole)
-            spoilt[at] ^= 1 << self.rng.randrange(8)
-            self.path.write_bytes(spoilt)
+            damaged = bytearray(whole)
+            damaged[at] ^= 1 << self.rng.randrange(8)
+            self.path.write_bytes(damaged)
             place = max(start for start in starts if start <= at)
             self.assertIn(f"damaged at byte {place},", self.refusal())
             with self.assertRaises(Fault):
@@ -102,9 +102,9 @@ class Journals(unittest.TestCase):
     def test_damage_to_the_last_frame_is_refused_once_it_was_sealed(self) -> None:
         ends = self.fill()
         self.open().close()
-        spoilt = bytearray(self.path.read_bytes())
-        spoilt[ends[-1] - 3] ^= 1
-        self.path.write_bytes(spoilt)
+        damaged = bytearray(self.path.read_bytes())
+        damaged[ends[-1] - 3] ^= 1
+        self.path.write_bytes(damaged)
         self.assertIn(f"damaged at byte {ends[-2]},", self.refusal())
 
     def test_other_designs_and_other_files_are_refused(self) -> None:
@@ -112,8 +112,8 @@ class Journals(unittest.TestCase):
         self.assertIn("of another design", self.refusal([TEXTS[1], TEXTS[0]]))
         self.assertIn("of another design", self.refusal(TEXTS[:1]))
         for other, output in (
-            (b"something else\n", "no journal"),
-            (b"\n", "no journal"),
+            (b"something else\n", "not a journal"),
+            (b"\n", "not a journal"),
             (b"lefence-hub journal 4\n" + bytes(300), "of another version"),
         ):
             self.path.write_bytes(other)

@@ -195,7 +195,7 @@ class Segments(HubCase):
         self.assertIn("the first 7 changes exist only as a state", self.output_of("check", self.journal)[0])
         self.assertTrue(self.output_of("list", self.journal, "--team", "f0")[0].startswith("9\t"))
         self.assertIn(
-            "its first 7 changes are in a state alone",
+            "its first 7 changes exist only as a state",
             self.tool("lefence-push", self.journal, "s/f0.sock").stderr.decode(),
         )
 

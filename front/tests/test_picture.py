@@ -66,7 +66,7 @@ class Pictures(FrontCase):
         )
         self.assertEqual(boxes(groups["soft"]), frame.soft)
         legal = {cell.name: cell.box for cell in cells if cell.box and cell.rule is None}
-        drawn = {rect.findtext(f"{SVG}title"): boxes(group)[0] for group, rect in self.alone(groups["cells"])}
+        drawn = {rect.findtext(f"{SVG}title"): boxes(group)[0] for group, rect in self.each_in_group(groups["cells"])}
         self.assertEqual(drawn, legal)
         self.assertEqual(boxes(groups["broken"]), [cell.box for cell in cells if cell.name in ("one", "two")])
         self.assertEqual(len(titled(groups["broken"], "two overlaps one")), 1)
@@ -81,7 +81,7 @@ class Pictures(FrontCase):
         ):
             self.assertIn(text, legend)
 
-    def alone(self, group: ElementTree.Element) -> list[tuple[ElementTree.Element, ElementTree.Element]]:
+    def each_in_group(self, group: ElementTree.Element) -> list[tuple[ElementTree.Element, ElementTree.Element]]:
         """The rectangles of a group, each in a group of its own."""
         found = []
         for rect in group.iter(f"{SVG}rect"):
@@ -226,7 +226,8 @@ class Pictures(FrontCase):
     def test_inputs_are_not_overwritten(self) -> None:
         done = self.tool("lefence-picture", "t.def", "t.lef", "--program", self.program, "-o", "t.lef")
         self.assertEqual(
-            (done.returncode, done.stderr), (2, b"lefence-picture: t.lef is read, and would be written over\n")
+            (done.returncode, done.stderr),
+            (2, b"lefence-picture: t.lef is an input file, so it cannot be the output\n"),
         )
         done = self.tool("lefence-picture", "t.def", "t.lef", "--program", self.program, "-o", "x.jpg")
         self.assertEqual((done.returncode, (self.folder / "x.jpg").exists()), (2, False), done.stderr)

@@ -143,9 +143,14 @@ class Preparations(FrontCase):
     def test_impossible_requests_are_reported(self) -> None:
         text = self.design.read_text()
         for change, words, status, expected in (
-            (("DIEAREA", "HISTORY"), (), 1, "the text has no DIEAREA; --core says where rows are made"),
-            (("( 4100 8100 )", "( 0 1 ) ( 0 0 )"), (), 1, "DIEAREA is no rectangle in whole database units; --core"),
-            (("UNITS", "HISTORY"), (), 1, "the text has no UNITS DISTANCE MICRONS"),
+            (("DIEAREA", "HISTORY"), (), 1, "the DEF file has no DIEAREA; use --core to place the rows"),
+            (
+                ("( 4100 8100 )", "( 0 1 ) ( 0 0 )"),
+                (),
+                1,
+                "DIEAREA is not a rectangle in whole database units; use --core",
+            ),
+            (("UNITS", "HISTORY"), (), 1, "the DEF file has no UNITS DISTANCE MICRONS"),
             (("MICRONS 1000", "MICRONS 1"), (), 1, "site core is not a whole number of database units: 0.2"),
             (
                 ("( 4100 8100 )", "( 4100 2147483647 )"),
@@ -157,17 +162,17 @@ class Preparations(FrontCase):
                 ("", ""),
                 ("--margin", "3"),
                 1,
-                "no row of site core has room in the core: ( 2900 2700 ) ( 1100 5100 ) database",
+                "no row of site core fits into the core: ( 2900 2700 ) ( 1100 5100 ) database",
             ),
-            (("", ""), ("--margin", "1e3"), 2, "1e3 is no length in microns"),
+            (("", ""), ("--margin", "1e3"), 2, "1e3 is not a length in microns"),
             (
                 ("", ""),
                 ("--site", "pad"),
                 1,
                 "no LEF file has a site pad with CLASS CORE and a SIZE; found: core, tall",
             ),
-            (("", ""), ("--group", "A", "x"), 1, "there is no fence A for the group; --fence A adds one"),
-            (("", ""), ("--fence", "a;b c", *"0011"), 2, "'a;b c' can be no name in a DEF text"),
+            (("", ""), ("--group", "A", "x"), 1, "no fence A for the group; --fence A adds one"),
+            (("", ""), ("--fence", "a;b c", *"0011"), 2, "'a;b c' cannot be a name in a DEF file"),
             (
                 ("", ""),
                 ("--fence", "A", *"1100"),

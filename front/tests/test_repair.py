@@ -237,8 +237,8 @@ class Repairs(FrontCase):
             self.fails("echo ok", b"the program ended unexpectedly with status 0\n", *words)
         for end, expected in (
             ("kill -9 $$", b"the program ended unexpectedly with status -9\n"),
-            ("exit 0", b"the program was lost: replies lack\n"),
-            (f"'{PROGRAM}' \"$@\" | sed 's/ok 7/no 7/'; exit 0", b"the program answered 'no 7"),
+            ("exit 0", b"the program ended unexpectedly: replies are missing\n"),
+            (f"'{PROGRAM}' \"$@\" | sed 's/ok 7/no 7/'; exit 0", b"unexpected reply of the program: 'no 7"),
         ):
             self.fails(f"if [ $1 = replay ]; then\n{end}\nfi\nexec '{PROGRAM}' \"$@\"", expected, "--dry-run")
 

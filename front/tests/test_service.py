@@ -232,10 +232,10 @@ class Shares(unittest.TestCase):
 
     def setUp(self) -> None:
         def execute(lines: list[bytes]) -> list[bytes]:
-            self.asked += lines
+            self.lines += lines
             return [b"ok %d 0\n" % number if line.startswith(b"open") else b"ok\n" for number, line in enumerate(lines)]
 
-        self.asked: list[bytes] = []
+        self.lines: list[bytes] = []
         self.messages: list[str] = []
         server = mock.Mock(**{"execute": mock.AsyncMock(side_effect=execute), "pid": None})
         journal = Journal(Path(self.enterContext(tempfile.TemporaryDirectory())) / "j", [], self.messages.append)
@@ -255,14 +255,14 @@ class Shares(unittest.TestCase):
 
     def answer_all(self) -> list[bytes]:
         """The lines that the program gets."""
-        self.asked.clear()
+        self.lines.clear()
 
         async def answer() -> None:
             while batch := self.hub.next_batch():
                 await self.hub.answer(batch)
 
         asyncio.run(answer())
-        return self.asked[:]
+        return self.lines[:]
 
     def test_one_user_can_have_only_a_part_of_the_connections(self) -> None:
         self.assertEqual([self.hub.admit(self.client(b"f0")) for _ in range(7)], [True] * 6 + [False])
@@ -418,7 +418,7 @@ class Operator(HubCase):
             end.sendto(b"end", str(path))
 
     def test_a_full_socket_of_systemd_blocks_nobody(self) -> None:
-        path = self.folder / "told"
+        path = self.folder / "systemd"
         with socket.socket(socket.AF_UNIX, socket.SOCK_DGRAM) as systemd, mock.patch.dict(
             os.environ, {"NOTIFY_SOCKET": str(path)}
         ):
@@ -428,7 +428,7 @@ class Operator(HubCase):
             self.assertEqual(systemd.recv(100), b"WATCHDOG=1")
 
     def test_status_metrics_and_what_is_not_committed(self) -> None:
-        address, words = self.folder / "told", bytearray()
+        address, words = self.folder / "systemd", bytearray()
 
         def hear(systemd: socket.socket) -> None:
             while (piece := systemd.recv(1 << 12)) != b"end":
@@ -528,7 +528,7 @@ class Operator(HubCase):
         talker.socket.sendall(b"sync f0 0\n")
         time.sleep(0.1)
         self.assertEqual(self.hub.end(), 3)
-        self.assertIn("given up", self.hub.log_text())
+        self.assertIn("killed: not ended within", self.hub.log_text())
 
     def test_spent_descriptors_make_no_flood_of_lines(self) -> None:
         self.start()

@@ -144,7 +144,7 @@ class Words(HubCase):
         self.assertEqual((done.returncode, done.stdout, done.stderr), (0, b"f0 f1 f2 Z f4 f5 f6 f7 -\n", b""))
         for script, output, status in (
             ("echo no such verb >&2; exit 2", "no such verb", 2),
-            ("exit 0", "does not tell the teams", 3),
+            ("exit 0", "does not report the teams", 3),
         ):
             silent = self.describing(script)
             done = self.tool("lefence-shell", self.design, self.lef, "--program", silent)

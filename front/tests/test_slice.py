@@ -72,7 +72,7 @@ class Slices(HubCase):
             "lefence-slice", self.design, self.lef, "--team", team, "--output", target, "--program", self.program
         )
         self.assertEqual((done.returncode, done.stdout), (0, b""), done.stderr)
-        self.assertNotIn(b"not compared", done.stderr)
+        self.assertNotIn(b"not checked", done.stderr)
         return target
 
     def test_a_slice_has_only_the_frame_and_the_cells_of_the_team(self) -> None:
@@ -114,12 +114,12 @@ class Slices(HubCase):
             self.assertIn(b"no team", done.stderr)
         done = self.tool("lefence-slice", self.design, "--team", "f1")
         self.assertEqual((done.returncode, done.stdout), (0, slice_of(self.design.read_bytes(), "f1")))
-        self.assertIn(b"not compared", done.stderr)
+        self.assertIn(b"not checked", done.stderr)
 
     def test_a_file_that_is_not_def_is_reported(self) -> None:
         text = self.design.read_bytes()
         for other, expected in (
-            (LEF.encode(), "it is no DEF text"),
+            (LEF.encode(), "it is not a DEF file"),
             (gzip.compress(text), "it is not a DEF file but compressed by gzip"),
         ):
             self.design.write_bytes(other)
@@ -140,12 +140,15 @@ class Slices(HubCase):
         part = slice_of(whole, "f1")
         refuse_difference(PROGRAM, self.design, part, [self.lef], "f1")
         for other, output in (
-            (whole, "finds 12 cells of team f1 in the whole design, and 92 cells in the slice"),
-            (slice_of(whole, "f2"), "the first that differ are f1c0 there and f2c0 here"),
-            (part.replace(b"- f1c9 BUF", b"- f1c9 INV"), "the first that differ are f1c9 there and f1c9 here"),
+            (whole, "reads 12 cells of team f1 in the whole design, but 92 in the slice"),
+            (slice_of(whole, "f2"), "the first difference is f1c0 in the whole design and f2c0 in the slice"),
+            (
+                part.replace(b"- f1c9 BUF", b"- f1c9 INV"),
+                "the first difference is f1c9 in the whole design and f1c9 in the slice",
+            ),
             (part.replace(b"- late\\* INV ", b"- late\\* INV + FIXED ( 8000 0 ) N "), "another frame"),
             (part.replace(b"- f1c7 ", b"- f1c8 "), "the program refuses the slice, which is not written: "),
-            (slice_of(whole, "-"), "finds 12 cells of team f1 in the whole design, and 10 cells in the slice"),
+            (slice_of(whole, "-"), "reads 12 cells of team f1 in the whole design, but 10 in the slice"),
         ):
             self.assertNotEqual(other, part)
             with self.assertRaises(Fault) as caught:
@@ -300,7 +303,7 @@ class Pushes(HubCase):
             journal = self.work_away(0, 20, "--tail-bytes", "1")
         status, output = self.push(journal, "f0")
         self.assertEqual(
-            (status, "are in a state alone; for a push the hub needs --keep 0 from the first line on\n" in output),
+            (status, "exist only as a state; to push a journal, run its hub with --keep 0 from the start\n" in output),
             (1, True),
             output,
         )

@@ -129,8 +129,8 @@ def parser() -> Parser:
     )
     made.add_design()
     add = made.add_argument
-    told = "write an SVG, or a PNG if the name ends with .png; may be repeated (default: an SVG on standard output)"
-    add("-o", "--output", metavar="FILE", type=Path, action="append", help=told)
+    text = "write an SVG, or a PNG if the name ends with .png; may be repeated (default: an SVG on standard output)"
+    add("-o", "--output", metavar="FILE", type=Path, action="append", help=text)
     add("--before", metavar="DEF", type=Path, help="draw arrows from the cells' places in this DEF file")
     add(
         "--limit",

@@ -257,12 +257,12 @@ class _Section:
     """A section, with the places of its parts in the text."""
 
     def __init__(self, text: bytes, statement: Statement) -> None:
-        before, behind, self._entries = section_parts(text, statement)
+        before, after, self._entries = section_parts(text, statement)
         # The place of the count, and the start of the entries.
         self.count = statement.start + len(before)
         found = _WORD.match(text, self.count, statement.stop)
         self.after_count = found.end() if found else self.count
-        self.start = self.after_count + len(behind)
+        self.start = self.after_count + len(after)
 
     def entries(self) -> Iterator[tuple[int, Entry]]:
         """Yields the start of each entry and the entry."""

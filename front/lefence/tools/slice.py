@@ -118,7 +118,9 @@ def refuse_difference(program: str, whole: Path, part: bytes, libraries: list[Pa
     if own != found:
         pair = next(pair for pair in zip_longest(own, found) if pair[0] != pair[1])
         counts = f"the program reads {len(own)} cells of team {team} in the whole design, but {len(found)} in the slice"
-        names = " and ".join(f"{cell.name} {place}" for cell, place in zip(pair, ("there", "here")) if cell)
+        names = " and ".join(
+            f"{cell.name} {place}" for cell, place in zip(pair, ("in the whole design", "in the slice")) if cell
+        )
         raise Fault(REFUSED, f"{counts}; the first difference is {names}; nothing is written")
 
 
