@@ -393,7 +393,7 @@ class Limited(unittest.TestCase):
         journal.roll.side_effect = OSError(28, "x")
         made = Checkpointer(mock.Mock(), journal, TailLimits(1000, 10), mock.Mock())
         self.assertTrue(made.is_due())
-        made.begin(mock.Mock(holders={}), mock.Mock(teams={}))
+        made.begin(mock.Mock(owners={}), mock.Mock(teams={}))
         self.assertFalse(made.is_due())
         journal.tail_bytes = 2001
         self.assertTrue(made.is_due())

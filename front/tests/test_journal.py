@@ -177,8 +177,8 @@ class Journals(unittest.TestCase):
     def test_a_missing_or_replaced_file_is_a_fault(self) -> None:
         other = self.path.with_name("other")
         steps: tuple[tuple[Callable[[], object], str], ...] = (
-            (lambda: self.path.rename(other), "is not there"),
-            (lambda: self.path.unlink(), "is not there"),
+            (lambda: self.path.rename(other), "is gone"),
+            (lambda: self.path.unlink(), "is gone"),
             (lambda: (self.path.rename(other), self.path.write_bytes(other.read_bytes())), "another file"),
             (lambda: os.truncate(self.path, 200), "another process"),
             (lambda: self.path.write_bytes(self.path.read_bytes() + b"x"), "another process"),
@@ -202,8 +202,8 @@ class Journals(unittest.TestCase):
         me, parent = this_process(), Path(f"/proc/{os.getppid()}/stat").read_text().rpartition(")")[2].split()[19]
         elsewhere, dead, alive = (
             replace(me, host="farm2"),
-            replace(me, pid=1, began=7),
-            replace(me, pid=os.getppid(), began=int(parent)),
+            replace(me, pid=1, started=7),
+            replace(me, pid=os.getppid(), started=int(parent)),
         )
         for owner, is_refused in ((elsewhere, True), (alive, True), (dead, False), (replace(alive, boot="x"), False)):
             os.close(Journal(self.path, TEXTS, self.messages.append, owner=owner)._fd)

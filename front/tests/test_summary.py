@@ -69,8 +69,8 @@ up to 50   0
 over 50    0
 
 farthest  team       from       to  distance  in rows
-far          A      1 0 N   2 2 FS  3.000     1.50
-near         A  0.801 0 N  0.8 0 N  0.001     0.00
+far          A      1 0 N   2 2 FS     3.000     1.50
+near         A  0.801 0 N  0.8 0 N     0.001     0.00
 
 cells only in the design before: 1 (lost)
 

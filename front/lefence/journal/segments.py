@@ -237,8 +237,7 @@ def refuse_short_segment(reader: Reader, end: int, size: int) -> None:
     """Raises a Fault if a segment now ends before it ended when the next one was made."""
     if end != size:
         raise Fault(
-            REFUSED,
-            f"{reader.path}: damaged at byte {end}: it had {size} bytes when the next segment was made",
+            REFUSED, f"{reader.path}: damaged at byte {end}: it had {size} bytes when the next segment was made"
         )
 
 

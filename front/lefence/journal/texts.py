@@ -68,10 +68,7 @@ def _resolve_text(journal: Path, text: Text, given: Path, say: Callable[[str], N
             REFUSED, f"{journal}: a journal of another design: {given} is not its file, and no copy of that is kept"
         )
     if given.absolute() != text.path:
-        raise Fault(
-            REFUSED,
-            f"{journal}: a journal of another design: its file was {text.path}, and {given} differs",
-        )
+        raise Fault(REFUSED, f"{journal}: a journal of another design: its file was {text.path}, and {given} differs")
     say(f"{given} has changed since the journal was made: using the copy {kept}")
     return kept
 

@@ -163,42 +163,14 @@ def parser() -> Parser:
         f"{TOOL} work chip.def tech.lef cells.lef --engine slurm --option=--mem=2G -- python3 place.py",
     )
     add = made.add_argument
-    add(
-        "work",
-        metavar="WORK",
-        type=Path,
-        help="the work folder, on a disk that all machines share; made if it is missing",
-    )
-    add(
-        "texts",
-        metavar="DEF LEF..",
-        type=Path,
-        nargs="*",
-        default=[],
-        help="the design, and its LEF files in the program's order",
-    )
+    add("work", metavar="WORK", type=Path, help="the work folder, shared by all machines; made if it is missing")
+    add("texts", metavar="DEF LEF..", type=Path, nargs="*", default=[], help="the design, and its LEF files in order")
     add("--engine", choices=ENGINES, default="local", help="what runs the teams: this machine (local), Slurm or LSF")
-    add(
-        "--processes",
-        metavar="N",
-        type=int,
-        default=0,
-        help="run at most N teams at once (local: one per processor)",
-    )
-    add(
-        "--option",
-        metavar="WORD",
-        action="append",
-        default=[],
-        help="an argument for sbatch or bsub, for example --option=--mem=2G; may be repeated",
-    )
+    add("--processes", metavar="N", type=int, default=0, help="run at most N teams at once (local: one per processor)")
+    add("--option", metavar="WORD", action="append", default=[], help="an argument for sbatch or bsub; may be repeated")
     add("--wait", action="store_true", help="wait for the last job of an engine, and end with its status")
     add("--export", metavar="FILE", type=Path, help="the final design (default: WORK/new.def)")
-    add(
-        "--merge",
-        action="store_true",
-        help="merge the teams' slices into the DEF file; no machine needs the memory for the design",
-    )
+    add("--merge", action="store_true", help="merge the teams' slices into the DEF file, in little memory")
     add("--task", metavar="I", type=int, help="do the work of team number I of WORK, and nothing else")
     add("--collect", action="store_true", help="merge the work of the finished teams of WORK into one design")
     made.add_program()

@@ -12,6 +12,7 @@ import signal
 import sys
 import threading
 import traceback
+from collections.abc import Callable
 from pathlib import Path
 from typing import Any
 
@@ -211,6 +212,25 @@ def parser() -> Parser:
         "restores them. SIGTERM ends the hub. docs/FRONT.md describes it.",
         f"{TOOL} chip.def tech.lef cells.lef --sockets /run/lefence --journal chip.journal --export new.def",
     )
+    _add_files(made)
+    _add_limits(made)
+    made.add_argument("--roll", action="store_true", help="save a state of the journal and end, without serving")
+    gone = "take over the journal of a hub of another host, which is certainly gone"
+    made.add_argument("--takeover", action="store_true", help=gone)
+    unsafe = "do not wait for the disk: a crash of the machine may lose changes"
+    made.add_argument("--no-sync", action="store_true", help=unsafe)
+    made.add_program()
+    queries = {
+        "--status": "print the status of the hub with its sockets in DIR, as JSON",
+        "--metrics": "the same for Prometheus",
+    }
+    for option, text in queries.items():
+        made.add_argument(option, metavar="DIR", type=Path, action=StatusAction, help=text)
+    return made
+
+
+def _add_files(made: Parser) -> None:
+    """Adds the arguments for files and teams."""
     add = made.add_argument
     add("design", metavar="DEF", type=Path, help="the design")
     add("library", metavar="LEF", type=Path, nargs="+", help="its LEF files, in the program's order")
@@ -231,76 +251,23 @@ def parser() -> Parser:
         help="serve only this team; may be repeated (default: all teams)",
     )
     add("--group", metavar="TEAM=GROUP", action="append", default=[], help="the group of a team's socket")
-    add(
-        "--patience",
-        metavar="S",
-        type=second_count,
-        default=60.0,
-        help="seconds after which a client with unread replies is dropped (60)",
-    )
-    add(
-        "--idle",
-        metavar="S",
-        type=second_count,
-        default=900.0,
-        help="seconds after which an idle client without a session is dropped (900)",
-    )
-    add(
-        "--deadline",
-        metavar="S",
-        type=second_count,
-        default=600.0,
-        help="seconds of silence after which the program is restarted (600)",
-    )
-    add(
-        "--grace",
-        metavar="S",
-        type=second_count,
-        default=240.0,
-        help="seconds after SIGTERM for everything, exports included (240)",
-    )
-    add(
-        "--tail-bytes",
-        metavar="B",
-        type=byte_count,
-        default=16 << 20,
-        help="save a state after B bytes of changes (16777216; 0: never)",
-    )
-    add(
-        "--tail-seconds",
-        metavar="S",
-        type=second_count,
-        default=20.0,
-        help="save a state after S seconds of the program's work (20)",
-    )
-    add(
-        "--keep",
-        metavar="N",
-        type=state_count,
-        default=2,
-        help="keep N states, and the journal from the first of them on (2; 0: all)",
-    )
-    add(
-        "--sessions",
-        metavar="N",
-        type=slot_count,
-        help="session slots of each team, 1 to 64 (default: as in the journal; 8 in a new one)",
-    )
-    add("--roll", action="store_true", help="save a state of the journal and end, without serving")
-    add(
-        "--takeover",
-        action="store_true",
-        help="take over the journal of a hub of another host, which is certainly gone",
-    )
-    add("--no-sync", action="store_true", help="do not wait for the disk: a crash of the machine may lose changes")
-    made.add_program()
-    queries = {
-        "--status": "print the status of the hub with its sockets in DIR, as JSON",
-        "--metrics": "the same for Prometheus",
-    }
-    for option, text in queries.items():
-        add(option, metavar="DIR", type=Path, action=StatusAction, help=text)
-    return made
+
+
+def _add_limits(made: Parser) -> None:
+    """Adds the options for limits, in seconds, bytes and numbers."""
+
+    def add(option: str, metavar: str, kind: Callable[[str], float], default: float | None, text: str) -> None:
+        made.add_argument(option, metavar=metavar, type=kind, default=default, help=text)
+
+    add("--patience", "S", second_count, 60.0, "seconds after which a client with unread replies is dropped (60)")
+    add("--idle", "S", second_count, 900.0, "seconds after which an idle client without a session is dropped (900)")
+    add("--deadline", "S", second_count, 600.0, "seconds of silence after which the program is restarted (600)")
+    add("--grace", "S", second_count, 240.0, "seconds after SIGTERM for everything, exports included (240)")
+    add("--tail-bytes", "B", byte_count, 16 << 20, "save a state after B bytes of changes (16777216; 0: never)")
+    add("--tail-seconds", "S", second_count, 20.0, "save a state after S seconds of the program's work (20)")
+    add("--keep", "N", state_count, 2, "keep N states, and the journal from the first of them on (2; 0: all)")
+    slots = "session slots of each team, 1 to 64 (default: as in the journal; 8 in a new one)"
+    add("--sessions", "N", slot_count, None, slots)
 
 
 def state_count(word: str) -> int:

@@ -200,8 +200,7 @@ def verify(path: Path, given: list[Path], wanted: str | None, is_all: bool) -> i
         paths = given or [found for found in kept if found]
         if len(paths) != len(texts):
             raise Fault(
-                REFUSED,
-                f"{path}: {len(texts)} files, but {len(paths)} are {'given' if given else 'kept next to it'}",
+                REFUSED, f"{path}: {len(texts)} files, but {len(paths)} are {'given' if given else 'kept next to it'}"
             )
         server = Server(Program(find_program(wanted), paths, header.slots), [text.sum for text in texts])
         state, following = last_state(path, readers, is_all)

@@ -188,11 +188,7 @@ def parser() -> Parser:
     )
     add = found.add_argument
     add("file", metavar="FILE", type=Path, help="a journal of lefence-hub, or the lines of a repair")
-    add(
-        "socket",
-        metavar="SOCKET",
-        help="the team's socket, the operator's for a file of several teams, or HOST:PORT",
-    )
+    add("socket", metavar="SOCKET", help="the team's socket, the operator's for a file of several teams, or HOST:PORT")
     add("--continue", dest="continues", action="store_true", help="skip what an earlier push of this file has sent")
     add(
         "--ahead",

@@ -227,10 +227,7 @@ def _legend(report: Report) -> str:
     kinds = {obstacle.name is None for obstacle in frame.obstacles}
     named = [("var(--fixed)", "FIXED")] * (False in kinds) + [("var(--blocked)", "blockage")] * (True in kinds)
     named += [
-        (
-            BROKEN,
-            "breaks a rule; zoomed out: overfull bins" if scene.map and scene.shows_too_full else "breaks a rule",
-        )
+        (BROKEN, "breaks a rule; zoomed out: overfull bins" if scene.map and scene.shows_too_full else "breaks a rule")
     ] * bool(scene.broken)
     teams = [(colour_of(at, team), shortened(team)) for at, team in enumerate(frame.teams[:-1])][:12]
     teams.append((colour_of(len(frame.fences), GROUND), "- (ground)"))
@@ -348,12 +345,7 @@ def parser() -> Parser:
     made.add_design()
     add = made.add_argument
     add("-o", "--output", metavar="FILE", type=Path, help="write the page to FILE (default: standard output)")
-    add(
-        "--before",
-        metavar="DEF",
-        type=Path,
-        help="also report which cells moved since this DEF file, and how far",
-    )
+    add("--before", metavar="DEF", type=Path, help="also report which cells moved since this DEF file, and how far")
     add("--most", metavar="N", type=int, default=MOST_LISTED, help=f"list at most N violations ({MOST_LISTED})")
     add(
         "--limit",

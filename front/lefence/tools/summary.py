@@ -46,13 +46,7 @@ def parser() -> Parser:
     add("before", metavar="BEFORE", type=Path, help="the DEF file before")
     add("after", metavar="AFTER", type=Path, help="the DEF file after")
     add("libraries", metavar="LEF", type=Path, nargs="+", help="the LEF files of both, in the program's order")
-    add(
-        "--most",
-        metavar="N",
-        type=int,
-        default=MOST_FAR,
-        help=f"list the N cells that moved farthest ({MOST_FAR})",
-    )
+    add("--most", metavar="N", type=int, default=MOST_FAR, help=f"list the N cells that moved farthest ({MOST_FAR})")
     add("--json", action="store_true", help="print one JSON object instead of the tables")
     made.add_program()
     return made
