@@ -21,7 +21,7 @@ from support import CELLS, FRONT, LEF, PATIENCE, PROGRAM, TEAMS, Hub, HubCase, S
 from lefence.base.faults import Fault
 from lefence.base.protocol import text_length
 from lefence.hub.checkpoints import Checkpoints as Checkpointer, TailLimits, _sync_and_hash
-from lefence.hub.status import ask_status
+from lefence.hub.status import read_status
 from lefence.journal.frames import Reader, Record, Text, frame_of, header_of
 from lefence.journal.journal import Journal
 from lefence.journal.segments import Archive, read_records
@@ -310,7 +310,7 @@ class Checkpoints(HubCase):
         lines = ["open f0", "undo f0 0", "where f0 0 f0c2", "where f0 0 f0c1"]
         self.assertEqual(talker.ask(*lines), ["ok 0 3", "ok 4", "no 6 Unplaced f0c2", "ok 0 0 N"])
         self.assertEqual(talker.ask("place f0 0 f0c4 400 0 N")[0][:12], "no 7 Illegal")
-        status = ask_status(self.folder / "s")
+        status = read_status(self.folder / "s")
         team = next(team for team in status["teams"] if team["team"] == "f0")
         self.assertEqual((team["revision"], team["uncommitted"], len(team["sessions"])), (4, 4, 1))
         self.assertEqual(

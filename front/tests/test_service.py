@@ -486,7 +486,7 @@ class Operator(HubCase):
             silent.bind(str(self.folder / "operator.sock"))
             silent.listen()
             with self.assertRaisesRegex(Fault, "no reply for 0.2 seconds"):
-                status.ask_status(self.folder)
+                status.read_status(self.folder)
 
     def test_bad_numbers_are_refused(self) -> None:
         needed = ["t.def", "t.lef", "--sockets", "s", "--journal", "j"]

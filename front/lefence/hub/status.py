@@ -77,7 +77,7 @@ def uncommitted_text(hub: Hub) -> str | None:
     return "uncommitted changes: " + ", ".join(f"{count} of {team}" for team, count in counts[:_MOST_TEAMS]) + more
 
 
-def ask_status(folder: Path) -> dict[str, Any]:
+def read_status(folder: Path) -> dict[str, Any]:
     """Reads the status of the hub with its sockets in a folder. Raises a Fault if none listens there."""
     path = folder / "operator.sock"
     try:

@@ -27,7 +27,7 @@ from ..hub.metrics import prometheus
 from ..hub.notify import notify
 from ..hub.server import Server
 from ..hub.sockets import bind_socket, claim_folder, groups_of
-from ..hub.status import ask_status, uncommitted_text
+from ..hub.status import read_status, uncommitted_text
 from ..journal.journal import Journal
 from ..journal.owner import this_process
 from ..journal.texts import remove_partial_texts, resolve_texts
@@ -197,7 +197,7 @@ class StatusAction(argparse.Action):
 
     def __call__(self, parser: argparse.ArgumentParser, _: object, value: Any, option: str | None = None) -> None:
         def work() -> int:
-            status = ask_status(value)
+            status = read_status(value)
             sys.stdout.write(prometheus(status) if option == "--metrics" else json.dumps(status) + "\n")
             return DONE
 

@@ -244,9 +244,9 @@ def check(program: str, text: bytes, libraries: list[Path], name: str) -> CheckR
     return CheckResult(status, lines, remarks_of(text, summary.facts), summary.teams)
 
 
-def _located(path: Path, text: bytes, place: int | None, said: str) -> str:
+def _located(path: Path, text: bytes, place: int | None, message: str) -> str:
     """Adds the line of a place to a message."""
-    return said if place is None else f"{path}, line {line_of(text, place)}: {said}"
+    return message if place is None else f"{path}, line {line_of(text, place)}: {message}"
 
 
 def _report(

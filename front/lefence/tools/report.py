@@ -61,7 +61,7 @@ class Near:
 
     def __init__(self, broken: list[Cell], height: int) -> None:
         self._side = TILE * height
-        self._left = NEAR_BYTES
+        self._remaining = NEAR_BYTES
         self._broken = {cell.name for cell in broken}
         self._tiles = {tile for cell in broken if cell.box for tile in self._tiles_of(cell.box, NEAR * height)}
 
@@ -75,7 +75,7 @@ class Near:
     @property
     def is_full(self) -> bool:
         """Whether the limit is reached."""
-        return self._left <= 0
+        return self._remaining <= 0
 
     def holds(self, name: str | None, box: Box) -> bool:
         """Whether a thing at this place is kept; it then counts for the limit."""
@@ -83,7 +83,7 @@ class Near:
         corners = [(x // side, y // side) for x in (box.left, box.right - 1) for y in (box.bottom, box.top - 1)]
         if self.is_full or self._tiles.isdisjoint(corners):
             return False
-        self._left -= len(name or "") + 40
+        self._remaining -= len(name or "") + 40
         return True
 
     def has(self, cell: Cell) -> bool:
