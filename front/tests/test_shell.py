@@ -33,7 +33,7 @@ class Words(HubCase):
             "teams": " ".join([f"f{team}" for team in range(TEAMS)] + ["-"]),
             "team f0": "session 0 of team f0, revision 0",
             "place f0c1 0 0 N ": "done; revision 1",
-            "place f0c2 200 0 N": "no: f0c2 would overlap or would be too near to f0c1",
+            "place f0c2 200 0 N": "no: f0c2 would overlap f0c1 or be too near to it",
             "place f1c1 0 0 N": "no: the team has no such cell",
             "place f0c2 100 0 N": "no: f0c2 would be on no core row, off its x grid or beyond its ends",
             "where f0c1": "f0c1 is at (0, 0), N",
@@ -66,7 +66,7 @@ class Words(HubCase):
     def test_a_report_is_a_table(self) -> None:
         output = self.say("team f0", "place f0c1 0 0 N", "place f0c2 400 0 N", "pad 1", "check")
         head = ["10 cells, 8 unplaced, 2 break a rule", "cell  rule  what"]
-        near = "overlaps or is too near to {}"
+        near = "overlaps {} or is too near to it"
         self.assertEqual(
             output[-4:], [*head, f"f0c1     8  f0c1 {near.format('f0c2')}", f"f0c2     8  f0c2 {near.format('f0c1')}"]
         )

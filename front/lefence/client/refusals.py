@@ -22,7 +22,7 @@ _VIOLATIONS = {
     8: "{} {overlap} {}",
 }
 # The text of rule 8 if the team may have a padding.
-_TOO_NEAR = "{} {overlap} or {be} too near to {}"
+_TOO_NEAR = "{} {overlap} {} or {then_be} too near to it"
 
 
 def violation_text(
@@ -31,6 +31,7 @@ def violation_text(
     """Describes the rule that a cell breaks or, if it is not there yet, would break; with a padding or without."""
     verbs = {verb: f"{verb}s" if is_there else f"would {verb}" for verb in ("lack", "leave", "overlap")}
     verbs |= {"be": "is", "have": "has"} if is_there else {"be": "would be", "have": "would have"}
+    verbs["then_be"] = "is" if is_there else "be"
     words = _TOO_NEAR if rule == 8 and is_padded else _VIOLATIONS.get(rule, f"{{}} breaks rule {rule}")
     return words.format(cell, other or "another cell", **verbs)
 
