@@ -27,14 +27,14 @@ pub record AreFirstCells (f : Frame) (cells : List LoadedCell) (at : ℕ) (kept 
   pub named : CellsNamed (kept ++ drop at cells)
   pub rise : ComponentsRise kept
   pub before : All (λ c. c.component < at) kept
-  pub unplaced_cell_at : AreUnplaced kept
+  pub unplaced : AreUnplaced kept
 
 -- the table has cells of the frame, of whole size, at most 4,000,000 in each team, and no cell is
 -- placed
 pub record IsEmptyTable (f : Frame) (table : Cells) : Type 0 where
   pub sized : HaveSize f table
   pub few : (team : ℕ) → length (cells_of table team) ≤ 4000000
-  pub unplaced_cell_at : (team : ℕ) → All (λ c. c.working ≡ None) (cells_of table team)
+  pub unplaced : (team : ℕ) → All (λ c. c.working ≡ None) (cells_of table team)
 
 -- the floor without cells belongs to this frame
 pub record IsEmptyFloorOf (f : Frame) (bare : EmptyFloor) : Type 0 where
