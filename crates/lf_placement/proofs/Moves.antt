@@ -156,7 +156,7 @@ drop_here (m ∷ ms) (suc at) next within is = let more : suc at + 1 ≡ suc (at
 pub record IsMakingAt (start to now : List Cell) (given moves : List Move) (from at : ℕ) : Type 0 where
   pub rest : moves_applied (drop at moves) now ≡ to
   pub notes : (before : List Cell) → HaveMoved before (take from given) start → HaveMoved before (take at moves) now
-  pub moved_positions : moved_positions moves ≡ moved_positions given
+  pub owns : moved_positions moves ≡ moved_positions given
 
 pub making_next : (start to now : List Cell) (given moves : List Move) (from at : ℕ) (next : Move) (was : Option Place) → at < length moves
     → next ≡ get_or moves at next → was ≡ working_at now next.own → IsMakingAt start to now given moves from at
