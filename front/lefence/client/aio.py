@@ -182,9 +182,9 @@ class Connection:
 
     def _close_abandoned(self, line: bytes, reply: bytes) -> None:
         """Closes a session whose opener was cancelled, to free its slot."""
-        words, words = line.split(), reply.split()
-        if words[:1] == [b"open"] and len(words) == 2 and is_accepted(reply) and len(words) > 1:
-            self.send_unawaited(b"close %b %b" % (words[1], words[1]))
+        words, replied = line.split(), reply.split()
+        if words[:1] == [b"open"] and len(words) == 2 and is_accepted(reply) and len(replied) > 1:
+            self.send_unawaited(b"close %b %b" % (words[1], replied[1]))
 
     def _mark_lost(self, text: str) -> None:
         self._lost = self._lost or text
