@@ -19,7 +19,7 @@ from unittest import mock
 from support import CELLS, FRONT, LEF, PATIENCE, PROGRAM, TEAMS, Hub, HubCase, Script, design_text, spot, wait_gone
 
 from lefence.base.faults import Fault
-from lefence.base.protocol import text_length
+from lefence.base.protocol import is_change, text_length
 from lefence.hub.checkpoints import Checkpoints as Checkpointer, TailLimits, _sync_and_hash
 from lefence.hub.status import read_status
 from lefence.journal.frames import Reader, Record, Text, frame_of, header_of
@@ -277,16 +277,18 @@ class Checkpoints(HubCase):
     def test_replies_are_the_same_over_checkpoints_starts_and_restored_programs(self) -> None:
         scripts = [Script(self.rng, team) for team in (0, 1, TEAMS)]
         lines = [self.rng.choice(scripts).line() for _ in range(1500)]
-        found, talkers = b"", 0
+        found, talkers, changes = b"", 0, 0
         self.start(*self.OFTEN)
         talker = self.talk("operator")
         for line in lines:
             talker.socket.sendall(line + b"\n")
             reply = talker.replies.readline()
             found += reply + talker.replies.read(text_length(line, reply))
-            if self.rng.random() < 0.01:
+            changes += is_change(line.split(), reply)
+            # (a state is saved only after a change)
+            if changes and self.rng.random() < 0.01:
                 self.wait_states(talkers + 2)
-                talkers += 1
+                talkers, changes = talkers + 1, 0
                 os.kill(self.hub.server_pid(), signal.SIGKILL)
         self.assertEqual(found, self.direct(b"\n".join(lines) + b"\n"))
         self.assertEqual(self.hub.end(), 0)
