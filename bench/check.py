@@ -38,9 +38,9 @@ def run(task: str, lef: str, def_: str) -> tuple[float, int, str]:
 
 
 def figures(lef: str, def_: str, count: int) -> Figures:
-    seconds, peak, told = run("check", lef, def_)
-    if told != f'{{"cells":{count},"unplaced":0,"violations":[]}}\n':
-        sys.exit(f"check: {told[:200]}")
+    seconds, peak, output = run("check", lef, def_)
+    if output != f'{{"cells":{count},"unplaced":0,"violations":[]}}\n':
+        sys.exit(f"check: {output[:200]}")
     return seconds, peak, run("replay", lef, def_)[0]
 
 

@@ -83,9 +83,9 @@ def main() -> None:
         for count in COUNTS:
             def_, lines, new = (os.path.join(folder, name) for name in ("x.def", "lines", "new.def"))
             write(def_, "placed", count, max(10, count // 2_000))
-            told, wanted = session(def_)
+            commands, wanted = session(def_)
             with open(lines, "w") as out:
-                out.write(told)
+                out.write(commands)
             plain, whole, copy, peak = best([lambda: figures(lef, def_, lines, new, wanted)], runs)[0]
             now = [max(whole - plain, 1e-6)]
             times = grown(before, now)

@@ -4,7 +4,7 @@
 usage: bench/farm.py [CELLS] [FENCES]    (100000 and 20; from the top; LEFENCE names the program,
                                           crates/lefence/out/lefence by default)
 
-`slices` is the one pass over the DEF text that makes all slices. `teams` is all teams on 1, 2 and 4 processes.
+`slices` reads the DEF text once and makes all slices. `teams` is all teams on 1, 2 and 4 processes.
 `answers` and `merge` are the two methods to bring their work into one design: repeating all their commands over the
 whole design, and merging. Seconds are processor seconds of all processes of a part; they are higher if the machine is
 busy. `wall` is the elapsed time.

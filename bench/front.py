@@ -168,7 +168,7 @@ def measure_waits(folder: Path, program: str, seconds: float) -> None:
         numbers = [number for number in range(54) if number % FENCES != FENCES - 1][:50]
         drive([hub.client(number) for number in numbers], lambda at, turn: place(numbers[at], turn), flight, seconds + 0.5)
         disk = ", a sync 5 ms longer" if is_slow else ""
-        print(f"a durable place beside 50 clients with {flight} in flight each{disk}: {quantiles(answers.get())}", flush=True)
+        print(f"a durable place next to 50 clients with {flight} in flight each{disk}: {quantiles(answers.get())}", flush=True)
         prober.join()
         hub.end()
 

@@ -120,7 +120,7 @@ def regions(fences: int, across: int, wide: int, high: int) -> Iterator[str]:
 FILLED = 0.7    # the share of the ground that cells take; the rest is gaps between them
 
 
-def standing(
+def placed_cells(
     wanted: int, fences: int, blockages: int, rows: int, sites: int, rng: random.Random
 ) -> tuple[list[Cell], list[tuple[int, int]]] | None:
     """Cells (macro, x in sites, row, fence) next to each other in pairs of rows, and blockages (x, row); None if there
@@ -162,7 +162,7 @@ def placed(components: int, fences: int, blockages: int, seed: int) -> Iterator[
         rows = max(8, int((area / 10) ** 0.5) // 2 * 2)
         sites = max(area // rows, 40 * tiles(fences, rows)[0])
         rng = random.Random(seed)
-        found = standing(components, fences, blockages, rows, sites, rng)
+        found = placed_cells(components, fences, blockages, rows, sites, rng)
     cells, blocked = found
     rng.shuffle(cells)
     across, high = tiles(fences, rows)

@@ -28,7 +28,7 @@ from collections.abc import Iterable
 from load import LEFENCE, need, write
 
 RUNS = 3
-ASKED = 500    # commands of a verb
+COMMANDS = 500    # commands of a verb
 # A cell: its macro, its corner and its orientation.
 Cell = tuple[str, int, int, str]
 # For each team its cells by name.
@@ -56,23 +56,23 @@ def cells_of(def_: str) -> Teams:
 def verbs(teams: Teams) -> dict[str, list[str]]:
     """For each verb its commands, in the order in which they are sent."""
     rng = random.Random(3)
-    told: dict[str, list[str]] = {verb: [] for verb in ("where", "find", "place", "swap", "legalize", "unplace", "undo")}
+    commands: dict[str, list[str]] = {verb: [] for verb in ("where", "find", "place", "swap", "legalize", "unplace", "undo")}
     for team, cells in teams.items():
-        names = rng.sample(sorted(cells), min(ASKED // 2, len(cells)))
+        names = rng.sample(sorted(cells), min(COMMANDS // 2, len(cells)))
         alike: dict[tuple[str, str], list[str]] = {}
         for name, (mac, x, y, orient) in cells.items():
             alike.setdefault((mac, orient), []).append(name)
         for name in names:
             mac, x, y, orient = cells[name]
             near = f"{x + rng.randrange(-20, 21) * 200} {y + rng.randrange(-2, 3) * 2000}"
-            told["where"].append(f"where {team} 0 {name}\n")
-            told["find"].append(f"find {team} 0 {name} {near}\n")
-            told["place"].append(f"place {team} 0 {name} {x} {y} {'FN' if orient == 'N' else 'S'}\n")
-            told["swap"].append(f"swap {team} 0 {name} {rng.choice(alike[mac, orient])}\n")
-            told["legalize"].append(f"legalize {team} 0 {name} {near}\n")
-            told["unplace"].append(f"unplace {team} 0 {name}\n")
-        told["undo"] += [f"undo {team} 0\n"] * min(60, len(names))
-    return told
+            commands["where"].append(f"where {team} 0 {name}\n")
+            commands["find"].append(f"find {team} 0 {name} {near}\n")
+            commands["place"].append(f"place {team} 0 {name} {x} {y} {'FN' if orient == 'N' else 'S'}\n")
+            commands["swap"].append(f"swap {team} 0 {name} {rng.choice(alike[mac, orient])}\n")
+            commands["legalize"].append(f"legalize {team} 0 {name} {near}\n")
+            commands["unplace"].append(f"unplace {team} 0 {name}\n")
+        commands["undo"] += [f"undo {team} 0\n"] * min(60, len(names))
+    return commands
 
 
 class Program:
@@ -105,13 +105,13 @@ class Program:
         self.child.wait()
 
 
-def best(asked: list[tuple[list[str], float]], lef: str, def_: str, teams: Iterable[str], padding: int) -> list[float]:
+def best(lists: list[tuple[list[str], float]], lef: str, def_: str, teams: Iterable[str], padding: int) -> list[float]:
     """The best time of each list of commands over all runs, in seconds times its factor. A run sends the lists one
     after another."""
-    found = [float("inf")] * len(asked)
+    found = [float("inf")] * len(lists)
     for _ in range(RUNS):
         program = Program(lef, def_, teams, padding)
-        found = [min(time_, program.ask(lines) * factor) for time_, (lines, factor) in zip(found, asked)]
+        found = [min(time_, program.ask(lines) * factor) for time_, (lines, factor) in zip(found, lists)]
         program.end()
     return found
 
@@ -147,14 +147,14 @@ def line_of(lef: str, def_: str, design: tuple[int, int, int], room: int, paddin
     if room:
         settle(lef, def_, all_teams, room)
     teams = cells_of(def_)
-    told = verbs(teams)
-    single = [best([(lines, 1e6 / len(lines)) for lines in told.values()], lef, def_, teams, padding) for padding in paddings]
+    commands = verbs(teams)
+    single = [best([(lines, 1e6 / len(lines)) for lines in commands.values()], lef, def_, teams, padding) for padding in paddings]
     if room:
         displace(def_)
     else:
         write(def_, "packed", count, fences, percent, 10)
-    asked = [([f"{verb} {team} 0\n" for team in all_teams], 1.0) for verb in ("tidy", "commit", "check")]
-    whole = [best(asked, lef, def_, all_teams, padding) for padding in paddings]
+    lists = [([f"{verb} {team} 0\n" for team in all_teams], 1.0) for verb in ("tidy", "commit", "check")]
+    whole = [best(lists, lef, def_, all_teams, padding) for padding in paddings]
     return [
         "".join(f" {t:{w}.1f}" for t, w in zip(times, (7, 7, 7, 7, 8, 7, 7))) + "    " + "".join(f" {t:7.3f}" for t in seconds)
         for times, seconds in zip(single, whole)

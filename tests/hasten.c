@@ -18,8 +18,8 @@ int clock_gettime(clockid_t clock, struct timespec *now) {
 int setsockopt(int file, int level, int name, const void *value, socklen_t size) {
     struct timeval sooner;
     if (level == SOL_SOCKET && name == SO_SNDTIMEO) {
-        const struct timeval *asked = value;
-        long long parts = (asked->tv_sec * 1000000LL + asked->tv_usec) / 60;
+        const struct timeval *requested = value;
+        long long parts = (requested->tv_sec * 1000000LL + requested->tv_usec) / 60;
         sooner.tv_sec = parts / 1000000;
         sooner.tv_usec = parts % 1000000;
         value = &sooner;

@@ -11,7 +11,7 @@
 #include <unistd.h>
 
 struct control {
-    volatile uint64_t asked, first, last, refused;
+    volatile uint64_t requested, first, last, refused;
 };
 
 static struct control *control;
@@ -32,7 +32,7 @@ __attribute__((constructor)) static void begin(void) {
 
 static int is_refused(void) {
     if (!control) return 0;
-    uint64_t number = ++control->asked;
+    uint64_t number = ++control->requested;
     if (!control->first || number < control->first || control->last < number) return 0;
     control->refused++;
     return 1;

@@ -172,8 +172,8 @@ class Describe(InFolder):
         """The lines for this DEF text, after they were compared with the text and with the report of `check`."""
         words = self.design(text)
         lines = self.described(words, status)
-        judged = [{key: value for key, value in line.items() if key not in ("rule", "other")} for line in lines[:-1]]
-        self.assertEqual(judged, reported_of(text, LEF.read_text()))
+        without_rules = [{key: value for key, value in line.items() if key not in ("rule", "other")} for line in lines[:-1]]
+        self.assertEqual(without_rules, reported_of(text, LEF.read_text()))
         checked, report, said = run(["check", *words])
         self.assertEqual((checked, said), (status, ""))
         found = json.loads(report)

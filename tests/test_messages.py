@@ -43,8 +43,8 @@ class Mistakes(unittest.TestCase):
             self.said([verb], 2, USAGE)
             self.said([verb, W_DEF], 2, USAGE)
 
-    def test_the_wrong_word_and_what_it_may_be_stand_before_the_usage(self) -> None:
-        for words, told in (
+    def test_the_wrong_word_and_a_tip_come_before_the_usage(self) -> None:
+        for words, messages in (
             (["chekc", *DESIGN], ["unrecognized subcommand 'chekc'", "tip: a similar subcommand exists: 'check'"]),
             (["replay", *DESIGN, "--exprot", "x"], ["unexpected argument '--exprot' found", "tip: a similar argument exists: '--export'"]),
             (
@@ -65,8 +65,8 @@ class Mistakes(unittest.TestCase):
                 status, written, said = run(words)
                 self.assertEqual((status, written), (2, ""))
                 lines = said.split("\n")
-                self.assertEqual(lines[: len(told) + 1], [USAGE, *(f"lefence: {line}" for line in told)])
-                self.assertTrue(lines[len(told) + 1].startswith("  lefence [demo] "), said)
+                self.assertEqual(lines[: len(messages) + 1], [USAGE, *(f"lefence: {line}" for line in messages)])
+                self.assertTrue(lines[len(messages) + 1].startswith("  lefence [demo] "), said)
 
     def test_a_text_that_is_read_is_not_written_over(self) -> None:
         with tempfile.TemporaryDirectory() as folder:
@@ -198,7 +198,7 @@ class Mistakes(unittest.TestCase):
         text = DEF.read_text().replace("- a2 INV", "- a1 INV", 1)
         self.shown(text, "- a1 INV", f"the first is in line {line_of(text, '- a1 INV')}", "17 SecondName a1")
 
-    def test_a_fence_that_meets_another_is_shown_with_that_one(self) -> None:
+    def test_a_fence_that_overlaps_another_is_shown_with_that_one(self) -> None:
         others = "- Z ( 0 6000 ) ( 400 8000 ) + TYPE FENCE ;\n- G ( 0 0 ) ( 10000 8000 ) + TYPE GUIDE ;\n"
         text = DEF.read_text().replace("REGIONS 2 ;\n", f"REGIONS 4 ;\n{others}").replace("- B ( 6000 0 )", "- B ( 3900 0 )")
         self.shown(text, "- B (", f"meets fence A of line {line_of(text, '- A (')}", "21 FencesOverlap B")
@@ -233,7 +233,7 @@ class Mistakes(unittest.TestCase):
         for words in lists:
             self.assertEqual(run(words, "open A\nplace A 0 a1 0 0 N\n"), (0, "ok 0 0\nok 1\n", ""))
 
-    def test_a_path_that_begins_with_a_dash_stands_behind_two(self) -> None:
+    def test_a_path_that_begins_with_a_dash_comes_after_two_dashes(self) -> None:
         with tempfile.TemporaryDirectory() as folder:
             (Path(folder) / "-w.def").write_bytes(DEF.read_bytes())
             self.said(["check", "-w.def", W_LEF], 2, USAGE, start=Start(folder=folder))
@@ -244,7 +244,7 @@ class Mistakes(unittest.TestCase):
 class Help(unittest.TestCase):
     """The help of the program, on standard output."""
 
-    def test_what_the_program_can_be_asked(self) -> None:
+    def test_the_usage(self) -> None:
         _, _, said = run(["help"])
         usage = said.removeprefix("lefence: usage\n")
         status, written, said = run(["--help"])
@@ -275,7 +275,7 @@ class Help(unittest.TestCase):
 class Wrapper(unittest.TestCase):
     """./lefence, if it cannot prove and build the program."""
 
-    def test_what_is_lacking_is_told(self) -> None:
+    def test_a_missing_tool_is_reported(self) -> None:
         with tempfile.TemporaryDirectory() as folder:
             top, program = Path(folder), Path(folder, "crates/lefence/out/lefence")
             shutil.copy(TESTS.parent / "lefence", top)
@@ -284,16 +284,16 @@ class Wrapper(unittest.TestCase):
             for tool in ("dirname", "find", "head"):
                 (top / tool).symlink_to(shutil.which(tool) or "")
 
-            def told() -> tuple[int, str]:
+            def first_line() -> tuple[int, str]:
                 done = subprocess.run([top / "lefence"], env={"PATH": folder}, capture_output=True, text=True)
                 return done.returncode, done.stderr.partition("\n")[0]
 
             lacking = "takes rt, which is not on the PATH"
-            self.assertEqual(told(), (70, f"lefence: the program is not built, and to build it {lacking}"))
+            self.assertEqual(first_line(), (70, f"lefence: the program is not built, and to build it {lacking}"))
             program.touch(0o755)
             os.utime(program, (0, 0))
-            newer = f"lefence: the sources are newer than the program, and to build it anew {lacking}"
-            self.assertEqual(told(), (70, f"{newer}; crates/lefence/out/lefence is the program as it was built"))
+            newer = f"lefence: the sources are newer than the program, and to build it again {lacking}"
+            self.assertEqual(first_line(), (70, f"{newer}; crates/lefence/out/lefence is the program as it was built"))
 
 
 class Recipes(unittest.TestCase):

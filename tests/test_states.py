@@ -125,7 +125,7 @@ class States(InFolder):
 class Slots(States):
     """Teams with another number of session slots than 8."""
 
-    def test_a_team_has_as_many_sessions_as_are_asked_for(self) -> None:
+    def test_a_team_has_the_requested_number_of_sessions(self) -> None:
         for most in (8, 1, 9, 64):
             words = ["--sessions", str(most)] if most != 8 else []
             with self.subTest(most):
@@ -137,17 +137,17 @@ class Slots(States):
             with service.client() as client:
                 self.assertEqual(client.ask_all(["open A"] * 10)[7:], ["ok 7 0", "ok 8 0", "no 10 SessionsFull"])
 
-    def test_a_state_is_one_of_so_many_slots(self) -> None:
+    def test_a_state_belongs_to_one_number_of_slots(self) -> None:
         nine = ["--sessions", "9"]
         self.assertEqual(self.save("open A\n" * 9, nine)[0], 0)
         self.assertEqual(self.resume("sync A 8\nopen A\n", nine), (0, "ok 0\nno 10 SessionsFull\n", ""))
-        told = f"lefence: 26 OtherDesign line 3\nlefence: state file {self.state}, line 3: team A 0 0 9 3 0\n"
-        self.assertEqual(self.resume("open A\n"), (1, "", told))
-        self.assertEqual(self.resume("open A\n", ["--sessions", "10"]), (1, "", told))
+        message = f"lefence: 26 OtherDesign line 3\nlefence: state file {self.state}, line 3: team A 0 0 9 3 0\n"
+        self.assertEqual(self.resume("open A\n"), (1, "", message))
+        self.assertEqual(self.resume("open A\n", ["--sessions", "10"]), (1, "", message))
         for verb in ("check", "describe"):
             with self.subTest(verb):
                 looked = [verb, *DESIGN, "--state", str(self.state)]
-                self.assertEqual(run(looked), (1, "", told))
+                self.assertEqual(run(looked), (1, "", message))
                 self.assertEqual(run([*looked, *nine]), run([verb, *DESIGN]))
 
     def test_a_number_that_is_none(self) -> None:
@@ -171,7 +171,7 @@ class Saved(States):
         self.assertEqual(self.save(CHANGED_BY), (0, "ok 0 0\nok 1\nok 2\nok 3\n", ""))
         self.assertEqual(self.state.read_text(), CHANGED)
 
-    def test_a_session_may_be_cut_behind_each_line(self) -> None:
+    def test_a_session_may_be_cut_after_each_line(self) -> None:
         _, whole, _ = run(["replay", *DESIGN], joined(LINES))
         for cut in range(len(LINES) + 1):
             with self.subTest(cut):
@@ -198,15 +198,15 @@ class Saved(States):
         self.assertGreater(len(rows), 50)
         for name, lines in rows:
             replay = ["replay", *self.row_design(lines)]
-            asked = [line.removeprefix("> ") for line in lines if line.startswith("> ")]
+            requests = [line.removeprefix("> ") for line in lines if line.startswith("> ")]
             whole = joined([line for line in lines if not line.startswith(("= ", "> "))][1:])
             # (a session ends at its `bye`, and later lines get no reply)
-            ends = [at for at, line in enumerate(asked) if line.split() == ["bye"]]
-            for cut in range(1, min([len(asked), *ends]), 1 + len(asked) // CUTS):
+            ends = [at for at, line in enumerate(requests) if line.split() == ["bye"]]
+            for cut in range(1, min([len(requests), *ends]), 1 + len(requests) // CUTS):
                 with self.subTest(name, cut=cut):
-                    status, before, said = run([*replay, "--save", str(self.state)], joined(asked[:cut]))
+                    status, before, said = run([*replay, "--save", str(self.state)], joined(requests[:cut]))
                     self.assertEqual((status, said), (0, ""))
-                    status, after, said = run([*replay, "--state", str(self.state)], joined(asked[cut:]))
+                    status, after, said = run([*replay, "--state", str(self.state)], joined(requests[cut:]))
                     self.assertEqual((status, before + after, said), (0, whole, ""))
 
     def test_a_state_is_gone_on_from_and_saved_over_itself(self) -> None:
@@ -316,9 +316,9 @@ class Refused(States):
     def refuse(self, text: str | bytes, fault: str, line: int, shown: str) -> None:
         self.state.write_bytes(text if isinstance(text, bytes) else text.encode())
         save, export = self.folder / "new.state", self.folder / "new.def"
-        told = f"lefence: {fault} line {line}\nlefence: state file {self.state}, line {line}: {shown}\n"
+        message = f"lefence: {fault} line {line}\nlefence: state file {self.state}, line {line}: {shown}\n"
         words = ["--save", str(save), "--export", str(export)]
-        self.assertEqual(self.resume("open A\n", words), (1, "", told))
+        self.assertEqual(self.resume("open A\n", words), (1, "", message))
         self.assertEqual(self.names(), ["w.state"])
 
     def test_a_text_that_ends_early(self) -> None:
@@ -388,14 +388,14 @@ class Refused(States):
         other.write_text(DEF.read_text().replace("- a3 DBL", "- a4 DBL"))
         self.assertEqual(run(["replay", str(other), str(LEF), "--save", str(self.state)]), (0, "", ""))
         line = LOADED.split("\n").index("a3 - -") + 1
-        told = f"lefence: 26 OtherDesign line {line}\nlefence: state file {self.state}, line {line}: a4 - -\n"
-        self.assertEqual(self.resume("open A\n"), (1, "", told))
+        message = f"lefence: 26 OtherDesign line {line}\nlefence: state file {self.state}, line {line}: a4 - -\n"
+        self.assertEqual(self.resume("open A\n"), (1, "", message))
 
     def test_a_file_that_cannot_be_read(self) -> None:
-        told = f"lefence: File\nlefence: state file {self.state} cannot be read: there is no such file\n"
-        self.assertEqual(self.resume("open A\n"), (3, "", told))
+        message = f"lefence: File\nlefence: state file {self.state} cannot be read: there is no such file\n"
+        self.assertEqual(self.resume("open A\n"), (3, "", message))
         bounds = ["--port", str(free_port()), "--connections", "1"]
-        self.assertEqual(run(["serve", *DESIGN, "--state", str(self.state), *bounds]), (3, "", told))
+        self.assertEqual(run(["serve", *DESIGN, "--state", str(self.state), *bounds]), (3, "", message))
 
     def test_the_design_is_refused_before_the_state(self) -> None:
         broken = self.folder / "broken.def"
@@ -444,8 +444,8 @@ class LookedAt(States):
 
     def test_the_violations_are_those_of_the_state(self) -> None:
         self.state.write_text(state_at(CROSSED))
-        met = '{"cell":"a1","other":"a2","rule":8},{"cell":"a2","other":"a1","rule":8}'
-        self.assertEqual(self.look("check"), (4, f'{{"cells":5,"unplaced":0,"violations":[{met}]}}\n', ""))
+        overlaps = '{"cell":"a1","other":"a2","rule":8},{"cell":"a2","other":"a1","rule":8}'
+        self.assertEqual(self.look("check"), (4, f'{{"cells":5,"unplaced":0,"violations":[{overlaps}]}}\n', ""))
 
     def test_working_places_of_a_session(self) -> None:
         self.assertEqual(self.save(CHANGED_BY)[0], 0)
@@ -484,15 +484,15 @@ class LookedAt(States):
         ]
         for old, new, fault, line, shown in cases:
             self.state.write_text(LOADED.replace(old, new))
-            told = f"lefence: {fault} line {line}\nlefence: state file {self.state}, line {line}: {shown}\n"
+            message = f"lefence: {fault} line {line}\nlefence: state file {self.state}, line {line}: {shown}\n"
             for verb in ("check", "describe"):
                 with self.subTest((verb, new)):
-                    self.assertEqual(self.look(verb), (1, "", told))
+                    self.assertEqual(self.look(verb), (1, "", message))
 
     def test_a_file_that_cannot_be_read(self) -> None:
-        told = f"lefence: File\nlefence: state file {self.state} cannot be read: there is no such file\n"
+        message = f"lefence: File\nlefence: state file {self.state} cannot be read: there is no such file\n"
         for verb in ("check", "describe"):
-            self.assertEqual(self.look(verb), (3, "", told))
+            self.assertEqual(self.look(verb), (3, "", message))
 
 
 if __name__ == "__main__":

@@ -22,7 +22,7 @@ import time
 from collections.abc import Iterator
 from pathlib import Path
 
-from lanes import lanes
+from lanes import parallel_checks
 from libraries import below, lines_of
 
 TOP = Path(__file__).resolve().parent.parent
@@ -52,7 +52,7 @@ def lines_of_build(copy: Path, files: Path) -> Iterator[str]:
         build = subprocess.Popen(
             ["rt", "ci"],
             cwd=copy,
-            env={"RT_JOBS": str(lanes()), **os.environ, "TMPDIR": str(files)},
+            env={"RT_JOBS": str(parallel_checks()), **os.environ, "TMPDIR": str(files)},
             stdin=subprocess.DEVNULL,
             stdout=subprocess.PIPE,
             stderr=subprocess.STDOUT,
@@ -73,7 +73,7 @@ def lines_of_build(copy: Path, files: Path) -> Iterator[str]:
 def is_proved(copy: Path, files: Path, crates: list[str]) -> bool:
     """Proves the crates in the copy, and prints what remains as each ends. Returns whether all are proved and the
     program ran."""
-    minutes = {name: float(told) for name, told in ROW.findall((TOP / "docs/GATE.md").read_text(encoding="utf-8"))}
+    minutes = {name: float(number) for name, number in ROW.findall((TOP / "docs/GATE.md").read_text(encoding="utf-8"))}
     left, done, since, status = list(crates), 0.0, time.monotonic(), ""
     for status in lines_of_build(copy, files):
         ended = ENDED.match(status)

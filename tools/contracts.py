@@ -177,8 +177,8 @@ def items_of(crate: str, source: Source) -> list[Item]:
             elif line == "}":
                 owner = ""
             item = ITEM.match(line.removeprefix("    ") if owner else line)
-            home = source.exported.get(owner or item[2]) if item else None
-            if not item or not isinstance(home, Path) or home != path and not owner:
+            origin = source.exported.get(owner or item[2]) if item else None
+            if not item or not isinstance(origin, Path) or origin != path and not owner:
                 continue
             text = function(lines, at) if item[1] == "fn" else type_of(lines, at, item[1])
             text = [line.removeprefix("    ") for line in text] if owner else text

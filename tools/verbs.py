@@ -135,7 +135,7 @@ def front_verbs(request: str, verb_text: str) -> list[str]:
     changes, actions, orders = (comments(text, name) for text, name in ((verb_text, "Change"), (verb_text, "Action"), (request, "TeamCommand")))
     unchanging = looks(LOOKS.read_text(encoding="utf-8"))
     if not unchanging <= actions.keys() - {"Change"}:
-        raise NotThere(f"a look of {LOOKS} is no action that changes nothing")
+        raise NotThere(f"a query of {LOOKS} is no action that changes nothing")
     verbs = [Verb("Open", "open", ""), *verbs_of(verb_text)]
     said = orders | actions | changes
     if left := (said.keys() - {verb.variant for verb in verbs}) - {"Within", "Change"}:
@@ -213,8 +213,8 @@ def lacking() -> list[str]:
     """What the client library lacks: functions of CLIENT that make a verb's line, and classes of REFUSALS with a
     refusal's number."""
     client = CLIENT.read_text(encoding="utf-8")
-    asked = set(re.findall(r'scope\.line\("(\w+)"|f"(\w+) \{name\(team\)\}', client))
-    names = {first or second for first, second in asked}
+    pairs = set(re.findall(r'scope\.line\("(\w+)"|f"(\w+) \{name\(team\)\}', client))
+    names = {first or second for first, second in pairs}
     verb_text = (SOURCES / "verb.rt").read_text(encoding="utf-8")
     wanted = ["open", *(verb.name for verb in verbs_of(verb_text))]
     said = [f"{CLIENT} has no request of {name}" for name in wanted if name not in names]

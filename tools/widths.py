@@ -74,7 +74,7 @@ def long_lines(path: Path) -> Iterator[tuple[int, bool]]:
 
 def programs() -> Iterator[Path]:
     """The Python, Tcl, C and shell files."""
-    yield Path("test")
+    yield from (Path("test"), Path("lefence"))
     for folder in FOLDERS:
         for path in sorted(Path(folder).rglob("*")):
             if path.is_file() and (path.suffix in ENDINGS or not path.suffix and path.read_bytes().startswith(PROGRAM.encode())):

@@ -216,7 +216,7 @@ def kind_of(path: Path) -> str:
 
 def files(top: Path) -> Iterator[tuple[Path, str]]:
     """The files of the repository that are read, each with its kind."""
-    paths = [top / "README.md", top / "test", *sorted((top / "docs").glob("*.md"))]
+    paths = [*(top / name for name in ("README.md", "test", "lefence")), *sorted((top / "docs").glob("*.md"))]
     for folder in FOLDERS:
         paths += sorted((top / folder).rglob("*"))
     for path in paths:
