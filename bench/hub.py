@@ -128,7 +128,9 @@ def measure(folder: Path, program: str, turns: Turns, count: int, words: list[st
 
 
 def generated(*words: str) -> bytes:
-    return subprocess.run([sys.executable, str(TOP / "bench/generate.py"), *words], stdout=subprocess.PIPE, check=True).stdout
+    return subprocess.run(
+        [sys.executable, str(TOP / "bench/generate.py"), *words], stdout=subprocess.PIPE, check=True
+    ).stdout
 
 
 def main(words: list[str]) -> int:

@@ -74,7 +74,10 @@ def ask(send: socket.socket, replies: BinaryIO, line: str) -> None:
 def session(program: str, design: Path, lef: Path, folder: Path, teams: list[str]) -> Figures:
     """The figures of one session."""
     port = free_port()
-    words = [program, "serve", str(design), str(lef), "--port", str(port), "--connections", "1", "--export", str(folder / "new.def")]
+    words = [
+        program, "serve", str(design), str(lef), "--port", str(port), "--connections", "1", "--export",
+        str(folder / "new.def"),
+    ]
     child = subprocess.Popen(words, stdout=subprocess.PIPE)
     assert child.stdout is not None
     if child.stdout.readline() != b"listening\n":

@@ -50,13 +50,18 @@ def cells_of(def_: str) -> Teams:
                 members = [word for word in members if word in cells]
                 first = first or members
                 fences.update(members)
-    return {"f0": {name: cells[name] for name in first}, "-": {name: cell for name, cell in cells.items() if name not in fences}}
+    return {
+        "f0": {name: cells[name] for name in first},
+        "-": {name: cell for name, cell in cells.items() if name not in fences},
+    }
 
 
 def verbs(teams: Teams) -> dict[str, list[str]]:
     """For each verb its commands, in the order in which they are sent."""
     rng = random.Random(3)
-    commands: dict[str, list[str]] = {verb: [] for verb in ("where", "find", "place", "swap", "legalize", "unplace", "undo")}
+    commands: dict[str, list[str]] = {
+        verb: [] for verb in ("where", "find", "place", "swap", "legalize", "unplace", "undo")
+    }
     for team, cells in teams.items():
         names = rng.sample(sorted(cells), min(COMMANDS // 2, len(cells)))
         alike: dict[tuple[str, str], list[str]] = {}
@@ -79,7 +84,9 @@ class Program:
     """The program over a pipe, with a session for each of these teams, which have this padding."""
 
     def __init__(self, lef: str, def_: str, teams: Iterable[str], padding: int) -> None:
-        self.child = subprocess.Popen([LEFENCE, "replay", def_, lef], stdin=subprocess.PIPE, stdout=subprocess.PIPE, bufsize=0)
+        self.child = subprocess.Popen(
+            [LEFENCE, "replay", def_, lef], stdin=subprocess.PIPE, stdout=subprocess.PIPE, bufsize=0
+        )
         assert self.child.stdin and self.child.stdout
         self.requests, self.replies = self.child.stdin, open(self.child.stdout.fileno(), "rb", closefd=False)
         self.ask([f"open {team}\n" for team in teams])
@@ -118,9 +125,17 @@ def best(lists: list[tuple[list[str], float]], lef: str, def_: str, teams: Itera
 
 def settle(lef: str, def_: str, teams: list[str], padding: int) -> None:
     """Moves the cells of all teams to places that are legal for the padding."""
-    lines = [line for team in teams for line in (f"open {team}", f"pad {team} 0 {padding}", f"tidy {team} 0", f"commit {team} 0")]
+    lines: list[str] = []
+    for team in teams:
+        lines += [f"open {team}", f"pad {team} 0 {padding}", f"tidy {team} 0", f"commit {team} 0"]
     settled = def_ + ".settled"
-    subprocess.run([LEFENCE, "replay", def_, lef, "--export", settled], input="\n".join(lines) + "\n", text=True, stdout=subprocess.PIPE, check=True)
+    subprocess.run(
+        [LEFENCE, "replay", def_, lef, "--export", settled],
+        input="\n".join(lines) + "\n",
+        text=True,
+        stdout=subprocess.PIPE,
+        check=True,
+    )
     os.replace(settled, def_)
 
 
@@ -148,7 +163,8 @@ def line_of(lef: str, def_: str, design: tuple[int, int, int], room: int, paddin
         settle(lef, def_, all_teams, room)
     teams = cells_of(def_)
     commands = verbs(teams)
-    single = [best([(lines, 1e6 / len(lines)) for lines in commands.values()], lef, def_, teams, padding) for padding in paddings]
+    timed = [(lines, 1e6 / len(lines)) for lines in commands.values()]
+    single = [best(timed, lef, def_, teams, padding) for padding in paddings]
     if room:
         displace(def_)
     else:
@@ -156,7 +172,8 @@ def line_of(lef: str, def_: str, design: tuple[int, int, int], room: int, paddin
     lists = [([f"{verb} {team} 0\n" for team in all_teams], 1.0) for verb in ("tidy", "commit", "check")]
     whole = [best(lists, lef, def_, all_teams, padding) for padding in paddings]
     return [
-        "".join(f" {t:{w}.1f}" for t, w in zip(times, (7, 7, 7, 7, 8, 7, 7))) + "    " + "".join(f" {t:7.3f}" for t in seconds)
+        "".join(f" {t:{w}.1f}" for t, w in zip(times, (7, 7, 7, 7, 8, 7, 7)))
+        + "    " + "".join(f" {t:7.3f}" for t in seconds)
         for times, seconds in zip(single, whole)
     ]
 
@@ -169,8 +186,8 @@ def main() -> None:
     given = words.parse_args()
     counts = given.counts or [10_000, 100_000, 1_000_000]
     need(LEFENCE)
-    print(f"{'cells':>8} {'fences':>6} {'%':>3} {'where':>7} {'find':>7} {'place':>7} {'swap':>7} {'legalize':>8} {'unplace':>7} {'undo':>7}"
-          f" us {'tidy':>7} {'commit':>7} {'check':>7} s")
+    print(f"{'cells':>8} {'fences':>6} {'%':>3} {'where':>7} {'find':>7} {'place':>7} {'swap':>7} {'legalize':>8}"
+          f" {'unplace':>7} {'undo':>7} us {'tidy':>7} {'commit':>7} {'check':>7} s")
     paddings = [given.padding, 0] if given.room else [given.padding]
     with tempfile.TemporaryDirectory() as folder:
         lef, def_ = os.path.join(folder, "x.lef"), os.path.join(folder, "x.def")

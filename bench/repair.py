@@ -166,7 +166,8 @@ def measure(design: Design, folder: Path, program: str, reference: str | None) -
     for name, words, requests in runs:
         seconds, peak, output = figures_of([*words, "--export", str(out)], requests)
         memory = f"{peak / 1e6:8.1f} MB {peak / size:5.2f} x"
-        print(f"{design.name:>24} {name:>9} | {seconds:8.2f} s {memory} {apart(displacements, design.text, out)}{result(name, output)}", flush=True)
+        moves = apart(displacements, design.text, out)
+        print(f"{design.name:>24} {name:>9} | {seconds:8.2f} s {memory} {moves}{result(name, output)}", flush=True)
 
 
 def main() -> int:
@@ -180,7 +181,8 @@ def main() -> int:
     print(f"{'':>34} | {'time':>10} {'peak':>11} {'by DEF':>7} {'total':>14} {'mean':>8} {'largest':>8}")
     with tempfile.TemporaryDirectory() as name:
         folder = Path(name)
-        for design in given_designs(folder, given.design, given.shift) if given.design else designs(folder, given.counts):
+        shown = given_designs(folder, given.design, given.shift) if given.design else designs(folder, given.counts)
+        for design in shown:
             measure(design, folder, given.program, given.reference)
     return 0
 

@@ -88,7 +88,9 @@ def over_loopback(lef: str, def_: str, lines: Lines) -> list[float]:
     with socket.socket() as free:
         free.bind(("127.0.0.1", 0))
         port = free.getsockname()[1]
-    child = subprocess.Popen([LEFENCE, "serve", def_, lef, "--port", str(port), "--connections", "1"], stdout=subprocess.PIPE)
+    child = subprocess.Popen(
+        [LEFENCE, "serve", def_, lef, "--port", str(port), "--connections", "1"], stdout=subprocess.PIPE
+    )
     assert child.stdout
     if child.stdout.readline() != b"listening\n":
         sys.exit("serve: not listening")
@@ -103,7 +105,8 @@ def main() -> None:
     words = [int(word) for word in sys.argv[1:]]
     cells, count, runs = words + [100_000, 20_000, 5][len(words):]
     need(LEFENCE)
-    print(f"{'over':>9} {'where one':>10} {'where hundred':>14} {'place one':>10} {'place hundred':>14}    commands per second")
+    columns = f"{'over':>9} {'where one':>10} {'where hundred':>14} {'place one':>10} {'place hundred':>14}"
+    print(f"{columns}    commands per second")
     with tempfile.TemporaryDirectory() as folder:
         lef, def_ = (os.path.join(folder, name) for name in ("x.lef", "x.def"))
         write(lef, "lef", 200)

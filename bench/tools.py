@@ -48,7 +48,8 @@ class Design:
     def def_text(self) -> Iterator[str]:
         yield "DESIGN bench ;\nUNITS DISTANCE MICRONS 1000 ;\n"
         for row in range(self.rows):
-            yield f"ROW r{row} core 0 {row * ROW} {'N' if row % 2 == 0 else 'FS'} DO {self.sites} BY 1 STEP {SITE} 0 ;\n"
+            orient = "N" if row % 2 == 0 else "FS"
+            yield f"ROW r{row} core 0 {row * ROW} {orient} DO {self.sites} BY 1 STEP {SITE} 0 ;\n"
         yield f"COMPONENTS {len(self.cells)} ;\n"
         for name, x, y, _, _ in self.cells:
             yield f"- {name} INV + PLACED ( {x} {y} ) {'N' if y // ROW % 2 == 0 else 'FS'} ;\n"
@@ -60,9 +61,11 @@ class Design:
             box, orient = [0, row * ROW, self.sites * SITE, (row + 1) * ROW], "N" if row % 2 == 0 else "FS"
             yield f'{{"box":{box},"kind":"row","name":"r{row}","orient":"{orient}","sites":{self.sites}}}\n'
         for name, x, y, rule, other in self.cells:
-            known = f'"height":{ROW},"kind":"cell","macro":"INV","name":"{name}","orient":"{"N" if y // ROW % 2 == 0 else "FS"}"'
+            orient = "N" if y // ROW % 2 == 0 else "FS"
+            known = f'"height":{ROW},"kind":"cell","macro":"INV","name":"{name}","orient":"{orient}"'
             overlapped = f'"{other}"' if other else "null"
-            yield f'{{"box":[{x},{y},{x + 400},{y + ROW}],{known},"other":{overlapped},"rule":{rule},"team":"-","width":400}}\n'
+            broken = f'"other":{overlapped},"rule":{rule}'
+            yield f'{{"box":[{x},{y},{x + 400},{y + ROW}],{known},{broken},"team":"-","width":400}}\n'
         known = f'"cells":{len(self.cells)},"fences":0,"illegal":{len(self.cells)},"kind":"total","obstacles":0'
         yield f'{{{known},"rows":{self.rows},"soft":0,"unplaced":0}}\n'
 
@@ -96,7 +99,10 @@ def measure(folder: Path, what: str, tool: str, *words: str) -> None:
     if status:
         sys.exit((folder / "output").read_text())
     busy = usage.ru_utime + usage.ru_stime
-    print(f"{what:<35} {time.monotonic() - start:6.1f} s, {busy:6.1f} s busy, {usage.ru_maxrss / 1024:5.0f} MB", flush=True)
+    print(
+        f"{what:<35} {time.monotonic() - start:6.1f} s, {busy:6.1f} s busy, {usage.ru_maxrss / 1024:5.0f} MB",
+        flush=True,
+    )
 
 
 def main() -> None:

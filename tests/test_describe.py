@@ -172,7 +172,9 @@ class Describe(InFolder):
         """The lines for this DEF text, after they were compared with the text and with the report of `check`."""
         words = self.design(text)
         lines = self.described(words, status)
-        without_rules = [{key: value for key, value in line.items() if key not in ("rule", "other")} for line in lines[:-1]]
+        without_rules = [
+            {key: value for key, value in line.items() if key not in ("rule", "other")} for line in lines[:-1]
+        ]
         self.assertEqual(without_rules, reported_of(text, LEF.read_text()))
         checked, report, said = run(["check", *words])
         self.assertEqual((checked, said), (status, ""))

@@ -180,7 +180,9 @@ class NotExported(Exports):
         missing = self.folder / "missing" / "new.def"
         self.refused_early(missing, NO_FOLDER)
         bounds = ["--port", str(free_port()), "--connections", "1"]
-        self.assertEqual(run(["serve", *DESIGN, *bounds, "--export", str(missing)]), (3, "", unwritten(missing, NO_FOLDER)))
+        self.assertEqual(
+            run(["serve", *DESIGN, *bounds, "--export", str(missing)]), (3, "", unwritten(missing, NO_FOLDER))
+        )
         self.assertEqual(self.names(), [])
 
     def test_to_a_folder(self) -> None:

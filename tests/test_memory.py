@@ -142,7 +142,8 @@ def random_design(source: random.Random) -> str:
         [
             "VERSION 5.8 ;\nDESIGN r ;\nUNITS DISTANCE MICRONS 1000 ;",
             *rows,
-            "REGIONS 2 ;\n- A ( 0 0 ) ( 4000 8000 ) + TYPE FENCE ;\n- B ( 6000 0 ) ( 10000 12000 ) + TYPE FENCE ;\nEND REGIONS",
+            "REGIONS 2 ;\n- A ( 0 0 ) ( 4000 8000 ) + TYPE FENCE ;\n- B ( 6000 0 ) ( 10000 12000 ) + TYPE FENCE ;\n"
+            "END REGIONS",
             f"COMPONENTS {len(cells)} ;",
             *(entry(*cell) for cell in cells),
             "END COMPONENTS\nGROUPS 2 ;\n- ga a* + REGION A ;\n- gb b* + REGION B ;\nEND GROUPS\nEND DESIGN\n",

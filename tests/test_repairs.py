@@ -12,8 +12,14 @@ from pathlib import Path
 from program import DEF, LEF, InFolder, Start, preloading, run
 
 # The keys of the line of a team, and of the line of all teams, in order.
-TEAM_KEYS = ["cells", "gaps", "kept", "largest", "least_largest", "left", "mean", "moved", "placed", "pushed", "team", "total", "turned"]
-ALL_KEYS = ["cells", "kept", "largest", "least_largest", "left_cells", "legal", "mean", "moved", "placed", "pushed", "teams", "total", "turned"]
+TEAM_KEYS = [
+    "cells", "gaps", "kept", "largest", "least_largest", "left", "mean", "moved", "placed", "pushed", "team",
+    "total", "turned",
+]
+ALL_KEYS = [
+    "cells", "kept", "largest", "least_largest", "left_cells", "legal", "mean", "moved", "placed", "pushed",
+    "teams", "total", "turned",
+]
 # The cells of team A, with a2 one site right of a1 and overlapping it, and the other cells at legal places.
 PLACED_CELLS = {
     "- a1 INV + SOURCE DIST ;": "- a1 INV + SOURCE DIST + PLACED ( 0 0 ) N ;",
@@ -32,7 +38,10 @@ GAPS = {"w8": (8, 11), "s4": (4, 28), "w5": (5, 12), "s5": (5, 3), "w3": (3, 12)
 
 def of_gaps(site: dict[str, int]) -> tuple[str, str]:
     """The LEF and DEF texts of that row, with its cells at these sites."""
-    macros = "".join(f"MACRO W{it} CLASS CORE ; SIZE {0.2 * it:.1f} BY 2.0 ; SYMMETRY X Y ; SITE core ; END W{it}\n" for it in (3, 4, 5, 8))
+    macros = "".join(
+        f"MACRO W{it} CLASS CORE ; SIZE {0.2 * it:.1f} BY 2.0 ; SYMMETRY X Y ; SITE core ; END W{it}\n"
+        for it in (3, 4, 5, 8)
+    )
     cells = "".join(f"- {name} W{width} + PLACED ( {200 * site[name]} 0 ) N ;\n" for name, (width, _) in GAPS.items())
     lef = f"SITE core CLASS CORE ; SYMMETRY Y ; SIZE 0.2 BY 2.0 ; END core\n{macros}END LIBRARY\n"
     rows = "DESIGN w ;\nUNITS DISTANCE MICRONS 1000 ;\nROW r0 core 0 0 N DO 36 BY 1 STEP 200 0 ;\n"
@@ -44,7 +53,8 @@ def tight(sites: int, a1: int) -> dict[str, str]:
     left = 200 * sites
     return {
         **PLACED_CELLS,
-        "- A ( 0 0 ) ( 4000 4000 ) + TYPE FENCE ;": f"- A ( 0 0 ) ( {left} 2000 ) ( {left} 0 ) ( {left + 600} 4000 ) + TYPE FENCE ;",
+        "- A ( 0 0 ) ( 4000 4000 ) + TYPE FENCE ;":
+            f"- A ( 0 0 ) ( {left} 2000 ) ( {left} 0 ) ( {left + 600} 4000 ) + TYPE FENCE ;",
         "- a1 INV + SOURCE DIST ;": f"- a1 INV + SOURCE DIST + PLACED ( {200 * a1} 0 ) N ;",
         "- a3 DBL + WEIGHT 3 ;": f"- a3 DBL + WEIGHT 3 + PLACED ( {left} 0 ) N ;",
     }
@@ -87,7 +97,8 @@ class Repairs(InFolder):
         slowly = run(words, start=Start(environment=preloading("hasten.c", self.folder)))
         teams = [line.split()[1] for line in self.lines.read_text().splitlines()]
         progress = 'lefence: repairing "{}", team {} of 3: {} commands so far\n'.format
-        begun = progress("A", 1, 0) + progress("B", 2, teams.count("A")) + progress("-", 3, teams.count("A") + teams.count("B"))
+        begun = progress("A", 1, 0) + progress("B", 2, teams.count("A"))
+        begun += progress("-", 3, teams.count("A") + teams.count("B"))
         self.assertEqual(slowly, (0, run(words)[1], begun))
 
     def test_a_cell_that_overlaps_moves(self) -> None:
@@ -96,7 +107,9 @@ class Repairs(InFolder):
         self.assertEqual([line["team"] for line in report[:-1]], ["A", "B", "-"])
         first, last = report[0], report[-1]
         self.assertEqual((first["cells"], first["kept"], first["placed"], first["left"]), (2, 1, 0, []))
-        self.assertEqual((last["cells"], last["kept"], last["teams"], last["left_cells"], last["legal"]), (2, 3, 3, 0, True))
+        self.assertEqual(
+            (last["cells"], last["kept"], last["teams"], last["left_cells"], last["legal"]), (2, 3, 3, 0, True)
+        )
         self.assertEqual(last["total"], first["total"])
 
     def test_cells_without_a_place_get_one(self) -> None:
@@ -107,7 +120,9 @@ class Repairs(InFolder):
     def test_the_lines_do_the_repair_again(self) -> None:
         self.assertEqual(self.repair(PLACED_CELLS, "--export", str(self.new), "--lines", str(self.lines))[0], 0)
         again = self.folder / "again.def"
-        status, replies, said = run(["replay", str(self.text), str(LEF), "--export", str(again)], self.lines.read_text())
+        status, replies, said = run(
+            ["replay", str(self.text), str(LEF), "--export", str(again)], self.lines.read_text()
+        )
         self.assertEqual((status, said), (0, ""))
         self.assertTrue(all(reply.split()[0] == "ok" for reply in replies.splitlines()), replies)
         self.assertEqual(again.read_text(), self.new.read_text())
@@ -134,7 +149,9 @@ class Repairs(InFolder):
                 with self.subTest(clause + more):
                     done, report = self.repair(changes, "--export", str(self.new), *more.split())
                     self.assertEqual((done, self.check(self.new)), (status, status))
-                    self.assertEqual((report[0]["left"], report[0]["pushed"], report[-1]["pushed"]), (left, pushed, pushed))
+                    self.assertEqual(
+                        (report[0]["left"], report[0]["pushed"], report[-1]["pushed"]), (left, pushed, pushed)
+                    )
                     self.assertEqual(report[0]["gaps"], [200] if left else [])
 
     def test_a_legal_cell_stays_where_that_helps_nobody(self) -> None:
@@ -206,13 +223,18 @@ class Repairs(InFolder):
         for text, displacements in ((changes, [400, 2000, 500, 2000]), ({**changes, **soft}, [400, 2400, 500, 2400])):
             with self.subTest(displacements):
                 status, report = self.repair(text)
-                self.assertEqual((status, [line["least_largest"] for line in report], [line["largest"] for line in report]), (0, displacements, displacements))
+                self.assertEqual(
+                    (status, [line["least_largest"] for line in report], [line["largest"] for line in report]),
+                    (0, displacements, displacements),
+                )
 
     def test_the_least_largest_displacement_ignores_other_cells(self) -> None:
         # a1 and a2 are on one place, where either may be alone. b1 has no place, and is not counted.
         changes = {**PLACED_CELLS, "- a2 INV + UNPLACED ;": "- a2 INV + PLACED ( 0 0 ) N ;", "- b1 INV ;": "- b1 INV ;"}
         status, report = self.repair(changes)
-        self.assertEqual((status, [line["least_largest"] for line in report], report[0]["largest"]), (0, [0, 0, 0, 0], 400))
+        self.assertEqual(
+            (status, [line["least_largest"] for line in report], report[0]["largest"]), (0, [0, 0, 0, 0], 400)
+        )
 
     def test_a_legal_design_stays(self) -> None:
         legal = {**PLACED_CELLS, "- a2 INV + UNPLACED ;": "- a2 INV + PLACED ( 400 0 ) N ;"}

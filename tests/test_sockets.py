@@ -34,7 +34,9 @@ def listened_on(port: int) -> list[str]:
             if int(number, 16) == port and words[3] == "0A":
                 octets = bytes.fromhex(address)
                 is_old = len(octets) == 4
-                found.append(socket.inet_ntoa(octets[::-1] if sys.byteorder == "little" else octets) if is_old else address)
+                found.append(
+                    socket.inet_ntoa(octets[::-1] if sys.byteorder == "little" else octets) if is_old else address
+                )
     return found
 
 

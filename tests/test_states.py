@@ -275,7 +275,9 @@ class NotSaved(States):
     def test_the_export_path_is_tried_first(self) -> None:
         export, save = self.folder / "missing" / "new.def", self.folder / "missing" / "w.state"
         ran = run(["replay", *DESIGN, "--save", str(save), "--export", str(export)], "open A\n")
-        self.assertEqual(ran, (3, "", f"lefence: File\nlefence: export file {export} cannot be written: there is no such folder\n"))
+        self.assertEqual(
+            ran, (3, "", f"lefence: File\nlefence: export file {export} cannot be written: there is no such folder\n")
+        )
 
     def test_beyond_a_limit_on_file_size(self) -> None:
         self.state.write_text("older")
@@ -329,7 +331,9 @@ class Refused(States):
                 self.state.write_text(LOADED[:cut])
                 status, written, said = self.resume("open A\n")
                 self.assertEqual((status, written), (1, ""))
-                self.assertTrue(said.startswith(("lefence: 2 UnexpectedEnd line ", "lefence: 25 OtherVersion line 1\n")), said)
+                self.assertTrue(
+                    said.startswith(("lefence: 2 UnexpectedEnd line ", "lefence: 25 OtherVersion line 1\n")), said
+                )
 
     def test_each_kind_of_fault(self) -> None:
         cases = [
@@ -379,7 +383,9 @@ class Refused(States):
                     again.unlink()
                 else:
                     self.assertEqual((status, written), (1, ""))
-                    self.assertRegex(said, r"^lefence: (2 UnexpectedEnd|3 Unexpected|4 BadNumber|2[567] \w+) line \d+\n")
+                    self.assertRegex(
+                        said, r"^lefence: (2 UnexpectedEnd|3 Unexpected|4 BadNumber|2[567] \w+) line \d+\n"
+                    )
                 self.assertEqual(self.names(), ["w.state"])
         self.assertIn(accepted, range(1, 100))
 
@@ -412,7 +418,11 @@ CROSSED = {**PLACES, "a2": (200, 0)}
 
 def state_at(places: dict[str, tuple[int, int]]) -> str:
     """A state with the cells at these working places, and all of them committed elsewhere."""
-    return re.sub("(?m)^([abg][0-9]) - -$", lambda found: f"{found[1]} {places[found[1]][0]},{places[found[1]][1]},N 2000,2000,FS", LOADED)
+    return re.sub(
+        "(?m)^([abg][0-9]) - -$",
+        lambda found: f"{found[1]} {places[found[1]][0]},{places[found[1]][1]},N 2000,2000,FS",
+        LOADED,
+    )
 
 
 def text_at(places: dict[str, tuple[int, int]]) -> str:
@@ -437,8 +447,8 @@ class LookedAt(States):
         status, written, said = self.look("describe")
         self.assertEqual((status, said), (0, ""))
         cell = (
-            '{"box":[400,0,800,2000],"height":2000,"kind":"cell","macro":"INV","name":"a2","orient":"N","other":null,"rule":null,'
-            '"team":"A","width":400}'
+            '{"box":[400,0,800,2000],"height":2000,"kind":"cell","macro":"INV","name":"a2","orient":"N","other":null,'
+            '"rule":null,"team":"A","width":400}'
         )
         self.assertIn(cell, written.split("\n"))
 
@@ -450,7 +460,9 @@ class LookedAt(States):
     def test_working_places_of_a_session(self) -> None:
         self.assertEqual(self.save(CHANGED_BY)[0], 0)
         self.assertEqual(self.look("check"), (4, '{"cells":5,"unplaced":4,"violations":[]}\n', ""))
-        self.assertIn('{"box":[6200,0,6600,2000],"height":2000,"kind":"cell","macro":"INV","name":"b1"', self.look("describe")[1])
+        self.assertIn(
+            '{"box":[6200,0,6600,2000],"height":2000,"kind":"cell","macro":"INV","name":"b1"', self.look("describe")[1]
+        )
 
     def test_a_state_is_seen_as_a_text_with_its_places(self) -> None:
         text = self.folder / "placed.def"

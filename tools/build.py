@@ -41,7 +41,9 @@ def lay_out(copy: Path, crates: list[str], listed: dict[str, list[str]]) -> None
     copy.mkdir()
     for crate in crates:
         shutil.copytree(TOP / "crates" / crate, copy / "crates" / crate, ignore=UNREAD)
-    (copy / "crates.txt").write_text("".join(f"{crate}: {' '.join(listed[crate])}\n" for crate in crates), encoding="utf-8")
+    (copy / "crates.txt").write_text(
+        "".join(f"{crate}: {' '.join(listed[crate])}\n" for crate in crates), encoding="utf-8"
+    )
     shutil.copy(TOP / "HANDLES", copy)
 
 
@@ -83,7 +85,9 @@ def is_proved(copy: Path, files: Path, crates: list[str]) -> bool:
             # (in proportion to the time so far, by the table)
             rate = (time.monotonic() - since) / 60 / done if done else 1.0
             some = rate * sum(minutes.get(it, 1.0) for it in left)
-            print(f"lefence: {ended[1]} is proved; {len(left)} crates are left, some {some:.0f} minutes", file=sys.stderr)
+            print(
+                f"lefence: {ended[1]} is proved; {len(left)} crates are left, some {some:.0f} minutes", file=sys.stderr
+            )
     return status == "status 0"
 
 

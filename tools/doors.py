@@ -1,6 +1,6 @@
 #!/usr/bin/env python3
-"""Compares the first lines (`//!`) of each crate's root file, `lib.rt` or `main.rt`, with the sources. They contain, in this
-order:
+"""Compares the first lines (`//!`) of each crate's root file, `lib.rt` or `main.rt`, with the sources. They contain, in
+this order:
 
 - a paragraph of one sentence, and others
 - `Used by ..`, which names the crates whose lines in crates.txt name this one, in the order of crates.txt; without
@@ -104,7 +104,8 @@ def wrong_examples(head: str, is_needed: bool) -> list[str]:
         return ["no block of code follows From `..`:"]
     if is_needed and not found:
         return ["there is no example"]
-    return [f"the example is not in {path}" for path, text in found if not Path(path).exists() or not is_in(text, Path(path))]
+    missing = [path for path, text in found if not Path(path).exists() or not is_in(text, Path(path))]
+    return [f"the example is not in {path}" for path in missing]
 
 
 def wrong(crate: str, listed: dict[str, list[str]]) -> list[str]:

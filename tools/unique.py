@@ -3,8 +3,8 @@
 `src/`, and definitions of `specs/` at the margin of their file. A function and a definition may share a name if the
 contract of one of them names the other. Crates of tests and programs are left out, and private names of `src/`.
 
-usage: tools/unique.py    (from the top) prints each such name with its places, and the count of names; status 1 if there
-                          is one that ALLOWED lacks, or if ALLOWED has a name that only one crate gives
+usage: tools/unique.py    (from the top) prints each such name with its places, and the count of names; status 1 if
+                          there is one that ALLOWED lacks, or if ALLOWED has a name that only one crate gives
 """
 
 from __future__ import annotations

@@ -34,7 +34,10 @@ ENDINGS = {".py", ".pyi", ".tcl", ".c", ".sh"}
 PROGRAM = "#!"
 # A text within code, where no comment begins.
 TEXT = r'b?"(?:\\.|[^"\\\n])*"|b?\'(?:\\[^\n]|[^\\\'\n])\''
-COMMENT = {".rt": re.compile(TEXT + r"|(?P<comment>//.*)"), ".antt": re.compile(r'"(?:\\.|[^"\\\n])*"|(?P<comment>(?:^|(?<=\s))--.*)')}
+COMMENT = {
+    ".rt": re.compile(TEXT + r"|(?P<comment>//.*)"),
+    ".antt": re.compile(r'"(?:\\.|[^"\\\n])*"|(?P<comment>(?:^|(?<=\s))--.*)'),
+}
 CLAUSE = re.compile(r"\s*(?:requires|ensures|invariant|decreases|ghost)\b")
 IMPORT = re.compile(r"\s*(?:pub )?(?:ghost )?(?:use|open import|import) ")
 # The end of a clause: the next line is a body, a function, or not indented more.
@@ -47,7 +50,7 @@ def is_comment(line: str, ending: str) -> bool:
 
 
 def clauses(lines: list[str]) -> Iterator[int]:
-    """The positions of the lines of clauses in a .rt file: those that begin one, and the more indented ones after it."""
+    """The positions of the lines of clauses in a .rt file: those that begin one, and more indented ones after it."""
     margin = -1
     for at, line in enumerate(lines):
         width = len(line) - len(line.lstrip())
@@ -77,7 +80,9 @@ def programs() -> Iterator[Path]:
     yield from (Path("test"), Path("lefence"))
     for folder in FOLDERS:
         for path in sorted(Path(folder).rglob("*")):
-            if path.is_file() and (path.suffix in ENDINGS or not path.suffix and path.read_bytes().startswith(PROGRAM.encode())):
+            if path.is_file() and (
+                path.suffix in ENDINGS or not path.suffix and path.read_bytes().startswith(PROGRAM.encode())
+            ):
                 yield path
 
 
@@ -113,9 +118,13 @@ def main(words: list[str]) -> int:
     for crate in sorted({*LONG, *others}):
         allowed, lines = LONG.get(crate, 0), others.get(crate, [])
         if len(lines) > allowed:
-            found += [*lines, f"{crate}: {len(lines)} longer lines of clauses and definitions, and only {allowed} allowed"]
+            found += [
+                *lines, f"{crate}: {len(lines)} longer lines of clauses and definitions, and only {allowed} allowed"
+            ]
         elif len(lines) < allowed:
-            found.append(f"{crate}: {len(lines)} longer lines of clauses and definitions, so LONG must say this, not {allowed}")
+            found.append(
+                f"{crate}: {len(lines)} longer lines of clauses and definitions, so LONG must say this, not {allowed}"
+            )
     print("\n".join([*found, f"{sum(map(len, others.values()))} longer lines allowed, {len(found) or 'no'} findings"]))
     return 1 if found else 0
 
