@@ -1,5 +1,5 @@
-/* Preloaded into the program: makes time pass faster. A socket's write time-out is a sixtieth of the requested one, so that a minute
-   becomes a second. Each time the clock is read, it is three seconds later than the time before. */
+/* Preloaded into the program: makes time pass faster. A socket's write time-out is a sixtieth of the requested one: a
+   minute becomes a second. Each time the clock is read, it is three seconds later than the time before. */
 #define _GNU_SOURCE
 #include <dlfcn.h>
 #include <sys/socket.h>
@@ -24,5 +24,7 @@ int setsockopt(int file, int level, int name, const void *value, socklen_t size)
         sooner.tv_usec = parts % 1000000;
         value = &sooner;
     }
-    return ((int (*)(int, int, int, const void *, socklen_t))dlsym(RTLD_NEXT, "setsockopt"))(file, level, name, value, size);
+    int (*set)(int, int, int, const void *, socklen_t) = (int (*)(int, int, int, const void *, socklen_t))dlsym(
+        RTLD_NEXT, "setsockopt");
+    return set(file, level, name, value, size);
 }

@@ -1,7 +1,8 @@
 /* Preloaded into the program: refuses allocations by their number.
  *
- * The file named by REFUSE_CONTROL has four numbers: the count of allocations requested since a test set it to 0, the first
- * and the last number to refuse (0: refuse nothing), and the count of those refused. A test writes it between two commands. */
+ * The file named by REFUSE_CONTROL has four numbers: the count of allocations requested since a test set it to 0, the
+ * first and the last number to refuse (0: refuse nothing), and the count of those refused. A test writes it between two
+ * commands. */
 #define _GNU_SOURCE
 #include <dlfcn.h>
 #include <fcntl.h>

@@ -25,15 +25,15 @@ from libraries import lines_of
 
 HEAD = """# Contracts
 
-What each crate promises. A function is shown with its conditions (`requires`), which the caller must show, and a law with
-its theorem. Comments state what a function ensures: *if and only if* holds both ways unless an allocation fails. A call
-may fail because an allocation fails if its error has `AllocError` or out of memory among its cases. The comment states
-what is then unchanged, if a clause does. Every function is proved safe (no index out of range, no sum that wraps, no lossy
-cast) and proved to return.
+What each crate promises. A function is printed with its conditions (`requires`), which the caller must show, and a law
+with its theorem. Comments state what a function ensures: *if and only if* holds both ways unless an allocation fails. A
+call may fail because an allocation fails if its error has `AllocError` or out of memory among its cases. The comment
+states what is then unchanged, if a clause does. Every function is proved safe (no index out of range, no sum that
+wraps, no lossy cast) and proved to return.
 
-A *model* is what contracts see of a value in place of its fields. What a type *keeps*, here or by a `ghost` field, is true
-of each of its values, so no caller has to show it. A *law* is a public function with an empty body whose contract is a
-theorem.
+A *model* is what contracts see of a value in place of its fields. What a type *keeps*, here or by a `ghost` field, is
+true of each of its values, so no caller has to show it. A *law* is a public function with an empty body whose contract
+is a theorem.
 """
 PAGE = Path("docs/ARCHITECTURE.md")
 TABLE = ["| crate | what it is for |", "|---|---|"]

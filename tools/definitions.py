@@ -19,9 +19,10 @@ from typing import NamedTuple
 HEAD = """# Definitions
 
 Each definition that contracts cite, with its meaning, file by file. The title line of a file names the section of the
-LEF/DEF 5.8 Language Reference that it follows, if there is one. A name with a capital is a fact, one without is a value.
-Definitions without a line of their own are cases of the one above or below them. The definitions that clauses of public
-functions and types reach come first in each crate. Those that only private clauses use come next, under 'inside'.
+LEF/DEF 5.8 Language Reference that it follows, if there is one. A name with a capital is a fact, one without is a
+value. Definitions without a line of their own are cases of the one above or below them. The definitions that clauses of
+public functions and types reach come first in each crate. Those that only private clauses use come next, under
+'inside'.
 """
 # The first line of a declaration with a keyword, and of any declaration: `abbrev pub NAME : ..`, or `NAME : ..` alone.
 START = re.compile(r"(?:(?:abbrev|unfoldable|pub|record|data|ruleset|infix[lr]? +\d+) +)+(?!mod )([^\s:({]+)")

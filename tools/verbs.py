@@ -132,7 +132,8 @@ def looks(text: str) -> set[str]:
 
 def front_verbs(request: str, verb_text: str) -> list[str]:
     """The lines of the verbs in the front's table."""
-    changes, actions, orders = (comments(text, name) for text, name in ((verb_text, "Change"), (verb_text, "Action"), (request, "TeamCommand")))
+    enums = ((verb_text, "Change"), (verb_text, "Action"), (request, "TeamCommand"))
+    changes, actions, orders = (comments(text, name) for text, name in enums)
     unchanging = looks(LOOKS.read_text(encoding="utf-8"))
     if not unchanging <= actions.keys() - {"Change"}:
         raise NotThere(f"a query of {LOOKS} is no action that changes nothing")
@@ -169,7 +170,8 @@ def listed(words: list[str]) -> str:
 def refusals() -> dict[int, str]:
     """The refusals of the program by their numbers, which begin at 1 and have no gap."""
     variants = list(comments((SOURCES / "reply.rt").read_text(encoding="utf-8"), "Refusal"))
-    found = {int(number): name for number, name in NUMBERED.findall((SOURCES / "reply_words.rt").read_text(encoding="utf-8"))}
+    words = (SOURCES / "reply_words.rt").read_text(encoding="utf-8")
+    found = {int(number): name for number, name in NUMBERED.findall(words)}
     if [found[number] for number in sorted(found)] != variants or sorted(found) != list(range(1, len(found) + 1)):
         raise NotThere("the refusals of reply.rt are not those that reply_words.rt numbers")
     return dict(sorted(found.items()))
@@ -190,10 +192,12 @@ def front_tables() -> list[str]:
     orients = re.findall(r'Orient::\w+ => b"(\w+)"', ORIENTS.read_text(encoding="utf-8"))
     if len(orients) != 8:
         raise NotThere(f"not eight orientations in {ORIENTS}")
-    lines = [*HEADING.split("\n"), "VERBS: tuple[tuple[str, tuple[str, ...], tuple[str, ...], bool, bool, str], ...] = ("]
+    lines = [*HEADING.split("\n")]
+    lines += ["VERBS: tuple[tuple[str, tuple[str, ...], tuple[str, ...], bool, bool, str], ...] = ("]
     lines += [*front_verbs(request, verb_text), ")", ""]
     for what, name, table in (("refusals", "REFUSALS", refusals()), ("rules of a place", "RULES", rules())):
-        lines += [f"# The names of the {what} by their number.", f"{name} = {{", *(f"    {number}: {quoted(it)}," for number, it in table.items()), "}", ""]
+        entries = (f"    {number}: {quoted(it)}," for number, it in table.items())
+        lines += [f"# The names of the {what} by their number.", f"{name} = {{", *entries, "}", ""]
     return [*lines, f"ORIENTS = {listed(orients)}", ""]
 
 
@@ -221,14 +225,17 @@ def lacking() -> list[str]:
     kinds = [node for node in ast.parse(REFUSALS.read_text(encoding="utf-8")).body if isinstance(node, ast.ClassDef)]
     classes = [(kind.name, number) for kind in kinds for number in numbers_of(kind)]
     numbers = [number for _, number in classes]
-    said += [f"{REFUSALS} has two classes of number {number}" for number in dict.fromkeys(numbers) if numbers.count(number) > 1]
-    return said + [f"{REFUSALS} has no class {name} of number {number}" for number, name in refusals().items() if (name, number) not in classes]
+    twice = [number for number in dict.fromkeys(numbers) if numbers.count(number) > 1]
+    missing = [(number, name) for number, name in refusals().items() if (name, number) not in classes]
+    said += [f"{REFUSALS} has two classes of number {number}" for number in twice]
+    return said + [f"{REFUSALS} has no class {name} of number {number}" for number, name in missing]
 
 
 def numbers_of(kind: ast.ClassDef) -> list[object]:
     """The values that the class assigns to `number`."""
-    assigned = (node for node in kind.body if isinstance(node, ast.Assign) and isinstance(node.value, ast.Constant))
-    return [node.value.value for node in assigned if isinstance(node.value, ast.Constant) and ast.unparse(node.targets[0]) == "number"]
+    assigned = (node for node in kind.body if isinstance(node, ast.Assign))
+    values = (node.value for node in assigned if ast.unparse(node.targets[0]) == "number")
+    return [value.value for value in values if isinstance(value, ast.Constant)]
 
 
 def differing(had: list[str], made: list[str], path: Path, what: str) -> bool:
@@ -261,8 +268,10 @@ def main(words: list[str]) -> int:
         TCL.write_text("\n".join(tcl), encoding="utf-8")
     else:
         differs = [differing(page[start:stop], made, PAGE, "the table of commands differs")]
-        for path, lines, what in ((TABLES, tables, "the front's tables differ"), (TCL, tcl, "the table of Tcl differs")):
-            differs.append(differing(path.read_text(encoding="utf-8").split("\n") if path.exists() else [], lines, path, what))
+        generated = ((TABLES, tables, "the front's tables differ"), (TCL, tcl, "the table of Tcl differs"))
+        for path, lines, what in generated:
+            had = path.read_text(encoding="utf-8").split("\n") if path.exists() else []
+            differs.append(differing(had, lines, path, what))
         if any(differs):
             return 1
     print("\n".join(lacks) or f"{len(made) - len(HEAD)} commands agree")

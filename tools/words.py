@@ -69,10 +69,14 @@ WORDS = {
     "in vain": Word("in vain", "without success"),
     "at last": Word("at last|at first(?! sight)", "finally, initially, then, first", TEXTS),
     "want of": Word("want of \\w+|for want of", "out of memory, an allocation failed; lack of"),
-    "passed over": Word("(?:passed|passing) over|pass(?:es)? over(?! (?:an?|all|the) (?:teams?|cells?|rows?|lists?|texts?))", "skip"),
+    "passed over": Word(
+        "(?:passed|passing) over|pass(?:es)? over(?! (?:an?|all|the) (?:teams?|cells?|rows?|lists?|texts?))", "skip"
+    ),
     "so many": Word("so many(?! \\w+ that)|so far a|so long a", "the count, a name for the number"),
     "that many": Word("that many", "the count, a name for the number"),
-    "where there is": Word("where there (?:is|are) (?:one|none|no|any|some|an?)|where (?:it|that|this) is(?: one)?", "if, when", TEXTS),
+    "where there is": Word(
+        "where there (?:is|are) (?:one|none|no|any|some|an?)|where (?:it|that|this) is(?: one)?", "if, when", TEXTS
+    ),
     "of which": Word("of which", "a second sentence, whose", TEXTS),
     "behind": Word("behind", "after, next, below"),
     "beside": Word("beside", "next to, with, in addition to", TEXTS),
@@ -107,7 +111,7 @@ ALLOWED = (
     Exempt("stand", (NAME, PROSE, MESSAGE), "[Ss]tand", "*", "rule 3 of legality, as the specification names it"),
     Exempt("stand", (NAME,), "stand_in", "front/tests/*", "a test double"),
     Exempt("tell", (NAME,), "tell", "*.py", "the method of Python's file objects"),
-    Exempt("homes", (NAME,), "home", "front/*", "the folder of a user"),
+    Exempt("homes", (NAME,), "home", "front/*", "the folder of a user, as Python names it"),
     Exempt("marked", (PROSE,), "*", "crates/lf_occupancy/*", "a strip has a mark for a cell that is marked in it"),
 )
 # What is still to be renamed, in names and texts of code. A line goes as soon as nothing needs it.
@@ -117,7 +121,7 @@ LATER = (
     Exempt("told", (NAME,), "Telling", "crates/*", "files of proofs"),
     Exempt("told", (NAME,), "untold", "crates/*", "proofs, clauses and tests about what is not reported"),
     Exempt("judged", (NAME,), "Judging", "crates/*", "files of proofs"),
-    Exempt("passed over", (NAME,), "pass*_over*", "crates/*", "definitions, clauses and tests about skipped statements"),
+    Exempt("passed over", (NAME,), "pass*_over*", "crates/*", "definitions and tests about skipped statements"),
     Exempt("so many", (NAME,), "so_many", "crates/lf_occupancy/*", "a proof"),
     Exempt("homes", (NAME,), "at_home", "crates/lf_task_designs/*", "a proof"),
     Exempt("lifted", (NAME,), "lift*", "crates/lf_repair_*", "a proof, and a parameter"),
