@@ -126,6 +126,8 @@ LATER = (
     Exempt("homes", (NAME,), "at_home", "crates/lf_task_designs/*", "a proof"),
     Exempt("lifted", (NAME,), "lift*", "crates/lf_repair_*", "a proof, and a parameter"),
     Exempt("meets", (MESSAGE,), "*", "crates/*", "the message about fences that overlap, which tests quote"),
+    Exempt("meets", (MESSAGE,), "*", "tests/test_messages.py", "the same message"),
+    Exempt("lane", (NAME, PROSE), "lanes", "t*", "tools/lanes.py, which docs/GATE.md names"),
     *(
         Exempt(key, (MESSAGE,), "*", "crates/lefence/src/help.rt", "the texts of --help, which tests quote")
         for key in ("stands", "behind", "so many", "of which", "cells left", "way")
