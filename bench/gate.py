@@ -1,5 +1,5 @@
 #!/usr/bin/env python3
-"""Prints the processor minutes of a command, crate by crate: the table of docs/GATE.md.
+"""Prints the processor minutes of a command, crate by crate: the table of tools/minutes.txt.
 
 usage: bench/gate.py ./test        (from the top; any command that runs rattle will do)
 

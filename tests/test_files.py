@@ -223,7 +223,7 @@ class NotExported(Exports):
                 self.assertEqual(self.names(), ["new.def"])
 
     def test_to_a_device_that_is_full(self) -> None:
-        self.refused("/dev/full", ": there is no room left")
+        self.refused("/dev/full", ": the disk is full")
 
     def test_after_a_fault_of_the_replies(self) -> None:
         self.target.write_text("older")

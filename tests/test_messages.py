@@ -243,7 +243,7 @@ class Mistakes(unittest.TestCase):
         others = "- Z ( 0 6000 ) ( 400 8000 ) + TYPE FENCE ;\n- G ( 0 0 ) ( 10000 8000 ) + TYPE GUIDE ;\n"
         text = DEF.read_text().replace("REGIONS 2 ;\n", f"REGIONS 4 ;\n{others}")
         text = text.replace("- B ( 6000 0 )", "- B ( 3900 0 )")
-        self.shown(text, "- B (", f"meets fence A of line {line_of(text, '- A (')}", "21 FencesOverlap B")
+        self.shown(text, "- B (", f"overlaps fence A of line {line_of(text, '- A (')}", "21 FencesOverlap B")
 
     def test_a_component_of_two_fences_is_shown_with_both(self) -> None:
         text = DEF.read_text().replace("GROUPS 2 ;\n", "GROUPS 4 ;\n- all * ;\n")

@@ -287,7 +287,7 @@ class NotSaved(States):
     def test_where_the_device_is_full_the_text_is_exported(self) -> None:
         export = self.folder / "new.def"
         ran = run(["replay", *DESIGN, "--save", "/dev/full", "--export", str(export)], "open A\n")
-        self.assertEqual(ran, (3, "ok 0 0\n", self.unsaved("/dev/full", ": there is no room left")))
+        self.assertEqual(ran, (3, "ok 0 0\n", self.unsaved("/dev/full", ": the disk is full")))
         self.assertEqual(export.read_bytes(), DEF.read_bytes())
 
     def test_after_a_fault_of_the_lines(self) -> None:

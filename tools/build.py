@@ -30,8 +30,8 @@ PROGRAM = Path("crates/lefence/out/lefence")
 LOG = TOP / "crates/lefence/out/build.log"
 # Folders that are not copied.
 UNREAD = shutil.ignore_patterns("out", "must-fail", "mutants")
-# A crate's row in docs/GATE.md: its name and the processor minutes of its proof.
-ROW = re.compile(r"\b(l(?:f_|efence)\w*) +(\d+\.\d+)\b")
+# A crate's row in tools/minutes.txt: its name and the processor minutes of its proof.
+ROW = re.compile(r"^(l(?:f_|efence)\w*) +(\d+\.\d+)\b", re.MULTILINE)
 # The line of rt at the end of a crate's proof, in this run or an earlier one.
 ENDED = re.compile(r"^rt: ([a-z_]+) (proved$|is kept)")
 
@@ -75,7 +75,8 @@ def lines_of_build(copy: Path, files: Path) -> Iterator[str]:
 def is_proved(copy: Path, files: Path, crates: list[str]) -> bool:
     """Proves the crates in the copy, and prints what remains as each ends. Returns whether all are proved and the
     program ran."""
-    minutes = {name: float(number) for name, number in ROW.findall((TOP / "docs/GATE.md").read_text(encoding="utf-8"))}
+    table = (TOP / "tools/minutes.txt").read_text(encoding="utf-8")
+    minutes = {name: float(number) for name, number in ROW.findall(table)}
     left, done, since, status = list(crates), 0.0, time.monotonic(), ""
     for status in lines_of_build(copy, files):
         ended = ENDED.match(status)

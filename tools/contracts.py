@@ -6,10 +6,10 @@ the declaration, the conditions (`requires`) and the comment. What an item ensur
 usage: tools/contracts.py            (from the top) prints all crates, as Markdown, in the order of crates.txt
        tools/contracts.py NAME..     prints these crates
        tools/contracts.py --check    prints what lacks a comment, names in the example of a crate's first lines that no
-                                     source declares, and where the table of crates in docs/ARCHITECTURE.md differs from
+                                     source declares, and where the list of crates in docs/ARCHITECTURE.md differs from
                                      the first sentences of the crates; finally 'N items of M crates'; status 1 if
                                      anything else is printed
-       tools/contracts.py --write    writes that table
+       tools/contracts.py --write    writes that list
 """
 
 from __future__ import annotations
@@ -36,7 +36,8 @@ true of each of its values, so no caller has to show it. A *law* is a public fun
 is a theorem.
 """
 PAGE = Path("docs/ARCHITECTURE.md")
-TABLE = ["| crate | what it is for |", "|---|---|"]
+# The line in front of the list of crates.
+LIST = ["<!-- crates -->"]
 ITEM = re.compile(r"pub (?:const )?(fn|struct|enum|trait|type|const|static) (\w+)")
 USE = re.compile(r"^pub use ([\w:]+?)(?:::\{([^}]*)\}| as (\w+))?;", re.M)
 CLAUSE = re.compile(r"\s*(requires|ensures)\b")
@@ -48,7 +49,7 @@ ENDS = ("{", "{}")
 CODE = re.compile(r"^```\n(.*?)^```", re.M | re.S)
 QUOTED = re.compile(r'b?"[^"]*"|//.*')
 NAMED = re.compile(r"\b([a-z]\w+)(?=\()|\.([a-z]\w+)\b|\b([A-Z]\w+)")
-STD = {"Some", "None", "Ok", "Err", "Global", "is_none"}
+STD = {"Vec", "Some", "None", "Ok", "Err", "Global", "is_none"}
 DECLARED = re.compile(r"\b(?:fn|struct|enum|trait|type|const) (\w+)|^ *(?:pub(?:\(crate\))? )?(\w+)\s*(?=[:,({])", re.M)
 
 
@@ -230,9 +231,9 @@ def first_sentence(head: list[str]) -> str:
     return re.split(r"\.(?:\s|$)", paragraph)[0]
 
 
-def table(crates: list[str]) -> list[str]:
-    """The lines of the table of crates."""
-    return [*TABLE, *(f"| `{crate}` | {first_sentence(source_of(crate).head)} |" for crate in crates)]
+def listed(crates: list[str]) -> list[str]:
+    """The lines of the list of crates, sorted by name."""
+    return [*LIST, *(f"- `{crate}`: {first_sentence(source_of(crate).head)}" for crate in sorted(crates))]
 
 
 def lacking(crates: list[str]) -> list[str]:
@@ -273,18 +274,18 @@ def methods_without(item: Item) -> list[str]:
 
 
 def compare(crates: list[str], is_written: bool) -> int:
-    """Prints what lacks a comment and where the table differs, or writes the table. Returns the status."""
+    """Prints what lacks a comment and where the list differs, or writes the list. Returns the status."""
     page = PAGE.read_text(encoding="utf-8").split("\n")
-    start = page.index(TABLE[0]) if TABLE[0] in page else len(page)
-    stop = next((at for at in range(start, len(page)) if not page[at].startswith("|")), len(page))
-    made = table(crates)
+    start = page.index(LIST[0]) if LIST[0] in page else len(page)
+    stop = next((at for at in range(start + 1, len(page)) if not page[at].startswith("-")), len(page))
+    made = listed(crates)
     if is_written:
         PAGE.write_text("\n".join([*page[:start], *made, *page[stop:]]), encoding="utf-8")
         return 0
     said = [*lacking(crates), *unknown(crates)]
     if page[start:stop] != made:
         said += difflib.unified_diff(page[start:stop], made, str(PAGE), "the crates' first sentences", n=0, lineterm="")
-        said.append("the table of crates differs: tools/contracts.py --write")
+        said.append("the list of crates differs: tools/contracts.py --write")
     count = sum(len(items_of(crate, source_of(crate))) for crate in crates)
     print("\n".join([*said, f"{count} items of {len(crates)} crates"]))
     return 1 if said else 0

@@ -6,7 +6,7 @@ lf_proto/src/verb.rt. That comment says what the verb does, then its reply and t
 in the order of VERBS. The row of open comes first and the row of bye last; both are made from the comments in
 src/request.rt.
 
-front/lefence/tables.py has the verbs of the same sources. A verb changes the floor if it is no query by `is_query` of
+front/lefence/base/tables.py has the verbs of the same sources. A verb changes the floor if it is no query by `is_query` of
 lf_floor_model, and makes a revision if it is a Change. The table also has the refusals of src/reply.rt, with the
 numbers and names of src/reply_words.rt, the rules of lf_rules, and the orientations. front/tcl/tables.tcl has the verbs
 for Tcl.
@@ -31,10 +31,10 @@ RULES = Path("crates/lf_rules/src/rule.rt")
 ORIENTS = Path("crates/lf_orient/src/lib.rt")
 LOOKS = Path("crates/lf_floor_model/specs/Journals.antt")
 PAGE = Path("docs/PROTOCOL.md")
-TABLES = Path("front/lefence/tables.py")
+TABLES = Path("front/lefence/base/tables.py")
 TCL = Path("front/tcl/tables.tcl")
-CLIENT = Path("front/lefence/verbs.py")
-REFUSALS = Path("front/lefence/refusals.py")
+CLIENT = Path("front/lefence/client/verbs.py")
+REFUSALS = Path("front/lefence/client/refusals.py")
 HEAD = ["| line | reply | what it does | refusals |", "|---|---|---|---|"]
 # A line of an enum that begins a variant, and the last paragraph of a command's comment.
 VARIANT = re.compile(r"    (\w+)\b")
@@ -47,13 +47,15 @@ LOOK = re.compile(r"is_query \(To team \(Within session \(?(\w+)(?: \w+)*\)?\)\)
 NUMBERED = re.compile(r'b"(\d+)"\)?,\s*(?:Word::Text\()?b"(\w+)"')
 HEADING = '''"""The verbs, refusals, rules and orientations of the program.
 
-tools/verbs.py --write makes this file of the program's sources: change those.
+tools/verbs.py --write generates this file from the program's sources: edit those.
 """
 
 from __future__ import annotations
 
-# A verb of a team: its name, its fields behind TEAM (and N), the words of its reply behind `ok`, whether an accepted one changes
-# what later replies are, whether it makes a revision of the team, and what it does.'''
+# A verb of a team: its name, its fields after TEAM (and N), the words of its reply after `ok`, whether an accepted one
+# changes later replies, whether it makes a revision of the team, and what it does.'''
+# The most columns of a line of the front.
+WIDEST = 120
 
 
 class NotThere(Exception):
@@ -141,11 +143,12 @@ def front_verbs(request: str, verb_text: str) -> list[str]:
     said = orders | actions | changes
     if left := (said.keys() - {verb.variant for verb in verbs}) - {"Within", "Change"}:
         raise NotThere(f"VERBS lacks {', '.join(sorted(left))}")
-    return [front_verb(verb, said.get(verb.variant, [""]), verb.variant not in unchanging, verb.variant in changes) for verb in verbs]
+    rows = (front_verb(verb, said.get(verb.variant, [""]), verb.variant not in unchanging, verb.variant in changes) for verb in verbs)
+    return [line for row in rows for line in row]
 
 
-def front_verb(verb: Verb, said: list[str], is_change: bool, makes_revision: bool) -> str:
-    """The line of a verb in the front's table."""
+def front_verb(verb: Verb, said: list[str], is_change: bool, makes_revision: bool) -> list[str]:
+    """The line of a verb in the front's table, or two lines if it is too long."""
     answers = ANSWERS.fullmatch(said[-1])
     reply = WORDS.match(answers[1]) if answers else None
     if len(said) != 2 or not reply:
@@ -153,8 +156,9 @@ def front_verb(verb: Verb, said: list[str], is_change: bool, makes_revision: boo
     if makes_revision and not reply[1].startswith(" REV"):
         raise NotThere(f"the reply of {verb.name} does not begin with its revision")
     what = said[0][0].lower() + said[0][1:].removesuffix(".")
-    told = (quoted(verb.name), listed(verb.fields.split()), listed(reply[1].split()), str(is_change), str(makes_revision), quoted(what))
-    return f"    ({', '.join(told)}),"
+    words = (quoted(verb.name), listed(verb.fields.split()), listed(reply[1].split()), str(is_change), str(makes_revision))
+    line = f"    ({', '.join(words)}, {quoted(what)}),"
+    return [line] if len(line) <= WIDEST else [f"    ({', '.join(words)},", f"     {quoted(what)}),"]
 
 
 def quoted(text: str) -> str:
@@ -203,13 +207,17 @@ def front_tables() -> list[str]:
 
 def tcl_tables(tables: list[str]) -> list[str]:
     """The lines of the Tcl table, made from the front's tables: what a proc needs of each verb."""
-    rows = [ast.literal_eval(line.strip().rstrip(",")) for line in tables if line.startswith('    ("')]
-    lines = ["# The verbs of the program: of each its fields behind TEAM and N, the words of its reply behind ok, and what it does."]
-    lines += ["# tools/verbs.py --write makes this file of the program's sources: change those.", "", "namespace eval lefence {", "    variable VERBS {"]
+    [verbs] = [each.value for each in ast.parse("\n".join(tables)).body if isinstance(each, ast.AnnAssign) and each.value]
+    rows = ast.literal_eval(verbs)
+    lines = ["# The verbs of the program: the fields after TEAM and N, the words of the reply after ok, and what the verb does."]
+    lines += ["# tools/verbs.py --write generates this file from the program's sources: edit those.", ""]
+    lines += ["namespace eval lefence {", "    variable VERBS {"]
     for name, fields, reply, _, _, text in rows:
         if set(text) & set("{}\\"):
             raise NotThere(f"what {name} does is told with braces or backslashes, which the table of Tcl cannot have")
-        lines.append(f"        {name} {{fields {{{' '.join(fields)}}} reply {{{' '.join(reply)}}} does {{{text}}}}}")
+        head = f"        {name} {{fields {{{' '.join(fields)}}} reply {{{' '.join(reply)}}}"
+        line = f"{head} does {{{text}}}}}"
+        lines += [line] if len(line) <= WIDEST else [head, f"            does {{{text}}}}}"]
     return [*lines, "    }", "}", ""]
 
 

@@ -1,18 +1,20 @@
 #!/usr/bin/env bash
-# A day of two teams: from a DEF text of another tool to one that is fully legal. Run it in an empty folder. What a command prints, on
-# both streams, stands below it behind `#> `; front/tests/test_day.py runs the script and compares. Two steps need KLayout
-# (`apt install klayout`).
+# A day of two teams: from a DEF file of another tool to a fully legal one. Run it in an empty folder.
+# The output of a command, on both streams, follows it after `#> `. front/tests/test_day.py runs the script and compares
+# the output.
+# Two steps need KLayout (`apt install klayout`).
 front=$(cd -- "$(dirname -- "$0")/.." && pwd)
 export PATH="$front/bin:$PATH:${front%/*}"
 cp "$front"/tests/data/day* .
 
-# The text has no rows and no fences, but fillers.
+# The design has no rows and no fences, but fillers.
 lefence check day.def day.lef
 #> lefence: 9 NoRows day
 #> lefence: DEF file day.def, line 4: DESIGN day ;
-lefence-prepare day.def day.lef -o in.def --fillers FILL --fence A 0 0 4 8 --group A 'ua/*' --fence B 8 0 12 8 --group B 'ub/*'
+lefence-prepare day.def day.lef -o in.def --fillers FILL \
+    --fence A 0 0 4 8 --group A 'ua/*' --fence B 8 0 12 8 --group B 'ub/*'
 #> lefence-prepare: 4 rows of site core added: 60 sites each, the first at 0 0 is N
-#> lefence-prepare: the rows follow the 11 placed cells: 9 of them fit along x, 11 along y, and 11 face as their row
+#> lefence-prepare: the rows follow the 11 placed cells: 9 fit along x, 11 along y, 11 have their row's orientation
 #> lefence-prepare: 2 fillers removed (FILL)
 #> lefence-prepare: fence A added: 1 rectangle
 #> lefence-prepare: fence B added: 1 rectangle
@@ -20,7 +22,8 @@ lefence-prepare day.def day.lef -o in.def --fillers FILL --fence A 0 0 4 8 --gro
 #> lefence-prepare: team B has 4 cells
 #> lefence-prepare: it loads: 10 cells, 1 unplaced, 5 illegal (2 by rule 2 Row, 1 by rule 6 Fence, 2 by rule 8 Overlap)
 
-# Five cells break a rule: `klayout -nn day.lyt in.def -m day.lyrdb` shows them as markers, and a script what is in them.
+# Five cells break a rule. `klayout -nn day.lyt in.def -m day.lyrdb` shows them as markers; a script prints their
+# contents.
 lefence-markers in.def day.lef --output day.lyrdb --technology day.lyt
 #> lefence-markers: 5 of 10 cells break a rule; 1 without a place have no marker
 klayout -zz -r day_markers.py
@@ -35,7 +38,7 @@ lefence-hub in.def day.lef --sockets s --journal day.journal --export new.def 2>
 while ! grep -qs ready first.log && kill -0 $!; do sleep 0.1; done; cat first.log
 #> lefence-hub: ready: 3 teams, 0 changes restored
 
-# A puts its cells right and commits.
+# A corrects its cells and commits.
 lefence-shell s/A.sock <<'END'
 raw open A
 raw place A 0 ua/u2 200 0 N
@@ -49,7 +52,7 @@ END
 #> ok 2 2200 4000 N
 #> ok 3
 
-# B has put one cell right when the hub is killed; after the next start all that was acknowledged is there.
+# B has corrected one cell when the hub is killed. After the next start, all acknowledged changes are there.
 lefence-shell s/B.sock <<'END'
 raw open B
 raw legalize B 0 ub/u4 7600 2000
@@ -63,7 +66,7 @@ lefence-hub in.def day.lef --sockets s --journal day.journal --export new.def 2>
 while ! grep -qs ready second.log && kill -0 $!; do sleep 0.1; done; cat second.log
 #> lefence-hub: ready: 3 teams, 8 changes restored
 
-# B cannot commit yet, so at the end of the hub A's places alone are exported.
+# B cannot commit yet, so at its end the hub exports only A's places.
 lefence-shell s/B.sock <<'END'
 raw open B
 raw where B 0 ub/u4
@@ -75,13 +78,24 @@ END
 kill $!; wait $!; tail -n 1 second.log
 #> lefence-hub: ended
 
-# A repair does the rest, and KLayout reads the result.
+# A repair does the rest; KLayout reads the result.
 lefence-repair new.def day.lef -o done.def
-#> lefence-repair: team B: 2 moved, 0 turned, 0 newly placed, 2 stay, 0 left; moved by 0.225 microns on average, 0.400 at most, which is 0.400 or more in any repair
-#> lefence-repair: team -: 0 moved, 0 turned, 1 newly placed, 1 stay, 0 left
-#> lefence-repair: team all: 2 moved, 0 turned, 1 newly placed, 7 stay, 0 left; moved by 0.225 microns on average, 0.400 at most, which is 0.400 or more in any repair
+#> lefence-repair: team B: 2 moved, 0 turned, 0 newly placed, 2 unmoved, 0 unrepaired
+#> lefence-repair: team B: displacement in microns: mean 0.225, largest 0.400 (at least 0.400 in any repair)
+#> lefence-repair: team -: 0 moved, 0 turned, 1 newly placed, 1 unmoved, 0 unrepaired
+#> lefence-repair: team all: 2 moved, 0 turned, 1 newly placed, 7 unmoved, 0 unrepaired
+#> lefence-repair: team all: displacement in microns: mean 0.225, largest 0.400 (at least 0.400 in any repair)
 #> lefence-repair: every cell is legal
 lefence check done.def day.lef
 #> {"cells":10,"unplaced":0,"violations":[]}
 klayout -zz -r day_cells.py
-#> ua/u1 0,0; ua/u2 0.4,0; ua/u3 m0 1,4; ua/u4 2.2,4; ub/u1 9,0; ub/u2 9.6,0; ub/u3 m0 10,8; ub/u4 m0 8,4; top 6,0; new 4,0
+#> ua/u1 0,0
+#> ua/u2 0.4,0
+#> ua/u3 m0 1,4
+#> ua/u4 2.2,4
+#> ub/u1 9,0
+#> ub/u2 9.6,0
+#> ub/u3 m0 10,8
+#> ub/u4 m0 8,4
+#> top 6,0
+#> new 4,0

@@ -1,22 +1,25 @@
-"""Clients and tools around the lefence program; docs/FRONT.md of the repository tells what they promise.
+"""Clients and tools for the lefence program. docs/FRONT.md of the repository describes them.
 
-`connect` opens a connection; `lefence.aio.connect` is its like for asyncio. The exceptions are the refusals of
+`connect` opens a connection, `lefence.aio.connect` one for asyncio. The exceptions are the refusals of
 docs/PROTOCOL.md, `ConnectionLost` and `ProtocolError`.
+
+The sub-packages are `client`, the client library; `hub`, the server of many clients; `journal`, its record of changes;
+`tools`, the command-line tools; and `base`, what all of these use.
 """
 
 from __future__ import annotations
 
-# (before what is imported: a tool's `--version` reads it, and so does pyproject.toml)
+# (in front of the imports, which read it; pyproject.toml reads it too)
 __version__ = "0.1.0"
 
 import importlib
 from types import ModuleType
 from typing import TYPE_CHECKING
 
-from .cells import Cell
-from .client import Connection, ConnectionLost, Pending, Pipeline, Session, connect
-from .protocol import ProtocolError
-from .refusals import (
+from .base.protocol import ProtocolError
+from .client.blocking import Connection, ConnectionLost, Pending, Pipeline, Session, connect
+from .client.cells import Cell
+from .client.refusals import (
     BadRequest,
     Illegal,
     NoCell,
@@ -32,7 +35,7 @@ from .refusals import (
     Stale,
     Unplaced,
 )
-from .verbs import Legalized, Place, Report, Tidied, Violation
+from .client.verbs import Legalized, Place, Report, Tidied, Violation
 
 if TYPE_CHECKING:
     from . import aio
@@ -71,7 +74,7 @@ __all__ = [
 
 
 def __getattr__(name: str) -> ModuleType:
-    """`lefence.aio` is imported when it is first named: it brings asyncio, which most tools do without."""
+    """Imports `lefence.aio` when it is first used: it imports asyncio, which most tools do not need."""
     if name == "aio":
         return importlib.import_module(".aio", __name__)
     raise AttributeError(f"module {__name__!r} has no attribute {name!r}")

@@ -9,19 +9,20 @@
 #         puts "$message; rule [lindex [dict get $options -errorcode] 3]"
 #     }
 #
-# A refusal is an error whose code is LEFENCE, its name, its number and what it names. docs/PROTOCOL.md tells of the verbs.
+# A refusal is an error whose code has LEFENCE, its name, its number and its fields. docs/PROTOCOL.md has the verbs.
 
 package require Tcl 8.6-
 package provide lefence 0.1.0
 
 namespace eval lefence {
-    # The command by which a Unix socket is reached, since Tcl has none: it is given the path as its last word.
-    variable client [list [file join [file dirname [file dirname [file normalize [info script]]]] bin lefence-shell] --raw]
-    # The orientations as OpenAccess spells them, and how DEF does; of two spellings of one the first is that of replies.
+    # A command that connects to a Unix socket, which Tcl cannot do. The path is its last word.
+    variable top [file dirname [file dirname [file normalize [info script]]]]
+    variable client [list [file join $top bin lefence-shell] --raw]
+    # The orientations of OpenAccess, each with that of DEF. Replies use the first spelling of each.
     variable ORIENTS {R0 N R90 W R180 S R270 E MY FN MXR90 FW MX FS MYR90 FE MX90 FW MY90 FE}
-    # Of each connection the database units in a micron, 0 where nobody told them. Of each session its connection, its team, its
-    # number, the database units of its lengths (0 where they are such), how often a stale change is sent again, and whether its
-    # orientations are those of OpenAccess.
+    # For each connection: the database units per micron, or 0 if unknown.
+    # For each session: its connection, team and number, the database units per micron (0 if its lengths are database
+    # units), how often a stale change is sent again, and whether its orientations are those of OpenAccess.
     variable connections
     variable sessions
     variable count 0
@@ -30,7 +31,7 @@ namespace eval lefence {
 }
 source [file join [file dirname [info script]] tables.tcl]
 
-# A connection to a Unix socket at a path, or to HOST:PORT.
+# Connects to a Unix socket at a path, or to HOST:PORT.
 proc lefence::connect {where} {
     variable client
     variable connections
@@ -52,8 +53,8 @@ proc lefence::connect {where} {
     return $connection
 }
 
-# A session of a team. -microns 1: its lengths are microns; -openaccess 1: its orientations are R0, MX and so on; -retries N: a
-# change that is refused as stale is sent again behind a sync, so many times.
+# Opens a session of a team. -microns 1: its lengths are microns; -openaccess 1: its orientations are R0, MX and so on;
+# -retries N: a change that is refused as stale is synced and sent again, up to N times.
 proc lefence::open {connection team args} {
     variable connections
     variable sessions
@@ -86,13 +87,13 @@ proc lefence::close {session} {
     return
 }
 
-# Has a hub write the committed places of all teams to a file of its machine; the operator's connection alone.
+# Has a hub write the committed places of all teams to a file of its machine, on the operator's connection.
 proc lefence::export {connection path} {
     Ask $connection "export [Name $path]"
     return
 }
 
-# Ends a connection, after a last reply.
+# Sends bye, waits for its reply and ends the connection.
 proc lefence::bye {connection} {
     Ask $connection bye
     disconnect $connection
@@ -112,10 +113,10 @@ proc lefence::disconnect {connection} {
     return
 }
 
-# Sends a line; the reply as it is, without its line feed, and the text of a `def` behind it.
+# Sends a line; returns the reply without its line feed, followed by the text of a `def`.
 proc lefence::line {connection line} {
     if {[string first \n $line] >= 0} {
-        throw {LEFENCE BadLine} "a line has no line feed in it"
+        throw {LEFENCE BadLine} "a line must not contain a line feed"
     }
     if {[catch {puts $connection $line; gets $connection reply} length] || $length < 0} {
         throw {LEFENCE ConnectionLost} "the connection is lost"
@@ -126,50 +127,51 @@ proc lefence::line {connection line} {
     return $reply
 }
 
-# The words behind ok of the reply to a line; a refusal is an error.
+# Sends a line; returns the words after ok. A refusal is an error.
 proc lefence::Ask {connection line} {
     set reply [line $connection $line]
     if {[regexp {^no (\d+) (\w+) ?(.*)$} $reply - number name rest]} {
         throw [list LEFENCE $name $number {*}[split $rest]] [string range $reply 3 end]
     }
     if {![regexp {^ok( |$)} $reply]} {
-        throw {LEFENCE ProtocolError} "$line was answered $reply"
+        throw {LEFENCE ProtocolError} "unexpected reply $reply to $line"
     }
     return [string range $reply 3 end]
 }
 
-# The word, if it can be a field of a line.
+# Returns the word if it can be a field of a line; else throws an error.
 proc lefence::Name {word} {
     if {![regexp {^[!-~]+$} $word]} {
-        throw {LEFENCE BadName} "$word can be no field of a line: it is empty or has other bytes than 33 to 126"
+        throw {LEFENCE BadName} "$word cannot be a field of a line: it is empty or has other bytes than 33 to 126"
     }
     return $word
 }
 
-# A length of the caller's in whole database units, of which each digit counts.
+# Converts a caller's length into whole database units, exactly.
 proc lefence::Whole {length units} {
-    if {![regexp {^([-+]?)([0-9]*)(?:\.([0-9]*))?(?:[eE]([-+]?[0-9]{1,3}))?$} [string trim $length] - sign whole part power] || "$whole$part" eq ""} {
-        throw {LEFENCE BadLength} "$length is no length"
+    set form {^([-+]?)([0-9]*)(?:\.([0-9]*))?(?:[eE]([-+]?[0-9]{1,3}))?$}
+    if {![regexp $form [string trim $length] - sign whole part power] || "$whole$part" eq ""} {
+        throw {LEFENCE BadLength} "$length is not a length"
     }
     set digits [expr {[Decimal $whole$part] * ($units ? $units : 1)}]
     set shift [expr {[Decimal $power] - [string length $part]}]
     if {$shift >= 0} {
         set digits [expr {$digits * 10 ** $shift}]
     } elseif {$digits % 10 ** -$shift} {
-        throw {LEFENCE BadLength} "$length is no whole number of database units"
+        throw {LEFENCE BadLength} "$length is not a whole number of database units"
     } else {
         set digits [expr {$digits / 10 ** -$shift}]
     }
     return [expr {$sign eq "-" ? -$digits : $digits}]
 }
 
-# The decimal number that digits are, with a sign or none: Tcl takes one that begins with 0 for an octal one.
+# Reads digits with an optional sign as a decimal number: Tcl reads a leading 0 as octal.
 proc lefence::Decimal {digits} {
     regexp {^([-+]?)0*([0-9]*)$} $digits - sign rest
     return [expr {$rest eq "" ? 0 : "$sign$rest"}]
 }
 
-# An orientation of the caller's as DEF spells it.
+# Converts a caller's orientation into DEF's.
 proc lefence::Orient {orient openaccess} {
     variable ORIENTS
     if {![dict exists $ORIENTS $orient]} {
@@ -177,18 +179,18 @@ proc lefence::Orient {orient openaccess} {
     }
     set meant [dict get $ORIENTS $orient]
     if {!$openaccess} {
-        throw {LEFENCE BadOrient} "$orient is no orientation of DEF, which calls it $meant: -openaccess 1 takes it"
+        throw {LEFENCE BadOrient} "$orient is not an orientation of DEF, which calls it $meant: use -openaccess 1"
     }
     return $meant
 }
 
-# Asks for a verb of a session, with its fields; what its reply says: one word, or a list of several, a dict for check, and the
-# text for def.
+# Sends a verb of a session with its fields; returns one word of the reply, or a list of several. For check it returns a
+# dict, for def the text.
 proc lefence::Verb {verb session args} {
     variable VERBS
     variable sessions
     if {![info exists sessions($session)]} {
-        throw {LEFENCE NoSession} "$session is no open session"
+        throw {LEFENCE NoSession} "$session is not an open session"
     }
     dict with sessions($session) {}
     set line "$verb $team $number"
@@ -201,7 +203,7 @@ proc lefence::Verb {verb session args} {
     }
     for {set tries 0} {1} {incr tries} {
         try {
-            set said [Ask $connection $line]
+            set reply [Ask $connection $line]
             break
         } trap {LEFENCE Stale} {message options} {
             if {$tries >= $retries} {
@@ -210,18 +212,18 @@ proc lefence::Verb {verb session args} {
             Ask $connection "sync $team $number"
         }
     }
-    return [Said $said [dict get $VERBS $verb reply] $units $openaccess]
+    return [Result $reply [dict get $VERBS $verb reply] $units $openaccess]
 }
 
-# What the words behind ok say.
-proc lefence::Said {said kinds units openaccess} {
+# Converts the words after ok.
+proc lefence::Result {reply kinds units openaccess} {
     variable ORIENTS
     switch -- $kinds {
-        JSON {return [Report $said]}
-        LENGTH {return [string range $said [string first \n $said]+1 end]}
+        JSON {return [Report $reply]}
+        LENGTH {return [string range $reply [string first \n $reply]+1 end]}
     }
     set result {}
-    foreach kind $kinds word [split $said] {
+    foreach kind $kinds word [split $reply] {
         if {$units && $kind in {X Y}} {
             set word [expr {$word / double($units)}]
         } elseif {$openaccess && $kind eq "O"} {
@@ -235,12 +237,14 @@ proc lefence::Said {said kinds units openaccess} {
     return $result
 }
 
-# A report as a dict: cells, unplaced, and violations, a list of dicts with cell, rule and, for rule 8, other.
+# Converts a report into a dict with cells, unplaced, and violations: a list of dicts with cell, rule and, for rule 8,
+# other.
 proc lefence::Report {json} {
     regexp {"cells":(\d+),"unplaced":(\d+)} $json - cells unplaced
     set violations {}
     set name {"((?:[^"\\]|\\.)*)"}
-    foreach {- cell - other rule} [regexp -all -inline "\\{\"cell\":${name}(,\"other\":${name})?,\"rule\":(\\d+)\\}" $json] {
+    set form "\\{\"cell\":${name}(,\"other\":${name})?,\"rule\":(\\d+)\\}"
+    foreach {- cell - other rule} [regexp -all -inline $form $json] {
         set violation [dict create cell [Plain $cell] rule $rule]
         if {$other ne ""} {
             dict set violation other [Plain $other]
@@ -250,12 +254,12 @@ proc lefence::Report {json} {
     return [dict create cells $cells unplaced $unplaced violations $violations]
 }
 
-# A name without the backslashes of JSON.
+# Removes the backslashes of JSON from a name.
 proc lefence::Plain {name} {
     return [regsub -all {\\(.)} $name {\1}]
 }
 
-# The procs of the other verbs, each with the session and the fields of the protocol.
+# Defines the procs of the other verbs, each with the session and the fields of the protocol.
 proc lefence::Define {verb fields} {
     set names [expr {$fields eq "CELL CELL" ? "cell other" : [string tolower $fields]}]
     set values [join [lmap name $names {set name \$$name}]]

@@ -1,4 +1,4 @@
-"""A real browser that tests drive: Chromium's DevTools protocol over two pipes."""
+"""A real browser for tests: Chromium, driven by its DevTools protocol over two pipes."""
 
 from __future__ import annotations
 
@@ -19,22 +19,23 @@ from support import PATIENCE
 
 CHROMIUM = shutil.which("chromium")
 _FLAGS = (
-    "--headless --no-sandbox --disable-gpu --disable-dev-shm-usage --no-first-run --remote-debugging-pipe --window-size=1400,1000"
+    "--headless --no-sandbox --disable-gpu --disable-dev-shm-usage --no-first-run --remote-debugging-pipe"
+    " --window-size=1400,1000"
 ).split()
 
 
 class Browser:
-    """A tab of Chromium; `events` are what it told beside replies. A block closes it."""
+    """A tab of Chromium; `events` are its messages besides replies. A block closes it."""
 
     def __init__(self, folder: Path) -> None:
         assert CHROMIUM
         self.events: list[dict[str, Any]] = []
         self._numbers = itertools.count(1)
         self._text = b""
-        # The browser reads on descriptor 3 and writes on 4; these are moved out of the way of both.
-        asks, self._asking = os.pipe()
-        self._told, tells = os.pipe()
-        mine = [fcntl.fcntl(end, fcntl.F_DUPFD_CLOEXEC, 10) for end in (asks, tells)]
+        # The browser reads from descriptor 3 and writes to 4; move ours away from both.
+        requests, self._requests = os.pipe()
+        self._replies, replies = os.pipe()
+        mine = [fcntl.fcntl(end, fcntl.F_DUPFD_CLOEXEC, 10) for end in (requests, replies)]
         words = [CHROMIUM, *_FLAGS, f"--user-data-dir={folder}", "about:blank"]
         ends: dict[str, Any] = {name: subprocess.DEVNULL for name in ("stdin", "stdout", "stderr")}
 
@@ -42,12 +43,14 @@ class Browser:
             os.dup2(mine[0], 3)
             os.dup2(mine[1], 4)
 
-        # What the browser leaves behind goes with the folder.
+        # The files of the browser are removed with the folder.
         self._folder = folder
         folder.mkdir(exist_ok=True)
         surroundings = {**os.environ, "TMPDIR": str(folder)}
-        self._process = subprocess.Popen(words, close_fds=False, preexec_fn=place, start_new_session=True, env=surroundings, **ends)
-        for end in (asks, tells, *mine):
+        self._process = subprocess.Popen(
+            words, close_fds=False, preexec_fn=place, start_new_session=True, env=surroundings, **ends
+        )
+        for end in (requests, replies, *mine):
             os.close(end)
         self._session: str | None = None
         target = self.ask("Target.createTarget", url="about:blank")["targetId"]
@@ -62,40 +65,45 @@ class Browser:
         with contextlib.suppress(ProcessLookupError):
             os.killpg(self._process.pid, signal.SIGKILL)
         self._process.wait()
-        os.close(self._asking)
-        os.close(self._told)
-        # Those of its processes that are not waited for may write into the folder for a moment more.
+        os.close(self._requests)
+        os.close(self._replies)
+        # Its other processes may still write into the folder for a moment.
         last = time.monotonic() + PATIENCE
         while self._folder.exists() and time.monotonic() < last:
             shutil.rmtree(self._folder, ignore_errors=True)
             time.sleep(0.05)
 
     def ask(self, method: str, **fields: Any) -> dict[str, Any]:
-        """The result of a command."""
+        """Sends a command; returns its result."""
         number = next(self._numbers)
-        request = {"id": number, "method": method, "params": fields, **({"sessionId": self._session} if self._session else {})}
+        request = {
+            "id": number,
+            "method": method,
+            "params": fields,
+            **({"sessionId": self._session} if self._session else {}),
+        }
         text = json.dumps(request).encode() + b"\0"
         while text:
-            text = text[os.write(self._asking, text) :]
-        while (told := self._next()).get("id") != number:
-            self.events.append(told)
-        if "error" in told:
-            raise AssertionError(f"{method}: {told['error']}")
-        result: dict[str, Any] = told["result"]
+            text = text[os.write(self._requests, text) :]
+        while (message := self._next()).get("id") != number:
+            self.events.append(message)
+        if "error" in message:
+            raise AssertionError(f"{method}: {message['error']}")
+        result: dict[str, Any] = message["result"]
         return result
 
     def _next(self) -> dict[str, Any]:
         last = time.monotonic() + 3 * PATIENCE
         while b"\0" not in self._text:
-            if not select.select([self._told], [], [], max(0, last - time.monotonic()))[0]:
+            if not select.select([self._replies], [], [], max(0, last - time.monotonic()))[0]:
                 raise AssertionError("the browser says nothing")
-            piece = os.read(self._told, 1 << 20)
+            piece = os.read(self._replies, 1 << 20)
             if not piece:
                 raise AssertionError("the browser has ended")
             self._text += piece
         text, self._text = self._text.split(b"\0", 1)
-        told: dict[str, Any] = json.loads(text)
-        return told
+        message: dict[str, Any] = json.loads(text)
+        return message
 
     def open(self, address: str) -> None:
         """Loads a page."""
@@ -106,23 +114,24 @@ class Browser:
         self.drawn()
 
     def value(self, code: str) -> Any:
-        """What JavaScript gives in the page."""
+        """Evaluates JavaScript in the page."""
         result = self.ask("Runtime.evaluate", expression=code, returnByValue=True, awaitPromise=True)
         if "exceptionDetails" in result:
             raise AssertionError(f"{code}: {result['exceptionDetails']}")
         return result["result"].get("value")
 
     def drawn(self) -> None:
-        """Waits until what has changed is on the screen."""
+        """Waits until changes are drawn."""
         self.value("new Promise((done) => requestAnimationFrame(() => requestAnimationFrame(() => done(0))))")
 
     def mouse(self, kind: str, x: float, y: float, **fields: Any) -> None:
         self.ask("Input.dispatchMouseEvent", type=kind, x=x, y=y, **fields)
 
     def click(self, selector: str) -> None:
-        """Presses the mouse in the middle of an element."""
-        code = f"(() => {{ const e = document.querySelector({json.dumps(selector)}); e.scrollIntoView({{block: 'center'}});"
-        x, y = self.value(code + "const b = e.getBoundingClientRect(); return [b.x + b.width / 2, b.y + b.height / 2]; })()")
+        """Clicks into the middle of an element."""
+        code = f"const e = document.querySelector({json.dumps(selector)}); e.scrollIntoView({{block: 'center'}});"
+        code += "const b = e.getBoundingClientRect(); return [b.x + b.width / 2, b.y + b.height / 2];"
+        x, y = self.value(f"(() => {{ {code} }})()")
         for kind in ("mousePressed", "mouseReleased"):
             self.mouse(kind, x, y, button="left", clickCount=1)
         self.drawn()
@@ -133,14 +142,14 @@ class Browser:
         self.drawn()
 
     def screen(self, width: int, dark: bool = False) -> None:
-        """Another width of the screen, and its colours."""
+        """Sets the width of the screen, and its colours."""
         self.ask("Emulation.setDeviceMetricsOverride", width=width, height=1000, deviceScaleFactor=1, mobile=False)
         feature = {"name": "prefers-color-scheme", "value": "dark" if dark else "light"}
         self.ask("Emulation.setEmulatedMedia", features=[feature])
         self.drawn()
 
     def faults(self) -> list[dict[str, Any]]:
-        """What went wrong in the page, and what it asked of a network."""
+        """The errors in the page, and its network requests."""
         found = []
         for event in self.events:
             method, fields = event.get("method"), event.get("params", {})

@@ -1,4 +1,7 @@
-"""A cluster of one machine for tests: Slurm's controller and node and Munge, by Debian's slurm-wlm and munge, as root, without systemd."""
+"""A Slurm cluster of one machine for tests: controller, node and Munge, without systemd.
+
+It needs Debian's slurm-wlm and munge, and root.
+"""
 
 from __future__ import annotations
 
@@ -44,10 +47,12 @@ PartitionName=batch Nodes={host} Default=YES MaxTime=INFINITE State=UP
 
 
 def lacking() -> str:
-    """What a cluster lacks here; nothing where it can be started."""
+    """What is missing for a cluster; empty if it can be started."""
     if os.geteuid():
         return "a root user"
-    return ", ".join(name for name in ("munged", "slurmctld", "slurmd", "sbatch", "sinfo") if shutil.which(name) is None)
+    return ", ".join(
+        name for name in ("munged", "slurmctld", "slurmd", "sbatch", "sinfo") if shutil.which(name) is None
+    )
 
 
 def _free_ports() -> list[int]:
@@ -59,7 +64,7 @@ def _free_ports() -> list[int]:
 
 @contextlib.contextmanager
 def cluster() -> Iterator[dict[str, str]]:
-    """The environment in which commands of Slurm talk to a cluster, whose processes end with the block."""
+    """Runs a cluster; yields the environment for commands of Slurm."""
     with tempfile.TemporaryDirectory(prefix="cluster") as name, contextlib.ExitStack() as started:
         folder = Path(name)
         folder.chmod(0o711)
@@ -68,19 +73,27 @@ def cluster() -> Iterator[dict[str, str]]:
         started.callback(_end, _munge(folder / "munge"))
         host, memory = socket.gethostname(), os.sysconf("SC_PAGE_SIZE") * os.sysconf("SC_PHYS_PAGES") >> 20
         configuration = folder / "slurm.conf"
-        values = {"folder": folder, "host": host, "ports": _free_ports(), "processors": os.cpu_count(), "memory": memory // 2}
+        values = {
+            "folder": folder,
+            "host": host,
+            "ports": _free_ports(),
+            "processors": os.cpu_count(),
+            "memory": memory // 2,
+        }
         configuration.write_text(_CONFIGURATION.format(**values))
         environment = {**os.environ, "SLURM_CONF": str(configuration)}
         for words in (["slurmctld", "-D", "-i"], ["slurmd", "-D", "-N", host]):
             with open(folder / f"{words[0]}.log", "wb") as log:
-                daemon = subprocess.Popen([*words, "-f", configuration], stdin=subprocess.DEVNULL, stdout=log, stderr=log, env=environment)
+                daemon = subprocess.Popen(
+                    [*words, "-f", configuration], stdin=subprocess.DEVNULL, stdout=log, stderr=log, env=environment
+                )
             started.callback(_end, daemon)
         _wait_idle(environment, folder)
         yield environment
 
 
 def _munge(folder: Path) -> subprocess.Popen[bytes]:
-    """Munge with a key of its own, as its own user, once its socket is there."""
+    """Starts Munge with its own key and user, and waits for its socket."""
     user = pwd.getpwnam("munge")
     (folder / "key").write_bytes(os.urandom(128))
     (folder / "key").chmod(0o400)
@@ -90,7 +103,9 @@ def _munge(folder: Path) -> subprocess.Popen[bytes]:
     names = {"key-file": "key", "socket": "socket", "pid-file": "pid", "log-file": "log", "seed-file": "seed"}
     words = ["munged", "--foreground", *(f"--{option}={folder / name}" for option, name in names.items())]
     quiet = subprocess.DEVNULL
-    process = subprocess.Popen(words, user=user.pw_uid, group=user.pw_gid, extra_groups=[], stdin=quiet, stdout=quiet, stderr=quiet)
+    process = subprocess.Popen(
+        words, user=user.pw_uid, group=user.pw_gid, extra_groups=[], stdin=quiet, stdout=quiet, stderr=quiet
+    )
     last = time.monotonic() + PATIENCE
     while not (folder / "socket").exists() and process.poll() is None and time.monotonic() < last:
         time.sleep(0.05)

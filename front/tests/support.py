@@ -1,6 +1,6 @@
-"""What the tests of the front share: a design, random lines of its teams, and hubs that run on the proved program.
+"""Shared parts of the front's tests: a design, random lines of its teams, and hubs on the proved program.
 
-LEFENCE names another program to be tried, SEED another seed, and TURNS how many crashes of each kind there are.
+LEFENCE names another program, SEED another seed, and TURNS the number of crashes of each kind.
 """
 
 from __future__ import annotations
@@ -26,9 +26,9 @@ sys.path.insert(0, str(FRONT))
 PROGRAM = os.environ.get("LEFENCE", str(FRONT.parent / "crates/lefence/out/lefence"))
 SEED = int(os.environ.get("SEED", "1"))
 TURNS = int(os.environ.get("TURNS", "3"))
-# Seconds after which a test gives up waiting.
+# Seconds after which a test gives up.
 PATIENCE = 60
-# Fences, sites of a fence's row, cells of a team.
+# The number of fences, of sites in a fence's row, and of cells in a team.
 TEAMS, SITES, CELLS = 8, 40, 10
 WIDTH = SITES * 200
 
@@ -44,27 +44,36 @@ with_klayout = unittest.skipIf(KLAYOUT is None, "klayout is not here; Debian has
 
 
 def tool_words(name: str) -> list[str]:
-    """The command line that a tool begins with, by the interpreter of the tests."""
+    """The start of a tool's command line, with the interpreter of the tests."""
     return [sys.executable, str(FRONT / "bin" / name)]
 
 
 def design_text(sections: str = "") -> str:
-    """Fences f0.. side by side over four rows, with cells f0c0.. each, and as many outside; more sections before the last line."""
+    """A design with fences f0.. over four rows, with cells f0c0.. in each, and as many cells outside.
+
+    `sections` come before its last line.
+    """
     names = [f"f{team}" for team in range(TEAMS)] + ["g"]
     rows = "".join(
-        f"ROW r{row} core 0 {row * 2000} {('N', 'FS')[row % 2]} DO {SITES * (TEAMS + 1)} BY 1 STEP 200 0 ;\n" for row in range(4)
+        f"ROW r{row} core 0 {row * 2000} {('N', 'FS')[row % 2]} DO {SITES * (TEAMS + 1)} BY 1 STEP 200 0 ;\n"
+        for row in range(4)
     )
-    fences = "".join(f"- f{team} ( {team * WIDTH} 0 ) ( {(team + 1) * WIDTH} 8000 ) + TYPE FENCE ;\n" for team in range(TEAMS))
-    parts = "".join(f"- {name}c{number} {'BUF' if number % 3 == 0 else 'INV'} ;\n" for name in names for number in range(CELLS))
+    fences = "".join(
+        f"- f{team} ( {team * WIDTH} 0 ) ( {(team + 1) * WIDTH} 8000 ) + TYPE FENCE ;\n" for team in range(TEAMS)
+    )
+    parts = "".join(
+        f"- {name}c{number} {'BUF' if number % 3 == 0 else 'INV'} ;\n" for name in names for number in range(CELLS)
+    )
     groups = "".join(f"- g{team} f{team}c* + REGION f{team} ;\n" for team in range(TEAMS))
     return (
         f"VERSION 5.8 ;\nDESIGN t ;\nUNITS DISTANCE MICRONS 1000 ;\n{rows}REGIONS {TEAMS} ;\n{fences}END REGIONS\n"
-        f"COMPONENTS {len(names) * CELLS} ;\n{parts}END COMPONENTS\nGROUPS {TEAMS} ;\n{groups}END GROUPS\n{sections}END DESIGN\n"
+        f"COMPONENTS {len(names) * CELLS} ;\n{parts}END COMPONENTS\n"
+        f"GROUPS {TEAMS} ;\n{groups}END GROUPS\n{sections}END DESIGN\n"
     )
 
 
 class Script:
-    """Random lines of one team: mostly sound ones, of one or two sessions."""
+    """Random lines of one team, mostly valid ones, of one or two sessions."""
 
     def __init__(self, rng: random.Random, team: int, hostile: bool = False) -> None:
         self.rng = rng
@@ -95,19 +104,26 @@ class Script:
             f"def {session}": 0.7,
         }
         text = rng.choices(list(verbs), list(verbs.values()))[0].encode()
-        return self.spoilt(text) if self.hostile and rng.random() < 0.25 else text
+        return self.corrupted(text) if self.hostile and rng.random() < 0.25 else text
 
     def lines(self, count: int) -> bytes:
         return b"".join(self.line() + b"\n" for _ in range(count))
 
-    def spoilt(self, line: bytes) -> bytes:
+    def corrupted(self, line: bytes) -> bytes:
         rng, at = self.rng, self.rng.randrange(len(line))
         odd = bytes([rng.choice([byte for byte in range(256) if byte != 10])])
         return rng.choice(
             [
                 *(b"", b" ", b"\t", b"\r", b"\r\r", b"bye bye", b"bye\x0b", b"bye\r\r", b"\x00bye"),
                 *(b"open", b"open Z", b"export", b"export a b"),
-                *(line + b"\r", line + b"\r\r", line[:at] + b"\r" + line[at:], line.replace(b" ", b"\x0c"), line + b" ;", line[:at]),
+                *(
+                    line + b"\r",
+                    line + b"\r\r",
+                    line[:at] + b"\r" + line[at:],
+                    line.replace(b" ", b"\x0c"),
+                    line + b" ;",
+                    line[:at],
+                ),
                 b" \t" + line.replace(b" ", b"\t  ") + b" ",
                 line.ljust(4096),
                 line.ljust(4097),
@@ -120,13 +136,13 @@ class Script:
 
 
 def spot(team: int, change: int) -> str:
-    """Where that change of a team puts its cell, when all its cells go round in turn."""
+    """The place of the cell in this change of a team, if all its cells move in turn."""
     cell, turn = change % CELLS, change // CELLS
     return f"{team * WIDTH + cell % 4 * 2000 + turn % 3 * 600} {cell // 4 * 2000} {('N', 'FS')[cell // 4 % 2]}"
 
 
 class Talker:
-    """A client of a socket; its replies are read line by line."""
+    """A client of a socket, which reads replies line by line."""
 
     def __init__(self, path: Path) -> None:
         self.socket = socket.socket(socket.AF_UNIX)
@@ -143,7 +159,7 @@ class Talker:
         return [self.replies.readline().decode().rstrip("\n") for _ in lines]
 
     def all_replies(self) -> bytes:
-        """Those that come before the hub ends the connection, or is gone."""
+        """All replies until the hub closes the connection or is gone."""
         found = b""
         with contextlib.suppress(ConnectionResetError):
             while piece := self.socket.recv(1 << 16):
@@ -151,7 +167,7 @@ class Talker:
         return found[: found.rfind(b"\n") + 1]
 
     def converse(self, text: bytes, *sizes: int) -> bytes:
-        """All replies to the text, sent in pieces of these sizes in turn."""
+        """All replies to the text, which is sent in pieces of these sizes."""
 
         def send() -> None:
             at, turns = 0, itertools.cycle(sizes)
@@ -176,7 +192,7 @@ def converse(talker: Talker, text: bytes) -> bytes:
 
 
 class FrontCase(unittest.TestCase):
-    """A folder with a design, and tools that run in it."""
+    """A folder with a design, for tools that run in it."""
 
     def setUp(self) -> None:
         self.rng = random.Random(f"{SEED} {self.id()}")
@@ -192,24 +208,33 @@ class FrontCase(unittest.TestCase):
         return subprocess.run(command, input=text, stdout=subprocess.PIPE, check=True, timeout=PATIENCE).stdout
 
     def describing(self, script: str) -> str:
-        """A program that describes a design as this script does; all else does the proved program."""
+        """A program that runs this script for `describe`, and else the proved program."""
         made = self.folder / "describing"
-        made.write_text(f"#!/bin/sh\nif [ \"$1\" = describe ]; then\n{script}\nelse exec '{PROGRAM}' \"$@\"\nfi\n")
+        made.write_text(f'#!/bin/sh\nif [ "$1" = describe ]; then\n{script}\nelse exec \'{PROGRAM}\' "$@"\nfi\n')
         made.chmod(0o755)
         return str(made)
 
     def tool(self, name: str, *words: str | Path | bytes, lines: bytes = b"") -> subprocess.CompletedProcess[bytes]:
-        """A tool that runs to its end."""
+        """Runs a tool to its end."""
         command = [*tool_words(name), *words]
         return subprocess.run(command, input=lines, capture_output=True, timeout=PATIENCE, cwd=self.folder)
 
     @contextlib.contextmanager
     def service(self, connections: int) -> Iterator[int]:
-        """The port of a `lefence serve` of the design, for so many connections."""
+        """Runs `lefence serve` on the design for this many connections; yields its port."""
         with socket.socket() as free:
             free.bind(("127.0.0.1", 0))
             port = free.getsockname()[1]
-        words = [PROGRAM, "serve", str(self.design), str(self.lef), "--port", str(port), "--connections", str(connections)]
+        words = [
+            PROGRAM,
+            "serve",
+            str(self.design),
+            str(self.lef),
+            "--port",
+            str(port),
+            "--connections",
+            str(connections),
+        ]
         with subprocess.Popen(words, stdout=subprocess.PIPE) as process:
             assert process.stdout
             process.stdout.readline()
@@ -220,23 +245,23 @@ class FrontCase(unittest.TestCase):
 
 
 def klayout(folder: Path, script: str, *words: str | Path) -> list[str]:
-    """What KLayout prints for a script behind these words, in a folder."""
+    """Runs a script in KLayout with these arguments; returns its output."""
     path = folder / "script.py"
     path.write_text(script)
     command = [KLAYOUT or "", *map(str, words), "-r", str(path)]
     environment = {**os.environ, "QT_QPA_PLATFORM": "offscreen"}
-    # KLayout takes seconds to start, and far longer beside proofs.
+    # KLayout takes seconds to start, and far longer while proofs run.
     patience = 10 * PATIENCE
     done = subprocess.run(command, stdout=subprocess.PIPE, cwd=folder, env=environment, timeout=patience, check=True)
     return done.stdout.decode().splitlines()
 
 
 def wait_gone(processes: list[int]) -> None:
-    """Waits until none of these runs."""
+    """Waits until none of these processes runs."""
     last = time.monotonic() + PATIENCE
     for process in processes:
         with contextlib.suppress(FileNotFoundError):
-            # (one that nobody waits for has no words any more)
+            # (a zombie has no command line)
             while Path(f"/proc/{process}/cmdline").read_bytes():
                 if time.monotonic() > last:
                     raise AssertionError(f"process {process} outlives its hub")
@@ -244,40 +269,40 @@ def wait_gone(processes: list[int]) -> None:
 
 
 class Hub:
-    """A running hub, whose standard error goes to a file."""
+    """A running hub; its standard error goes to a file."""
 
     def __init__(self, folder: Path, words: list[str], log: str = "log") -> None:
         self.log = folder / log
-        with open(self.log, "wb") as told:
-            self.process = subprocess.Popen([*tool_words("lefence-hub"), *words], stderr=told)
+        with open(self.log, "wb") as errors:
+            self.process = subprocess.Popen([*tool_words("lefence-hub"), *words], stderr=errors)
 
-    def told(self) -> str:
+    def log_text(self) -> str:
         return self.log.read_text()
 
     def wait_ready(self) -> str:
-        """Its line when it is ready, or all that it said where it ended."""
+        """Its line when it is ready, or all its output if it has ended."""
         last = time.monotonic() + PATIENCE
         while self.process.poll() is None and time.monotonic() < last:
-            for line in self.told().splitlines():
+            for line in self.log_text().splitlines():
                 if ": ready:" in line:
                     return line
             time.sleep(0.01)
-        return self.told()
+        return self.log_text()
 
     def wait_for(self, text: str) -> None:
-        """Waits until the hub has said this."""
+        """Waits until the hub has printed this."""
         last = time.monotonic() + PATIENCE
-        while text not in self.told():
+        while text not in self.log_text():
             if time.monotonic() > last:
-                raise AssertionError(f"not said: {text}; but: {self.told()}")
+                raise AssertionError(f"not printed: {text}; but: {self.log_text()}")
             time.sleep(0.01)
 
     def kill(self) -> None:
-        """Kills it, and waits for its programs, which may write until their end."""
+        """Kills it, and waits for its programs, which may write until they end."""
         wait_gone(self.kill_alone())
 
     def kill_alone(self) -> list[int]:
-        """Kills it; its programs, which come to their end."""
+        """Kills only the hub; returns its programs, which will end by themselves."""
         programs = self.children()
         self.process.kill()
         self.process.wait()
@@ -291,10 +316,12 @@ class Hub:
         """Its programs, in the order of their starts."""
         if self.process.poll() is not None:
             return []
-        return [int(word) for word in Path(f"/proc/{self.process.pid}/task/{self.process.pid}/children").read_text().split()]
+        return [
+            int(word) for word in Path(f"/proc/{self.process.pid}/task/{self.process.pid}/children").read_text().split()
+        ]
 
     def server_pid(self) -> int:
-        """The program behind it."""
+        """The process id of its program."""
         return self.children()[0]
 
 
@@ -308,7 +335,7 @@ class HubCase(FrontCase):
         return [str(design or self.design), str(self.lef), "--program", self.program, *places, *extra]
 
     def start(self, *extra: str) -> str:
-        """The hub's line when it is ready, or all that it said where it ended."""
+        """Starts a hub; returns its line when it is ready, or all its output if it has ended."""
         self.hub = Hub(self.folder, self.words(*extra))
         self.addCleanup(self.hub.kill)
         return self.hub.wait_ready()

@@ -1,4 +1,4 @@
-"""Segments and states of a journal: what was acknowledged is found again after each step, and clients notice nothing."""
+"""Segments and states of a journal: no crash loses acknowledged changes, and clients notice nothing."""
 
 from __future__ import annotations
 
@@ -18,25 +18,28 @@ from unittest import mock
 
 from support import CELLS, FRONT, LEF, PATIENCE, PROGRAM, TEAMS, Hub, HubCase, Script, design_text, spot, wait_gone
 
-from lefence.checkpoints import Checkpoints as Checkpointer, Limits, _synced
-from lefence.faults import Fault
-from lefence.frames import Reader, Record, Text, frame_of, header_of
-from lefence.journal import Journal
-from lefence.protocol import text_length
-from lefence.segments import Past, read_records
-from lefence.status import ask_status
+from lefence.base.faults import Fault
+from lefence.base.protocol import text_length
+from lefence.hub.checkpoints import Checkpoints as Checkpointer, TailLimits, _sync_and_hash
+from lefence.hub.status import read_status
+from lefence.journal.frames import Reader, Record, Text, frame_of, header_of
+from lefence.journal.journal import Journal
+from lefence.journal.segments import Archive, read_records
 
 TEXTS = [Text("0" * 64, Path("/a.def")), Text("f" * 64, Path("/b.lef"))]
 
 
 class Disk:
-    """Ends this process at the step of a number. Then a cut of the power undoes each step that no sync of its file or folder followed."""
+    """Ends this process at a given step.
+
+    A power cut then reverts each step whose file or folder was not synced after it.
+    """
 
     STEPS = ("pwrite", "ftruncate", "replace", "link", "unlink", "mkdir", "fsync", "fdatasync")
 
     def __init__(self, saved: Path, last: int, is_cut: bool) -> None:
         self.saved, self.last, self.is_cut, self.count = saved, last, is_cut, itertools.count()
-        # Of each step that is not on the disk yet, the inode of its file or folder, and what undoes it.
+        # For each step that is not synced: the inode of its file or folder, and how to revert it.
         self.undo: list[tuple[int, Callable[[], object]]] = []
         self.real = {name: getattr(os, name) for name in self.STEPS}
         for name in self.STEPS:
@@ -58,7 +61,9 @@ class Disk:
 
     def pwrite(self, file: int, text: bytes, at: int) -> list[tuple[int, Callable[[], object]]]:
         old, size = os.pread(file, len(text), at), os.fstat(file).st_size
-        return [(os.fstat(file).st_ino, lambda: (self.real["pwrite"](file, old, at), self.real["ftruncate"](file, size)))]
+        return [
+            (os.fstat(file).st_ino, lambda: (self.real["pwrite"](file, old, at), self.real["ftruncate"](file, size)))
+        ]
 
     def ftruncate(self, file: int, size: int) -> list[tuple[int, Callable[[], object]]]:
         old = os.fstat(file).st_size
@@ -88,15 +93,17 @@ class Segments(unittest.TestCase):
     def setUp(self) -> None:
         self.folder = Path(self.enterContext(tempfile.TemporaryDirectory()))
         self.path = self.folder / "journal"
-        self.said: list[str] = []
+        self.messages: list[str] = []
 
     def open(self) -> Journal:
-        return Journal(self.path, TEXTS, self.said.append)
+        return Journal(self.path, TEXTS, self.messages.append)
 
     def lines_of(self, journal: Journal) -> list[bytes]:
-        """What the state and the tail come to."""
-        with journal.tail(journal.place) as tail:
-            return (tail.state.path.read_bytes().splitlines() if tail.state else []) + [record.line for record in tail.records]
+        """The lines of the state and of the tail."""
+        with journal.tail(journal.position) as tail:
+            return (tail.state.path.read_bytes().splitlines() if tail.state else []) + [
+                record.line for record in tail.records
+            ]
 
     def found(self) -> list[bytes]:
         journal = self.open()
@@ -111,22 +118,22 @@ class Segments(unittest.TestCase):
         journal.append([Record(line, b"ok %d\n" % (journal.changes + 1))])
 
     def keep(self, journal: Journal) -> None:
-        """Makes the state of all before the last segment."""
-        path = journal.past.unmade(journal.header.number)
+        """Saves the state at the start of the last segment."""
+        path = journal.archive.temporary_state(journal.header.number)
         lines = self.lines_of(journal)[: journal.header.changes]
         path.write_bytes(b"".join(b"%b\n" % line for line in lines))
-        journal.keep_state(path, *_synced(path))
-        journal.past.prune(2)
+        journal.keep_state(path, *_sync_and_hash(path))
+        journal.archive.prune(2)
 
-    def fill(self, rounds: int, tell: Callable[[], object] = lambda: None) -> None:
-        """A change, a new segment, a change that others make meanwhile, and the state, so many times."""
+    def fill(self, rounds: int, report: Callable[[], object] = lambda: None) -> None:
+        """Appends a change, starts a segment, appends a change meanwhile, and saves the state; `count` times."""
         journal = self.open()
         for _ in range(rounds):
             self.append(journal)
-            tell()
+            report()
             journal.roll([b"team A %d 0 0,2" % journal.changes])
             self.append(journal)
-            tell()
+            report()
             self.keep(journal)
         journal.close()
 
@@ -134,10 +141,10 @@ class Segments(unittest.TestCase):
         return [b"pad A 0 %d" % number for number in range(count)]
 
     def names(self) -> list[str]:
-        return sorted(path.name for path in Past(self.path).folder.iterdir())
+        return sorted(path.name for path in Archive(self.path).folder.iterdir())
 
     def end_at(self, step: int, is_cut: bool) -> int | None:
-        """How many changes were acknowledged by a process that ends at that step; None where it comes to its end."""
+        """The changes acknowledged by a process that ends at this step; None if it ran to its end."""
         saved = self.folder / "saved"
         saved.mkdir()
         reading, writing = os.pipe()
@@ -146,13 +153,13 @@ class Segments(unittest.TestCase):
             self.fill(4, lambda: os.write(writing, b"x"))
             os._exit(0)
         os.close(writing)
-        with open(reading, "rb") as told:
-            count = len(told.read())
+        with open(reading, "rb") as log:
+            count = len(log.read())
         return count if os.waitstatus_to_exitcode(os.waitpid(child, 0)[1]) else None
 
     @mock.patch("os.fsync", mock.Mock())
     @mock.patch("os.fdatasync", mock.Mock())
-    def test_at_each_step_a_kill_and_a_cut_of_the_power_lose_nothing(self) -> None:
+    def test_a_kill_or_a_power_cut_at_any_step_loses_nothing(self) -> None:
         for is_cut in (False, True):
             for step in itertools.count():
                 count = self.end_at(step, is_cut)
@@ -163,44 +170,44 @@ class Segments(unittest.TestCase):
                     lines = self.found()
                     self.assertEqual(lines, self.lines(len(lines)))
                     self.assertIn(len(lines), (count, count + 1))
-                    # And it goes on as any journal.
+                    # Then it continues as any journal.
                     self.fill(1)
                     self.assertEqual(self.found(), self.lines(len(lines) + 2))
                 shutil.rmtree(self.folder / "saved")
                 self.path.unlink(missing_ok=True)
-                shutil.rmtree(Past(self.path).folder, ignore_errors=True)
+                shutil.rmtree(Archive(self.path).folder, ignore_errors=True)
             shutil.rmtree(self.folder / "saved")
             self.path.unlink()
-            shutil.rmtree(Past(self.path).folder)
+            shutil.rmtree(Archive(self.path).folder)
 
-    def test_two_states_are_kept_with_the_journal_from_the_first_on(self) -> None:
+    def test_two_states_are_kept_with_the_journal_from_the_first(self) -> None:
         self.fill(4)
         self.assertEqual(self.names(), ["4.journal", "4.state", "5.state"])
         with self.assertRaises(Fault) as caught:
             list(read_records(self.path))
-        self.assertIn("its first 5 changes are in a state alone", str(caught.exception))
-        self.assertEqual((self.found(), self.said), (self.lines(8), []))
+        self.assertIn("its first 5 changes exist only as a state", str(caught.exception))
+        self.assertEqual((self.found(), self.messages), (self.lines(8), []))
 
-    def test_a_state_that_is_spoilt_is_made_up_for_by_the_one_before(self) -> None:
+    def test_the_state_before_replaces_a_damaged_one(self) -> None:
         self.fill(3)
-        past = Past(self.path)
+        past = Archive(self.path)
         past.state(4).write_bytes(b"pad A 0 7\n" * 5)
         self.assertEqual(self.found(), self.lines(6))
-        self.assertIn("4.state is not the state that the journal names", self.said[0])
+        self.assertIn("4.state is not the state that the journal names", self.messages[0])
         self.assertEqual(self.names(), ["3.journal", "3.state"])
         past.state(3).unlink()
         before = self.path.read_bytes()
         with self.assertRaises(Fault) as caught:
             self.open()
-        self.assertIn("no state is whole with which segment 3 begins, and", str(caught.exception))
+        self.assertIn("segment 3 has no intact state, and", str(caught.exception))
         self.assertEqual((caught.exception.status, self.path.read_bytes(), self.names()), (1, before, ["3.journal"]))
 
-    def test_damage_to_a_segment_counts_where_no_state_behind_it_is_whole(self) -> None:
+    def test_damage_to_a_segment_matters_if_no_later_state_is_intact(self) -> None:
         self.fill(1)
-        past = Past(self.path)
+        past = Archive(self.path)
         whole = past.segment(1).read_bytes()
-        for spoilt in (whole[:-9], whole[:-9] + b"x" + whole[-8:]):
-            past.segment(1).write_bytes(spoilt)
+        for damaged in (whole[:-9], whole[:-9] + b"x" + whole[-8:]):
+            past.segment(1).write_bytes(damaged)
             self.assertEqual(self.found(), self.lines(2))
         past.state(2).rename(past.folder / "away")
         with self.assertRaises(Fault) as caught:
@@ -219,15 +226,15 @@ class Segments(unittest.TestCase):
         self.fill(3)
         self.assertEqual(self.found(), self.lines(10))
 
-    def test_a_past_whose_journal_is_gone_is_not_passed_over(self) -> None:
+    def test_an_archive_without_its_journal_is_refused(self) -> None:
         self.fill(2)
         self.path.unlink()
         with self.assertRaises(Fault) as caught:
             self.open()
-        self.assertIn("who means to begin anew moves that away", str(caught.exception))
+        self.assertIn("move it away to start a new journal", str(caught.exception))
         self.assertEqual((caught.exception.status, self.names()), (1, ["1.journal", "2.journal", "2.state", "3.state"]))
 
-    def test_a_journal_without_segments_is_read_and_gone_on_with(self) -> None:
+    def test_a_journal_without_segments_is_read_and_continued(self) -> None:
         journal = self.open()
         self.append(journal)
         journal.close()
@@ -238,13 +245,15 @@ class Segments(unittest.TestCase):
         for frame in frames:
             whole += frame_of(len(whole), frame.body, frame.time)
         self.path.write_bytes(whole)
-        self.assertEqual((self.found(), [each.line for each in read_records(self.path)]), (self.lines(1), self.lines(1)))
+        self.assertEqual(
+            (self.found(), [each.line for each in read_records(self.path)]), (self.lines(1), self.lines(1))
+        )
         self.fill(1)
         self.assertEqual(self.found(), self.lines(3))
 
 
 class Checkpoints(HubCase):
-    """A hub that makes a state as often as it can."""
+    """A hub that saves a state as often as it can."""
 
     OFTEN = ("--tail-bytes", "1")
 
@@ -252,20 +261,20 @@ class Checkpoints(HubCase):
         return [f"place f0 0 f0c{at % CELLS} {spot(0, at)}" for at in range(begin, begin + count)]
 
     def take_program(self, lines: str) -> None:
-        """Hubs that start from here on take a program that runs these lines of a shell first, and then is the proved one."""
+        """Makes later hubs run these lines of a shell before the proved program."""
         script = self.folder / "taken"
         script.write_text(f"#!/bin/sh\n{lines}\nexec '{PROGRAM}' \"$@\"\n")
         script.chmod(0o755)
         self.program = str(script)
 
     def wait_states(self, count: int) -> None:
-        """Waits until a state is kept with which a segment of that number or a later one begins."""
+        """Waits until the state of this segment or a later one is saved."""
         last = time.monotonic() + PATIENCE
-        while max(Past(self.journal).numbers("state"), default=0) < count:
-            self.assertLess(time.monotonic(), last, self.hub.told())
+        while max(Archive(self.journal).numbers("state"), default=0) < count:
+            self.assertLess(time.monotonic(), last, self.hub.log_text())
             time.sleep(0.01)
 
-    def test_clients_are_told_the_same_over_checkpoints_starts_and_restored_programs(self) -> None:
+    def test_replies_are_the_same_over_checkpoints_starts_and_restored_programs(self) -> None:
         scripts = [Script(self.rng, team) for team in (0, 1, TEAMS)]
         lines = [self.rng.choice(scripts).line() for _ in range(1500)]
         found, talkers = b"", 0
@@ -282,10 +291,18 @@ class Checkpoints(HubCase):
         self.assertEqual(found, self.direct(b"\n".join(lines) + b"\n"))
         self.assertEqual(self.hub.end(), 0)
 
-    def test_sessions_undo_padding_and_what_is_not_committed_are_there_after_a_start(self) -> None:
+    def test_a_start_restores_sessions_undo_padding_and_uncommitted_changes(self) -> None:
         self.start(*self.OFTEN)
         talker = self.talk("f0")
-        talker.ask("open f0", "open f0", "place f0 1 f0c1 0 0 N", "sync f0 0", "pad f0 0 2", "sync f0 1", "place f0 1 f0c2 2000 0 N")
+        talker.ask(
+            "open f0",
+            "open f0",
+            "place f0 1 f0c1 0 0 N",
+            "sync f0 0",
+            "pad f0 0 2",
+            "sync f0 1",
+            "place f0 1 f0c2 2000 0 N",
+        )
         self.wait_states(2)
         self.hub.kill()
         self.assertIn("ready: 9 teams, ", self.start())
@@ -293,12 +310,14 @@ class Checkpoints(HubCase):
         lines = ["open f0", "undo f0 0", "where f0 0 f0c2", "where f0 0 f0c1"]
         self.assertEqual(talker.ask(*lines), ["ok 0 3", "ok 4", "no 6 Unplaced f0c2", "ok 0 0 N"])
         self.assertEqual(talker.ask("place f0 0 f0c4 400 0 N")[0][:12], "no 7 Illegal")
-        status = ask_status(self.folder / "s")
+        status = read_status(self.folder / "s")
         team = next(team for team in status["teams"] if team["team"] == "f0")
         self.assertEqual((team["revision"], team["uncommitted"], len(team["sessions"])), (4, 4, 1))
-        self.assertEqual(status["past_bytes"], sum(path.stat().st_size for path in Path(f"{self.journal}.past").iterdir()))
+        self.assertEqual(
+            status["past_bytes"], sum(path.stat().st_size for path in Path(f"{self.journal}.past").iterdir())
+        )
 
-    def test_an_export_is_that_of_all_changes(self) -> None:
+    def test_an_export_has_all_changes(self) -> None:
         self.start(*self.OFTEN, "--export", str(self.folder / "end.def"))
         talker, operator, lines = self.talk("f0"), self.talk("operator"), ["open f0"]
         for turn in range(5):
@@ -310,30 +329,34 @@ class Checkpoints(HubCase):
         self.assertEqual(self.hub.end(), 0)
         self.assertEqual((self.folder / "end.def").read_bytes(), (self.folder / "want.def").read_bytes())
 
-    def test_an_end_leaves_a_state_where_it_is_worth_it(self) -> None:
-        for words, is_made in ((("--tail-bytes", "100000"), False), (("--tail-bytes", "10000"), True), (("--tail-seconds", "0"), True)):
+    def test_the_last_checkpoint_is_made_if_it_is_worth_its_time(self) -> None:
+        for words, is_made in (
+            (("--tail-bytes", "100000"), False),
+            (("--tail-bytes", "10000"), True),
+            (("--tail-seconds", "0"), True),
+        ):
             self.start(*words)
             self.assertEqual(self.talk("f0").ask("open f0", *self.places(40))[-1][:2], "ok")
             self.assertEqual(self.hub.end(), 0)
-            self.assertEqual(Past(self.journal).numbers("state") != [], is_made)
+            self.assertEqual(Archive(self.journal).numbers("state") != [], is_made)
         self.assertIn("ready", self.start())
         self.assertEqual(self.talk("f0").ask("open f0", "where f0 0 f0c9"), ["ok 0 120", f"ok {spot(0, 39)}"])
 
-    def test_a_state_that_cannot_be_made_is_told_and_nothing_is_lost(self) -> None:
+    def test_a_state_that_cannot_be_made_is_reported_and_nothing_is_lost(self) -> None:
         self.take_program('case "$*" in *--save*) exit 3;; esac')
         self.start(*self.OFTEN)
         talker = self.talk("f0")
         self.assertEqual(talker.ask("open f0", *self.places(50))[-1], "ok 50")
-        self.hub.wait_for("no state is made")
+        self.hub.wait_for("cannot save a state")
         self.assertEqual(talker.ask(*self.places(50, 50))[-1], "ok 100")
-        self.assertEqual((self.hub.end(), Past(self.journal).numbers("state")), (0, []))
-        self.assertFalse(list(Past(self.journal).folder.glob("*.making-*")))
+        self.assertEqual((self.hub.end(), Archive(self.journal).numbers("state")), (0, []))
+        self.assertFalse(list(Archive(self.journal).folder.glob("*.making-*")))
         self.program = PROGRAM
         self.assertIn("ready", self.start(*self.OFTEN))
         self.assertEqual(self.talk("f0").ask("open f0", "where f0 0 f0c9"), ["ok 0 100", f"ok {spot(0, 99)}"])
 
-    def test_a_program_whose_hub_was_killed_spoils_no_state(self) -> None:
-        # It takes the end of its input for the end of the lines, and saves what it has.
+    def test_the_program_of_a_killed_hub_damages_no_state(self) -> None:
+        # It takes the end of its input for the end of the lines, and saves a state.
         self.take_program(f"""case "$*" in *--save*) '{PROGRAM}' "$@"; sleep 1; exit;; esac""")
         for turn in range(3):
             self.start(*self.OFTEN)
@@ -342,7 +365,7 @@ class Checkpoints(HubCase):
         self.assertIn("ready", self.start())
         self.assertEqual(self.talk("f0").ask("open f0", "where f0 0 f0c9"), ["ok 0 150", f"ok {spot(0, 149)}"])
 
-    def test_a_program_whose_hub_was_killed_writes_no_export(self) -> None:
+    def test_the_program_of_a_killed_hub_writes_no_export(self) -> None:
         self.take_program('case "$*" in *--export*) sleep 1;; esac')
         target = self.folder / "new.def"
         target.write_text("older")
@@ -351,13 +374,13 @@ class Checkpoints(HubCase):
         self.talk("operator").socket.sendall(b"export %b\n" % bytes(target))
         last = time.monotonic() + PATIENCE
         while not list(self.folder.glob("new.def.partial*")):
-            self.assertLess(time.monotonic(), last, self.hub.told())
+            self.assertLess(time.monotonic(), last, self.hub.log_text())
             time.sleep(0.01)
-        # Nobody else reads it before its end, nor what the program writes beside it.
+        # Until its end only its owner can read it, and what the program writes next to it.
         self.assertEqual([path.stat().st_mode & 0o777 for path in self.folder.glob("new.def.partial*")], [0o600])
-        # (the program may not be begun yet)
+        # (the program may not run yet)
         while "Umask:\t0077\n" not in Path(f"/proc/{self.hub.children()[-1]}/status").read_text():
-            self.assertLess(time.monotonic(), last, self.hub.told())
+            self.assertLess(time.monotonic(), last, self.hub.log_text())
             time.sleep(0.01)
         time.sleep(0.2)
         wait_gone(self.hub.kill_alone())
@@ -368,9 +391,9 @@ class Limited(unittest.TestCase):
     def test_a_checkpoint_is_due_by_bytes_or_seconds_and_after_a_failure_later(self) -> None:
         journal = mock.Mock(tail_changes=1, tail_bytes=1001)
         journal.roll.side_effect = OSError(28, "x")
-        made = Checkpointer(mock.Mock(), journal, Limits(1000, 10), mock.Mock())
+        made = Checkpointer(mock.Mock(), journal, TailLimits(1000, 10), mock.Mock())
         self.assertTrue(made.is_due())
-        made.begin(mock.Mock(holders={}), mock.Mock(teams={}))
+        made.begin(mock.Mock(owners={}), mock.Mock(teams={}))
         self.assertFalse(made.is_due())
         journal.tail_bytes = 2001
         self.assertTrue(made.is_due())
@@ -378,12 +401,12 @@ class Limited(unittest.TestCase):
         self.assertEqual((made.is_due(), made.is_due(1.1)), (True, False))
         journal.tail_changes = 0
         self.assertFalse(made.is_due())
-        never = Checkpointer(mock.Mock(), mock.Mock(tail_changes=1, tail_bytes=1 << 40), Limits(0), mock.Mock())
+        never = Checkpointer(mock.Mock(), mock.Mock(tail_changes=1, tail_bytes=1 << 40), TailLimits(0), mock.Mock())
         self.assertFalse(never.is_due())
 
 
 class Pages(HubCase):
-    """What docs/FRONT.md has of backups and upgrades, line by line."""
+    """The commands of docs/FRONT.md for backups and upgrades, line by line."""
 
     def setUp(self) -> None:
         super().setUp()
@@ -392,34 +415,46 @@ class Pages(HubCase):
             (self.folder / name).write_text(text)
 
     def lines(self, begin: str) -> list[str]:
-        """The lines of the page's block that begins so."""
+        """The lines of the page's block with this beginning."""
         page = (FRONT.parent / "docs/FRONT.md").read_text()
         return next(block for block in page.split("```\n")[1::2] if block.startswith(begin)).splitlines()
 
     def begin(self, line: str, *extra: str) -> str:
-        """What a hub of that line says until it is ready or ends."""
+        """Starts a hub by this line; returns its output until it is ready or ends."""
         words = [word if word.startswith("-") else str(self.folder / word) for word in shlex.split(line)[1:]]
         self.hub = Hub(self.folder, [*words, *extra])
         self.addCleanup(self.hub.kill)
         self.hub.wait_ready()
-        return self.hub.told()
+        return self.hub.log_text()
 
     def test_an_upgrade(self) -> None:
-        roll, serve = self.lines("lefence-hub chip.def tech.lef cells.lef --sockets s --journal chip.journal --program old")
-        for name, script in (("old", f"exec '{PROGRAM}' \"$@\""), ("new", f"'{PROGRAM}' \"$@\" | sed -u 's/^ok 1$/ok 7/'")):
+        roll, serve = self.lines(
+            "lefence-hub chip.def tech.lef cells.lef --sockets s --journal chip.journal --program old"
+        )
+        for name, script in (
+            ("old", f"exec '{PROGRAM}' \"$@\""),
+            ("new", f"'{PROGRAM}' \"$@\" | sed -u 's/^ok 1$/ok 7/'"),
+        ):
             (self.folder / name).mkdir()
             (self.folder / name / "lefence").write_text(f"#!/bin/sh\n{script}\n")
             (self.folder / name / "lefence").chmod(0o755)
         self.begin(roll.removesuffix(" --roll"))
         self.talk("f0").ask("open f0", "place f0 0 f0c1 0 0 N")
         self.hub.kill()
-        self.assertIn("--roll with that one makes a state first\nlefence-hub: change 2: the journal has b'ok 1", self.begin(serve))
-        self.assertEqual((self.hub.process.wait(), "a state of 2 changes is kept" in self.begin(roll), self.hub.process.wait()), (1, True, 0))
+        self.assertIn(
+            "run that one with --roll first\nlefence-hub: change 2: the journal has b'ok 1", self.begin(serve)
+        )
+        self.assertEqual(
+            (self.hub.process.wait(), "saved a state of 2 changes" in self.begin(roll), self.hub.process.wait()),
+            (1, True, 0),
+        )
         self.assertIn("ready", self.begin(serve))
         self.assertEqual(self.talk("f0").ask("open f0", "place f0 0 f0c1 200 0 N"), ["ok 0 1", "ok 2"])
 
     def test_a_backup(self) -> None:
-        serve = self.lines("lefence-hub chip.def tech.lef cells.lef --sockets s --journal chip.journal --program old")[0].partition(" --program")[0]
+        serve = self.lines("lefence-hub chip.def tech.lef cells.lef --sockets s --journal chip.journal --program old")[
+            0
+        ].partition(" --program")[0]
         self.begin(serve, "--program", PROGRAM, "--tail-bytes", "1", "--tail-seconds", "0")
         talker = self.talk("f0")
         self.assertEqual(talker.ask("open f0", "place f0 0 f0c1 0 0 N")[1], "ok 1")

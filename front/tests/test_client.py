@@ -1,4 +1,4 @@
-"""The client library over a hub's sockets and over `lefence serve`: what it returns, raises and has in flight."""
+"""The client library over a hub's sockets and over `lefence serve`: results, exceptions, and lines in flight."""
 
 from __future__ import annotations
 
@@ -22,15 +22,16 @@ from unittest import mock
 from support import CELLS, FRONT, PATIENCE, WIDTH, HubCase
 
 import lefence
-from lefence import Legalized, Pending, Place, Report, Tidied, Violation, verbs
-from lefence.endpoint import connect_to
-from lefence.faults import Fault
-from lefence.protocol import REFUSALS, VERBS
-from lefence.refusals import refusal_of
+from lefence import Legalized, Pending, Place, Report, Tidied, Violation
+from lefence.base.faults import Fault
+from lefence.base.protocol import REFUSALS, VERBS
+from lefence.client import verbs
+from lefence.client.endpoint import connect_to
+from lefence.client.refusals import refusal_of
 
 
 class Verbs(HubCase):
-    """Each verb, with the field's names."""
+    """Each verb with its fields."""
 
     def session(self, retries: int = 0, microns: bool = False) -> lefence.Session:
         connection = self.enterContext(lefence.connect(self.folder / "s/f0.sock", timeout=PATIENCE))
@@ -65,24 +66,29 @@ class Verbs(HubCase):
             with self.assertRaises(lefence.Illegal) as caught:
                 session.place(cell, 200, 0, "N")
             illegal = caught.exception
-            self.assertEqual((illegal.number, illegal.name, illegal.rule, illegal.rule_name), (7, "Illegal", rule, "Overlap"))
-            self.assertEqual((illegal.cell, illegal.other, illegal.words()), (cell, other, f"{cell} would overlap {other} or be too near to it"))
+            self.assertEqual(
+                (illegal.number, illegal.name, illegal.rule, illegal.rule_name), (7, "Illegal", rule, "Overlap")
+            )
+            self.assertEqual(
+                (illegal.cell, illegal.other, illegal.words()),
+                (cell, other, f"{cell} would overlap {other} or be too near to it"),
+            )
         with self.assertRaises(lefence.Illegal) as caught:
             session.place("f0c2", 100, 0, "N")
         self.assertEqual((caught.exception.rule, caught.exception.other), (2, None))
         with self.assertRaises(lefence.Unplaced) as unplaced:
             session.where("f0c2")
         self.assertEqual(unplaced.exception.cell, "f0c2")
-        asked: tuple[tuple[type[lefence.Refusal], Callable[[], object]], ...] = (
+        calls: tuple[tuple[type[lefence.Refusal], Callable[[], object]], ...] = (
             (lefence.NoCell, lambda: session.where("f1c1")),
             (lefence.BadRequest, lambda: session.pad(17)),
             (lefence.BadRequest, lambda: session.find("f0c1", 1 << 40, 0)),
             (lefence.NoTeam, lambda: session.connection.session("f1").open()),
             (lefence.BadRequest, lambda: session.connection.export("/tmp/x")),
         )
-        for error, ask in asked:
+        for error, call in calls:
             with self.assertRaises(error):
-                ask()
+                call()
         self.assertEqual(session.undo(), 2)
         for refusal in (illegal, unplaced.exception):
             same = pickle.loads(pickle.dumps(refusal))
@@ -100,8 +106,8 @@ class Verbs(HubCase):
             assert refusal is not None
             self.assertEqual((refusal.number, refusal.name, type(refusal).__name__), (number, name, name))
             self.assertTrue(refusal.words() and type(refusal).__doc__)
-        why = refusal_of(b"no 13 NotExported x cannot be written\n")
-        self.assertEqual(why and why.words(), "the file was not written: x cannot be written")
+        why = refusal_of(b"no 13 NotExported cannot write x\n")
+        self.assertEqual(why and why.words(), "the file was not written: cannot write x")
         self.assertEqual([refusal_of(reply) for reply in (b"ok", b"", b"no", b"no x y")], [None] * 4)
 
     def test_every_verb_of_the_protocol_is_a_method_of_all_three(self) -> None:
@@ -124,13 +130,15 @@ class Verbs(HubCase):
             assert_type(lefence.Pipeline.where(pipeline, "f0c1"), Pending[Place])
 
         async def ask() -> None:
-            async with await lefence.aio.connect(self.folder / "s/f1.sock") as connection, connection.session("f1") as session:
+            async with await lefence.aio.connect(self.folder / "s/f1.sock") as connection, connection.session(
+                "f1"
+            ) as session:
                 assert_type(await session.legalize("f1c1", WIDTH, 0), Legalized)
                 assert_type(await lefence.aio.Session.def_text(session), bytes)
 
         asyncio.run(ask())
 
-    def test_microns_where_asked_and_only_whole_database_units(self) -> None:
+    def test_microns_on_request_and_only_whole_database_units(self) -> None:
         self.start()
         session = self.session(microns=True)
         session.place("f0c1", 0.4, Decimal("2"), "FS")
@@ -144,14 +152,19 @@ class Verbs(HubCase):
         with self.assertRaises(ValueError):
             self.enterContext(session.connection.session("f0")).place("f0c1", 0.5, 0, "N")
 
-    def test_microns_cost_no_text_of_the_team_where_a_hub_is_asked(self) -> None:
+    def test_a_hub_gives_the_units_without_the_text_of_the_team(self) -> None:
         self.start()
         connection = self.enterContext(lefence.connect(self.folder / "s/f0.sock", timeout=PATIENCE))
         with mock.patch.object(connection, "send", side_effect=connection.send) as send:
             with connection.session("f0", microns=True) as session:
                 self.assertEqual(session.place("f0c1", 0.4, 0, "N"), 1)
-        self.assertEqual([call.args[0] for call in send.call_args_list], [b"open f0", b"units", b"place f0 0 f0c1 400 0 N", b"close f0 0"])
-        with self.service(1) as port, lefence.connect("127.0.0.1", port) as connection, connection.session("f0", microns=True) as session:
+        self.assertEqual(
+            [call.args[0] for call in send.call_args_list],
+            [b"open f0", b"units", b"place f0 0 f0c1 400 0 N", b"close f0 0"],
+        )
+        with self.service(1) as port, lefence.connect("127.0.0.1", port) as connection, connection.session(
+            "f0", microns=True
+        ) as session:
             self.assertEqual(session.place("f0c1", 0.4, 0, "N"), 1)
 
     def test_the_cells_of_a_team_need_no_parser(self) -> None:
@@ -160,7 +173,13 @@ class Verbs(HubCase):
         session.place("f0c1", 400, 2000, "FS")
         cells = session.cells(self.lef)
         self.assertEqual([cell.name for cell in cells], [f"f0c{at}" for at in range(CELLS)])
-        self.assertEqual(cells[:2], [lefence.Cell("f0c0", "BUF", None, 600, 2000), lefence.Cell("f0c1", "INV", Place(400, 2000, "FS"), 400, 2000)])
+        self.assertEqual(
+            cells[:2],
+            [
+                lefence.Cell("f0c0", "BUF", None, 600, 2000),
+                lefence.Cell("f0c1", "INV", Place(400, 2000, "FS"), 400, 2000),
+            ],
+        )
         self.assertEqual((cells[0].box, cells[1].box), (None, (400, 2000, 800, 4000)))
         self.assertEqual(session.cells()[1], lefence.Cell("f0c1", "INV", Place(400, 2000, "FS"), None, None))
         (self.folder / "x.lef").write_text("MACRO INV SIZE 1 BY 1 ; END INV")
@@ -169,13 +188,15 @@ class Verbs(HubCase):
         other = self.enterContext(session.connection.session("f0", microns=True, openaccess=True))
         self.assertEqual(other.cells(self.lef)[1], lefence.Cell("f0c1", "INV", Place(0.4, 2.0, "MX"), 0.4, 2.0))
 
-    def test_orientations_of_openaccess_where_asked(self) -> None:
+    def test_orientations_of_openaccess_on_request(self) -> None:
         self.start()
         plain = self.session()
-        with self.assertRaisesRegex(ValueError, "R0 is no orientation of DEF, which calls it N"):
+        with self.assertRaisesRegex(ValueError, "R0 is not an orientation of DEF, which calls it N"):
             plain.place("f0c1", 0, 0, "R0")
         with plain.connection.session("f0", openaccess=True) as session:
-            for at, (y, orient, same) in enumerate(((0, "R0", "N"), (0, "MY", "FN"), (2000, "MX", "FS"), (2000, "R180", "S"))):
+            for at, (y, orient, same) in enumerate(
+                ((0, "R0", "N"), (0, "MY", "FN"), (2000, "MX", "FS"), (2000, "R180", "S"))
+            ):
                 self.assertEqual(session.place("f0c1", 0, y, orient), at + 1)
                 self.assertEqual((session.where("f0c1").orient, plain.where("f0c1").orient), (orient, same))
             with self.assertRaises(lefence.Illegal):
@@ -185,11 +206,15 @@ class Verbs(HubCase):
     def test_the_example_of_the_page_runs(self) -> None:
         self.start()
         page = (FRONT.parent / "docs/FRONT.md").read_text()
-        code = page.partition("```python\n")[2].partition("```")[0].replace("/run/lefence/A.sock", str(self.folder / "s/f0.sock"))
+        code = (
+            page.partition("```python\n")[2]
+            .partition("```")[0]
+            .replace("/run/lefence/A.sock", str(self.folder / "s/f0.sock"))
+        )
         names: dict[str, object] = {"moves": [("f0c2", 200, 0), ("f0c2", 1200, 0)]}
-        with contextlib.redirect_stdout(io.StringIO()) as told:
+        with contextlib.redirect_stdout(io.StringIO()) as printed:
             exec(code.replace('"A"', '"f0"').replace('"u', '"f0c'), names)
-        self.assertEqual(told.getvalue(), "Overlap f0c1\nPlace(x=1400, y=0, orient='N')\n()\n")
+        self.assertEqual(printed.getvalue(), "Overlap f0c1\nPlace(x=1400, y=0, orient='N')\n()\n")
         refused = names["refused"]
         assert isinstance(refused, list)
         self.assertEqual([str(each) for each in refused], ["7 Illegal: f0c2 would overlap f0c1 or be too near to it"])
@@ -204,7 +229,7 @@ class Verbs(HubCase):
             session.connection.ask_line(b"a\nb")
         self.assertEqual(session.sync(), 0)
 
-    def test_stale_is_retried_where_the_caller_says_so(self) -> None:
+    def test_stale_is_retried_on_request(self) -> None:
         self.start()
         first, again = self.session(), self.session(retries=2)
         first.place("f0c1", 0, 0, "N")
@@ -222,7 +247,7 @@ class Flights(HubCase):
         with lefence.connect(self.folder / "s/f0.sock") as connection, connection.session("f0") as session:
             with session.pipeline(raises=False) as pipeline:
                 flying = [pipeline.place("f0c1", 200 * at, 0, "N") for at in range(60)]
-                # A plain request in between has its own reply.
+                # A plain request in between gets its own reply.
                 self.assertEqual(session.where("f0c2") if flying[0].result() > 1 else flying[1].result(), 2)
                 texts = [pipeline.def_text() for _ in range(40)]
             last = [at for at, each in enumerate(flying) if each.refusal is None][-1]
@@ -230,7 +255,7 @@ class Flights(HubCase):
             self.assertIsInstance(flying[-1].refusal, lefence.Illegal)
             self.assertTrue(all(text.result().endswith(b"END DESIGN\n") for text in texts))
 
-    def test_a_pipeline_raises_the_first_refusal_that_nobody_was_told(self) -> None:
+    def test_a_pipeline_raises_the_first_refusal_that_nobody_has_read(self) -> None:
         self.start()
         with lefence.connect(self.folder / "s/f0.sock") as connection, connection.session("f0") as session:
             with self.assertRaises(lefence.NoCell), session.pipeline() as pipeline:
@@ -242,7 +267,7 @@ class Flights(HubCase):
                 raise ZeroDivisionError
             self.assertEqual(session.sync(), 0)
 
-    def test_a_pipeline_sends_again_what_was_stale_where_the_session_says_so(self) -> None:
+    def test_a_pipeline_sends_stale_requests_again_on_request(self) -> None:
         self.start()
         with lefence.connect(self.folder / "s/f0.sock") as connection, connection.session("f0") as other:
             with connection.session("f0", retries=1) as session, session.pipeline() as pipeline:
@@ -250,7 +275,7 @@ class Flights(HubCase):
                 flying = [pipeline.place("f0c1", 200 * at, 0, "N") for at in range(10)]
                 self.assertEqual(flying[3].result(), 5)
                 flying.append(pipeline.place("f0c1", 2000, 0, "N"))
-                # A look in between is sent once.
+                # A query in between is sent once.
                 place = pipeline.where("f0c1")
             self.assertEqual([each.result() for each in flying], list(range(2, 13)))
             self.assertEqual((place.result(), place.times_sent), (Place(2000, 0, "N"), 1))
@@ -265,7 +290,7 @@ class Flights(HubCase):
                 flying = [pipeline.check() for _ in range(3000)]
             self.assertEqual(flying[-1].result(), Report(CELLS, CELLS, ()))
 
-    def test_asyncio_has_what_runs_at_once_in_flight(self) -> None:
+    def test_concurrent_coroutines_are_in_flight_together(self) -> None:
         self.start()
 
         async def work() -> None:
@@ -281,7 +306,9 @@ class Flights(HubCase):
                         self.assertEqual((await session.unplace("f0c1"), await other.tidy()), (31, Tidied(32, CELLS)))
                 self.assertEqual(await connection.ask_line(b"sync f0 0"), b"no 3 NoSession\n")
                 session = await connection.session("f0").open()
-                self.assertEqual((session.number, [cell.macro for cell in await session.cells()][:2]), (0, ["BUF", "INV"]))
+                self.assertEqual(
+                    (session.number, [cell.macro for cell in await session.cells()][:2]), (0, ["BUF", "INV"])
+                )
                 await session.close()
                 with self.assertRaises(lefence.NoSession):
                     await connection.ask(verbs.sync(verbs.Scope("f0", 0)))
@@ -291,7 +318,7 @@ class Flights(HubCase):
 
         asyncio.run(work())
 
-    def test_a_connection_that_is_lost_is_told(self) -> None:
+    def test_a_lost_connection_is_reported(self) -> None:
         self.start()
 
         async def wait() -> None:
@@ -319,25 +346,27 @@ class Flights(HubCase):
                 with self.assertRaisesRegex(OSError, f"{host}:{port}"):
                     lefence.connect(host, port)
 
-    def test_a_block_that_was_told_of_the_loss_does_not_tell_it_again(self) -> None:
+    def test_a_block_reports_a_lost_connection_once(self) -> None:
         self.start()
         caught = []
 
         async def work() -> None:
-            async with await lefence.aio.connect(self.folder / "s/f0.sock") as connection, connection.session("f0") as session:
+            async with await lefence.aio.connect(self.folder / "s/f0.sock") as connection, connection.session(
+                "f0"
+            ) as session:
                 self.hub.kill()
-                with self.assertRaises(lefence.ConnectionLost) as told:
+                with self.assertRaises(lefence.ConnectionLost) as raised:
                     await session.sync()
-                caught.append(told.exception)
+                caught.append(raised.exception)
 
         with lefence.connect(self.folder / "s/f1.sock") as connection, connection.session("f1") as session:
             asyncio.run(work())
-            with self.assertRaises(lefence.ConnectionLost) as told:
+            with self.assertRaises(lefence.ConnectionLost) as raised:
                 session.sync()
-            caught.append(told.exception)
+            caught.append(raised.exception)
         self.assertEqual(len(caught), 2)
 
-    def test_a_reply_that_takes_too_long_is_told(self) -> None:
+    def test_a_late_reply_is_reported(self) -> None:
         self.start()
         connection = self.enterContext(lefence.connect(self.folder / "s/f1.sock", timeout=0.2))
         os.kill(self.hub.process.pid, signal.SIGSTOP)
@@ -354,7 +383,7 @@ class Flights(HubCase):
 
 
 class Others(HubCase):
-    """Over `lefence serve`, and against ends that are no lefence."""
+    """Over `lefence serve`, and with other ends than lefence."""
 
     def test_the_program_itself_is_served_over_tcp(self) -> None:
         with self.service(2) as port:
@@ -366,7 +395,7 @@ class Others(HubCase):
                 with self.assertRaises(lefence.NoSession):
                     session.close()
                 session.open()
-                with self.assertRaisesRegex(ValueError, "open already"):
+                with self.assertRaisesRegex(ValueError, "already open"):
                     session.open()
 
             async def work() -> Place:
@@ -376,7 +405,7 @@ class Others(HubCase):
 
             self.assertEqual(asyncio.run(work()), Place(0, 0, "N"))
 
-    def test_an_end_that_talks_otherwise_is_told(self) -> None:
+    def test_an_end_with_another_protocol_is_reported(self) -> None:
         for reply in (b"hello\n", b"ok\n", b"ok x y\n", b"\xff\xfe\n", b"no\n"):
             near, far = socket.socketpair()
             with far, lefence.Connection(near, timeout=5) as connection:
@@ -391,14 +420,14 @@ class Others(HubCase):
             with self.assertRaisesRegex(lefence.ProtocolError, "abc"):
                 session.def_text()
 
-    def test_a_session_whose_units_are_not_told_is_closed_again(self) -> None:
+    def test_a_session_without_units_is_closed_again(self) -> None:
         near, far = socket.socketpair()
-        asked: list[bytes] = []
+        received: list[bytes] = []
 
         def answer() -> None:
             with far, far.makefile("rb") as lines:
                 for reply in (b"ok 3 0\n", b"hello\n", b"ok\n"):
-                    asked.append(lines.readline())
+                    received.append(lines.readline())
                     far.sendall(reply)
 
         answering = threading.Thread(target=answer)
@@ -406,29 +435,31 @@ class Others(HubCase):
         with lefence.Connection(near, timeout=5) as connection, self.assertRaisesRegex(lefence.ProtocolError, "hello"):
             connection.session("A", microns=True).open()
         answering.join()
-        self.assertEqual(asked, [b"open A\n", b"units\n", b"close A 3\n"])
+        self.assertEqual(received, [b"open A\n", b"units\n", b"close A 3\n"])
 
     async def aio_connection(self, end: socket.socket, timeout: float) -> lefence.aio.Connection:
         return lefence.aio.Connection(*await asyncio.open_connection(sock=end), timeout)
 
-    def test_asyncio_tells_all_that_wait_where_an_end_talks_otherwise_or_reads_nothing(self) -> None:
+    def test_asyncio_ends_all_pending_calls_if_the_end_is_broken(self) -> None:
         async def ask(reply: bytes, line: bytes, *errors: type[Exception]) -> None:
             near, far = socket.socketpair()
             with far:
                 asyncio.get_running_loop().call_later(0.1, far.sendall, reply)
                 async with asyncio.timeout(PATIENCE), await self.aio_connection(near, 1) as connection:
-                    told = await asyncio.gather(*(connection.ask_line(line) for _ in range(200)), return_exceptions=True)
-                    self.assertEqual([type(each) for each in told[:2]], [*errors])
+                    results = await asyncio.gather(
+                        *(connection.ask_line(line) for _ in range(200)), return_exceptions=True
+                    )
+                    self.assertEqual([type(each) for each in results[:2]], [*errors])
 
         asyncio.run(ask(b"ok abc\n", b"def A 0", lefence.ProtocolError, lefence.ConnectionLost))
         asyncio.run(ask(b"", b"x" * 4000, TimeoutError, TimeoutError))
 
-    def test_one_that_is_cancelled_leaves_no_session_open_and_hears_of_no_loss(self) -> None:
-        said: list[object] = []
+    def test_a_cancelled_call_leaves_no_session_open(self) -> None:
+        output: list[object] = []
 
         async def cancel(is_late: bool) -> None:
             near, far = socket.socketpair()
-            asyncio.get_running_loop().set_exception_handler(lambda loop, context: said.append(context))
+            asyncio.get_running_loop().set_exception_handler(lambda loop, context: output.append(context))
             connection = await self.aio_connection(near, PATIENCE)
             with far:
                 opening = asyncio.create_task(connection.session("A", microns=True).__aenter__())
@@ -450,9 +481,9 @@ class Others(HubCase):
         asyncio.run(cancel(False))
         asyncio.run(cancel(True))
         gc.collect()
-        self.assertEqual(said, [])
+        self.assertEqual(output, [])
 
-    def test_what_an_end_that_is_gone_has_answered_is_told(self) -> None:
+    def test_the_last_replies_of_an_end_that_is_gone_are_read(self) -> None:
         near, far = socket.socketpair()
         with lefence.Connection(near, timeout=PATIENCE) as connection:
             sent = [connection.send(b"sync A 0") for _ in range(3)]
@@ -463,7 +494,7 @@ class Others(HubCase):
             connection.send(b"sync A 0")
             self.assertEqual([connection.wait(each) for each in sent], [b"ok 1\n", b"ok 2\n", b"ok 3\n"])
 
-    def test_a_reply_that_drips_takes_too_long(self) -> None:
+    def test_a_reply_in_slow_pieces_is_late(self) -> None:
         near, far = socket.socketpair()
 
         def drip() -> None:
@@ -480,7 +511,7 @@ class Others(HubCase):
             with self.assertRaises(TimeoutError):
                 connection.ask_line(b"sync A 0")
 
-    def test_a_number_that_is_none_is_refused_before_it_is_sent(self) -> None:
+    def test_a_bad_number_is_refused_before_it_is_sent(self) -> None:
         for pad in (1.9, float("inf")):
             with self.assertRaises(ValueError):
                 verbs.pad(verbs.Scope("A", 0), cast(int, pad))
@@ -488,11 +519,11 @@ class Others(HubCase):
             listener.bind(("127.0.0.1", 0))
             listener.listen()
             port = listener.getsockname()[1] + 65536
-            with self.assertRaisesRegex(ValueError, "is no port"):
+            with self.assertRaisesRegex(ValueError, "is not a port"):
                 lefence.connect("127.0.0.1", port)
-            with self.assertRaisesRegex(ValueError, "is no port"):
+            with self.assertRaisesRegex(ValueError, "is not a port"):
                 asyncio.run(lefence.aio.connect("127.0.0.1", port))
-            with self.assertRaisesRegex(Fault, "is no port") as refused:
+            with self.assertRaisesRegex(Fault, "is not a port") as refused:
                 connect_to("127.0.0.1:65536")
             self.assertEqual(refused.exception.status, 2)
 

@@ -1,4 +1,4 @@
-"""Nothing acknowledged is lost, whatever is killed at whatever moment. TURNS says how many crashes of each kind there are."""
+"""No crash loses acknowledged changes. TURNS is the number of crashes of each kind."""
 
 from __future__ import annotations
 
@@ -13,19 +13,19 @@ from collections.abc import Callable
 
 from support import CELLS, PATIENCE, PROGRAM, TURNS, Hub, HubCase, Talker, spot, wait_gone
 
-from lefence.crowd import Crowd
-from lefence.segments import Past
+from lefence.hub.clients import ClientPool
+from lefence.journal.segments import Archive
 
 # Changes that each of four teams has in flight at a crash.
 MANY = 2000
 
 
 class Crashes(HubCase):
-    # More words of the hub.
+    # More options of the hub.
     extra: tuple[str, ...] = ()
 
     def changes(self, team: int, revision: int) -> Talker:
-        """A client that has asked for many changes, and been told of none."""
+        """A client that has sent many changes and got no replies."""
         talker = self.talk(f"f{team}")
         head = f"place f{team} {talker.ask(f'open f{team}')[0].split()[1]} f{team}c"
         lines = [f"{head}{at % CELLS} {spot(team, at)}\n" for at in range(revision, revision + MANY)]
@@ -33,7 +33,7 @@ class Crashes(HubCase):
         return talker
 
     def check_team(self, team: int, revision: int) -> None:
-        """What a team is told of its places is what so many changes come to."""
+        """Checks that a team's places are the result of this many changes."""
         watch = self.talk(f"f{team}")
         _, session, found = watch.ask(f"open f{team}")[0].split()
         self.assertEqual(int(found), revision)
@@ -50,9 +50,11 @@ class Crashes(HubCase):
         return revision
 
     def under_load(self, strike: Callable[[], None], keeps_clients: bool = False) -> None:
-        """Strikes while four teams change; after each, what each was told stands, and at most what it asked for."""
+        """Crashes while four teams make changes. After each crash, all acknowledged changes are there, and at most
+        those sent.
+        """
         self.start(*self.extra)
-        revisions, told, kept, cut = [0] * 4, 0, 0, set()
+        revisions, total, kept, cut = [0] * 4, 0, 0, set()
         for turn in range(TURNS):
             talkers = [self.changes(team, revision) for team, revision in enumerate(revisions)]
             time.sleep(self.rng.uniform(0, 0.04))
@@ -66,13 +68,16 @@ class Crashes(HubCase):
                 revisions[team] = self.revision(team)
                 self.assertTrue((begun + MANY if keeps_clients else acknowledged) <= revisions[team] <= begun + MANY)
                 self.check_team(team, revisions[team])
-                told, kept = told + acknowledged - begun, kept + revisions[team] - acknowledged
+                total, kept = total + acknowledged - begun, kept + revisions[team] - acknowledged
                 cut |= {turn} if acknowledged < begun + MANY else set()
-        print(f"\n  {TURNS} crashes, {len(cut)} amid changes: {told} acknowledged, 0 lost, {kept} more kept", file=sys.stderr)
+        print(
+            f"\n  {TURNS} crashes, {len(cut)} amid changes: {total} acknowledged, 0 lost, {kept} more kept",
+            file=sys.stderr,
+        )
 
     def start_anew(self) -> None:
         while self.rng.random() < 0.3:
-            # And once more, on the way up.
+            # And again during the restart.
             again = Hub(self.folder, self.words(*self.extra))
             time.sleep(self.rng.uniform(0, 0.4))
             again.kill()
@@ -89,7 +94,7 @@ class Crashes(HubCase):
         self.addCleanup(wait_gone, self.hub.children())
         for pid in self.rng.sample([self.hub.server_pid(), self.hub.process.pid], 2):
             with contextlib.suppress(ProcessLookupError):
-                # The program goes with the hub.
+                # The program ends with the hub.
                 os.kill(pid, signal.SIGKILL)
             time.sleep(self.rng.choice([0, 0.001, 0.03]))
         self.hub.process.wait()
@@ -111,11 +116,11 @@ class Crashes(HubCase):
     def test_kill_9_amid_checkpoints(self) -> None:
         self.extra = ("--tail-bytes", "1")
         self.under_load(self.kill_9_of_both)
-        self.assertTrue(Past(self.journal).numbers("state"))
+        self.assertTrue(Archive(self.journal).numbers("state"))
 
     def test_kill_9_of_a_program_amid_checkpoints_is_not_noticed(self) -> None:
         self.extra = ("--tail-bytes", "1")
-        # The one that serves, or the one that makes a state.
+        # The program that serves, or the one that saves a state.
         self.under_load(lambda: os.kill(self.rng.choice(self.hub.children()), signal.SIGKILL), keeps_clients=True)
 
     def test_undo_and_padding_are_there_after_a_crash(self) -> None:
@@ -134,15 +139,15 @@ class Programs(HubCase):
     """A program that dies by itself."""
 
     def wrap(self, script: str) -> None:
-        """Puts a script before the program that answers lines, which counts its starts in a file."""
+        """Runs a script before the program that answers lines; it counts its starts in a file."""
         wrapper = self.folder / "wrapper"
         count = f"echo x >> '{self.folder}/starts'\nstarts=$(wc -l < '{self.folder}/starts')"
-        describes = f"[ \"$1\" = replay ] || exec '{PROGRAM}' \"$@\""
+        describes = f'[ "$1" = replay ] || exec \'{PROGRAM}\' "$@"'
         wrapper.write_text(f"#!/bin/sh\n{describes}\n{count}\n{script}\nexec '{PROGRAM}' \"$@\"\n")
         wrapper.chmod(0o755)
         self.program = str(wrapper)
 
-    def test_one_that_dies_again_while_it_is_restored_is_started_again(self) -> None:
+    def test_a_program_that_dies_while_it_is_restored_is_started_again(self) -> None:
         self.wrap('[ "$starts" -eq 1 ] || [ "$starts" -gt 4 ] || kill -9 $$')
         self.start()
         talker = self.talk("f0")
@@ -151,30 +156,32 @@ class Programs(HubCase):
         self.assertEqual(talker.ask("where f0 0 f0c1", "place f0 0 f0c1 200 0 N"), ["ok 0 0 N", "ok 2"])
         self.assertEqual((self.hub.end(), (self.folder / "starts").read_text().count("x")), (0, 5))
 
-    def test_one_that_always_dies_ends_the_hub_and_nothing_is_lost(self) -> None:
+    def test_a_program_that_always_dies_ends_the_hub_and_nothing_is_lost(self) -> None:
         self.wrap('[ "$starts" -eq 1 ] || kill -9 $$')
         self.start()
         talker = self.talk("f0")
         self.assertEqual(talker.ask("open f0", "place f0 0 f0c1 0 0 N"), ["ok 0 0", "ok 1"])
         os.kill(self.hub.server_pid(), signal.SIGKILL)
         self.assertEqual((talker.ask("where f0 0 f0c1"), self.hub.process.wait(PATIENCE)), ([""], 3))
-        self.assertIn("given up", self.hub.told())
+        self.assertIn("giving up", self.hub.log_text())
         self.program = PROGRAM
         self.start()
         self.assertEqual(self.talk("f0").ask("open f0", "where f0 0 f0c1"), ["ok 0 1", "ok 0 0 N"])
 
-    def test_one_that_has_answered_its_last_line_is_restored(self) -> None:
+    def test_a_program_that_has_answered_its_last_line_is_restored(self) -> None:
         self.wrap('for word; do shift; [ "$word" != 4294967295 ] || word=1500; set -- "$@" "$word"; done')
         self.start()
         talker = self.talk("f0")
         self.assertEqual(talker.ask("open f0", "place f0 0 f0c1 0 0 N"), ["ok 0 0", "ok 1"])
         text = b"where f0 0 f0c1\n" * 5000
         self.assertEqual(talker.converse(text, 20000), b"ok 0 0 N\n" * 5000)
-        self.assertIn("2 changes are restored", self.hub.told())
+        self.assertIn("restoring 2 changes", self.hub.log_text())
 
-    def test_a_signal_while_it_is_restored_ends_the_hub(self) -> None:
+    def test_a_signal_during_a_restart_ends_the_hub(self) -> None:
         self.start("--tail-bytes", "0")
-        self.assertEqual(self.talk("f0").ask("open f0", "open f0", "place f0 0 f0c1 0 0 N"), ["ok 0 0", "ok 1 0", "ok 1"])
+        self.assertEqual(
+            self.talk("f0").ask("open f0", "open f0", "place f0 0 f0c1 0 0 N"), ["ok 0 0", "ok 1 0", "ok 1"]
+        )
         self.hub.kill()
         self.wrap("sleep 20")
         for words, status in ((("--tail-bytes", "1"), 0), (("--roll",), 3)):
@@ -183,13 +190,15 @@ class Programs(HubCase):
             self.addCleanup(hub.kill)
             while not (self.folder / "starts").exists():
                 time.sleep(0.01)
-            self.assertEqual((hub.end(), Past(self.journal).numbers("state")), (status, []))
+            self.assertEqual((hub.end(), Archive(self.journal).numbers("state")), (status, []))
         self.program = PROGRAM
-        # The sessions of the killed hub are known, and closed.
+        # The sessions of the killed hub are known and get closed.
         self.start()
-        self.assertEqual(self.talk("f0").ask("open f0", "close f0 1", "sync f0 0"), ["ok 0 1", "no 3 NoSession", "ok 1"])
-        # One of which a journal does not tell who had it may be closed too.
-        Crowd(8).note([b"close", b"f0", b"0"], b"ok\n", None)
+        self.assertEqual(
+            self.talk("f0").ask("open f0", "close f0 1", "sync f0 0"), ["ok 0 1", "no 3 NoSession", "ok 1"]
+        )
+        # A session without an owner in the journal may be closed too.
+        ClientPool(8).note([b"close", b"f0", b"0"], b"ok\n", None)
 
 
 if __name__ == "__main__":

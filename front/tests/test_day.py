@@ -1,4 +1,4 @@
-"""The day of two teams, front/examples/day.sh: the script is run as it stands, and must print what its comments say."""
+"""The day of two teams, front/examples/day.sh: the script must print what its comments say."""
 
 from __future__ import annotations
 
@@ -21,7 +21,7 @@ PRINTED = re.compile(r"^#> (.*\n)", re.M)
 
 class Day(FrontCase):
     def run_script(self, text: str) -> str:
-        """What the script of this text prints on both streams, in the folder of the test; nothing that it started is left."""
+        """Runs a script in the folder of the test; returns both output streams, after all its processes have ended."""
         tools = self.folder / "bin"
         tools.mkdir()
         (tools / "lefence").symlink_to(PROGRAM)
@@ -41,7 +41,7 @@ class Day(FrontCase):
                 with contextlib.suppress(ProcessLookupError):
                     os.killpg(process.pid, signal.SIGKILL)
 
-    def test_the_day_goes_as_its_script_tells(self) -> None:
+    def test_the_script_of_the_day_prints_what_it_says(self) -> None:
         self.maxDiff = None
         text = SCRIPT.read_text()
         self.assertEqual(len(KLAYOUT.findall(text)), 2)

@@ -1,4 +1,4 @@
-"""The description as the tools read it."""
+"""The description, as the tools read it."""
 
 from __future__ import annotations
 
@@ -6,8 +6,8 @@ import unittest
 
 from support import CELLS, TEAMS, FrontCase
 
-from lefence.description import Box, Cell, Description, Facts, Fence, Obstacle, Row, Total
-from lefence.faults import Fault
+from lefence.base.description import Box, Cell, Description, Facts, Fence, Obstacle, Row, Total
+from lefence.base.faults import Fault
 
 # A FIXED component, a soft blockage, and two cells that overlap.
 MORE = """BLOCKAGES 1 ;
@@ -55,19 +55,22 @@ class Descriptions(FrontCase):
             self.assertEqual((len(found), found), (CELLS, [cell for cell in cells if cell.team == team]))
             self.assertEqual(description.total.cells, len(cells))
 
-    def test_what_is_refused_is_told_with_its_status(self) -> None:
-        for text, status, told in ((b"VERSION 5.8 ;", 1, "2 UnexpectedEnd line 1; DEF file "), (None, 3, "File; DEF file ")):
+    def test_a_refusal_has_its_status_and_message(self) -> None:
+        for text, status, expected in (
+            (b"VERSION 5.8 ;", 1, "2 UnexpectedEnd line 1; DEF file "),
+            (None, 3, "File; DEF file "),
+        ):
             self.design.unlink(missing_ok=True)
             if text is not None:
                 self.design.write_bytes(text)
             with self.assertRaises(Fault) as caught:
                 self.read()
             self.assertEqual(caught.exception.status, status)
-            self.assertTrue(str(caught.exception).startswith(told), caught.exception)
+            self.assertTrue(str(caught.exception).startswith(expected), caught.exception)
 
-    def test_a_program_that_ends_early_is_told(self) -> None:
+    def test_a_program_that_ends_early_is_reported(self) -> None:
         facts = '{"kind":"design","name":"t","site":"core","site_height":2000,"site_width":200,"units":1000}'
-        for lines, status in ((facts, 9), (f"{facts}\n{{\"kind\":\"cell\"", 0), ("", 0)):
+        for lines, status in ((facts, 9), (f'{facts}\n{{"kind":"cell"', 0), ("", 0)):
             early = self.folder / "early"
             early.write_text(f"#!/bin/sh\nprintf '%s' '{lines}'\nexit {status}\n")
             early.chmod(0o755)

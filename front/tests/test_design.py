@@ -1,4 +1,4 @@
-"""DEF texts as the front reads them: tokens, statements and entries, on any Python."""
+"""The front's reader of DEF files: tokens, statements and entries, on any Python."""
 
 from __future__ import annotations
 
@@ -7,18 +7,47 @@ import unittest
 
 from support import SEED
 
-from lefence.design import entries, statements, words_in
+from lefence.base.design import entries, statements, words_in
 
 WHITE = b" \t\r\n"
-# What random texts are made of: white space, comments, quotes that end and that do not, words with all of them inside.
+# The parts of random texts: white space, comments, complete and incomplete quotes, and words that contain them.
 PIECES = (
-    *(b" ", b"\t", b"\n", b"\r\n", b"# x ; \" END\n", b"#\n", b'"a b"', b'" ; # \n"', b'"\\""', b'"\\\\"', b'"', b"\\", b";", b" ; ", b"- "),
-    *(b"a", b"x;", b";x", b'x"y', b"a#b", b"END", b" END DESIGN ", b"COMPONENTS 1 ;", b" END COMPONENTS ", b"+ FIXED ", b"ENDEXT", b"BEGINEXT"),
+    *(
+        b" ",
+        b"\t",
+        b"\n",
+        b"\r\n",
+        b'# x ; " END\n',
+        b"#\n",
+        b'"a b"',
+        b'" ; # \n"',
+        b'"\\""',
+        b'"\\\\"',
+        b'"',
+        b"\\",
+        b";",
+        b" ; ",
+        b"- ",
+    ),
+    *(
+        b"a",
+        b"x;",
+        b";x",
+        b'x"y',
+        b"a#b",
+        b"END",
+        b" END DESIGN ",
+        b"COMPONENTS 1 ;",
+        b" END COMPONENTS ",
+        b"+ FIXED ",
+        b"ENDEXT",
+        b"BEGINEXT",
+    ),
 )
 
 
 def plain_tokens(text: bytes) -> list[bytes]:
-    """The tokens of a text, byte by byte."""
+    """Splits a text into tokens, byte by byte."""
     found, at = [], 0
     while at < len(text):
         if text[at] in WHITE:
@@ -34,7 +63,7 @@ def plain_tokens(text: bytes) -> list[bytes]:
 
 
 def quote_end(text: bytes, start: int) -> int | None:
-    """Where a quoted text ends that begins there; None where none begins there, or it does not end."""
+    """The end of the quoted text that starts here; None if there is none or it does not end."""
     at = start + 1
     while text[start : start + 1] == b'"' and at < len(text):
         if text[at : at + 1] == b'"':
@@ -44,7 +73,7 @@ def quote_end(text: bytes, start: int) -> int | None:
 
 
 def plain_statement(tokens: list[bytes]) -> int:
-    """How many tokens the first statement of these takes, all of them where it does not end."""
+    """The number of tokens in the first statement; all if it does not end."""
     section = tokens[0] in (b"COMPONENTS", b"REGIONS")
     last = [b"END", tokens[0]] if section else [b"ENDEXT"] if tokens[0] == b"BEGINEXT" else [b";"]
     if tokens[0] == b"END":
@@ -72,15 +101,22 @@ class Texts(unittest.TestCase):
                 tokens = tokens[count:]
             self.assertEqual([list(words_in(text[each.start : each.stop])) for each in statements(text)], found, text)
 
-    def test_entries_are_told_with_their_words(self) -> None:
-        text = b'COMPONENTS 4 ; # ; END COMPONENTS\n- a INV ; - b;\n"; - x" x ;\n- # -\n; - ; -c ;\nEND COMPONENTS END DESIGN'
+    def test_entries_have_their_words(self) -> None:
+        text = b'COMPONENTS 4 ; # ; END COMPONENTS\n- a INV ; - b;\n"; - x" x ;\n- # -\n; - ; -c ;\n'
+        text += b"END COMPONENTS END DESIGN"
         found = list(entries(text, statements(text), b"COMPONENTS"))
         words = [(b"a", [b"a", b"INV"]), (b"b;", [b"b;", b'"; - x"', b"x"]), (b"", []), (b"", [])]
         self.assertEqual([(each.name, each.words) for each in found], words)
 
     def test_long_texts_take_time_and_memory_in_proportion(self) -> None:
         many = 200_000
-        for text in (b'"' + b"a " * many, b'"' + b"\\a" * many, b"- " + b'"a" ' * many, b"# \n" * many, b"COMPONENTS 1 ; - a " + b"b " * many):
+        for text in (
+            b'"' + b"a " * many,
+            b'"' + b"\\a" * many,
+            b"- " + b'"a" ' * many,
+            b"# \n" * many,
+            b"COMPONENTS 1 ; - a " + b"b " * many,
+        ):
             self.assertLessEqual(len(statements(text)), 2)
             self.assertLessEqual(len(list(words_in(text))), many + 10)
 

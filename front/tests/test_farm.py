@@ -1,4 +1,4 @@
-"""A farm: every team at work over its slice, by each engine, and all of it in one design."""
+"""A farm: each team works on its slice, with each engine, and the work is merged into one design."""
 
 from __future__ import annotations
 
@@ -15,14 +15,14 @@ from unittest import mock
 import cluster
 from support import CELLS, FRONT, PATIENCE, PROGRAM, FrontCase, tool_words
 
-from lefence.design import Design
-from lefence.farm import teams_of
-from lefence.farm_tool import ranges_of
-from lefence.faults import Fault
-from lefence.journal import Journal, texts_in
-from lefence.merge import merge
-from lefence.owner import own
-from lefence.slice import slice_of, slices_of
+from lefence.base.design import Design
+from lefence.base.faults import Fault
+from lefence.journal.journal import Journal, texts_in
+from lefence.journal.owner import this_process
+from lefence.tools.farm import ranges_of
+from lefence.tools.farm_runs import teams_of
+from lefence.tools.merge import merge
+from lefence.tools.slice import slice_of, slices_of
 
 # Two fences and the ground around them, with two cells each.
 TEAMS = ("A", "B", "-")
@@ -45,7 +45,7 @@ GROUPS 2 ;
 END GROUPS
 END DESIGN
 """
-# A team's worker: it places its cells and commits; where a file of the team's name stands it ends with 7 before the commit.
+# A team's worker places its cells and commits. If a file with the team's name exists, it ends with 7 before the commit.
 WORKER = """import os, sys
 sys.path.insert(0, FRONT)
 import lefence
@@ -56,7 +56,7 @@ with lefence.connect(os.environ["LEFENCE_SOCKET"]) as connection, connection.ses
         sys.exit(7)
     session.commit()
 """
-# What stands for Slurm and LSF: jobs run at once, and behind one another. It knows the options that the tool gives.
+# A substitute for Slurm and LSF, which runs jobs at once, one after another. It knows the options that the tool uses.
 ENGINE = """import os, re, subprocess, sys
 lsf = os.path.basename(sys.argv[0]) == "bsub"
 words, array, output = sys.argv[1:], [], ""
@@ -77,8 +77,8 @@ while words and words[0].startswith("-"):
 assert len(words) == 1, words
 for number in array or [""]:
     variables = {"LSB_JOBINDEX" if lsf else "SLURM_ARRAY_TASK_ID": number}
-    with open(output.replace("%I" if lsf else "%a", number), "ab") as told:
-        subprocess.run(words, stdout=told, stderr=told, env={**os.environ, **variables})
+    with open(output.replace("%I" if lsf else "%a", number), "ab") as log:
+        subprocess.run(words, stdout=log, stderr=log, env={**os.environ, **variables})
 number = 41 if array else 42
 print(f"Job <{number}> is submitted to default queue <normal>." if lsf else number)
 """
@@ -94,7 +94,7 @@ class FarmCase(FrontCase):
         self.work = self.folder / "work"
 
     def farm(self, *words: str, folder: str = "", has_command: bool = True) -> subprocess.CompletedProcess[str]:
-        """A farm that runs to its end, and finds the engines in a folder; without a command it repairs."""
+        """Runs a farm to its end, with the engines in a folder; without a command it repairs."""
         command = [*tool_words("lefence-farm"), "work", "t.def", "t.lef", "--program", PROGRAM, *words]
         worker = ["--", sys.executable, "-B", "worker.py"] if has_command else []
         path = os.pathsep.join([folder, os.environ["PATH"]])
@@ -110,39 +110,39 @@ class FarmCase(FrontCase):
         return done
 
     def wanted(self) -> bytes:
-        """The design with all teams tidy, by the program alone."""
+        """The design after a tidy of all teams, by the program."""
         text = "".join(f"open {team}\ntidy {team} 0\ncommit {team} 0\n" for team in TEAMS)
         self.direct(text.encode(), "--export", str(self.folder / "want.def"))
         return (self.folder / "want.def").read_bytes()
 
 
 class Farms(FarmCase):
-    def test_a_team_that_fails_is_named_and_given_again_it_alone_is_at_work(self) -> None:
+    def test_a_failed_team_is_listed_and_a_second_run_repeats_only_it(self) -> None:
         (self.folder / "B.fails").touch()
         done = self.farm("--export", "new.def", "--processes", "4")
         self.assertEqual(done.returncode, 4, done.stderr)
-        self.assertIn(f"team B is not in it: the command ended with 7; {self.work / '2' / 'log'} has more\n", done.stderr)
+        self.assertIn(f"team B is missing: the command ended with 7; see {self.work / '2' / 'log'}\n", done.stderr)
         self.assertIn("the work of 2 of 3 teams\n", done.stderr)
         text = (self.folder / "new.def").read_text()
         self.assertEqual(("- b1 BUF ;" in text, "- b2 INV ;" in text, "- a2 INV ;" in text), (True, True, False))
         (self.folder / "B.fails").unlink()
-        # As if the task had been at work on another machine, which is gone.
+        # As if the task had run on another machine, which is gone.
         journal = self.work / "2/journal"
-        os.close(Journal(journal, texts_in(journal) or [], self.fail, owner=replace(own(), host="farm2"))._fd)
+        os.close(Journal(journal, texts_in(journal) or [], self.fail, owner=replace(this_process(), host="farm2"))._fd)
         done = self.farm("--export", "new.def")
         self.assertEqual(done.returncode, 0, done.stderr)
         self.assertEqual([*self.work.glob("whole*"), *self.work.rglob("*.texts")], [])
         self.assertIn("lefence-farm: 1 of 3 teams have work to do\n", done.stderr)
         self.assertEqual((self.folder / "new.def").read_bytes(), self.wanted())
-        # The second run went on from what the first had done.
-        told = (self.work / "2/log").read_text()
-        self.assertEqual((told.count("0 2\n"), told.count("1 0\n")), (1, 1))
+        # The second run continued from the work of the first.
+        log = (self.work / "2/log").read_text()
+        self.assertEqual((log.count("0 2\n"), log.count("1 0\n")), (1, 1))
         done = self.farm("--merge", "--export", "merged.def")
         self.assertEqual((done.returncode, (self.folder / "merged.def").read_bytes()), (0, self.wanted()), done.stderr)
         self.refused_when_the_text_changes()
 
     def repaired(self) -> bytes:
-        """The design with all teams repaired, by the program alone."""
+        """The design after a repair of all teams, by the program."""
         words = [PROGRAM, "repair", str(self.design), str(self.lef), "--export", str(self.folder / "want.def")]
         subprocess.run(words, stdout=subprocess.DEVNULL)
         return (self.folder / "want.def").read_bytes()
@@ -161,37 +161,40 @@ class Farms(FarmCase):
         self.design.write_text(TEXT.replace("( 6000 2000 )", "( 4400 2000 )"))
         done = self.farm("--export", "new.def", has_command=False)
         self.assertEqual(done.returncode, 4, done.stderr)
-        self.assertRegex(done.stderr, "team B is not in it: the repair left [12] cells; ")
-        self.assertIn("lefence-farm: team A: 5 lines answered as over its slice\n", done.stderr)
+        self.assertRegex(done.stderr, "team B is missing: [12] cells remain unrepaired; ")
+        self.assertIn("lefence-farm: team A: 5 lines answered as on its slice\n", done.stderr)
         self.assertIn("the work of 2 of 3 teams\n", done.stderr)
         self.assertEqual((self.folder / "new.def").read_bytes(), self.repaired())
-        # A command may be given later, and then counts.
+        # A command may be given later; then it counts.
         (self.work / "2/lines").write_text("open B\nplace B 0 b1 9999 0 N\n")
         done = self.farm("--export", "new.def")
-        self.assertIn("team B is not in it: the command ended with 1; ", done.stderr)
+        self.assertIn("team B is missing: the command ended with 1; ", done.stderr)
         self.assertFalse((self.work / "2/lines").exists())
 
-    def test_what_is_answered_otherwise_over_the_whole_is_told_and_not_exported(self) -> None:
+    def test_a_reply_that_differs_on_the_whole_design_is_reported(self) -> None:
         self.assertEqual(self.farm("--export", "new.def", has_command=False).returncode, 0)
         before = (self.folder / "new.def").read_bytes()
         lines = self.work / "1/lines"
         lines.write_text(lines.read_text().replace("commit A 0", "unplace A 0 b1\ncommit A 0"))
         done = self.tool("lefence-farm", "work", "--collect")
         self.assertEqual(done.returncode, 1, done.stderr)
-        self.assertRegex(done.stderr.decode(), "team A: line 4, 'unplace A 0 b1', was answered 'ok 3', and over the whole 'no 5 NoCell'\n")
+        self.assertRegex(
+            done.stderr.decode(),
+            "team A: line 4, 'unplace A 0 b1', was answered 'ok 3', and on the whole design 'no 5 NoCell'\n",
+        )
         self.assertEqual(((self.folder / "new.def").read_bytes(), [*self.work.glob("whole*")]), (before, []))
 
     def refused_when_the_text_changes(self) -> None:
-        """A text that is written anew between the slices and the end, and before a farm is given again."""
+        """The design changes between the slices and the end, or before a second run."""
         self.design.write_text(self.design.read_text().replace("a1 INV", "a1 BUF"))
         done = self.tool("lefence-farm", "work", "--collect")
-        told = f"lefence-farm: {self.design.resolve()} is another text than the slices were made of\n"
-        self.assertEqual((done.returncode, done.stderr.decode()), (1, told))
+        expected = f"lefence-farm: {self.design.resolve()} has changed since the slices were made\n"
+        self.assertEqual((done.returncode, done.stderr.decode()), (1, expected))
         done = self.tool("lefence-farm", "work", "t.def", "t.lef", "--program", PROGRAM, "--", "true")
-        self.assertEqual((done.returncode, done.stderr.count(b"is of another text than")), (1, 1))
+        self.assertEqual((done.returncode, done.stderr.count(b"is of another design than")), (1, 1))
 
     def by_engine(self, name: str, engine: str, option: str, *words: str) -> str:
-        """The line of a farm by a stand-in of an engine, whose tasks and last job did their work."""
+        """Runs a farm with a substitute engine; returns its output."""
         folder = self.folder / "engines"
         folder.mkdir(exist_ok=True)
         stand_in = folder / name
@@ -204,70 +207,93 @@ class Farms(FarmCase):
         return done.stderr
 
     def test_a_job_array_of_slurm(self) -> None:
-        told = self.by_engine("sbatch", "slurm", "--mem=100")
-        self.assertIn("lefence-farm: 3 teams are submitted; job 42 collects what they did", told)
+        output = self.by_engine("sbatch", "slurm", "--mem=100")
+        self.assertIn("lefence-farm: 3 teams are submitted; job 42 collects their work", output)
 
     def test_a_job_array_of_lsf(self) -> None:
-        told = self.by_engine("bsub", "lsf", "-q", "--wait")
-        self.assertIn("3 teams are submitted; the job that collects what they did is waited for\n", told)
-        self.assertIn("the work of 3 of 3 teams\n", told)
+        output = self.by_engine("bsub", "lsf", "-q", "--wait")
+        self.assertIn("3 teams are submitted; waiting for the job that collects their work\n", output)
+        self.assertIn("the work of 3 of 3 teams\n", output)
 
-    def test_the_numbers_of_many_teams_are_a_short_word(self) -> None:
-        self.assertEqual([ranges_of(numbers) for numbers in ([7], [1, 2, 3, 5, 8, 9], [*range(1, 5001)])], ["7", "1-3,5,8-9", "1-5000"])
+    def test_many_team_numbers_make_a_short_argument(self) -> None:
+        self.assertEqual(
+            [ranges_of(numbers) for numbers in ([7], [1, 2, 3, 5, 8, 9], [*range(1, 5001)])],
+            ["7", "1-3,5,8-9", "1-5000"],
+        )
 
     def test_a_signal_ends_the_teams_at_work(self) -> None:
         words = ["work", "t.def", "t.lef", "--program", PROGRAM, "--processes", "3", "--", "sleep", "60"]
-        with subprocess.Popen([*tool_words("lefence-farm"), *words], cwd=self.folder, stderr=subprocess.DEVNULL) as farm:
+        with subprocess.Popen(
+            [*tool_words("lefence-farm"), *words], cwd=self.folder, stderr=subprocess.DEVNULL
+        ) as farm:
             last = time.monotonic() + PATIENCE
             while not all((self.work / str(number) / "journal").exists() for number in (1, 2, 3)):
                 self.assertLess(time.monotonic(), last)
                 time.sleep(0.01)
             farm.terminate()
         self.assertEqual(farm.returncode, 128 + signal.SIGTERM)
-        self.assertEqual({(self.work / str(number) / "failed").read_text() for number in (1, 2, 3)}, {"ended by signal 15\n"})
+        self.assertEqual(
+            {(self.work / str(number) / "failed").read_text() for number in (1, 2, 3)}, {"ended by signal 15\n"}
+        )
 
-    def test_a_team_or_a_plan_that_is_none_is_refused(self) -> None:
+    def test_an_unknown_team_and_a_bad_plan_are_refused(self) -> None:
         self.assertEqual(self.farm("--merge").returncode, 0)
         for number in ("0", "4", "-1"):
             done = self.tool("lefence-farm", "work", f"--task={number}")
-            self.assertEqual((done.returncode, f"has no team number {number}: they are 1 to 3\n".encode() in done.stderr), (2, True), done.stderr)
+            self.assertEqual(
+                (done.returncode, f"has no team number {number}: they are 1 to 3\n".encode() in done.stderr),
+                (2, True),
+                done.stderr,
+            )
         for text in ('{"design": "t.def"}', "[]", "{"):
             (self.work / "farm.json").write_text(text)
             done = self.tool("lefence-farm", "work", "--collect")
-            self.assertEqual((done.returncode, done.stderr.count(b"is no plan of this version")), (1, 1), done.stderr)
+            self.assertEqual(
+                (done.returncode, done.stderr.count(b"is not a plan of this version")), (1, 1), done.stderr
+            )
 
-    def test_an_engine_that_is_not_there_or_refuses_is_told(self) -> None:
-        done = self.farm("--engine", "slurm", folder="nowhere") if subprocess.run(["which", "sbatch"], capture_output=True).returncode else None
+    def test_a_missing_or_failing_engine_is_reported(self) -> None:
+        done = (
+            self.farm("--engine", "slurm", folder="nowhere")
+            if subprocess.run(["which", "sbatch"], capture_output=True).returncode
+            else None
+        )
         if done:
-            self.assertEqual((done.returncode, "sbatch is not there; --engine names another engine" in done.stderr), (2, True))
+            self.assertEqual(
+                (done.returncode, "sbatch is not installed; choose another --engine" in done.stderr), (2, True)
+            )
         refusing = self.folder / "bsub"
         refusing.write_text("#!/bin/sh\necho 'no queue' >&2; exit 255\n")
         refusing.chmod(0o755)
         done = self.farm("--engine", "lsf", folder=str(self.folder))
         self.assertEqual((done.returncode, "bsub ended with 255: no queue" in done.stderr), (3, True))
 
-    def test_a_command_that_is_not_there_is_told(self) -> None:
+    def test_a_missing_command_is_reported(self) -> None:
         done = self.tool("lefence-farm", "work", "t.def", "t.lef", "--program", PROGRAM, "--merge", "--", "./nothing")
         self.assertEqual(done.returncode, 4, done.stderr)
         for team in TEAMS:
-            self.assertIn(f"team {team} is not in it: ./nothing: No such file or directory; ", done.stderr.decode())
+            self.assertIn(f"team {team} is missing: ./nothing: No such file or directory; ", done.stderr.decode())
         self.assertEqual((self.work / "new.def").read_text(), TEXT)
 
-    def test_words_that_lack_something(self) -> None:
+    def test_incomplete_command_lines(self) -> None:
         for words in (("work",), ("work", "t.def"), ("work", "t.def", "--", "true")):
             done = self.tool("lefence-farm", *words)
             self.assertEqual((done.returncode, done.stdout), (2, b""), done.stderr)
         done = self.tool("lefence-farm", "work", "--collect")
-        self.assertEqual((done.returncode, done.stderr), (3, b"lefence-farm: work is no work folder of lefence-farm\n"))
+        self.assertEqual(
+            (done.returncode, done.stderr), (3, b"lefence-farm: work is not a work folder of lefence-farm\n")
+        )
 
-    def test_a_text_that_is_cut_off_is_refused_at_once(self) -> None:
+    def test_a_truncated_design_is_refused_at_once(self) -> None:
         self.design.write_text(TEXT[: TEXT.index("- a2")])
         done = self.farm()
-        told = "lefence-farm: t.def ends without END DESIGN: it is cut off\n"
-        self.assertEqual((done.returncode, done.stderr, self.work.exists()), (1, told, False))
+        expected = "lefence-farm: t.def ends without END DESIGN: it is truncated\n"
+        self.assertEqual((done.returncode, done.stderr, self.work.exists()), (1, expected, False))
 
 
-@unittest.skipIf(cluster.lacking(), f"a real cluster cannot be started: it lacks {cluster.lacking()} (Debian: slurm-wlm, munge)")
+@unittest.skipIf(
+    cluster.lacking(), f"a real cluster cannot be started: it lacks {cluster.lacking()} (Debian: slurm-wlm, munge)"
+)
 class Cluster(FarmCase):
     def test_a_real_cluster_of_slurm(self) -> None:
         (self.folder / "B.fails").touch()
@@ -275,7 +301,7 @@ class Cluster(FarmCase):
             with mock.patch.dict(os.environ, environment):
                 done = self.farm("--engine", "slurm", "--option=--mem=100", "--wait")
                 self.assertEqual(done.returncode, 4, done.stderr)
-                self.assertIn("lefence-farm: team B is not in it: the command ended with 7", done.stderr)
+                self.assertIn("lefence-farm: team B is missing: the command ended with 7", done.stderr)
                 self.assertIn("the work of 2 of 3 teams\n", done.stderr)
                 (self.folder / "B.fails").unlink()
                 done = self.farm("--engine", "slurm", "--option=--mem=100", "--wait")
@@ -286,15 +312,18 @@ class Cluster(FarmCase):
 
 class Merges(FrontCase):
     def test_all_slices_at_once_are_each_slice(self) -> None:
-        more = "COMPONENTS 2 ; # more\n- wall BUF + FIXED ( 0 6000 ) N ; - g9 INV ;\nEND COMPONENTS\nNETS 0 ;\nEND NETS\n"
+        more = (
+            "COMPONENTS 2 ; # more\n- wall BUF + FIXED ( 0 6000 ) N ; - g9 INV ;\nEND COMPONENTS\nNETS 0 ;\nEND NETS\n"
+        )
         text = self.design.read_bytes().replace(b"END DESIGN", more.encode() + b"END DESIGN")
         design = Design(text)
         teams = teams_of(design)
         slices = [b"".join(pieces) for pieces in slices_of(design, [team.encode() for team in teams])]
         self.assertEqual(slices, [slice_of(text, team) for team in teams])
 
-    def test_slices_go_back_into_the_text(self) -> None:
-        more = "COMPONENTS 3 ;\n- wall BUF + FIXED ( 0 6000 ) N ; # a\n - f0x INV ; - lid INV + COVER ( 0 0 ) N ;\nEND COMPONENTS\n"
+    def test_slices_are_merged_back_into_the_design(self) -> None:
+        more = "COMPONENTS 3 ;\n- wall BUF + FIXED ( 0 6000 ) N ; # a\n - f0x INV ; - lid INV + COVER ( 0 0 ) N ;\n"
+        more += "END COMPONENTS\n"
         whole = self.design.read_text().replace("END DESIGN", f"{more}END DESIGN")
         self.design.write_text(whole)
         paths = []
@@ -304,10 +333,12 @@ class Merges(FrontCase):
             paths[-1].write_bytes(part.replace(b"- gc3 BUF ;", b"- gc3 BUF + PLACED ( 1 2 ) S ;"))
         merged = io.BytesIO()
         self.assertEqual(merge(self.design, paths, merged), 2 * CELLS + 1)
-        want = whole.replace("- f0x INV ;", "- f0x INV + PLACED ( 0 0 ) N ;").replace("- gc3 BUF ;", "- gc3 BUF + PLACED ( 1 2 ) S ;")
+        want = whole.replace("- f0x INV ;", "- f0x INV + PLACED ( 0 0 ) N ;").replace(
+            "- gc3 BUF ;", "- gc3 BUF + PLACED ( 1 2 ) S ;"
+        )
         self.assertEqual(merged.getvalue().decode(), want)
         paths[0].write_bytes(paths[0].read_bytes().replace(b"- f0c4 ", b"- f0d4 "))
-        with self.assertRaisesRegex(Fault, "slicef0.def: component f0d4 is none of .*t.def"):
+        with self.assertRaisesRegex(Fault, "slicef0.def: component f0d4 is not in .*t.def"):
             merge(self.design, paths, io.BytesIO())
 
 

@@ -1,4 +1,4 @@
-"""What clients of a hub meet: the same replies as of the program itself, many at once, and its end."""
+"""A hub from outside: the program's replies, many clients at once, and its end."""
 
 from __future__ import annotations
 
@@ -17,19 +17,32 @@ from concurrent.futures import ThreadPoolExecutor
 from pathlib import Path
 from unittest import mock
 
-from support import CELLS, PATIENCE, PROGRAM, TEAMS, WIDTH, HubCase, Script, Talker, converse, design_text, spot, tool_words
+from support import (
+    CELLS,
+    PATIENCE,
+    PROGRAM,
+    TEAMS,
+    WIDTH,
+    HubCase,
+    Script,
+    Talker,
+    converse,
+    design_text,
+    spot,
+    tool_words,
+)
 
-from lefence import hub as hub_module
-from lefence.crowd import MOST_CLIENTS
-from lefence.faults import Fault
-from lefence.frames import Record
-from lefence.hub_client import Client
-from lefence.journal import Journal, texts_in
-from lefence.protocol import socket_name, team_of_socket
+from lefence.base.faults import Fault
+from lefence.base.protocol import socket_name, team_of_socket
+from lefence.hub import hub as hub_module
+from lefence.hub.clients import MOST_CLIENTS
+from lefence.hub.hub_client import Client
+from lefence.journal.frames import Record
+from lefence.journal.journal import Journal, texts_in
 
 
 def flood_until_broken(end: socket.socket, text: bytes) -> None:
-    """Sends and reads on until somebody breaks the connection off."""
+    """Sends and reads until somebody breaks the connection."""
     with contextlib.suppress(OSError):
         sender = threading.Thread(target=send_until_broken, args=(end, text))
         sender.start()
@@ -44,9 +57,9 @@ def send_until_broken(end: socket.socket, text: bytes) -> None:
 
 
 class Replies(HubCase):
-    """Each client is told, byte for byte, what the program answers."""
+    """Each client gets the program's replies, byte for byte."""
 
-    def test_the_operator_is_told_what_the_program_answers(self) -> None:
+    def test_the_operator_gets_the_replies_of_the_program(self) -> None:
         for _ in range(3):
             scripts = [Script(self.rng, team, hostile=True) for team in (0, 1, TEAMS)]
             text = b"".join(self.rng.choice(scripts).line() + b"\n" for _ in range(1200))
@@ -58,7 +71,7 @@ class Replies(HubCase):
             self.assertEqual(self.hub.end(), 0)
             self.journal.unlink()
 
-    def test_teams_at_once_are_told_what_their_own_commands_alone_are_told(self) -> None:
+    def test_concurrent_teams_get_the_replies_to_their_own_commands(self) -> None:
         for _ in range(2):
             self.start()
             texts = {team: Script(self.rng, team).lines(1200) for team in (0, 1, 2, TEAMS)}
@@ -70,15 +83,26 @@ class Replies(HubCase):
             self.hub.end()
             self.journal.unlink()
 
-    def test_a_team_socket_names_its_team_alone(self) -> None:
+    def test_a_team_socket_can_name_only_its_team(self) -> None:
         self.start()
         mine, other = self.talk("f0"), self.talk("f1")
         self.assertEqual(other.ask("open f1"), ["ok 0 0"])
-        lines = ["open f1", "place f1 0 f1c1 8000 0 N", "pad f1 0 2", "close f1 0", "close f1", "where - 0 gc1", "open f0"]
+        lines = [
+            "open f1",
+            "place f1 0 f1c1 8000 0 N",
+            "pad f1 0 2",
+            "close f1 0",
+            "close f1",
+            "where - 0 gc1",
+            "open f0",
+        ]
         lines += ["bye f1", "export x"]
         replies = [*["no 2 NoTeam"] * 4, "no 1 BadRequest", "no 2 NoTeam", "ok 0 0", *["no 1 BadRequest"] * 2]
         self.assertEqual(mine.ask(*lines), replies)
-        self.assertEqual(other.ask("where f1 0 f1c1", "sync f1 0", "place f1 0 f1c1 8000 0 N"), ["no 6 Unplaced f1c1", "ok 0", "ok 1"])
+        self.assertEqual(
+            other.ask("where f1 0 f1c1", "sync f1 0", "place f1 0 f1c1 8000 0 N"),
+            ["no 6 Unplaced f1c1", "ok 0", "ok 1"],
+        )
 
     def test_any_program_that_talks_to_a_socket_is_a_client(self) -> None:
         self.start()
@@ -91,7 +115,7 @@ class Replies(HubCase):
 
 
 class Sockets(HubCase):
-    """Who may connect to which socket."""
+    """Permissions of sockets."""
 
     def modes(self) -> dict[str, int]:
         return {path.name: path.stat().st_mode & 0o777 for path in (self.folder / "s").iterdir()}
@@ -114,15 +138,29 @@ class Sockets(HubCase):
             self.assertEqual((self.folder / "s/f0.sock").stat().st_gid, 12345)
 
     def test_each_team_has_a_name_of_its_own_and_none_leaves_the_folder(self) -> None:
-        names = {"-": "-.sock", "a_B-9": "a_B-9.sock", "a/b": "a%2Fb.sock", "a%2Fb": "a%252Fb.sock", ".": "%2E.sock", "[0]": "%5B0%5D.sock"}
+        names = {
+            "-": "-.sock",
+            "a_B-9": "a_B-9.sock",
+            "a/b": "a%2Fb.sock",
+            "a%2Fb": "a%252Fb.sock",
+            ".": "%2E.sock",
+            "[0]": "%5B0%5D.sock",
+        }
         self.assertEqual({name: socket_name(name) for name in names}, names)
         self.assertEqual([socket_name(None), socket_name("operator")], ["operator.sock", "%6Fperator.sock"])
         self.assertEqual([team_of_socket(file) for file in names.values()], list(names))
         self.assertEqual(team_of_socket("%6Fperator.sock"), "operator")
-        self.assertEqual([team_of_socket(file) for file in ("operator.sock", "x", "%zz.sock", ".sock", "%61.sock")], [None] * 5)
+        self.assertEqual(
+            [team_of_socket(file) for file in ("operator.sock", "x", "%zz.sock", ".sock", "%61.sock")], [None] * 5
+        )
 
     def test_odd_names_of_teams_are_served(self) -> None:
-        text = design_text().replace("- f0 (", "- a/[0] (").replace("REGION f0 ", "REGION a/[0] ").replace("- f1 (", "- operator (")
+        text = (
+            design_text()
+            .replace("- f0 (", "- a/[0] (")
+            .replace("REGION f0 ", "REGION a/[0] ")
+            .replace("- f1 (", "- operator (")
+        )
         self.design.write_text(text.replace("REGION f1 ", "REGION operator "))
         self.start()
         self.assertEqual(self.talk("a%2F%5B0%5D").ask("open a/[0]", "open operator"), ["ok 0 0", "no 2 NoTeam"])
@@ -131,7 +169,7 @@ class Sockets(HubCase):
 
 
 class ManyClients(HubCase):
-    """Nobody holds the others."""
+    """No client blocks the others."""
 
     def test_64_clients_share_eight_teams(self) -> None:
         self.start()
@@ -142,7 +180,9 @@ class ManyClients(HubCase):
             talker, name = self.talk(f"f{team}"), f"f{team}c{cell}"
             head = f"f{team} {talker.ask(f'open f{team}')[0].split()[1]}"
             for turn in range(rounds):
-                spot = f"{team * WIDTH + cell % 4 * 2000 + turn % 2 * 1000} {cell // 4 * 2000} {'N' if cell < 4 else 'FS'}"
+                spot = (
+                    f"{team * WIDTH + cell % 4 * 2000 + turn % 2 * 1000} {cell // 4 * 2000} {'N' if cell < 4 else 'FS'}"
+                )
                 while (reply := talker.ask(f"sync {head}", f"place {head} {name} {spot}")[1]).startswith("no 4 Stale"):
                     pass
                 self.assertEqual((reply[:2], talker.ask(f"where {head} {name}")), ("ok", [f"ok {spot}"]))
@@ -151,17 +191,17 @@ class ManyClients(HubCase):
         with ThreadPoolExecutor(64) as pool:
             list(pool.map(work, range(64)))
         for team in range(TEAMS):
-            # All 64 sessions were closed, so that slot 0 is free.
+            # All 64 sessions were closed, so slot 0 is free.
             self.assertEqual(self.talk(f"f{team}").ask(f"open f{team}"), [f"ok 0 {8 * rounds}"])
 
-    def test_neither_a_slow_reader_nor_a_flood_nor_a_crowd_holds_others(self) -> None:
+    def test_slow_readers_floods_and_many_clients_do_not_block_others(self) -> None:
         self.start("--patience", "1")
         slow, flood, quick = (self.talk(f"f{team}") for team in range(3))
         for team, talker in enumerate((slow, flood, quick)):
             self.assertEqual(talker.ask(f"open f{team}"), ["ok 0 0"])
         slow.socket.settimeout(0.2)
         with self.assertRaises(TimeoutError):
-            # It is not even read to its end.
+            # The flood is not even read to its end.
             slow.socket.sendall(b"def f0 0\n" * 1_000_000)
         flooder = threading.Thread(target=flood_until_broken, args=(flood.socket, b"check f1 0\ntidy f1 0\n" * 8000))
         flooder.start()
@@ -181,7 +221,7 @@ class ManyClients(HubCase):
         self.assertEqual(crowd[-1].ask("close f3 0"), ["no 3 NoSession"])
         self.assertEqual((self.talk("f3").replies.read(), quick.ask("sync f2 0")), (b"", ["ok 0"]))
 
-    def test_the_sessions_of_clients_that_go_are_closed_and_no_others(self) -> None:
+    def test_only_the_sessions_of_clients_that_leave_are_closed(self) -> None:
         self.start()
 
         def send_and_wait(talker: Talker) -> None:
@@ -203,15 +243,17 @@ class ManyClients(HubCase):
             talker.close()
         watch, replies = self.talk("f0"), []
         for _ in range(200):
-            # What was sent just before a close may be answered a little later.
+            # Lines sent just before a close may be answered a little later.
             replies = watch.ask(*["open f0"] * 9, *[f"close f0 {n}" for n in range(8)])
             if replies[7] == "ok 7 0":
                 break
             time.sleep(0.02)
         self.assertEqual(replies[:9], [f"ok {n} 0" for n in range(8)] + ["no 10 SessionsFull"])
-        # A slot that another client took since is not closed.
+        # A slot that another client took since then is not closed.
         first, second = self.talk("f0"), self.talk("f0")
-        self.assertEqual([first.ask("open f0"), watch.ask("close f0 0"), second.ask("open f0")], [["ok 0 0"], ["ok"], ["ok 0 0"]])
+        self.assertEqual(
+            [first.ask("open f0"), watch.ask("close f0 0"), second.ask("open f0")], [["ok 0 0"], ["ok"], ["ok 0 0"]]
+        )
         first.ask("bye")
         self.assertEqual(watch.ask("sync f0 0"), ["ok 0"])
         second.ask("bye")
@@ -231,7 +273,7 @@ class ManyClients(HubCase):
 
 
 class Disk(HubCase):
-    """What is told only when it lasts."""
+    """Replies wait for the disk."""
 
     def test_a_full_disk_refuses_changes_and_answers_the_rest(self) -> None:
         self.start()
@@ -241,11 +283,13 @@ class Disk(HubCase):
         hard = resource.prlimit(pid, resource.RLIMIT_FSIZE)[1]
         resource.prlimit(pid, resource.RLIMIT_FSIZE, (self.journal.stat().st_size, hard))
         accepted = 0
-        # As long as the room lasts that was set aside; of many at once none is accepted where there is room for few.
+        # Until the reserved bytes are used; of many changes at once, none is accepted if only some fit.
         for many in (500, 1):
             reply = ["ok"]
             while reply[-1][:2] == "ok":
-                reply = talker.ask(*[f"place f0 0 f0c1 {turn % 5 * 200} 0 N" for turn in range(accepted, accepted + many)])
+                reply = talker.ask(
+                    *[f"place f0 0 f0c1 {turn % 5 * 200} 0 N" for turn in range(accepted, accepted + many)]
+                )
                 accepted += sum(each.startswith("ok") for each in reply)
         where = f"ok {(accepted - 1) % 5 * 200} 0 N"
         lines = ["where f0 0 f0c1", "unplace f0 0 f0c1", "pad f0 0 1", "open f0", "where f0 0 f0c1", "quit"]
@@ -255,7 +299,9 @@ class Disk(HubCase):
         talker.ask("bye")
         resource.prlimit(pid, resource.RLIMIT_FSIZE, (hard, hard))
         time.sleep(1.5)
-        self.assertEqual(self.talk("f0").ask("open f0", "unplace f0 0 f0c1"), [f"ok 0 {accepted + 1}", f"ok {accepted + 2}"])
+        self.assertEqual(
+            self.talk("f0").ask("open f0", "unplace f0 0 f0c1"), [f"ok 0 {accepted + 1}", f"ok {accepted + 2}"]
+        )
         self.hub.kill()
         self.start()
         self.assertEqual(self.talk("f0").ask("open f0"), [f"ok 0 {accepted + 2}"])
@@ -263,8 +309,10 @@ class Disk(HubCase):
     def test_replies_wait_for_the_disk_and_a_disk_that_fails_ends_the_hub(self) -> None:
         for error in (None, OSError(5, "the disk")):
             steps = mock.Mock(**{"sync.side_effect": error})
-            server = mock.Mock(ask=mock.AsyncMock(return_value=[b"ok 0 0\n"]))
-            hub = hub_module.Hub(server, Journal(self.folder / str(error), [], mock.Mock()), hub_module.Bounds(), mock.Mock())
+            server = mock.Mock(execute=mock.AsyncMock(return_value=[b"ok 0 0\n"]))
+            hub = hub_module.Hub(
+                server, Journal(self.folder / str(error), [], mock.Mock()), hub_module.HubLimits(), mock.Mock()
+            )
             client = Client(hub, b"f0")
             client.transport = mock.Mock(**{"is_closing.return_value": False, "write": steps.write})
             client.get_buffer(8)[:8] = b"open f0\n"
@@ -273,23 +321,25 @@ class Disk(HubCase):
                 stack.enter_context(mock.patch("os.fdatasync", steps.sync))
                 if error:
                     stack.enter_context(self.assertRaises(Fault))
-                asyncio.run(hub.answer(hub.take()))
+                asyncio.run(hub.answer(hub.next_batch()))
             self.assertEqual([call[0] for call in steps.mock_calls], ["sync"] if error else ["sync", "write"])
 
 
 class Ends(HubCase):
-    """Exports, signals, and what is refused at the start."""
+    """Exports, signals, and refusals at the start."""
 
-    def test_an_export_while_serving_is_that_of_a_replay(self) -> None:
+    def test_an_export_while_serving_equals_that_of_a_replay(self) -> None:
         self.start()
         others, head = self.talk("f1"), "place f1 0 f1c"
-        # A team that commits nothing, at work all the while.
+        # Another team works all the while and commits nothing.
         text = "open f1\n" + "".join(f"{head}{at % CELLS} {spot(1, at)}\n" for at in range(2000))
         others.socket.sendall(text.encode())
         done, operator, target, want = b"", self.talk("operator"), self.folder / "new.def", self.folder / "want.def"
         for _ in range(3):
             scripts = [Script(self.rng, team) for team in (0, 2, TEAMS)]
-            lines = [line for _ in range(300) if not (line := self.rng.choice(scripts).line()).startswith((b"def", b"check"))]
+            lines = [
+                line for _ in range(300) if not (line := self.rng.choice(scripts).line()).startswith((b"def", b"check"))
+            ]
             for team in (b"f0", b"f2", b"-"):
                 lines += [b"open " + team, *(b"%b %b 0" % (verb, team) for verb in (b"sync", b"tidy", b"commit"))]
             later = [b"unplace f0 0 f0c1", b"legalize f0 0 f0c1 0 6000", b"commit f0 0"]
@@ -303,14 +353,14 @@ class Ends(HubCase):
             done += b"\n".join(later) + b"\n"
         self.assertEqual(others.replies.readline(), b"ok 0 0\n")
         refused = [f"export {path}" for path in ("/nowhere/x.def", self.journal, self.design)]
-        *told, last = operator.ask(*refused, "where f0 0 nil")
-        own = "is the journal or a text of the design"
-        reasons = ["/nowhere/x.def cannot be written", f"{self.journal} {own}", f"{self.design} {own}"]
-        self.assertEqual((told, last), ([f"no 13 NotExported {reason}" for reason in reasons], "no 5 NoCell"))
+        *refusals, last = operator.ask(*refused, "where f0 0 nil")
+        own = "is the journal or a file of the design"
+        reasons = ["cannot write /nowhere/x.def", f"{self.journal} {own}", f"{self.design} {own}"]
+        self.assertEqual((refusals, last), ([f"no 13 NotExported {reason}" for reason in reasons], "no 5 NoCell"))
 
-    def test_a_signal_ends_it_with_everything_told(self) -> None:
+    def test_a_signal_ends_it_after_all_replies(self) -> None:
         target = self.folder / "end.def"
-        # A hub passes over SIGHUP where nohup started it, but not over SIGINT, which a shell has its jobs in the background ignore.
+        # A hub under nohup ignores SIGHUP, but not SIGINT, which a shell makes its background jobs ignore.
         for number, how in ((signal.SIGHUP, signal.SIG_DFL), (signal.SIGINT, signal.SIG_IGN)):
             self.addCleanup(signal.signal, number, signal.signal(number, how))
         for number in (signal.SIGTERM, signal.SIGINT, signal.SIGHUP):
@@ -328,7 +378,7 @@ class Ends(HubCase):
             with self.assertRaises(ConnectionRefusedError):
                 self.talk("f0")
 
-    def test_a_refused_design_or_team_serves_nothing(self) -> None:
+    def test_a_refused_design_or_team_is_not_served(self) -> None:
         self.assertIn("no team: Z", self.start("--team", "Z"))
         self.assertEqual((self.hub.process.returncode, list((self.folder / "s").iterdir())), (1, []))
         self.assertIn("ready: 1 teams", self.start("--team", "f3"))
@@ -338,27 +388,33 @@ class Ends(HubCase):
         self.assertIn("7 NoUnits", self.start())
         self.assertEqual(self.hub.process.returncode, 1)
 
-    def test_other_teams_than_the_programs_serve_nothing(self) -> None:
+    def test_a_hub_with_other_teams_than_the_program_is_refused(self) -> None:
         fence = '"kind":"fence","name":"f3"'
-        for edit, said in (
-            (f"s/{fence}/{fence[:-3]}Z\"/", "9 teams are found in the DEF text, and the program tells 9; found alone: f3; told alone: Z"),
-            (f"/{fence}/d", "9 teams are found in the DEF text, and the program tells 8; found alone: f3; told alone: no other"),
+        for edit, output in (
+            (
+                f's/{fence}/{fence[:-3]}Z"/',
+                "the DEF text has 9 teams, the program reports 9; only in the DEF text: f3; only reported: Z",
+            ),
+            (
+                f"/{fence}/d",
+                "the DEF text has 9 teams, the program reports 8; only in the DEF text: f3; only reported: none",
+            ),
         ):
             self.program = self.describing(f"'{PROGRAM}' \"$@\" | sed '{edit}'")
-            self.assertIn(said, self.start())
+            self.assertIn(output, self.start())
             self.assertEqual((self.hub.process.wait(PATIENCE), list((self.folder / "s").iterdir())), (1, []))
 
-    def test_a_program_that_tells_no_teams_serves_nothing(self) -> None:
-        for script, said, status in (
+    def test_a_program_that_reports_no_teams_is_refused(self) -> None:
+        for script, output, status in (
             ("echo no such verb >&2; exit 2", "no such verb", 2),
-            ("exit 0", "does not tell the teams", 3),
-            ("printf '{\"kind\":\"fen'; kill -9 $$", "does not tell the teams", 3),
+            ("exit 0", "does not report the teams", 3),
+            ('printf \'{"kind":"fen\'; kill -9 $$', "does not report the teams", 3),
         ):
             self.program = self.describing(script)
-            self.assertIn(said, self.start())
+            self.assertIn(output, self.start())
             self.assertEqual((self.hub.process.wait(PATIENCE), list((self.folder / "s").iterdir())), (status, []))
 
-    def test_what_is_left_unread_at_the_end_resets_nobody(self) -> None:
+    def test_unread_lines_at_the_end_reset_no_connection(self) -> None:
         for last in (b"bye\n" + b"where f0 0 f0c1\n" * 3000, b"where f0 0 f0c1\n" * 6000):
             self.start()
             talker = self.talk("f0")
@@ -369,11 +425,11 @@ class Ends(HubCase):
             self.assertEqual(talker.replies.read()[: 499 * 5], b"ok 0\n" * 499)
             self.assertEqual(self.hub.process.wait(PATIENCE), 0)
 
-    def test_an_export_that_cannot_be_is_refused_at_the_start(self) -> None:
+    def test_an_impossible_export_is_refused_at_the_start(self) -> None:
         for path in (self.design, self.lef, self.journal, self.folder, self.folder / "nowhere" / "x.def"):
             self.start("--export", str(path))
             self.assertEqual(self.hub.process.wait(PATIENCE), 3, path)
-            self.assertNotIn("ready", self.hub.told())
+            self.assertNotIn("ready", self.hub.log_text())
         self.assertEqual(self.design.read_text(), design_text())
 
     def test_a_second_hub_another_design_and_other_replies_are_refused(self) -> None:
@@ -381,12 +437,14 @@ class Ends(HubCase):
         self.talk("f0").ask("open f0", "place f0 0 f0c1 0 0 N")
         for words in (self.words(journal="other"), self.words(sockets="s2")):
             second = subprocess.run([*tool_words("lefence-hub"), *words], capture_output=True, timeout=PATIENCE)
-            self.assertEqual((second.returncode, b"another hub holds it" in second.stderr), (3, True))
+            self.assertEqual((second.returncode, b"another hub has locked it" in second.stderr), (3, True))
         self.hub.end()
         kept = self.journal.read_bytes()
         other = self.folder / "other.def"
         other.write_text(design_text() + "\n")
-        second = subprocess.run([*tool_words("lefence-hub"), *self.words(design=other)], capture_output=True, timeout=PATIENCE)
+        second = subprocess.run(
+            [*tool_words("lefence-hub"), *self.words(design=other)], capture_output=True, timeout=PATIENCE
+        )
         self.assertIn(b"of another design", second.stderr)
         self.assertEqual((second.returncode, self.journal.read_bytes()), (1, kept))
         journal = Journal(self.journal, texts_in(self.journal) or [], mock.Mock())
@@ -396,8 +454,8 @@ class Ends(HubCase):
         self.assertEqual(self.hub.process.returncode, 1)
         self.journal.write_bytes(kept[: kept.rindex(b"batch") - 4])
         self.start()
-        self.assertIn("torn batch", self.hub.told())
-        self.assertIn("ready", self.hub.told())
+        self.assertIn("removed an incomplete batch", self.hub.log_text())
+        self.assertIn("ready", self.hub.log_text())
 
     def test_the_number_of_sessions_is_that_of_the_journal(self) -> None:
         for number in ("0", "65", "x"):
@@ -405,7 +463,7 @@ class Ends(HubCase):
             self.assertEqual(self.hub.process.wait(PATIENCE), 2, number)
         self.assertFalse(self.journal.exists())
         full = [f"ok {number} 0" for number in range(9)] + ["no 10 SessionsFull"]
-        # (one that has no change yet is begun anew)
+        # (a journal without changes is written anew)
         self.start()
         self.hub.end()
         self.start("--sessions", "9")
@@ -414,14 +472,14 @@ class Ends(HubCase):
         kept = self.journal.read_bytes()
         self.assertIn(b"\nsessions 9\nsegment 1 ", kept)
         for number in ("8", "10"):
-            told = self.start("--sessions", number)
+            output = self.start("--sessions", number)
             self.assertEqual(self.hub.process.wait(PATIENCE), 1)
-            self.assertIn("begun with 9 session slots of each team", told)
+            self.assertIn("made for 9 session slots per team", output)
             self.assertEqual(self.journal.read_bytes(), kept)
         exported = self.folder / "new.def"
         for words in ((), ("--sessions", "9")):
             self.start(*words, "--tail-bytes", "1", "--export", str(exported))
-            self.assertIn("ready", self.hub.told())
+            self.assertIn("ready", self.hub.log_text())
             talker = self.talk("operator")
             self.assertEqual(talker.ask("place f0 0 f0c1 0 0 N"), ["no 3 NoSession"])
             self.assertEqual(talker.ask(*["open f0"] * 10), full)
@@ -429,7 +487,9 @@ class Ends(HubCase):
         self.assertTrue(exported.exists())
         self.assertRegex(self.journal.read_bytes(), rb"\nsessions 9\nsegment [2-9] ")
         self.assertEqual(self.tool("lefence-journal", "verify", self.journal, "--program", PROGRAM).returncode, 0)
-        self.assertEqual(self.tool("lefence-journal", "verify", self.journal, "--all", "--program", PROGRAM).returncode, 0)
+        self.assertEqual(
+            self.tool("lefence-journal", "verify", self.journal, "--all", "--program", PROGRAM).returncode, 0
+        )
         self.assertIn(b"each team has 9 session slots", self.tool("lefence-journal", "check", self.journal).stdout)
         self.assertIn(b"with --sessions 9", self.tool("lefence-journal", "export", self.journal).stderr)
 

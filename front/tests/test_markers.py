@@ -1,4 +1,4 @@
-"""The violations as a report database, read by KLayout itself beside its own reading of the same DEF and LEF texts."""
+"""The report database of violations, read by KLayout next to its own reading of the same DEF and LEF files."""
 
 from __future__ import annotations
 
@@ -9,12 +9,12 @@ from xml.etree import ElementTree
 
 from support import PROGRAM, FrontCase, klayout, with_klayout
 
-from lefence.description import Box, Cell
-from lefence.faults import Fault
-from lefence.markers import Violation, violations_of
-from lefence.protocol import ORIENTS
+from lefence.base.description import Box, Cell
+from lefence.base.faults import Fault
+from lefence.base.protocol import ORIENTS
+from lefence.tools.markers import Violation, violations_of
 
-# Each item of the database with its tagged values, and the box of the instance of that name by KLayout's own reading.
+# Each item of the database with its tagged values, and the box of the cell with that name in KLayout's own reading.
 ITEMS = """
 import json, pya
 options = pya.LoadLayoutOptions()
@@ -32,7 +32,8 @@ database = pya.ReportDatabase("")
 database.load(markers)
 tags = {database.user_tag_id(name): name for name in ("cell", "team", "other")}
 for item in database.each_item():
-    found = {"rule": database.category_by_id(item.category_id()).name(), "top": database.cell_by_id(item.cell_id()).name()}
+    rule, top = database.category_by_id(item.category_id()), database.cell_by_id(item.cell_id())
+    found = {"rule": rule.name(), "top": top.name()}
     for value in item.each_value():
         if value.is_box():
             found["other box" if value.tag_id else "box"] = units(value.box())
@@ -43,7 +44,7 @@ for item in database.each_item():
     print(json.dumps(found))
 print(json.dumps([database.description, database.top_cell_name, layout.top_cell().name]))
 """
-# What KLayout shows once it has opened files by its command line.
+# What KLayout shows after it has opened files by its command line.
 SHOWN = """
 view = __import__("pya").MainWindow.instance().current_view()
 layout = view.cellview(0).layout()
@@ -55,7 +56,7 @@ MACRO INV CLASS CORE ; ORIGIN 0 0 ; FOREIGN INV 0 0 ; SIZE 0.4 BY 2.0 ; SYMMETRY
 MACRO OFF CLASS CORE ; ORIGIN 0.1 0.3 ; SIZE 0.6 BY 2.0 ; SYMMETRY X Y ; SITE core ; END OFF
 END LIBRARY
 """
-# Cells off the rows in each orientation, an overlap each way round, a legal cell and one without a place.
+# Cells off the rows in each orientation, overlaps in both directions, a legal cell and an unplaced one.
 TEXT = """VERSION 5.8 ;
 DESIGN top:<1>&'t' ;
 UNITS DISTANCE MICRONS 2000 ;
@@ -87,15 +88,17 @@ class Markers(FrontCase):
         self.lef = self.folder / "apart" / "cells.lef"
         self.lef.parent.mkdir()
         self.lef.write_text(LEF)
-        cells = "".join(f"- o{each} OFF + PLACED ( {at * 5000 - 3333} -7001 ) {each} ;\n" for at, each in enumerate(ORIENTS))
+        cells = "".join(
+            f"- o{each} OFF + PLACED ( {at * 5000 - 3333} -7001 ) {each} ;\n" for at, each in enumerate(ORIENTS)
+        )
         self.design.write_text(TEXT % cells)
         self.markers, self.technology = self.folder / "t.lyrdb", self.folder / "t.lyt"
 
     def write(self) -> None:
         words = (self.design, self.lef, "--output", self.markers, "--technology", self.technology)
         done = self.tool("lefence-markers", *words, "--program", PROGRAM)
-        told = b"lefence-markers: 11 of 13 cells break a rule; 1 without a place have no marker\n"
-        self.assertEqual((done.returncode, done.stdout, done.stderr), (0, b"", told))
+        expected = b"lefence-markers: 11 of 13 cells break a rule; 1 without a place have no marker\n"
+        self.assertEqual((done.returncode, done.stdout, done.stderr), (0, b"", expected))
 
     def test_a_marker_for_each_violation(self) -> None:
         self.write()
@@ -117,7 +120,9 @@ class Markers(FrontCase):
         self.write()
         words = ("-rd", f"design={self.design}", "-rd", f"lef={self.lef}", "-rd", f"markers={self.markers}")
         *lines, last = map(json.loads, klayout(self.folder, ITEMS, "-b", *words))
-        self.assertEqual([line["cell"] for line in lines], [*(f"o{each}" for each in ORIENTS), "u<1>/b[3]&'c'", "over", "ground"])
+        self.assertEqual(
+            [line["cell"] for line in lines], [*(f"o{each}" for each in ORIENTS), "u<1>/b[3]&'c'", "over", "ground"]
+        )
         self.assertEqual([line["rule"][0] for line in lines], [*"21212121882"])
         for line in lines:
             self.assertEqual(line["box"], line["cell there"], line)
@@ -132,27 +137,35 @@ class Markers(FrontCase):
         lines = klayout(self.folder, SHOWN, *"-z -nc -rx -nn t.lyt t.def -m t.lyrdb".split())
         self.assertEqual(lines, ["1 11 0.0005 12"])
 
-    def test_the_other_cell_may_come_before_or_behind(self) -> None:
+    def test_the_other_cell_may_come_earlier_or_later(self) -> None:
         cells = [cell("a", 8, "c"), cell("b", 8, "a"), cell("legal", None), cell("c", 2)]
         box = Box(0, 0, 400, 2000)
-        expected = [Violation("b", "A", 8, box, "a", box), Violation("a", "A", 8, box, "c", box), Violation("c", "A", 2, box)]
+        expected = [
+            Violation("b", "A", 8, box, "a", box),
+            Violation("a", "A", 8, box, "c", box),
+            Violation("c", "A", 2, box),
+        ]
         self.assertEqual(list(violations_of(cells)), expected)
         with self.assertRaises(Fault) as caught:
             list(violations_of(cells[:3]))
         self.assertEqual(caught.exception.status, 3)
 
-    def test_a_fault_leaves_the_file_as_it_was(self) -> None:
+    def test_a_fault_keeps_the_old_file(self) -> None:
         self.markers.write_text("old")
         early = self.folder / "early"
-        early.write_text(f"#!/bin/sh\n{PROGRAM} \"$@\" | head -4\n")
+        early.write_text(f'#!/bin/sh\n{PROGRAM} "$@" | head -4\n')
         early.chmod(0o755)
         faults = ((PROGRAM, Path("nowhere.lef"), 3), (str(early), self.lef, 3), (PROGRAM, self.design, 1))
         for program, lef, status in faults:
             done = self.tool("lefence-markers", self.design, lef, "--output", self.markers, "--program", program)
             self.assertEqual((done.returncode, self.markers.read_text()), (status, "old"), done.stderr)
-        self.assertEqual(sorted(path.name for path in self.folder.iterdir()), ["apart", "early", "t.def", "t.lef", "t.lyrdb"])
+        self.assertEqual(
+            sorted(path.name for path in self.folder.iterdir()), ["apart", "early", "t.def", "t.lef", "t.lyrdb"]
+        )
         done = self.tool("lefence-markers", self.design, self.lef, "--output", self.design, "--program", PROGRAM)
-        self.assertEqual((done.returncode, done.stderr.count(b"t.def is read, and would be written over")), (2, 1))
+        self.assertEqual(
+            (done.returncode, done.stderr.count(b"t.def is an input file, so it cannot be the output")), (2, 1)
+        )
 
 
 if __name__ == "__main__":

@@ -1,4 +1,4 @@
-"""Pictures: what is drawn, and where."""
+"""Pictures: the drawn things and their places."""
 
 from __future__ import annotations
 
@@ -10,12 +10,13 @@ from xml.etree import ElementTree
 
 from support import PATIENCE, TEAMS, FrontCase, tool_words
 
-from lefence.description import Box, Description
-from lefence.drawing import WAYS, Drawing, Move, shortened, text_of
-from lefence.scene import Scene, colour_of
+from lefence.base.description import Box, Description
+from lefence.tools.drawing import MOVE_COLOURS, Drawing, Move, shortened, text_of
+from lefence.tools.scene import Scene, colour_of
 
 SVG = "{http://www.w3.org/2000/svg}"
-# A FIXED component, a blockage, a soft one, two cells that overlap, one far outside, and one with a name that XML must escape.
+# A FIXED component, a blockage, a soft one, two cells that overlap, one far outside, and one with a name that needs
+# escapes in XML.
 MORE = """BLOCKAGES 2 ;
 - PLACEMENT RECT ( 70000 4000 ) ( 71000 8000 ) ;
 - PLACEMENT + SOFT RECT ( 9000 0 ) ( 9400 2000 ) ;
@@ -38,7 +39,7 @@ def boxes(group: ElementTree.Element) -> list[Box]:
 
 
 def titled(group: ElementTree.Element, name: str) -> list[ElementTree.Element]:
-    """What stands in a group under that name."""
+    """The elements of a group with this title."""
     return [found for found in group.iter() if found.findtext(f"{SVG}title") == name]
 
 
@@ -48,36 +49,45 @@ class Pictures(FrontCase):
         self.design.write_text(self.design.read_text().replace("END DESIGN", f"{MORE}END DESIGN"))
 
     def picture(self, *words: str, design: str = "t.def") -> dict[str, ElementTree.Element]:
-        """The groups of the picture by their names, and the whole under ``."""
+        """The groups of the picture by name; the whole picture has the empty name."""
         done = self.tool("lefence-picture", design, "t.lef", "--program", self.program, "-o", "x.svg", *words)
         self.assertEqual(done.returncode, 0, done.stderr)
         root = ElementTree.parse(self.folder / "x.svg").getroot()
         return {"": root, **{found.attrib["id"]: found for found in root.iter() if "id" in found.attrib}}
 
-    def test_each_thing_stands_where_the_description_has_it(self) -> None:
+    def test_each_thing_is_drawn_at_its_described_place(self) -> None:
         groups = self.picture()
         with Description(self.program, self.design, [self.lef]) as description:
             frame, cells = description.frame, list(description.cells())
         self.assertEqual(boxes(groups["rows"]), [row.box for row in frame.rows])
         self.assertEqual(boxes(groups["fences"]), [rect for fence in frame.fences for rect in fence.rects])
-        self.assertEqual(boxes(groups["fixed"]) + boxes(groups["blockages"]), [obstacle.box for obstacle in frame.obstacles])
+        self.assertEqual(
+            boxes(groups["fixed"]) + boxes(groups["blockages"]), [obstacle.box for obstacle in frame.obstacles]
+        )
         self.assertEqual(boxes(groups["soft"]), frame.soft)
         legal = {cell.name: cell.box for cell in cells if cell.box and cell.rule is None}
-        drawn = {rect.findtext(f"{SVG}title"): boxes(around)[0] for around, rect in self.alone(groups["cells"])}
+        drawn = {rect.findtext(f"{SVG}title"): boxes(group)[0] for group, rect in self.each_in_group(groups["cells"])}
         self.assertEqual(drawn, legal)
         self.assertEqual(boxes(groups["broken"]), [cell.box for cell in cells if cell.name in ("one", "two")])
         self.assertEqual(len(titled(groups["broken"], "two overlaps one")), 1)
         legend = "".join(groups["legend"].itertext())
-        for text in ("f0 11 cells", "breaks a rule 3 cells", "FIXED component 1", "soft blockage 1", "90 without", "1 outside"):
+        for text in (
+            "f0 11 cells",
+            "breaks a rule 3 cells",
+            "FIXED component 1",
+            "soft blockage 1",
+            "90 without",
+            "1 outside",
+        ):
             self.assertIn(text, legend)
 
-    def alone(self, group: ElementTree.Element) -> list[tuple[ElementTree.Element, ElementTree.Element]]:
-        """The rectangles of a group, each in a group of its own too."""
+    def each_in_group(self, group: ElementTree.Element) -> list[tuple[ElementTree.Element, ElementTree.Element]]:
+        """The rectangles of a group, each in a group of its own."""
         found = []
         for rect in group.iter(f"{SVG}rect"):
-            around = ElementTree.Element("g")
-            around.append(rect)
-            found.append((around, rect))
+            group = ElementTree.Element("g")
+            group.append(rect)
+            found.append((group, rect))
         return found
 
     def test_up_is_up(self) -> None:
@@ -88,7 +98,10 @@ class Pictures(FrontCase):
         ground = next(rect for rect in groups[""].findall(f"{SVG}rect") if "x" in rect.attrib).attrib
         left, top, width, height = (float(ground[key]) for key in ("x", "y", "width", "height"))
         self.assertEqual((a, b, c), (-d, 0, 0))
-        for x, y, wanted in ((view.left, view.top, (left, top)), (view.right, view.bottom, (left + width, top + height))):
+        for x, y, wanted in (
+            (view.left, view.top, (left, top)),
+            (view.right, view.bottom, (left + width, top + height)),
+        ):
             self.assertAlmostEqual(a * x + e, wanted[0], 1)
             self.assertAlmostEqual(d * y + f, wanted[1], 1)
 
@@ -99,12 +112,16 @@ class Pictures(FrontCase):
         self.assertEqual((side, other, left, bottom), (312, 312, -1440, -1440))
 
         def bins(paths: list[ElementTree.Element]) -> set[tuple[int, int]]:
-            runs = [map(int, run) for path in paths for run in re.findall(r"M(\d+) (\d+)h(\d+)v1h-\d+z", path.attrib["d"])]
+            runs = [
+                map(int, run) for path in paths for run in re.findall(r"M(\d+) (\d+)h(\d+)v1h-\d+z", path.attrib["d"])
+            ]
             return {(along, y) for x, y, length in runs for along in range(x, x + length)}
 
         def under(box: Box) -> set[tuple[int, int]]:
             xs = range((box.left - left) // side, (box.right - 1 - left) // side + 1)
-            return {(x, y) for x in xs for y in range((box.bottom - bottom) // side, (box.top - 1 - bottom) // side + 1)}
+            return {
+                (x, y) for x in xs for y in range((box.bottom - bottom) // side, (box.top - 1 - bottom) // side + 1)
+            }
 
         mine = [path for path in groups["map"] if path.attrib["fill"] == colour_of(0, "f0")]
         self.assertEqual(bins(mine), under(Box(400, 2000, 800, 4000)))
@@ -114,7 +131,7 @@ class Pictures(FrontCase):
     def test_arrows_lead_from_the_old_places(self) -> None:
         text = self.design.read_text()
         old = text.replace("( 8400 0 ) N", "( 12400 4000 ) N").replace("two INV + PLACED ( 64200 0 ) N", "two INV")
-        # The order of the components is another one.
+        # The components have another order.
         first = "- far INV + PLACED ( 2000000 0 ) N ;\n"
         (self.folder / "old.def").write_text(old.replace(first, "").replace("- one", f"{first}- one"))
         groups = self.picture("--before", "old.def")
@@ -129,8 +146,10 @@ class Pictures(FrontCase):
         self.design.write_text(text.replace("- far", near.format(66000) + far.format(16000) + "- far"))
         (self.folder / "old.def").write_text(text.replace("- far", near.format(65800) + far.format(40000) + "- far"))
         groups = self.picture("--before", "old.def")
-        told = {around.attrib["stroke"]: [arrow.findtext(f"{SVG}title") for arrow in around] for around in groups["moves"]}
-        self.assertEqual(told, {WAYS[0][1]: ["near"], WAYS[3][1]: ["away"]})
+        drawn = {
+            group.attrib["stroke"]: [arrow.findtext(f"{SVG}title") for arrow in group] for group in groups["moves"]
+        }
+        self.assertEqual(drawn, {MOVE_COLOURS[0][1]: ["near"], MOVE_COLOURS[3][1]: ["away"]})
         legend = "".join(groups["legend"].itertext())
         self.assertIn("→ 2 moved\nup to 2 rows 1\nup to 20 rows 1\n", legend)
 
@@ -148,22 +167,28 @@ class Pictures(FrontCase):
             left = float(line.attrib["transform"][10:].split()[0])
             text = line.find(f"{SVG}text")
             assert text is not None
-            said = "".join(text.itertext())
-            # DejaVu Sans: a W is as wide as high, a small letter or a digit two thirds of that.
-            wide = 13 * sum(0.99 if each in "W…→" else 0.6 for each in said)
-            self.assertLessEqual(left + float(text.get("x", 0)) + wide, float(root.attrib["width"]), said)
+            output = "".join(text.itertext())
+            # DejaVu Sans: a W is as wide as high, a small letter or a digit has two thirds of that.
+            wide = 13 * sum(0.99 if each in "W…→" else 0.6 for each in output)
+            self.assertLessEqual(left + float(text.get("x", 0)) + wide, float(root.attrib["width"]), output)
         self.assertIn("51,850 moved", "".join(legend.itertext()))
 
-    def test_where_most_cells_break_a_rule_a_map_shows_what_is_too_full(self) -> None:
+    def test_if_most_cells_break_a_rule_a_map_shows_overfull_bins(self) -> None:
         astray = "".join(f"- x{at} INV + PLACED ( {20000 + 13 * at} 3 ) N ;\n" for at in range(40))
-        self.design.write_text(self.design.read_text().replace("- far", f"{astray}- lone INV + PLACED ( 50007 1 ) N ;\n- far"))
+        self.design.write_text(
+            self.design.read_text().replace("- far", f"{astray}- lone INV + PLACED ( 50007 1 ) N ;\n- far")
+        )
         groups = self.picture("--limit", "3")
-        red = [tuple(map(int, run)) for path in groups["broken"] for run in re.findall(r"M(\d+) (\d+)h(\d+)v1h-\d+z", path.attrib["d"])]
+        red = [
+            tuple(map(int, run))
+            for path in groups["broken"]
+            for run in re.findall(r"M(\d+) (\d+)h(\d+)v1h-\d+z", path.attrib["d"])
+        ]
         side, _, _, _, left, _ = map(int, groups["map"].attrib["transform"][7:-1].split())
-        # Where the forty stand and where two overlap, but not where one stands alone.
+        # The bins of the forty cells and of the two that overlap are red, but not that of a single cell.
         places = {(left + side * (x + at)) // 10000 for x, _, length in red for at in range(length)}
         self.assertEqual(places - {1}, {2, 6})
-        self.assertIn("red are\nbins with more cells than room", "".join(groups["legend"].itertext()))
+        self.assertIn("red\nbins are more than full", "".join(groups["legend"].itertext()))
 
     def test_designs_without_cells_or_places(self) -> None:
         bare = self.design.read_text().split("COMPONENTS")[0] + "END DESIGN\n"
@@ -175,12 +200,12 @@ class Pictures(FrontCase):
                 self.assertEqual(len(boxes(groups.get("cells", groups["broken"]))), 0)
 
     def test_any_name_is_text(self) -> None:
-        self.assertEqual(text_of("a\x00<\ud800&\"\uffff"), "a\\x00&lt;\\xd800&amp;&quot;\\xffff")
+        self.assertEqual(text_of('a\x00<\ud800&"\uffff'), "a\\x00&lt;\\xd800&amp;&quot;\\xffff")
         self.assertEqual(shortened("abcdefghij", 6), "abc…ij")
         odd = self.folder / "\u00e9<&\n.def"
-        odd.write_bytes(self.design.read_bytes().replace(b"DESIGN t ", b"DESIGN <t&\"> "))
+        odd.write_bytes(self.design.read_bytes().replace(b"DESIGN t ", b'DESIGN <t&"> '))
         groups = self.picture(design=odd.name)
-        self.assertEqual(groups[""].findtext(f"{SVG}title"), "<t&\">")
+        self.assertEqual(groups[""].findtext(f"{SVG}title"), '<t&">')
 
     def test_a_png(self) -> None:
         words = [*tool_words("lefence-picture"), "t.def", "t.lef", "--program", self.program, "-o", "x.png"]
@@ -192,15 +217,18 @@ class Pictures(FrontCase):
             self.assertEqual(made[:8], b"\x89PNG\r\n\x1a\n")
             with Description(self.program, self.design, [self.lef]) as description:
                 drawing = Drawing(Scene(description.frame))
-            # The picture is there, and twice as wide as the chip at least.
+            # The picture exists and is at least twice as wide as the chip.
             self.assertGreater(int.from_bytes(made[16:20]), 2 * drawing.wide)
         else:
             self.assertEqual(done.returncode, 2)
             self.assertIn(b"install the Debian package klayout", done.stderr)
 
-    def test_what_is_read_is_not_overwritten(self) -> None:
+    def test_inputs_are_not_overwritten(self) -> None:
         done = self.tool("lefence-picture", "t.def", "t.lef", "--program", self.program, "-o", "t.lef")
-        self.assertEqual((done.returncode, done.stderr), (2, b"lefence-picture: t.lef is read, and would be written over\n"))
+        self.assertEqual(
+            (done.returncode, done.stderr),
+            (2, b"lefence-picture: t.lef is an input file, so it cannot be the output\n"),
+        )
         done = self.tool("lefence-picture", "t.def", "t.lef", "--program", self.program, "-o", "x.jpg")
         self.assertEqual((done.returncode, (self.folder / "x.jpg").exists()), (2, False), done.stderr)
 

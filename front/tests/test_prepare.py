@@ -1,4 +1,4 @@
-"""From a DEF text without rows or fences to one that loads."""
+"""Preparing a DEF file without rows or fences for the program."""
 
 from __future__ import annotations
 
@@ -8,11 +8,11 @@ from pathlib import Path
 
 from support import PROGRAM, FrontCase
 
-from lefence.description import Box
-from lefence.faults import Fault
-from lefence.lef import sites_of
-from lefence.prepare import Preparation, Wanted
-from lefence.prepare_tool import prepare
+from lefence.base.description import Box
+from lefence.base.faults import Fault
+from lefence.base.lef import sites_of
+from lefence.tools.preparation import Preparation, PreparationOptions
+from lefence.tools.prepare import prepare
 
 LEF = """VERSION 5.8 ;
 PROPERTYDEFINITIONS MACRO SITE STRING ; END PROPERTYDEFINITIONS
@@ -23,7 +23,7 @@ MACRO INV CLASS CORE ; ORIGIN 0 0 ; SIZE 0.4 BY 2.0 ; SYMMETRY X Y ; SITE core ;
 MACRO FILL CLASS CORE ; ORIGIN 0 0 ; SIZE 0.2 BY 2.0 ; SYMMETRY X Y ; SITE core ; END FILL
 END LIBRARY
 """
-# Cells on a grid off the die's corner, of which one stands astray; fillers by name and by macro.
+# Cells on a grid off the die's corner, one of them off the grid; fillers by name and by macro.
 TEXT = """VERSION 5.8 ;
 DESIGN t ;
 UNITS DISTANCE MICRONS 1000 ;
@@ -63,13 +63,15 @@ class Preparations(FrontCase):
         self.output = self.folder / "ready.def"
 
     def run_on(self, *words: str | Path) -> subprocess.CompletedProcess[bytes]:
-        return self.tool("lefence-prepare", self.design, self.lef, "--output", self.output, "--program", PROGRAM, *words)
+        return self.tool(
+            "lefence-prepare", self.design, self.lef, "--output", self.output, "--program", PROGRAM, *words
+        )
 
     def test_the_sites_of_a_lef_text(self) -> None:
         sites = [(site.name, site.is_core, float(site.width), float(site.height)) for site in sites_of(LEF.encode())]
         self.assertEqual(sites, [(b"pad", False, 10, 10), (b"core", True, 0.2, 2), (b"tall", True, 0.2, 4)])
 
-    def test_rows_fences_and_groups_come_in_and_fillers_go(self) -> None:
+    def test_rows_fences_and_groups_are_added_and_fillers_removed(self) -> None:
         fences = "--fence A 0 0 2 8.04 --fence B 3 0 4 .1 --fence A 2 0 2.5 0.1 --group A a/* --group B nothing".split()
         done = self.run_on("--fillers", "FILL*", *fences)
         text = TEXT.replace("\nTRACKS", f"{ROWS}\nTRACKS").replace("\n\nCOMPONENTS 7", f"{FENCES}\n\nCOMPONENTS 4")
@@ -77,9 +79,9 @@ class Preparations(FrontCase):
             text = text.replace(filler, "")
         groups = "\nGROUPS 2 ;\n- A a/* + REGION A ;\n- B nothing + REGION B ;\nEND GROUPS"
         text = text.replace("\nEND DESIGN", f"{groups}\nEND DESIGN")
-        told = (
+        expected = (
             "4 rows of site core added: 20 sites each, the first at 50 40 is FS",
-            "the rows follow the 5 placed cells: 3 of them fit along x, 3 along y, and 3 face as their row",
+            "the rows follow the 5 placed cells: 3 fit along x, 3 along y, 3 have their row's orientation",
             "3 fillers removed (FILL*)",
             "fence A added: 2 rectangles",
             "fence B added: 1 rectangle",
@@ -89,29 +91,33 @@ class Preparations(FrontCase):
             "it loads: 4 cells, 0 unplaced, 2 illegal (1 by rule 2 Row, 1 by rule 6 Fence)",
         )
         self.assertEqual((done.returncode, done.stdout), (0, b""), done.stderr)
-        self.assertEqual(done.stderr.decode().splitlines(), [f"lefence-prepare: {line}" for line in told])
+        self.assertEqual(done.stderr.decode().splitlines(), [f"lefence-prepare: {line}" for line in expected])
         self.assertEqual(self.output.read_text(), text)
 
-    def test_rows_begin_at_the_corner_where_cells_tell_no_grid(self) -> None:
-        for text, told in (
+    def test_rows_start_at_the_corner_if_the_cells_have_no_grid(self) -> None:
+        for text, expected in (
             (TEXT.replace("PLACED", "UNPLACED"), "no cell is placed"),
             (TEXT.replace("( 50 4040 )", "( 3 77 )"), "less than half of the 5 placed cells agree on a grid"),
         ):
             preparation = Preparation(text.encode())
-            prepare(preparation, Wanted(), [LEF.encode()], None)
-            self.assertEqual(preparation.said[1], f"{told}: the rows begin at the core's corner with N")
+            prepare(preparation, PreparationOptions(), [LEF.encode()], None)
+            self.assertEqual(preparation.messages[1], f"{expected}: the rows start at the core's corner with N")
             rows = b"\nROW ROW_0 core -100 -300 N DO 21 BY 1 STEP 200 0 ;\nROW ROW_1 core -100 1700 FS "
             self.assertIn(rows, preparation.result())
 
-    def test_sections_that_are_there_are_added_to(self) -> None:
+    def test_existing_sections_are_extended(self) -> None:
         self.design.write_text(self.output_of("--fence", "A", *"0011", "--group", "A", "a/*"))
         text = self.output_of("--fence", "B", *"1021", "--group", "A", "b/*", "--group", "B", "x")
         regions = "- A ( 0 0 ) ( 1000 1000 ) + TYPE FENCE ;\n- B ( 1000 0 ) ( 2000 1000 ) + TYPE FENCE ;\n"
         self.assertIn(f"\nREGIONS 2 ;\n{regions}END REGIONS", text)
-        self.assertIn("\nGROUPS 3 ;\n- A a/* + REGION A ;\n- A_2 b/* + REGION A ;\n- B x + REGION B ;\nEND GROUPS", text)
+        self.assertIn(
+            "\nGROUPS 3 ;\n- A a/* + REGION A ;\n- A_2 b/* + REGION A ;\n- B x + REGION B ;\nEND GROUPS", text
+        )
         self.design.write_text(text)
         self.assertEqual(self.output_of(), text)
-        other = self.output_of("--rows", "--site", "tall", "--core", "0", "0", "4", "9", "--margin", "0.3", "--force", status=1)
+        other = self.output_of(
+            "--rows", "--site", "tall", "--core", "0", "0", "4", "9", "--margin", "0.3", "--force", status=1
+        )
         rows = "\nROW ROW_0 tall 300 300 N DO 17 BY 1 STEP 200 0 ;\nROW ROW_1 tall 300 4300 FS DO 17 BY 1 STEP 200 0 ;"
         self.assertIn(f" # the die{rows}\nTRACKS", other)
 
@@ -120,39 +126,76 @@ class Preparations(FrontCase):
         self.assertEqual(done.returncode, status, done.stderr)
         return self.output.read_text()
 
-    def test_what_does_not_load_is_written_by_force_alone(self) -> None:
+    def test_a_design_that_does_not_load_is_written_only_by_force(self) -> None:
         self.lef.write_text(LEF.replace("MACRO FILL", "MACRO GAP").replace("END FILL", "END GAP"))
         done = self.run_on()
         lines = TEXT.replace("\nTRACKS", f"{ROWS}\nTRACKS").split("\n")
         line = next(line for line in lines if line.startswith("- x FILL"))
-        told = f"it does not load: 14 NoMacro FILL; the prepared text, line {lines.index(line) + 1}: {line}\n".encode()
-        told += b"lefence-prepare: nothing is written; --force writes it even so\n"
+        expected = (
+            f"it does not load: 14 NoMacro FILL; the prepared DEF file, line {lines.index(line) + 1}: {line}\n".encode()
+        )
+        expected += b"lefence-prepare: nothing is written; --force writes it anyway\n"
         self.assertEqual((done.returncode, self.output.exists()), (1, False))
-        self.assertTrue(done.stderr.endswith(told), done.stderr)
+        self.assertTrue(done.stderr.endswith(expected), done.stderr)
         done = self.run_on("--force")
         self.assertEqual((done.returncode, self.output.read_text()), (1, TEXT.replace("\nTRACKS", f"{ROWS}\nTRACKS")))
 
-    def test_what_cannot_be_done_is_told(self) -> None:
+    def test_impossible_requests_are_reported(self) -> None:
         text = self.design.read_text()
-        for change, words, status, told in (
-            (("DIEAREA", "HISTORY"), (), 1, "the text has no DIEAREA; --core says where rows are made"),
-            (("( 4100 8100 )", "( 0 1 ) ( 0 0 )"), (), 1, "DIEAREA is no rectangle in whole database units; --core"),
-            (("UNITS", "HISTORY"), (), 1, "the text has no UNITS DISTANCE MICRONS"),
-            (("MICRONS 1000", "MICRONS 1"), (), 1, "site core is no whole number of database units: 0.2"),
-            (("( 4100 8100 )", "( 4100 2147483647 )"), (), 1, "1073741 rows of site core would have room in the core; the"),
-            (("", ""), ("--margin", "3"), 1, "no row of site core has room in the core: ( 2900 2700 ) ( 1100 5100 ) database"),
-            (("", ""), ("--margin", "1e3"), 2, "1e3 is no length in microns"),
-            (("", ""), ("--site", "pad"), 1, "no LEF text has a site pad with CLASS CORE and a SIZE; found: core, tall"),
-            (("", ""), ("--group", "A", "x"), 1, "there is no fence A for the group; --fence A adds one"),
-            (("", ""), ("--fence", "a;b c", *"0011"), 2, "'a;b c' can be no name in a DEF text"),
-            (("", ""), ("--fence", "A", *"1100"), 2, "1 1 0 0 is no rectangle: X1 Y1 X2 Y2 are left, bottom, right and top"),
-            (("", ""), ("--fence", "A", "0.0001", *"011"), 1, "0.0001 microns is no whole number of database units: 0.1"),
-            (("TRACKS", f"{ROWS} TRACKS"), ("--margin", "1"), 2, "the text has rows; --rows makes others in their place"),
+        for change, words, status, expected in (
+            (("DIEAREA", "HISTORY"), (), 1, "the DEF file has no DIEAREA; use --core to place the rows"),
+            (
+                ("( 4100 8100 )", "( 0 1 ) ( 0 0 )"),
+                (),
+                1,
+                "DIEAREA is not a rectangle in whole database units; use --core",
+            ),
+            (("UNITS", "HISTORY"), (), 1, "the DEF file has no UNITS DISTANCE MICRONS"),
+            (("MICRONS 1000", "MICRONS 1"), (), 1, "site core is not a whole number of database units: 0.2"),
+            (
+                ("( 4100 8100 )", "( 4100 2147483647 )"),
+                (),
+                1,
+                "1073741 rows of site core fit into the core; the",
+            ),
+            (
+                ("", ""),
+                ("--margin", "3"),
+                1,
+                "no row of site core fits into the core: ( 2900 2700 ) ( 1100 5100 ) database",
+            ),
+            (("", ""), ("--margin", "1e3"), 2, "1e3 is not a length in microns"),
+            (
+                ("", ""),
+                ("--site", "pad"),
+                1,
+                "no LEF file has a site pad with CLASS CORE and a SIZE; found: core, tall",
+            ),
+            (("", ""), ("--group", "A", "x"), 1, "no fence A for the group; --fence A adds one"),
+            (("", ""), ("--fence", "a;b c", *"0011"), 2, "'a;b c' cannot be a name in a DEF file"),
+            (
+                ("", ""),
+                ("--fence", "A", *"1100"),
+                2,
+                "1 1 0 0 is not a rectangle: X1 Y1 X2 Y2 are left, bottom, right and top",
+            ),
+            (
+                ("", ""),
+                ("--fence", "A", "0.0001", *"011"),
+                1,
+                "0.0001 microns is not a whole number of database units: 0.1",
+            ),
+            (
+                ("TRACKS", f"{ROWS} TRACKS"),
+                ("--margin", "1"),
+                2,
+                "the DEF file has rows; --rows replaces them",
+            ),
         ):
             self.design.write_text(text.replace(*change, 1))
             done = self.run_on(*words)
             self.assertEqual((done.returncode, self.output.exists()), (status, False), done.stderr)
-            self.assertTrue(done.stderr.decode().startswith(f"lefence-prepare: {told}"), done.stderr)
+            self.assertTrue(done.stderr.decode().startswith(f"lefence-prepare: {expected}"), done.stderr)
 
     def test_any_bytes_end_without_a_traceback(self) -> None:
         for _ in range(300):
@@ -161,7 +204,7 @@ class Preparations(FrontCase):
                 at = self.rng.randrange(len(text))
                 odd = self.rng.choice([b"", b";", b"\xff", b" - ", b" END ", b'"', b"9" * 30, b"#"])
                 text[at : at + self.rng.randrange(30)] = odd
-            wanted = Wanted(fillers=["F*"], fences={"A": [Box(0, 0, 1, 1)]}, groups={"A": ["*"]})
+            wanted = PreparationOptions(fillers=["F*"], fences={"A": [Box(0, 0, 1, 1)]}, groups={"A": ["*"]})
             try:
                 preparation = Preparation(bytes(text))
                 self.assertIsInstance(preparation.units, int)

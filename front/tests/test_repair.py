@@ -1,4 +1,4 @@
-"""Repairs: cells that have room get legal places near where they stood; those that have none are named and unplaced."""
+"""Repairs: cells get legal places near their old ones if there is room; the others are listed and unplaced."""
 
 from __future__ import annotations
 
@@ -10,12 +10,12 @@ from unittest import main
 
 from support import CELLS, LEF, PROGRAM, TEAMS, WIDTH, FrontCase, klayout, with_klayout
 
-from lefence.description import Cell, Description
-from lefence.splice import Spot, with_spots
+from lefence.base.description import Cell, Description
+from lefence.tools.splice import Spot, with_spots
 
 # A macro that is higher than all rows.
 HIGH = "MACRO HIGH CLASS CORE ; ORIGIN 0 0 ; SIZE 0.4 BY 10.0 ; SYMMETRY X Y ; SITE core ; END HIGH\nEND LIBRARY"
-# A fence of five sites of one row, in which a cell of two sites and one of three have room side by side alone.
+# A fence of five sites in one row. A cell of two sites and one of three fit there only next to each other.
 TIGHT = """VERSION 5.8 ; DESIGN tight ; UNITS DISTANCE MICRONS 1000 ;
 ROW r core 0 0 N DO 5 BY 1 STEP 200 0 ;
 REGIONS 1 ; - A ( 0 0 ) ( 1000 2000 ) + TYPE FENCE ; END REGIONS
@@ -26,7 +26,7 @@ END COMPONENTS
 GROUPS 1 ; - g two three + REGION A ; END GROUPS
 END DESIGN
 """
-# How many cells KLayout reads of a design, the sum of the areas of their boxes, and the area that these cover together.
+# The number of cells that KLayout reads, the sum of their areas, and the area of their union.
 AREAS = """
 import pya
 options = pya.LoadLayoutOptions()
@@ -39,7 +39,7 @@ outline = layout.find_layer(99, 0)
 boxes = [each.bbox_per_layer(outline) for each in layout.top_cell().each_inst()]
 print(len(boxes), sum(box.area() for box in boxes), pya.Region(boxes).merged().area())
 """
-# Ways to write where a cell is, and none.
+# Forms of a placement clause, and none.
 CLAUSES = (
     "+ PLACED ( {x} {y} ) N",
     "+ SOURCE DIST + PLACED ( {x}\t{y} ) S + WEIGHT 2",
@@ -52,7 +52,7 @@ CLAUSES = (
 
 
 def spot_of(cell: Cell) -> Spot | None:
-    """Where a cell stands."""
+    """The place of a cell."""
     return None if cell.box is None or cell.orient is None else Spot(cell.box.left, cell.box.bottom, cell.orient)
 
 
@@ -63,7 +63,7 @@ class Repairs(FrontCase):
         self.jumble()
 
     def jumble(self) -> None:
-        """Puts each cell anywhere in its own fence or outside all, in one row in two, on and off sites."""
+        """Places each cell anywhere in its own fence or outside all, in one of two rows, on and off sites."""
 
         def place(found: re.Match[str]) -> str:
             left = WIDTH * int(found[2] or 8)
@@ -86,7 +86,7 @@ class Repairs(FrontCase):
         text = self.design.read_text().replace("END COMPONENTS", f"{component} ;\nEND COMPONENTS")
         self.design.write_text(text.replace("END GROUPS", f"{group} ;\nEND GROUPS") if group else text)
 
-    def test_every_cell_is_legal_behind_it_and_legal_cells_may_be_kept(self) -> None:
+    def test_a_repair_makes_every_cell_legal_and_may_keep_legal_cells(self) -> None:
         before = self.cells(self.design)
         done = self.repair("--out", self.target, "--keep")
         self.assertEqual((done.returncode, done.stdout), (0, b""), done.stderr)
@@ -104,34 +104,38 @@ class Repairs(FrontCase):
         self.assertEqual([path.name for path in sorted(self.folder.iterdir())], ["new.def", "t.def", "t.lef"])
 
     @with_klayout
-    def test_klayout_finds_no_overlap_behind_it(self) -> None:
+    def test_klayout_finds_no_overlap_after_it(self) -> None:
         self.assertEqual(self.repair("--out", self.target).returncode, 0)
         for design, is_repaired in ((self.design, False), (self.target, True)):
             [line] = klayout(self.folder, AREAS, "-b", "-rd", f"design={design}", "-rd", f"lef={self.lef}")
             count, area, covered = map(float, line.split())
             self.assertEqual((count == CELLS * (TEAMS + 1), area == covered), (is_repaired, is_repaired), line)
 
-    def test_what_is_spliced_is_what_the_program_exports(self) -> None:
+    def test_a_splice_equals_the_export_of_the_program(self) -> None:
         self.assertEqual(self.repair("--out", self.target).returncode, 0)
         before, after = self.cells(self.design), self.cells(self.target)
-        spots = {name: spot for name, cell in after.items() if (spot := spot_of(cell)) and spot != spot_of(before[name])}
+        spots = {
+            name: spot for name, cell in after.items() if (spot := spot_of(cell)) and spot != spot_of(before[name])
+        }
         self.assertGreater(len(spots), 40)
         self.assertEqual(with_spots(self.design.read_bytes(), spots), self.target.read_bytes())
         unplaced = with_spots(self.target.read_bytes(), dict.fromkeys(spots))
         (self.folder / "unplaced.def").write_bytes(unplaced)
-        self.assertEqual({name for name, cell in self.cells(self.folder / "unplaced.def").items() if cell.box is None}, {*spots})
+        self.assertEqual(
+            {name for name, cell in self.cells(self.folder / "unplaced.def").items() if cell.box is None}, {*spots}
+        )
 
-    def test_a_cell_without_room_is_named_and_unplaced_and_all_others_are_repaired(self) -> None:
+    def test_a_cell_without_room_is_reported_and_unplaced_and_all_others_are_repaired(self) -> None:
         self.lef.write_text(LEF.replace("END LIBRARY", HIGH))
         self.add(f"- high HIGH + PLACED ( {2 * WIDTH + 1000} 0 ) N", "- more high + REGION f2")
         self.add("- new HIGH", "- other new + REGION f2")
         done = self.repair("--out", self.target)
         self.assertEqual(done.returncode, 4)
         gap = rb"; the widest gap of the rows near it is \d+\.\d{3} microns\n"
-        self.assertRegex(done.stderr, rb"team f2: no place for high, which stood at %d 0 N" % (2 * WIDTH + 1000) + gap)
+        self.assertRegex(done.stderr, rb"team f2: no place for high, which was at %d 0 N" % (2 * WIDTH + 1000) + gap)
         self.assertRegex(done.stderr, rb"team f2: no place for new, which had none" + gap)
-        # (nothing is said of other teams where all were repaired)
-        self.assertIn(b"not fully legal: 2 cells left\n", done.stderr)
+        # (teams that were fully repaired are not mentioned)
+        self.assertIn(b"not fully legal: 2 cells unrepaired\n", done.stderr)
         check = subprocess.run([PROGRAM, "check", self.target, self.lef], capture_output=True)
         self.assertEqual(json.loads(check.stdout), {"cells": 92, "unplaced": 2, "violations": []})
         self.assertIn("- high HIGH + UNPLACED ;", self.target.read_text())
@@ -146,13 +150,15 @@ class Repairs(FrontCase):
         self.assertEqual(self.target.read_text(), wanted)
 
     def test_a_cell_on_others_ground_does_not_move_them(self) -> None:
-        self.design.write_text(TIGHT.replace("three BUF + PLACED ( 200", "three BUF + PLACED ( 400").replace("DO 5", "DO 9"))
+        self.design.write_text(
+            TIGHT.replace("three BUF + PLACED ( 200", "three BUF + PLACED ( 400").replace("DO 5", "DO 9")
+        )
         self.add("- g INV + PLACED ( 0 0 ) N")
         done = self.repair("--dry-run")
         self.assertEqual((done.returncode, done.stdout), (0, b"- g 0 0 N -> 1000 0 N by 1000\n"), done.stderr)
         self.assertEqual(self.repair("--dry-run", "--team", "A").returncode, 4)
 
-    def test_a_dry_run_tells_what_would_move_and_writes_nothing(self) -> None:
+    def test_a_dry_run_prints_what_would_move_and_writes_nothing(self) -> None:
         before = self.cells(self.design)
         done = self.repair("--dry-run")
         self.assertEqual(done.returncode, 0)
@@ -160,9 +166,9 @@ class Repairs(FrontCase):
         self.repair("--out", self.target)
         after = self.cells(self.target)
         moved = [name for name, cell in before.items() if spot_of(cell) != spot_of(after[name])]
-        told = dict(line.split(" ", 2)[1:] for line in done.stdout.decode().splitlines())
-        self.assertEqual(sorted(told), sorted(moved))
-        for name, text in told.items():
+        moves = dict(line.split(" ", 2)[1:] for line in done.stdout.decode().splitlines())
+        self.assertEqual(sorted(moves), sorted(moved))
+        for name, text in moves.items():
             spot = spot_of(after[name])
             assert spot
             self.assertIn(f" -> {spot.x} {spot.y} {spot.orient}", text)
@@ -178,7 +184,7 @@ class Repairs(FrontCase):
         self.assertEqual((done.returncode, self.target.read_bytes()), (0, self.design.read_bytes()))
         self.assertIn(b"lefence-repair: nothing moves\n", done.stderr)
 
-    def test_the_named_teams_alone_are_repaired(self) -> None:
+    def test_only_the_named_teams_are_repaired(self) -> None:
         before = self.cells(self.design)
         done = self.repair("--out", self.target, "--team", "f1", "--team", "-")
         self.assertEqual(done.returncode, 4)
@@ -188,11 +194,13 @@ class Repairs(FrontCase):
                 self.assertEqual((after[name].box is None, after[name].rule), (False, None))
             else:
                 self.assertEqual(spot_of(after[name]), spot_of(cell))
-        self.assertTrue(done.stderr.endswith(b"not fully legal: other teams have cells that break a rule or have no place\n"))
+        self.assertTrue(
+            done.stderr.endswith(b"not fully legal: other teams have cells that break a rule or have no place\n")
+        )
         done = self.repair("--out", self.target, "--team", "Z")
         self.assertEqual((done.returncode, done.stderr), (1, b"lefence-repair: NoTeam; team Z is not in the design\n"))
 
-    def test_a_program_that_takes_its_time_is_waited_for_with_a_line_a_second(self) -> None:
+    def test_a_slow_program_has_a_progress_line_each_second(self) -> None:
         slow = self.folder / "slow"
         slow.write_text(f"#!/bin/sh\n[ $1 = repair ] && sleep 2.5\nexec '{PROGRAM}' \"$@\"\n")
         slow.chmod(0o755)
@@ -200,36 +208,39 @@ class Repairs(FrontCase):
         self.assertEqual(done.returncode, 0)
         self.assertRegex(done.stderr, rb"^(lefence-repair: the program repairs, \d+ s\n)+lefence-repair: team ")
 
-    def test_what_is_refused_is_told_and_no_file_is_left(self) -> None:
+    def test_a_refusal_is_reported_and_no_file_remains(self) -> None:
         text = self.design.read_text()
-        for broken, told in ((text[:400], b"2 UnexpectedEnd line"), (text.replace("UNITS", "#"), b"7 NoUnits t; DEF file")):
+        for broken, expected in (
+            (text[:400], b"2 UnexpectedEnd line"),
+            (text.replace("UNITS", "#"), b"7 NoUnits t; DEF file"),
+        ):
             self.design.write_text(broken)
             done = self.repair("--out", self.target)
-            self.assertEqual((done.returncode, told in done.stderr), (1, True), done.stderr)
+            self.assertEqual((done.returncode, expected in done.stderr), (1, True), done.stderr)
             self.assertEqual([path.name for path in sorted(self.folder.iterdir())], ["t.def", "t.lef"])
-        for target, why in (("nowhere/x", " cannot be written: there is no such folder"), (".", ": Is a directory")):
+        for target, why in (("nowhere/x", "cannot write nowhere/x: no such folder"), (".", ".: Is a directory")):
             done = self.repair("-o", target)
-            self.assertEqual((done.returncode, done.stderr.decode()), (3, f"lefence-repair: {target}{why}\n"))
+            self.assertEqual((done.returncode, done.stderr.decode()), (3, f"lefence-repair: {why}\n"))
 
-    def fails(self, script: str, told: bytes, *words: str) -> None:
-        """A repair by a program that this script of a shell stands for is told so, and no file is left."""
+    def fails(self, script: str, expected: bytes, *words: str) -> None:
+        """Checks that a repair by this script instead of the program fails with this message and leaves no file."""
         odd = self.folder / "odd"
         odd.write_text(f"#!/bin/sh\n{script}\n")
         odd.chmod(0o755)
         done = self.repair(*words, program=str(odd))
-        self.assertEqual((done.returncode, told in done.stderr), (3, True), done.stderr)
+        self.assertEqual((done.returncode, expected in done.stderr), (3, True), done.stderr)
         self.assertEqual([path.name for path in sorted(self.folder.iterdir())], ["odd", "t.def", "t.lef"])
 
-    def test_a_program_that_dies_is_told_and_no_file_is_left(self) -> None:
+    def test_a_program_that_dies_is_reported_and_no_file_remains(self) -> None:
         for words in (("--out", str(self.target)), ("--dry-run",)):
-            self.fails("kill -9 $$", b"the program was lost: it ended with -9\n", *words)
-            self.fails("echo ok", b"the program was lost: it ended with 0\n", *words)
-        for end, told in (
-            ("kill -9 $$", b"the program was lost: it ended with -9\n"),
-            ("exit 0", b"the program was lost: replies lack\n"),
-            (f"'{PROGRAM}' \"$@\" | sed 's/ok 7/no 7/'; exit 0", b"the program answered 'no 7"),
+            self.fails("kill -9 $$", b"the program ended unexpectedly with status -9\n", *words)
+            self.fails("echo ok", b"the program ended unexpectedly with status 0\n", *words)
+        for end, expected in (
+            ("kill -9 $$", b"the program ended unexpectedly with status -9\n"),
+            ("exit 0", b"the program ended unexpectedly: replies are missing\n"),
+            (f"'{PROGRAM}' \"$@\" | sed 's/ok 7/no 7/'; exit 0", b"unexpected reply of the program: 'no 7"),
         ):
-            self.fails(f"if [ $1 = replay ]; then\n{end}\nfi\nexec '{PROGRAM}' \"$@\"", told, "--dry-run")
+            self.fails(f"if [ $1 = replay ]; then\n{end}\nfi\nexec '{PROGRAM}' \"$@\"", expected, "--dry-run")
 
 
 if __name__ == "__main__":

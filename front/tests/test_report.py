@@ -1,4 +1,4 @@
-"""The page about a design: what it tells, and that it works in a real browser."""
+"""The page about a design: its contents, and its behaviour in a real browser."""
 
 from __future__ import annotations
 
@@ -13,10 +13,11 @@ from browser import CHROMIUM, Browser
 from support import FrontCase
 
 import lefence
-from lefence.description import Box, Cell
-from lefence.report import Near
+from lefence.base.description import Box, Cell
+from lefence.tools.report import Near
 
-# Cells that break rules, two of them with odd names; a soft blockage, a FIXED component with such a name, and a blockage.
+# Cells that break rules, two of them with odd names; a soft blockage, a FIXED component with such a name, and a
+# blockage.
 ODD = "f0c</script><b>&\"'%41"
 MORE = f"""BLOCKAGES 2 ;
 - PLACEMENT RECT ( 70000 4000 ) ( 71000 8000 ) ;
@@ -34,7 +35,7 @@ END COMPONENTS
 
 
 class Text(HTMLParser):
-    """The text of the cells of tables, line by line, and the embedded data."""
+    """Parses the text of tables, row by row, and the embedded data."""
 
     def __init__(self, page: str) -> None:
         super().__init__()
@@ -79,11 +80,12 @@ class Reports(ReportCase):
         read: dict[str, Any] = json.loads(text.data)
         return read
 
-    def test_what_the_tables_tell(self) -> None:
+    def test_the_contents_of_the_tables(self) -> None:
         text = Text(self.page())
         self.assertIn(["twooverlaps one", "8 Overlap", "-", "64.2, 0"], text.lines)
         self.assertIn("#v=" + quote(ODD, safe=""), text.links)
-        # Of f0: eleven cells of 10 * 400 and 4 * 200 by 2000 more, ten unplaced, one off its site; the wall stands in its ground.
+        # Team f0 has seven cells of 400 * 2000 and four of 600 * 2000. Ten are unplaced, one is off its site. The wall
+        # is in its ground.
         self.assertIn(["f0", "11", "1", "10", "1Row 1", "10.4", "62.8", "16.6%"], text.lines)
         self.assertIn(["f1", "11", "1", "10", "0", "10.4", "64.0", "16.2%"], text.lines)
         ground = ["-the ground outside all fences", "13", "3", "10", "3Row 1, Overlap 2", "12.0", "60.0", "20.0%"]
@@ -94,7 +96,7 @@ class Reports(ReportCase):
         self.assertEqual(data["obstacles"], [[0, 6000, 600, 2000, "</script>wall"], [70000, 4000, 1000, 4000, None]])
         self.assertEqual((data["soft"], data["map"]), ([[9000, 0, 400, 2000]], None))
 
-    def test_above_the_limit_there_is_a_map_and_what_is_near_violations(self) -> None:
+    def test_above_the_limit_there_is_a_map_with_the_cells_near_violations(self) -> None:
         page = self.page("--limit", "2", "--most", "1")
         self.assertIn("The first 1 of 4 are listed", page)
         data = self.data(Text(page))
@@ -114,14 +116,17 @@ class Reports(ReportCase):
     def test_cells_near_a_huge_one_are_bounded(self) -> None:
         huge = Cell("huge", "-", "M", 10**9, 10**9, Box(0, 0, 10**9, 10**9), "N", 1, None)
         near = Near([huge], 2000)
-        beside = Cell("a", "-", "M", 400, 2000, Box(0, 0, 400, 2000), "N", None, None)
-        far = beside._replace(name="b", box=Box(9**9, 0, 9**9 + 400, 2000))
-        self.assertEqual([near.has(cell) for cell in (huge, beside, far)], [False, True, False])
-        self.assertTrue(near.has(beside._replace(name="x" * 3_000_000)))
-        self.assertFalse(near.has(beside))
+        nearby = Cell("a", "-", "M", 400, 2000, Box(0, 0, 400, 2000), "N", None, None)
+        far = nearby._replace(name="b", box=Box(9**9, 0, 9**9 + 400, 2000))
+        self.assertEqual([near.has(cell) for cell in (huge, nearby, far)], [False, True, False])
+        self.assertTrue(near.has(nearby._replace(name="x" * 3_000_000)))
+        self.assertFalse(near.has(nearby))
 
-    def test_when_and_by_what_it_was_made(self) -> None:
-        self.assertRegex(self.page(), rf"<dd>\d{{4}}-\d\d-\d\d \d\d:\d\d UTC, by lefence-report {re.escape(lefence.__version__)}</dd>")
+    def test_the_page_has_its_date_and_version(self) -> None:
+        self.assertRegex(
+            self.page(),
+            rf"<dd>\d{{4}}-\d\d-\d\d \d\d:\d\d UTC, by lefence-report {re.escape(lefence.__version__)}</dd>",
+        )
 
     def test_before_and_after(self) -> None:
         early = self.design.read_text()
@@ -130,23 +135,27 @@ class Reports(ReportCase):
         page = self.page("--before", "early.def")
         text = Text(page)
         self.assertIn("1 cell moved, 0 only turned, 4 stayed.", page)
-        # Two overlap no more; the cell that is far outside is illegal still.
+        # Two cells no longer overlap; the cell far outside is still illegal.
         self.assertIn(["-", "1", "0", "0", "0", "4.00", "4.00", "3 → 1", "10 → 10"], text.lines)
         self.assertIn(["f0", "0", "0", "0", "0", "–", "–", "1 → 1", "10 → 10"], text.lines)
         self.assertIn(["one", "-", "64, 0", "66, 2", "4.00", "2.0"], text.lines)
         self.assertIn("#m=one", text.links)
         found = self.data(text)["since"]
-        self.assertEqual((found["arrows"], found["far"]), ([[64200, 1000, 66200, 3000, 0, "one"]], [["one", 64000, 0, 66000, 2000]]))
+        self.assertEqual(
+            (found["arrows"], found["far"]), ([[64200, 1000, 66200, 3000, 0, "one"]], [["one", 64000, 0, 66000, 2000]])
+        )
         self.assertIsNone(self.data(Text(self.page()))["since"])
 
-    def test_texts_of_other_units_are_not_compared(self) -> None:
+    def test_designs_with_other_units_are_not_compared(self) -> None:
         text = "DESIGN t ;\nUNITS DISTANCE MICRONS 2000 ;\nROW r0 core 0 0 N DO 10 BY 1 STEP 400 0 ;\nEND DESIGN\n"
         (self.folder / "early.def").write_text(text)
-        done = self.tool("lefence-report", "t.def", "t.lef", "--program", self.program, "-o", "x.html", "--before", "early.def")
+        done = self.tool(
+            "lefence-report", "t.def", "t.lef", "--program", self.program, "-o", "x.html", "--before", "early.def"
+        )
         self.assertEqual((done.returncode, (self.folder / "x.html").exists()), (1, False), done.stderr)
-        self.assertIn(b"2000 database units in a micron", done.stderr)
+        self.assertIn(b"2000 database units per micron", done.stderr)
 
-    def test_nothing_comes_from_elsewhere(self) -> None:
+    def test_the_page_loads_nothing_else(self) -> None:
         self.assertIsNone(re.search(r"""(?:src|href)=["'](?!#|data:)|https?:|@import|url[(]""", self.page()))
 
 
@@ -165,7 +174,7 @@ class InABrowser(ReportCase):
         browser = self.browser
         browser.open((self.folder / "x.html").as_uri())
         browser.screen(1400)
-        # All is shown at first; a click on a violation's line shows its place.
+        # Initially all is visible; a click on a violation's row shows its place.
         x, y, all_scale, chosen = self.where()
         self.assertEqual((x, y, chosen), (36000, 4000, -1))
         browser.click("tr[data-go='v=two']")
@@ -174,13 +183,13 @@ class InABrowser(ReportCase):
         self.assertGreater(scale, 1.5 * all_scale)
         self.assertEqual(browser.value("location.hash"), "#v=two")
         self.assertEqual(browser.value("document.querySelector('tr.here a').textContent"), "two")
-        # The cell is there in red, its frame beside it.
+        # The cell is drawn in red, with its frame next to it.
         pixels = "pen.getImageData(across(64200), down(2000), 400 * at.scale, 2000 * at.scale).data"
         count = "(p => [p.filter((v, n) => n % 4 == 0 && v == 217 && p[n + 1] == 43).length, p.length / 4])"
         red, all_ = browser.value(f"{count}([...{pixels}])")
         self.assertGreater(red, all_ / 3)
         self.look_around(scale)
-        # Lines of teams, odd names, and widths and colours of the screen.
+        # Rows of teams, odd names, and widths and colours of the screen.
         browser.click("tr[data-go='t=f1']")
         self.assertEqual(self.where()[:2], [12000, 4000])
         browser.click(f"a[href='#v={quote(ODD, safe='')}']")
@@ -195,7 +204,9 @@ class InABrowser(ReportCase):
     def look_around(self, scale: float) -> None:
         """Wheel, drag, buttons and keys."""
         browser = self.browser
-        x, y = browser.value("[canvas.getBoundingClientRect()].map((b) => [b.x + size.wide / 2, b.y + size.high / 2])[0]")
+        x, y = browser.value(
+            "[canvas.getBoundingClientRect()].map((b) => [b.x + size.wide / 2, b.y + size.high / 2])[0]"
+        )
         browser.mouse("mouseWheel", x, y, deltaX=0, deltaY=-200)
         browser.drawn()
         self.assertGreater(self.where()[2], scale)
@@ -222,7 +233,7 @@ class InABrowser(ReportCase):
         self.browser.open((self.folder / "x.html").as_uri())
         self.browser.click("tr[data-go='m=one']")
         self.assertEqual(self.where()[:2], [65000, 1000])
-        # The arrow is drawn in the colour of short ways; a button hides it.
+        # The arrow has the colour of short moves; a button hides it.
         line = "pen.getImageData(across(65200) - 1, down(2000) - 1, 3, 3).data"
         self.assertTrue(self.browser.value(f"[...{line}].some((v, n) => n % 4 == 0 && v < 90)"))
         self.browser.click("#ways")

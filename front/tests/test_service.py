@@ -1,4 +1,4 @@
-"""A hub that serves for long: what stands beside its journal, and what its operator sees and bounds."""
+"""A hub in long service: its files, its operator's view, and its limits."""
 
 from __future__ import annotations
 
@@ -27,26 +27,28 @@ from unittest import mock
 
 from support import FRONT, PATIENCE, PROGRAM, FrontCase, Hub as RunningHub, HubCase, design_text, tool_words
 
-from lefence import crowd, exporter, hub_tool, status, whole_file
-from lefence.calm import Calm
-from lefence.faults import Fault
-from lefence.frames import sum_of
-from lefence.hub import Bounds, Hub
-from lefence.hub_client import Client
-from lefence.journal import Journal
-from lefence.notify import notify_alive
-from lefence.sockets import bound_socket, groups_of, take_folder
-from lefence.texts import settle_texts
+from lefence.base import atomic_file
+from lefence.base.faults import Fault
+from lefence.hub import clients, exporter, status
+from lefence.hub.hub import Hub, HubLimits
+from lefence.hub.hub_client import Client
+from lefence.hub.log_limit import RateLimitedLog
+from lefence.hub.notify import notify_alive
+from lefence.hub.sockets import bind_socket, claim_folder, groups_of
+from lefence.journal.frames import sum_of
+from lefence.journal.journal import Journal
+from lefence.journal.texts import resolve_texts
+from lefence.tools import hub as hub_tool
 
 
 class Texts(HubCase):
-    """The hub stands on the texts with which its journal was begun."""
+    """The hub uses the files with which its journal was made."""
 
     def start_refused(self, *words: str) -> tuple[int, str]:
         done = subprocess.run([*tool_words("lefence-hub"), *words], capture_output=True, text=True, timeout=PATIENCE)
         return done.returncode, done.stderr
 
-    def test_a_design_that_is_written_anew_changes_nothing(self) -> None:
+    def test_a_changed_design_file_does_not_matter(self) -> None:
         exported, kept = self.folder / "new.def", self.folder / "journal.texts"
         self.start()
         lines = ["open f0", "place f0 0 f0c1 0 0 N", "tidy f0 0", "commit f0 0"]
@@ -55,37 +57,37 @@ class Texts(HubCase):
         self.lef.unlink()
         os.kill(self.hub.server_pid(), signal.SIGKILL)
         self.assertEqual(self.talk("f0").ask("open f0", "where f0 0 f0c1"), ["ok 1 3", "ok 0 0 N"])
-        refused = f"no 13 NotExported {self.design} is the journal or a text of the design"
+        refused = f"no 13 NotExported {self.design} is the journal or a file of the design"
         self.assertEqual(self.talk("operator").ask(f"export {exported}", f"export {self.design}"), ["ok", refused])
         self.assertIn("f0c1 INV + PLACED ( 0 0 ) N", exported.read_text())
         self.hub.kill()
         self.assertIn("ready", self.start())
-        self.assertIn("t.def is not what it was", self.hub.told())
+        self.assertIn("t.def has changed since the journal was made", self.hub.log_text())
         self.assertEqual(self.talk("f0").ask("open f0", "where f0 0 f0c1"), ["ok 0 3", "ok 0 0 N"])
         self.assertEqual(self.hub.end(), 0)
-        # Another file is not taken for the text, nor one of which no copy is kept.
+        # Another file is not accepted, nor one without a copy.
         self.lef.write_text("x")
         other = self.folder / "other.def"
         other.write_text(design_text() + "\n")
-        status, said = self.start_refused(*self.words(design=other))
-        self.assertEqual((status, "of another design" in said), (1, True), said)
+        status, output = self.start_refused(*self.words(design=other))
+        self.assertEqual((status, "of another design" in output), (1, True), output)
         shutil.rmtree(kept)
-        status, said = self.start_refused(*self.words())
-        self.assertEqual((status, "no copy is kept" in said), (1, True), said)
+        status, output = self.start_refused(*self.words())
+        self.assertEqual((status, "no copy of that is kept" in output), (1, True), output)
 
-    def test_copies_that_are_gone_or_spoilt_are_made_again(self) -> None:
+    def test_missing_or_damaged_copies_are_made_again(self) -> None:
         self.start()
         self.talk("f0").ask("open f0", "place f0 0 f0c1 0 0 N")
         spoils: tuple[Callable[[Path], object], ...] = (lambda path: path.unlink(), lambda path: path.write_bytes(b"x"))
-        for spoil in spoils:
+        for flip_bit in spoils:
             self.hub.kill()
             copies = [path for path in (self.folder / "journal.texts").rglob("*") if path.is_file()]
             self.assertEqual(sorted(path.name for path in copies), ["t.def", "t.lef"])
             for path in copies:
-                # Nor does one stay that a hub was killed at.
+                # A copy that a killed hub did not finish does not stay.
                 path.with_name(f"{path.name}.partial0").write_bytes(b"x")
                 path.chmod(0o600)
-                spoil(path)
+                flip_bit(path)
             self.assertIn("ready", self.start())
         self.assertEqual(self.talk("f0").ask("open f0"), ["ok 0 1"])
 
@@ -100,44 +102,46 @@ class Texts(HubCase):
         for path in (self.journal, self.design, self.lef):
             path.unlink()
         shutil.rmtree(self.folder / "journal.texts")
-        # Another place and no other text: the copies may be given themselves.
+        # Another path but the same bytes: the copies themselves may be given.
         self.design, self.lef = (next((saved / "journal.texts").rglob(name)) for name in ("t.def", "t.lef"))
         self.hub = RunningHub(self.folder, self.words(journal="saved/journal"))
         self.addCleanup(self.hub.kill)
         self.assertIn("ready", self.hub.wait_ready())
         self.assertEqual(self.talk("f0").ask("open f0", "where f0 0 f0c1"), ["ok 0 1", "ok 0 0 N"])
 
-    def test_another_program_is_told_with_the_first_reply_that_differs(self) -> None:
+    def test_another_program_is_reported_with_the_first_reply_that_differs(self) -> None:
         self.start()
         self.talk("f0").ask("open f0", "place f0 0 f0c1 0 0 N")
         self.hub.kill()
         script = self.folder / "other"
-        script.write_text(f"#!/bin/sh\n[ $1 = replay ] || exec '{PROGRAM}' \"$@\"\n'{PROGRAM}' \"$@\" | sed -u 's/^ok 1$/ok 7/'\n")
+        script.write_text(
+            f"#!/bin/sh\n[ $1 = replay ] || exec '{PROGRAM}' \"$@\"\n'{PROGRAM}' \"$@\" | sed -u 's/^ok 1$/ok 7/'\n"
+        )
         script.chmod(0o755)
         self.program = str(script)
         self.assertIn("the journal was written with another program", self.start())
-        self.assertIn("change 2: the journal has b'ok 1", self.hub.told())
+        self.assertIn("change 2: the journal has b'ok 1", self.hub.log_text())
 
-    def test_a_first_start_may_be_cut_off_at_any_step(self) -> None:
+    def test_a_first_start_may_be_interrupted_at_any_step(self) -> None:
         journal, steps = self.folder / "j", ("fsync", "replace", "pwrite", "ftruncate", "mkdir", "fdatasync")
 
         def start() -> list[Path]:
-            texts, kept = settle_texts(journal, [self.design, self.lef], self.fail)
+            texts, kept = resolve_texts(journal, [self.design, self.lef], self.fail)
             Journal(journal, texts, self.fail).close()
             return [path for text, path in zip(texts, kept) if sum_of(path) == text.sum]
 
         def begin(last: int) -> bool:
-            """Whether a process that ends at the step of that number comes to the end of a start."""
+            """Whether a process that is to end at this step completes a start."""
             if child := os.fork():
                 return os.waitpid(child, 0)[1] == 0
             count = itertools.count()
             for name in steps:
                 step = getattr(os, name)
 
-                def take(*words: Any, step: Callable[..., Any] = step, **more: Any) -> Any:
+                def limited(*words: Any, step: Callable[..., Any] = step, **more: Any) -> Any:
                     return step(*words, **more) if next(count) < last else os._exit(7)
 
-                setattr(os, name, take)
+                setattr(os, name, limited)
             start()
             os._exit(0)
 
@@ -149,7 +153,7 @@ class Texts(HubCase):
             journal.unlink()
         self.assertGreater(number, 12)
 
-    def test_a_journal_without_changes_is_begun_anew_with_another_design(self) -> None:
+    def test_a_journal_without_changes_can_get_another_design(self) -> None:
         self.design.write_text("DESIGN x ;\nEND DESIGN\n")
         self.assertIn("7 NoUnits", self.start())
         self.design.write_text(design_text())
@@ -161,22 +165,22 @@ class Texts(HubCase):
         moved: Path = self.folder / "moved"
         self.journal.rename(moved)
         self.assertEqual(self.hub.process.wait(PATIENCE), 3)
-        self.assertIn("the journal is not there", self.hub.told())
+        self.assertIn("the journal is gone", self.hub.log_text())
         moved.rename(self.journal)
         self.assertIn("ready", self.start())
         self.assertEqual(self.talk("f0").ask("open f0", "where f0 0 f0c1"), ["ok 0 1", "ok 0 0 N"])
 
 
 class Sockets(FrontCase):
-    """Whose a socket is, and its folder."""
+    """Owners of sockets, and their folder."""
 
     def bound(self, *words: Any) -> tuple[int, int]:
         path = self.folder / "A.sock"
-        bound_socket(path, 0o660, True, *words).close()
+        bind_socket(path, 0o660, True, *words).close()
         found = path.lstat()
         return found.st_mode & 0o777, found.st_gid
 
-    def test_modes_are_those_of_ones_own_sockets(self) -> None:
+    def test_modes_are_taken_from_own_sockets(self) -> None:
         path, other = self.folder / "A.sock", self.folder / "other.sock"
         mine = os.getegid()
         self.assertEqual(self.bound(None), (0o660, mine))
@@ -211,32 +215,32 @@ class Sockets(FrontCase):
         for mode in (0o777, 0o775, 0o757, 0o1777):
             folder.chmod(mode)
             with self.assertRaises(Fault) as caught:
-                take_folder(folder)
+                claim_folder(folder)
             self.assertEqual(caught.exception.status, 1)
         folder.chmod(0o755)
         if os.geteuid() == 0:
             os.chown(folder, 12345, 12345)
             with self.assertRaises(Fault):
-                take_folder(folder)
+                claim_folder(folder)
         before = os.umask(0o002)
         self.addCleanup(os.umask, before)
-        take_folder(self.folder / "made")
+        claim_folder(self.folder / "made")
 
 
 class Shares(unittest.TestCase):
-    """Nobody takes all there is: a hub with clients by hand, and a program that accepts."""
+    """Limits per user: a hub with hand-made clients, and a program that accepts everything."""
 
     def setUp(self) -> None:
-        def ask(lines: list[bytes]) -> list[bytes]:
-            self.asked += lines
+        def execute(lines: list[bytes]) -> list[bytes]:
+            self.lines += lines
             return [b"ok %d 0\n" % number if line.startswith(b"open") else b"ok\n" for number, line in enumerate(lines)]
 
-        self.asked: list[bytes] = []
-        self.said: list[str] = []
-        server = mock.Mock(**{"ask": mock.AsyncMock(side_effect=ask), "pid": None})
-        journal = Journal(Path(self.enterContext(tempfile.TemporaryDirectory())) / "j", [], self.said.append)
-        self.hub = Hub(server, journal, Bounds(), self.said.append)
-        self.hub.teams, self.hub.nobody, self.hub.crowd.most_clients = ["f0", "f1"], b"~", 8
+        self.lines: list[bytes] = []
+        self.messages: list[str] = []
+        server = mock.Mock(**{"execute": mock.AsyncMock(side_effect=execute), "pid": None})
+        journal = Journal(Path(self.enterContext(tempfile.TemporaryDirectory())) / "j", [], self.messages.append)
+        self.hub = Hub(server, journal, HubLimits(), self.messages.append)
+        self.hub.teams, self.hub.unused_name, self.hub.pool.most_clients = ["f0", "f1"], b"~", 8
 
     def client(self, team: bytes, uid: int = 4242) -> Client:
         made = Client(self.hub, team)
@@ -250,22 +254,22 @@ class Shares(unittest.TestCase):
         client.buffer_updated(len(text))
 
     def answer_all(self) -> list[bytes]:
-        """The lines that the program is asked."""
-        self.asked.clear()
+        """The lines that the program gets."""
+        self.lines.clear()
 
         async def answer() -> None:
-            while batch := self.hub.take():
+            while batch := self.hub.next_batch():
                 await self.hub.answer(batch)
 
         asyncio.run(answer())
-        return self.asked[:]
+        return self.lines[:]
 
-    def test_one_user_has_a_part_of_a_sockets_connections(self) -> None:
+    def test_one_user_can_have_only_a_part_of_the_connections(self) -> None:
         self.assertEqual([self.hub.admit(self.client(b"f0")) for _ in range(7)], [True] * 6 + [False])
         self.assertEqual((self.hub.admit(self.client(b"f0", 7)), self.hub.admit(self.client(b"f1"))), (True, True))
         self.assertEqual([self.hub.admit(self.client(b"f1", os.geteuid())) for _ in range(7)], [True] * 7)
 
-    def test_one_user_has_a_part_of_a_teams_sessions(self) -> None:
+    def test_one_user_can_have_only_a_part_of_the_sessions(self) -> None:
         other, many = self.client(b"f0", 7), self.client(b"f0")
         self.send(many, b"open f0\n" * 4)
         self.answer_all()
@@ -274,34 +278,36 @@ class Shares(unittest.TestCase):
         self.assertEqual(self.answer_all().count(b"open f0"), 3)
         replies = b"".join(call.args[0] for call in self.transport.write.mock_calls)
         self.assertEqual(replies.count(b"no 10 SessionsFull\n"), 3)
-        # That another team is not his is the program's to say, however often he asks.
+        # The program refuses another team's lines, however often they come.
         self.send(self.client(b"f0", 9), b"open f1\n" * 8)
         self.assertEqual(self.answer_all(), [b"open ~"] * 8)
 
-    def test_long_replies_wait_for_those_that_are_not_read(self) -> None:
+    def test_long_replies_wait_for_unread_ones(self) -> None:
         first, second, third, other = (self.client(team) for team in (b"f0", b"f0", b"f0", b"f1"))
         for client in (first, second):
-            client.is_clogged = True
-            self.hub.clog(client)
+            client.is_slow = True
+            self.hub.mark_slow(client)
         self.send(third, b"where f0 0 x\ncheck f0 0\nwhere f0 0 y\n")
         self.send(other, b"def f1 0\n")
         self.assertEqual(self.answer_all(), [b"where f0 0 x", b"def f1 0"])
-        first.is_clogged = False
-        self.hub.unclog(first)
+        first.is_slow = False
+        self.hub.unmark_slow(first)
         self.assertEqual(self.answer_all(), [b"check f0 0", b"where f0 0 y"])
-        with mock.patch.object(crowd, "_MOST_UNREAD", 50000):
+        with mock.patch.object(clients, "_MOST_UNREAD", 50000):
             self.send(other, b"def f1 0\n")
             self.assertEqual(self.answer_all(), [])
-            self.hub.leave(second)
+            self.hub.remove(second)
             self.assertEqual(self.answer_all(), [b"def f1 0"])
 
-    def test_an_export_is_told_when_the_disk_has_its_name(self) -> None:
+    def test_an_export_is_answered_when_its_name_is_on_the_disk(self) -> None:
         steps, target = mock.Mock(), Path(self.hub.journal.path).with_name("new.def")
         second = mock.Mock(start=mock.AsyncMock(), restore=mock.AsyncMock(), kill=mock.AsyncMock())
         second.end = mock.AsyncMock(side_effect=lambda: [steps.end(), 0][1])
         self.hub.server.program.texts = []
-        with mock.patch.object(exporter, "Server", return_value=second), mock.patch.object(whole_file, "sync_folder", steps.sync):
-            self.assertIsNone(asyncio.run(self.hub.exporter.write(str(target), self.hub.journal.place)))
+        with mock.patch.object(exporter, "Server", return_value=second), mock.patch.object(
+            atomic_file, "sync_folder", steps.sync
+        ):
+            self.assertIsNone(asyncio.run(self.hub.exporter.write(str(target), self.hub.journal.position)))
         self.assertEqual([str(call) for call in steps.mock_calls], ["call.end()", f"call.sync({target.parent!r})"])
 
     def test_a_slow_reader_is_not_dropped_and_one_that_reads_nothing_is(self) -> None:
@@ -315,7 +321,7 @@ class Shares(unittest.TestCase):
         client = self.client(b"f0")
         self.transport.get_extra_info.return_value = near
 
-        async def judge() -> list[bool]:
+        async def check_waiting() -> list[bool]:
             found = []
             with mock.patch.object(asyncio.get_running_loop(), "call_later") as later:
                 client.pause_writing()
@@ -327,12 +333,12 @@ class Shares(unittest.TestCase):
                     found.append(self.transport.abort.called)
             return found
 
-        self.assertEqual(asyncio.run(judge()), [False, False, True])
+        self.assertEqual(asyncio.run(check_waiting()), [False, False, True])
 
-    def test_who_goes_and_reads_no_more_is_dropped(self) -> None:
+    def test_a_client_that_leaves_without_reading_is_dropped(self) -> None:
         self.hub.patience = 0.1
 
-        async def part(unread: int, read: int) -> None:
+        async def disconnect(unread: int, read: int) -> None:
             near, far = socket.socketpair()
             near.setsockopt(socket.SOL_SOCKET, socket.SO_SNDBUF, 4096)
             near.setblocking(False)
@@ -341,28 +347,30 @@ class Shares(unittest.TestCase):
                 while near.send(bytes(1 << 10)):
                     pass
             with far:
-                _, client = await asyncio.get_running_loop().connect_accepted_socket(lambda: Client(self.hub, b"f0"), near)
+                _, client = await asyncio.get_running_loop().connect_accepted_socket(
+                    lambda: Client(self.hub, b"f0"), near
+                )
                 client.replies.append(bytes(unread))
                 client.flush()
-                client.part()
-                while client.is_clogged and read:
+                client.disconnect()
+                while client.is_slow and read:
                     with contextlib.suppress(BlockingIOError):
                         far.recv(read)
                     await asyncio.sleep(0)
                 async with asyncio.timeout(PATIENCE):
-                    while self.hub.crowd.clients:
+                    while self.hub.pool.clients:
                         await asyncio.sleep(0.01)
 
-        # What is left is little from the first on, or once the client has read some of it.
-        asyncio.run(part(1000, 0))
-        asyncio.run(part(100_000, 1 << 12))
+        # Few bytes remain, initially or after the client has read some.
+        asyncio.run(disconnect(1000, 0))
+        asyncio.run(disconnect(100_000, 1 << 12))
 
 
 class Faults(FrontCase):
-    def test_behind_a_fault_nothing_more_is_answered(self) -> None:
+    def test_after_a_fault_nothing_more_is_answered(self) -> None:
         ended = []
 
-        async def pump() -> None:
+        async def wait_forever() -> None:
             try:
                 await asyncio.Event().wait()
             finally:
@@ -374,9 +382,13 @@ class Faults(FrontCase):
             raise Fault(3, "the journal is lost")
 
         async def run() -> None:
-            hub = mock.Mock(teams=[], clients=set(), start=mock.AsyncMock(return_value=[]), pump=pump, watch=watch)
+            hub = mock.Mock(
+                teams=[], clients=set(), start=mock.AsyncMock(return_value=[]), run=wait_forever, watch=watch
+            )
             with self.assertRaisesRegex(Fault, "is lost"), mock.patch.object(hub_tool, "say"):
-                await hub_tool.serve(hub, argparse.Namespace(group=[], team=[], sockets=self.folder, roll=False), asyncio.Event())
+                await hub_tool.serve(
+                    hub, argparse.Namespace(group=[], team=[], sockets=self.folder, roll=False), asyncio.Event()
+                )
             await asyncio.sleep(0)
             self.assertEqual(ended, [True])
 
@@ -384,72 +396,85 @@ class Faults(FrontCase):
 
 
 class Floods(unittest.TestCase):
-    def test_a_line_of_each_kind_is_said_once_a_minute(self) -> None:
-        said: list[str] = []
-        calm = Calm(said.append)
+    def test_a_line_of_each_kind_is_printed_once_a_minute(self) -> None:
+        output: list[str] = []
+        log_limited = RateLimitedLog(output.append)
         with mock.patch("time.monotonic", side_effect=[0, 1, 2, 3, 61, 61.5]):
             for kind in "aabaab":
-                calm(kind, kind)
-        self.assertEqual(said, ["a", "b", "a (and 2 times more since this was told last)"])
+                log_limited(kind, kind)
+        self.assertEqual(output, ["a", "b", "a (and 2 more since the last such line)"])
 
 
 class Operator(HubCase):
-    """What the operator sees and bounds."""
+    """The operator's view, and limits."""
 
     def ask_hub(self, option: str) -> str:
-        return subprocess.check_output([*tool_words("lefence-hub"), option, str(self.folder / "s")], text=True, timeout=PATIENCE)
+        return subprocess.check_output(
+            [*tool_words("lefence-hub"), option, str(self.folder / "s")], text=True, timeout=PATIENCE
+        )
 
     def send_end(self, path: Path) -> None:
         with socket.socket(socket.AF_UNIX, socket.SOCK_DGRAM) as end, contextlib.suppress(OSError):
             end.sendto(b"end", str(path))
 
-    def test_a_socket_of_systemd_that_takes_nothing_holds_nobody(self) -> None:
-        path = self.folder / "told"
-        with socket.socket(socket.AF_UNIX, socket.SOCK_DGRAM) as systemd, mock.patch.dict(os.environ, {"NOTIFY_SOCKET": str(path)}):
+    def test_a_full_socket_of_systemd_blocks_nobody(self) -> None:
+        path = self.folder / "systemd"
+        with socket.socket(socket.AF_UNIX, socket.SOCK_DGRAM) as systemd, mock.patch.dict(
+            os.environ, {"NOTIFY_SOCKET": str(path)}
+        ):
             systemd.bind(str(path))
             for _ in range(2000):
                 notify_alive(True)
             self.assertEqual(systemd.recv(100), b"WATCHDOG=1")
 
     def test_status_metrics_and_what_is_not_committed(self) -> None:
-        told, words = self.folder / "told", bytearray()
+        address, words = self.folder / "systemd", bytearray()
 
         def hear(systemd: socket.socket) -> None:
             while (piece := systemd.recv(1 << 12)) != b"end":
                 words.extend(piece + b"\n")
 
         with socket.socket(socket.AF_UNIX, socket.SOCK_DGRAM) as systemd:
-            systemd.bind(str(told))
+            systemd.bind(str(address))
             listener = threading.Thread(target=hear, args=(systemd,))
             listener.start()
             self.addCleanup(listener.join)
-            self.addCleanup(self.send_end, told)
-            with mock.patch.dict(os.environ, {"NOTIFY_SOCKET": str(told)}):
+            self.addCleanup(self.send_end, address)
+            with mock.patch.dict(os.environ, {"NOTIFY_SOCKET": str(address)}):
                 self.start()
             talker = self.talk("f0")
             talker.ask("open f0", "place f0 0 f0c1 0 0 N", "place f0 0 f0c2 2000 0 N")
             self.talk("f1").ask("open f1", "tidy f1 0", "commit f1 0")
-            told_of = json.loads(self.ask_hub("--status"))
-            teams = {each["team"]: each for each in told_of["teams"]}
+            hub_status = json.loads(self.ask_hub("--status"))
+            teams = {each["team"]: each for each in hub_status["teams"]}
             self.assertEqual([teams["f0"][key] for key in ("revision", "uncommitted", "clients")], [2, 2, 1])
             [session] = teams["f0"]["sessions"]
             self.assertEqual((session["number"], session["uid"], session["pid"]), (0, os.geteuid(), os.getpid()))
-            self.assertEqual((teams["f1"]["revision"], teams["f1"]["uncommitted"], told_of["changes_total"]), (2, 0, 6))
-            self.assertTrue(told_of["sync_seconds_p99"] > 0 and told_of["program_bytes"] > 1 << 20 and told_of["journal_bytes"] > 300)
+            self.assertEqual(
+                (teams["f1"]["revision"], teams["f1"]["uncommitted"], hub_status["changes_total"]), (2, 0, 6)
+            )
+            self.assertTrue(
+                hub_status["sync_seconds_p99"] > 0
+                and hub_status["program_bytes"] > 1 << 20
+                and hub_status["journal_bytes"] > 300
+            )
             metrics = self.ask_hub("--metrics")
             self.assertIn('lefence_team_revision{team="f0"} 2\n', metrics)
             for line in metrics.splitlines():
-                self.assertRegex(line, r"^(# (HELP|TYPE) )?lefence_[a-z0-9_]+(\{team=\"[^ ]+\"\})? ([-0-9.e]+|counter|gauge|[A-Z].*)$")
+                self.assertRegex(
+                    line,
+                    r"^(# (HELP|TYPE) )?lefence_[a-z0-9_]+(\{team=\"[^ ]+\"\})? ([-0-9.e]+|counter|gauge|[A-Z].*)$",
+                )
             self.assertEqual(talker.ask("status"), ["no 1 BadRequest"])
             last = time.monotonic() + PATIENCE
             while b"WATCHDOG=1" not in words:
                 self.assertLess(time.monotonic(), last)
                 time.sleep(0.01)
             self.assertEqual(self.hub.end(), 0)
-            self.send_end(told)
+            self.send_end(address)
             listener.join()
         self.assertEqual([b"READY=1\nSTATUS=ready" in words, b"STOPPING=1" in words], [True] * 2)
-        self.assertIn("changes that are not committed: 2 of f0\n", self.hub.told())
+        self.assertIn("uncommitted changes: 2 of f0\n", self.hub.log_text())
 
     def test_status_of_a_hub_that_is_gone_or_does_not_answer(self) -> None:
         self.start()
@@ -461,21 +486,29 @@ class Operator(HubCase):
             silent.bind(str(self.folder / "operator.sock"))
             silent.listen()
             with self.assertRaisesRegex(Fault, "no reply for 0.2 seconds"):
-                status.ask_status(self.folder)
+                status.read_status(self.folder)
 
-    def test_numbers_that_a_hub_cannot_go_by_are_refused(self) -> None:
+    def test_bad_numbers_are_refused(self) -> None:
         needed = ["t.def", "t.lef", "--sockets", "s", "--journal", "j"]
         seconds, least = "a number of seconds, 0 or more", "0 or more"
-        for option, value, told in (
-            *((option, value, seconds) for option in ("--grace", "--idle", "--patience", "--deadline") for value in ("nan", "-3", "inf")),
+        for option, value, expected in (
+            *(
+                (option, value, seconds)
+                for option in ("--grace", "--idle", "--patience", "--deadline")
+                for value in ("nan", "-3", "inf")
+            ),
             ("--tail-seconds", "1e300", seconds),
             ("--tail-bytes", "-5", least),
             ("--keep", "1", "0, or 2 or more"),
             ("--sessions", "99", "1 to 64"),
         ):
-            with contextlib.redirect_stderr(io.StringIO()) as said, self.assertRaises(SystemExit) as ended:
+            with contextlib.redirect_stderr(io.StringIO()) as output, self.assertRaises(SystemExit) as ended:
                 hub_tool.parser().parse_args([*needed, option, value])
-            self.assertEqual((ended.exception.code, f"argument {option}: {value}: {told}\n" in said.getvalue()), (2, True), said.getvalue())
+            self.assertEqual(
+                (ended.exception.code, f"argument {option}: {value}: {expected}\n" in output.getvalue()),
+                (2, True),
+                output.getvalue(),
+            )
 
     def test_a_program_that_hangs_is_restored_and_cannot_hold_the_end(self) -> None:
         self.start("--deadline", "2", "--idle", "2", "--grace", "1")
@@ -483,8 +516,8 @@ class Operator(HubCase):
         self.assertEqual(talker.ask("open f0", "place f0 0 f0c1 0 0 N"), ["ok 0 0", "ok 1"])
         os.kill(self.hub.server_pid(), signal.SIGSTOP)
         self.assertEqual(talker.ask("where f0 0 f0c1"), ["ok 0 0 N"])
-        self.assertIn("has said nothing for 2 seconds", self.hub.told())
-        # Who has no session and says nothing is dropped.
+        self.assertIn("was silent for 2 seconds", self.hub.log_text())
+        # A silent client without a session is dropped.
         self.assertEqual(idle.replies.read(), b"")
         self.assertEqual(talker.ask("where f0 0 f0c1"), ["ok 0 0 N"])
         self.hub.kill()
@@ -495,7 +528,7 @@ class Operator(HubCase):
         talker.socket.sendall(b"sync f0 0\n")
         time.sleep(0.1)
         self.assertEqual(self.hub.end(), 3)
-        self.assertIn("given up", self.hub.told())
+        self.assertIn("killed: not ended within", self.hub.log_text())
 
     def test_spent_descriptors_make_no_flood_of_lines(self) -> None:
         self.start()
@@ -509,7 +542,7 @@ class Operator(HubCase):
                 end.connect(str(self.folder / "s/f0.sock"))
         self.hub.wait_for("accept")
         time.sleep(1.5)
-        self.assertLess(len(self.hub.told().splitlines()), 8)
+        self.assertLess(len(self.hub.log_text().splitlines()), 8)
         for end in ends:
             end.close()
         resource.prlimit(pid, resource.RLIMIT_NOFILE, (4096, 4096))
@@ -517,7 +550,7 @@ class Operator(HubCase):
 
 
 class Unit(unittest.TestCase):
-    """The example of a systemd unit, as far as systemd's own tools can tell."""
+    """The example of a systemd unit, checked by systemd's own tools."""
 
     def analyze(self, *words: str) -> str:
         done = subprocess.run(["systemd-analyze", *words], stdout=subprocess.PIPE, stderr=subprocess.STDOUT, text=True)
@@ -530,9 +563,9 @@ class Unit(unittest.TestCase):
             text = (FRONT / "lefence-hub.service").read_text()
             unit.write_text(text.replace("/usr/local/bin/lefence-hub ", "/bin/true "))
             self.assertEqual(self.analyze("verify", str(unit)), "")
-            told = self.analyze("security", "--offline=yes", "--no-pager", str(unit))
-        found = re.search(r"Overall exposure level for lefence-hub.service: ([0-9.]+)", told)
-        self.assertTrue(found and float(found[1]) < 1, told)
+            output = self.analyze("security", "--offline=yes", "--no-pager", str(unit))
+        found = re.search(r"Overall exposure level for lefence-hub.service: ([0-9.]+)", output)
+        self.assertTrue(found and float(found[1]) < 1, output)
 
 
 if __name__ == "__main__":

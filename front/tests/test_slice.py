@@ -1,4 +1,4 @@
-"""Slices and pushes: work on one team's part of a design, a repair too, is answered as on the whole, and is sent there later."""
+"""Slices and pushes: work on a team's slice, or a repair of it, can be repeated on the whole design later."""
 
 from __future__ import annotations
 
@@ -13,13 +13,13 @@ from unittest import mock
 from support import LEF, PROGRAM, TEAMS, Hub, HubCase, Script, converse, design_text
 
 import lefence
-from lefence.design import Design
-from lefence.faults import Fault
-from lefence.frames import Record
-from lefence.journal import Journal, texts_in
-from lefence.slice import refuse_difference, slice_of
+from lefence.base.design import Design
+from lefence.base.faults import Fault
+from lefence.journal.frames import Record
+from lefence.journal.journal import Journal, texts_in
+from lefence.tools.slice import refuse_difference, slice_of
 
-# What a design of a flow holds beside the small one: sections that a slice drops, comments, quotes, FIXED and COVER components.
+# Parts of a real design: sections that a slice drops, comments, quotes, FIXED and COVER components.
 SECTIONS = """PINS 1 ;
 - p + NET n + DIRECTION INPUT ;
 END PINS
@@ -52,7 +52,7 @@ def rich_text() -> str:
 
 
 def made_journal(path: Path, like: Path, records: Iterable[tuple[bytes, bytes]]) -> Path:
-    """A journal with these records, of the design of another one."""
+    """Makes a journal with these records for the design of another one."""
     journal = Journal(path, texts_in(like) or [], mock.Mock())
     journal.append([Record(line, reply) for line, reply in records])
     journal.close()
@@ -60,7 +60,7 @@ def made_journal(path: Path, like: Path, records: Iterable[tuple[bytes, bytes]])
 
 
 class Slices(HubCase):
-    """On its slice a team is answered byte for byte as on the whole design."""
+    """On its slice, a team gets the same replies as on the whole design, byte for byte."""
 
     def setUp(self) -> None:
         super().setUp()
@@ -68,12 +68,14 @@ class Slices(HubCase):
 
     def slice(self, team: str) -> Path:
         target = self.folder / f"{team}.def"
-        done = self.tool("lefence-slice", self.design, self.lef, "--team", team, "--output", target, "--program", self.program)
+        done = self.tool(
+            "lefence-slice", self.design, self.lef, "--team", team, "--output", target, "--program", self.program
+        )
         self.assertEqual((done.returncode, done.stdout), (0, b""), done.stderr)
-        self.assertNotIn(b"not compared", done.stderr)
+        self.assertNotIn(b"not checked", done.stderr)
         return target
 
-    def test_a_slice_has_the_frame_and_the_teams_cells_alone(self) -> None:
+    def test_a_slice_has_only_the_frame_and_the_cells_of_the_team(self) -> None:
         text = slice_of(self.design.read_bytes(), "f1")
         design = Design(text)
         self.assertEqual(design.fences, [f"f{team}".encode() for team in range(TEAMS)])
@@ -91,10 +93,12 @@ class Slices(HubCase):
     def test_commands_are_answered_as_on_the_whole_design(self) -> None:
         for team in (0, 1, 2, TEAMS):
             name = f"f{team}" if team < TEAMS else "-"
-            text = f"open {name}\n".encode() + Script(self.rng, team).lines(800) + f"open {name}\ndef {name} 0\n".encode()
+            text = (
+                f"open {name}\n".encode() + Script(self.rng, team).lines(800) + f"open {name}\ndef {name} 0\n".encode()
+            )
             self.assertEqual(self.direct(text, design=self.slice(name)), self.direct(text))
 
-    def test_a_busy_whole_answers_a_team_as_its_slice_does(self) -> None:
+    def test_a_busy_whole_design_answers_a_team_as_its_slice_does(self) -> None:
         sliced = self.slice("f2")
         self.start()
         texts = {team: b"open f%d\n" % team + Script(self.rng, team).lines(1000) for team in (0, 1, 2)}
@@ -103,61 +107,72 @@ class Slices(HubCase):
             found = list(pool.map(converse, talkers, texts.values()))
         self.assertEqual(found[2], self.direct(texts[2], design=sliced))
 
-    def test_what_is_no_team_is_refused(self) -> None:
+    def test_an_unknown_team_is_refused(self) -> None:
         for team in ("Z", "\udcff", ""):
             done = self.tool("lefence-slice", self.design, "--team", team)
             self.assertEqual((done.returncode, done.stdout), (1, b""))
             self.assertIn(b"no team", done.stderr)
         done = self.tool("lefence-slice", self.design, "--team", "f1")
         self.assertEqual((done.returncode, done.stdout), (0, slice_of(self.design.read_bytes(), "f1")))
-        self.assertIn(b"not compared", done.stderr)
+        self.assertIn(b"not checked", done.stderr)
 
-    def test_what_is_no_def_text_is_told_so(self) -> None:
+    def test_a_file_that_is_not_def_is_reported(self) -> None:
         text = self.design.read_bytes()
-        for other, told in ((LEF.encode(), "it is no DEF text"), (gzip.compress(text), "it is no DEF text, but compressed by gzip")):
+        for other, expected in (
+            (LEF.encode(), "it is not a DEF file"),
+            (gzip.compress(text), "it is not a DEF file but compressed by gzip"),
+        ):
             self.design.write_bytes(other)
             done = self.tool("lefence-slice", self.design, "--team", "f0")
-            self.assertEqual((done.returncode, done.stderr.decode()), (1, f"lefence-slice: {self.design} has no DESIGN: {told}\n"))
+            self.assertEqual(
+                (done.returncode, done.stderr.decode()),
+                (1, f"lefence-slice: {self.design} has no DESIGN: {expected}\n"),
+            )
 
-    def test_a_text_that_is_cut_off_is_refused(self) -> None:
+    def test_a_truncated_design_is_refused(self) -> None:
         self.design.write_bytes(self.design.read_bytes().partition(b"- f3c0")[0])
         done = self.tool("lefence-slice", "t.def", "--team", "f0", "-o", "f0.def")
-        told = b"lefence-slice: t.def ends without END DESIGN: it is cut off\n"
-        self.assertEqual((done.returncode, done.stderr, (self.folder / "f0.def").exists()), (1, told, False))
+        expected = b"lefence-slice: t.def ends without END DESIGN: it is truncated\n"
+        self.assertEqual((done.returncode, done.stderr, (self.folder / "f0.def").exists()), (1, expected, False))
 
-    def test_what_the_program_does_not_find_alike_is_refused(self) -> None:
+    def test_a_slice_that_the_program_reads_differently_is_refused(self) -> None:
         whole = self.design.read_bytes()
         part = slice_of(whole, "f1")
         refuse_difference(PROGRAM, self.design, part, [self.lef], "f1")
-        for other, said in (
-            (whole, "finds 12 cells of team f1 in the whole design, and 92 cells in the slice"),
-            (slice_of(whole, "f2"), "the first that differ are f1c0 there and f2c0 here"),
-            (part.replace(b"- f1c9 BUF", b"- f1c9 INV"), "the first that differ are f1c9 there and f1c9 here"),
+        for other, output in (
+            (whole, "reads 12 cells of team f1 in the whole design, but 92 in the slice"),
+            (slice_of(whole, "f2"), "the first difference is f1c0 in the whole design and f2c0 in the slice"),
+            (
+                part.replace(b"- f1c9 BUF", b"- f1c9 INV"),
+                "the first difference is f1c9 in the whole design and f1c9 in the slice",
+            ),
             (part.replace(b"- late\\* INV ", b"- late\\* INV + FIXED ( 8000 0 ) N "), "another frame"),
             (part.replace(b"- f1c7 ", b"- f1c8 "), "the program refuses the slice, which is not written: "),
-            (slice_of(whole, "-"), "finds 12 cells of team f1 in the whole design, and 10 cells in the slice"),
+            (slice_of(whole, "-"), "reads 12 cells of team f1 in the whole design, but 10 in the slice"),
         ):
             self.assertNotEqual(other, part)
             with self.assertRaises(Fault) as caught:
                 refuse_difference(PROGRAM, self.design, other, [self.lef], "f1")
-            self.assertEqual((caught.exception.status, said in str(caught.exception)), (1, True), caught.exception)
+            self.assertEqual((caught.exception.status, output in str(caught.exception)), (1, True), caught.exception)
 
     def test_a_slice_that_differs_is_not_written(self) -> None:
         target = self.folder / "f1.def"
         for edit in ("s/f1c3/f1c33/", "/f1c3/d", "s/name...f2fixed/&d/"):
-            program = self.describing(f"""[ "$2" = "{self.design}" ] || exec '{PROGRAM}' "$@"\n'{PROGRAM}' "$@" | sed '{edit}'""")
+            program = self.describing(
+                f"""[ "$2" = "{self.design}" ] || exec '{PROGRAM}' "$@"\n'{PROGRAM}' "$@" | sed '{edit}'"""
+            )
             outputs: tuple[tuple[str | Path, ...], ...] = ((), ("--output", target))
             for words in outputs:
                 done = self.tool("lefence-slice", self.design, self.lef, "--team", "f1", "--program", program, *words)
                 self.assertEqual((done.returncode, done.stdout, target.exists()), (1, b"", False), done.stderr)
-                self.assertIn(b"the program finds", done.stderr)
+                self.assertIn(b"the program reads", done.stderr)
 
     def test_the_design_itself_is_not_overwritten(self) -> None:
         before = self.design.read_bytes()
         self.assertEqual(self.tool("lefence-slice", self.design, "--team", "f1", "--output", self.design).returncode, 2)
         self.assertEqual(self.design.read_bytes(), before)
 
-    def test_any_bytes_are_cut_without_a_traceback(self) -> None:
+    def test_any_bytes_are_sliced_without_a_traceback(self) -> None:
         whole = self.design.read_bytes()
         texts = [b"", b'"', b"#", b"COMPONENTS", b"REGIONS 1 ; - - ; END REGIONS", b"GROUPS x - + REGION ; END GROUPS"]
         texts.append(bytes(range(256)) * 9)
@@ -167,7 +182,7 @@ class Slices(HubCase):
 
 
 class Pushes(HubCase):
-    """A journal of a slice, or the lines of its repair, are sent to the whole."""
+    """The journal of a slice, or the lines of its repair, are sent to the whole design."""
 
     def setUp(self) -> None:
         super().setUp()
@@ -175,7 +190,7 @@ class Pushes(HubCase):
         self.start()
 
     def work_away(self, team: int, count: int = 80, *more: str) -> Path:
-        """Random work on a hub of a team's slice, with these words more; its journal, to which a second call adds."""
+        """Does random work on a hub of a team's slice; returns its journal. A second call continues it."""
         name = f"f{team}"
         sliced = self.folder / f"{name}.def"
         sliced.write_bytes(slice_of(self.design.read_bytes(), name))
@@ -190,15 +205,24 @@ class Pushes(HubCase):
         return self.folder / f"j{name}"
 
     def repair_away(self, team: str) -> tuple[Path, Path]:
-        """The lines of a repair of a team's slice, and the slice that is exported then."""
+        """Repairs a team's slice; returns the lines and the exported slice."""
         sliced, lines, exported = (self.folder / f"{team}.{name}" for name in ("def", "lines", "new.def"))
         sliced.write_bytes(slice_of(self.design.read_bytes(), team))
-        words = ["repair", str(sliced), str(self.lef), f"--team={team}", "--lines", str(lines), "--export", str(exported)]
+        words = [
+            "repair",
+            str(sliced),
+            str(self.lef),
+            f"--team={team}",
+            "--lines",
+            str(lines),
+            "--export",
+            str(exported),
+        ]
         self.assertEqual(subprocess.run([PROGRAM, *words], stdout=subprocess.DEVNULL).returncode, 0)
         return lines, exported
 
     def exported(self) -> Design:
-        """What the hub over the whole exports."""
+        """The export of the hub over the whole design."""
         target = self.folder / "new.def"
         self.assertEqual(self.talk("operator").ask(f"export {target}"), ["ok"])
         return Design(target.read_bytes())
@@ -212,45 +236,49 @@ class Pushes(HubCase):
             return session.def_text()
 
     def refuse_after(self, pushed: Path, team: str, change: tuple[str, int, int, str]) -> None:
-        """What is pushed is refused at its first line, and nothing of it is done, where somebody has placed a cell of the team there."""
+        """Checks that a push is refused at its first line, and does nothing, if another client has placed a cell."""
         with lefence.connect(self.folder / f"s/{team}.sock") as connection, connection.session(team) as session:
             session.place(*change)
             before = session.def_text()
-        status, said = self.push(pushed, team)
+        status, output = self.push(pushed, team)
         self.assertEqual(status, 1)
-        difference = f"line 1: 'open {team}' was answered 'ok 0 0', and there 'ok 0 1'; 0 lines before it"
-        self.assertIn(f"team {team} at revision 0, {difference}", said)
+        difference = (
+            f"line 1: the recorded reply to 'open {team}' is 'ok 0 0', but now it is 'ok 0 1'; the 0 lines before it"
+        )
+        self.assertIn(f"team {team} at revision 0, {difference}", output)
         self.assertEqual(self.texts(team, "s"), before)
 
-    def test_what_was_done_on_slices_is_done_on_the_whole(self) -> None:
+    def test_the_work_on_slices_is_repeated_on_the_whole_design(self) -> None:
         journals = [self.work_away(team) for team in (0, 1, 2)]
         for team, journal in enumerate(journals):
-            status, said = self.push(journal, f"f{team}" if team else "operator")
-            self.assertEqual(status, 0, said)
+            status, output = self.push(journal, f"f{team}" if team else "operator")
+            self.assertEqual(status, 0, output)
             again = self.push(journal, f"f{team}", "--continue")
             self.assertEqual(again[0], 0, again)
         exported = self.exported()
         moved = [each.name for each in exported.entries(b"COMPONENTS") if each.has(b"PLACED")]
         self.assertEqual(set(moved), {cell for team in (b"f0", b"f1", b"f2") for cell in exported.cells_of(team)})
 
-    def test_a_push_goes_on_where_the_last_one_ended(self) -> None:
+    def test_a_push_continues_where_the_last_one_ended(self) -> None:
         for options in ((), ("--continue",), ("--continue", "--ahead", "50")):
-            status, said = self.push(self.work_away(1, 60), "f1", *options)
-            self.assertEqual(status, 0, said)
+            status, output = self.push(self.work_away(1, 60), "f1", *options)
+            self.assertEqual(status, 0, output)
         with lefence.connect(self.folder / "s/f1.sock") as connection, connection.session("f1") as session:
             session.undo()
-        status, said = self.push(self.folder / "jf1", "f1", "--continue")
+        status, output = self.push(self.folder / "jf1", "f1", "--continue")
         self.assertEqual(status, 1)
-        self.assertIn("none of these lines", said)
+        self.assertIn("none of these lines", output)
 
-    def test_a_repair_of_slices_comes_back_to_the_whole(self) -> None:
+    def test_a_repair_of_slices_is_sent_to_the_whole_design(self) -> None:
         wanted = {}
         for team, socket in (("f1", "f1"), ("-", "operator")):
             lines, exported = self.repair_away(team)
             cells = Design(exported.read_bytes())
-            wanted.update({each.name: each.words for each in cells.entries(b"COMPONENTS") if cells.team_of(each) == team.encode()})
-            status, said = self.push(lines, socket)
-            self.assertEqual((status, f"; team {team} at revision " in said), (0, True), said)
+            wanted.update(
+                {each.name: each.words for each in cells.entries(b"COMPONENTS") if cells.team_of(each) == team.encode()}
+            )
+            status, output = self.push(lines, socket)
+            self.assertEqual((status, f"; team {team} at revision " in output), (0, True), output)
             self.assertEqual(self.push(lines, socket, "--continue")[0], 0)
         self.assertGreater(len(wanted), 20)
         self.assertEqual({words[2] for words in wanted.values()} & {b"+"}, {b"+"})
@@ -259,7 +287,7 @@ class Pushes(HubCase):
         placed = [name for name, words in found.items() if b"PLACED" in words]
         self.assertEqual({*placed}, {*wanted})
 
-    def test_a_repair_is_not_sent_where_somebody_else_has_changed_the_team(self) -> None:
+    def test_a_repair_is_not_sent_if_another_client_has_changed_the_team(self) -> None:
         lines, _ = self.repair_away("f1")
         self.refuse_after(lines, "f1", ("f1c1", 8000, 0, "N"))
 
@@ -267,36 +295,45 @@ class Pushes(HubCase):
         made = self.folder / "made"
         for text, number in (("open f1\nwhere f1 0 f1c1\n", 2), ("open f1\n\n", 2), ("open \n", 1)):
             made.write_text(text)
-            status, said = self.push(made, "f1")
-            self.assertEqual((status, f"line {number} is no change of a team\n" in said), (1, True), said)
+            status, output = self.push(made, "f1")
+            self.assertEqual((status, f"line {number} is not a change of a team\n" in output), (1, True), output)
 
-    def test_a_journal_without_its_first_changes_is_told_what_its_hub_needs(self) -> None:
+    def test_a_journal_without_its_first_changes_is_refused_with_advice(self) -> None:
         for _ in range(4):
             journal = self.work_away(0, 20, "--tail-bytes", "1")
-        status, said = self.push(journal, "f0")
-        self.assertEqual((status, "are in a state alone; for a push the hub needs --keep 0 from the first line on\n" in said), (1, True), said)
-        status, said = self.push(self.work_away(1, 20, "--tail-bytes", "1", "--keep", "0"), "f1")
-        self.assertEqual(status, 0, said)
+        status, output = self.push(journal, "f0")
+        self.assertEqual(
+            (status, "exist only as a state; to push a journal, run its hub with --keep 0 from the start\n" in output),
+            (1, True),
+            output,
+        )
+        status, output = self.push(self.work_away(1, 20, "--tail-bytes", "1", "--keep", "0"), "f1")
+        self.assertEqual(status, 0, output)
 
     def test_the_number_of_a_session_is_no_revision(self) -> None:
         lines = [b"open f1", b"open f1", b"place f1 0 f1c1 8200 0 N"]
-        made = made_journal(self.folder / "made", self.work_away(0, 100), zip(lines, [b"ok 0 0\n", b"ok 1 0\n", b"ok 1\n"]))
+        made = made_journal(
+            self.folder / "made", self.work_away(0, 100), zip(lines, [b"ok 0 0\n", b"ok 1 0\n", b"ok 1\n"])
+        )
         for options in ((), ("--continue",)):
             self.assertEqual(self.push(made, "f1", *options)[0], 0)
 
-    def test_where_somebody_else_wrote_the_first_difference_is_told_and_nothing_more_is_sent(self) -> None:
+    def test_the_first_difference_is_reported_and_nothing_more_is_sent(self) -> None:
         self.refuse_after(self.work_away(0), "f0", ("f0c1", 0, 2000, "FS"))
 
-    def test_a_difference_in_the_middle_leaves_the_team_where_it_is_told(self) -> None:
+    def test_a_difference_in_the_middle_reports_where_the_team_stays(self) -> None:
         journal = self.work_away(0, 100)
         lines = [b"open f1", b"place f1 0 f1c1 8200 0 N", b"place f1 0 f1c2 8200 0 N", b"place f1 0 f1c3 12000 0 N"]
         made = made_journal(self.folder / "made", journal, zip(lines, [b"ok 0 0\n", b"ok 1\n", b"ok 2\n", b"ok 3\n"]))
-        status, said = self.push(made, "f1")
+        status, output = self.push(made, "f1")
         self.assertEqual(status, 1)
-        self.assertIn("at revision 1, line 3: 'place f1 0 f1c2 8200 0 N' was answered 'ok 2', and there 'no 7", said)
+        self.assertIn(
+            "at revision 1, line 3: the recorded reply to 'place f1 0 f1c2 8200 0 N' is 'ok 2', but now it is 'no 7",
+            output,
+        )
         self.assertEqual(self.talk("f1").ask("open f1"), ["ok 0 1"])
 
-    def test_what_cannot_be_pushed_is_told(self) -> None:
+    def test_a_file_that_cannot_be_pushed_is_reported(self) -> None:
         self.assertEqual(self.push(self.folder / "none", "f0")[0], 3)
         self.assertEqual(self.push(self.design, "f0")[0], 1)
         self.assertEqual(self.push(self.work_away(0, 10), "nobody")[0], 3)

@@ -1,4 +1,4 @@
-"""The summary of what became of each team's cells from one placement to another."""
+"""The summary of each team's cells between two placements."""
 
 from __future__ import annotations
 
@@ -7,9 +7,9 @@ import unittest
 
 from support import PROGRAM, FrontCase
 
-from lefence.description import Box, Cell, Facts, Fence, Frame, Row
-from lefence.summary import notes_of, summary_of
-from lefence.summary_text import text_of
+from lefence.base.description import Box, Cell, Facts, Fence, Frame, Row
+from lefence.tools.displacement import notes_of, summary_of
+from lefence.tools.displacement_text import text_of
 
 ROWS = [Row("r0", Box(0, 0, 8000, 2000), "N", 40), Row("r1", Box(0, 2000, 8000, 4000), "FS", 40)]
 FRAME = Frame(Facts("t", 1000, "core", 200, 2000), ROWS, [Fence("A", (Box(0, 0, 4000, 4000),))], [], [])
@@ -68,13 +68,13 @@ up to 20   0
 up to 50   0
 over 50    0
 
-farthest  team       from       to    way  in rows
-far          A      1 0 N   2 2 FS  3.000     1.50
-near         A  0.801 0 N  0.8 0 N  0.001     0.00
+farthest  team       from       to  distance  in rows
+far          A      1 0 N   2 2 FS     3.000     1.50
+near         A  0.801 0 N  0.8 0 N     0.001     0.00
 
-cells in the design before alone: 1 (lost)
+cells only in the design before: 1 (lost)
 
-cells in the design after alone: 1 (added)
+cells only in the design after: 1 (added)
 """
 
 
@@ -82,30 +82,37 @@ class Summaries(FrontCase):
     def test_a_text_for_terminals(self) -> None:
         self.assertEqual(text_of(summary_of(BEFORE, AFTER, FRAME)), TEXT)
 
-    def test_the_order_of_the_cells_plays_no_part(self) -> None:
+    def test_the_order_of_the_cells_does_not_matter(self) -> None:
         text = text_of(summary_of(BEFORE, AFTER, FRAME))
         for _ in range(50):
             early, late = (self.rng.sample(cells, len(cells)) for cells in (BEFORE, AFTER))
             self.assertEqual(text_of(summary_of(early, late, FRAME)), text)
 
-    def test_the_farthest_movers_are_named(self) -> None:
+    def test_the_farthest_cells_are_listed(self) -> None:
         names = [f"c{at:03}" for at in range(500)]
         early = [cell(name, "A", (0, 0, "N")) for name in names]
         late = [cell(name, "A", (200 + 200 * (at // 3), 0, "N")) for at, name in enumerate(names)]
         for order in (late, late[::-1], self.rng.sample(late, len(late))):
-            self.assertEqual([far.name for far in summary_of(early, order, FRAME, 5).farthest], ["c498", "c499", "c495", "c496", "c497"])
-        self.assertEqual((summary_of(early, late, FRAME, 0).farthest, len(summary_of(early, late, FRAME).farthest)), ([], 10))
+            self.assertEqual(
+                [far.name for far in summary_of(early, order, FRAME, 5).farthest],
+                ["c498", "c499", "c495", "c496", "c497"],
+            )
+        self.assertEqual(
+            (summary_of(early, late, FRAME, 0).farthest, len(summary_of(early, late, FRAME).farthest)), ([], 10)
+        )
 
     def test_what_else_differs_is_noted(self) -> None:
         other = Frame(FRAME.facts, FRAME.rows[:1], [], FRAME.obstacles, FRAME.soft)
         self.assertEqual(notes_of(FRAME, FRAME), [])
-        self.assertEqual(notes_of(FRAME, other), ["the rows differ: 2 before, 1 after", "the fences differ: 1 before, 0 after"])
+        self.assertEqual(
+            notes_of(FRAME, other), ["the rows differ: 2 before, 1 after", "the fences differ: 1 before, 0 after"]
+        )
         summary = summary_of(BEFORE, [cell("still", "-", (0, 0, "N"))], other)
         self.assertEqual([(team.name, team.lost) for team in summary.teams], [("-", 2), ("A", 4)])
-        self.assertEqual(summary.notes, ["cells of another team than before: 1"])
-        self.assertEqual(text_of(summary).split("\n\n")[1], "note: cells of another team than before: 1")
+        self.assertEqual(summary.notes, ["cells that changed their team: 1"])
+        self.assertEqual(text_of(summary).split("\n\n")[1], "note: cells that changed their team: 1")
 
-    def test_two_files_are_summed_up_for_scripts(self) -> None:
+    def test_two_files_are_summarized_for_scripts(self) -> None:
         text, after = self.design.read_text(), self.folder / "after.def"
         self.design.write_text(text.replace("- f0c1 INV ;", "- f0c1 INV + PLACED ( 100 0 ) N ;"))
         after.write_text(text.replace("- f0c1 INV ;", "- f0c1 INV + PLACED ( 5000 4000 ) N ;"))
@@ -122,15 +129,22 @@ class Summaries(FrontCase):
         self.assertEqual(read.pop("teams")[0], team)
         self.assertEqual(read.pop("all"), {**team, "name": "all", "cells": 90, "unplaced": {"before": 89, "after": 89}})
         known = {"design": "t", "units": 1000, "row_height": 2.0, "bins": [0, 1, 2, 5, 10, 20, 50]}
-        far = {"name": "f0c1", "team": "f0", "before": [0.1, 0, "N"], "after": [5, 4, "N"], "displacement": 8.9, "displacement_rows": 4.45}
+        far = {
+            "name": "f0c1",
+            "team": "f0",
+            "before": [0.1, 0, "N"],
+            "after": [5, 4, "N"],
+            "displacement": 8.9,
+            "displacement_rows": 4.45,
+        }
         self.assertEqual(read, {**known, "only_before": [], "only_after": [], "farthest": [far], "notes": []})
 
     def test_other_units_are_refused(self) -> None:
         other = self.folder / "other.def"
         other.write_text(self.design.read_text().replace("MICRONS 1000", "MICRONS 500").replace("STEP 200", "STEP 100"))
         done = self.tool("lefence-summary", "t.def", "other.def", "t.lef", "--program", PROGRAM)
-        told = b"lefence-summary: t.def has 1000 database units in a micron, and other.def has 500\n"
-        self.assertEqual((done.returncode, done.stdout, done.stderr), (1, b"", told))
+        expected = b"lefence-summary: t.def has 1000 database units per micron, but other.def has 500\n"
+        self.assertEqual((done.returncode, done.stdout, done.stderr), (1, b"", expected))
 
 
 if __name__ == "__main__":

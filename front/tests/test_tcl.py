@@ -11,15 +11,15 @@ from pathlib import Path
 from support import CELLS, FRONT, PATIENCE, HubCase
 
 import lefence
-from lefence.protocol import OPENACCESS
+from lefence.base.protocol import OPENACCESS
 
 TCLSH = shutil.which("tclsh")
 
 
 @unittest.skipIf(TCLSH is None, "tclsh is not here; Debian has it as the package tcl")
 class Tcl(HubCase):
-    def run_tcl(self, script: str, *words: str | Path, told: str = "") -> list[str]:
-        """What a script prints; on standard error it prints what is told."""
+    def run_tcl(self, script: str, *words: str | Path, expected: str = "") -> list[str]:
+        """Runs a script; returns its output. Its standard error must be the expected one."""
         path = self.folder / "script.tcl"
         path.write_text(script)
         done = subprocess.run(
@@ -31,12 +31,12 @@ class Tcl(HubCase):
             cwd=self.folder,
             env={**os.environ, "TCLLIBPATH": str(FRONT / "tcl")},
         )
-        self.assertEqual((done.returncode, done.stderr), (0, told), done.stdout)
+        self.assertEqual((done.returncode, done.stderr), (0, expected), done.stdout)
         return done.stdout.splitlines()
 
-    def test_each_verb_has_a_proc_that_says_what_its_reply_says(self) -> None:
+    def test_each_verb_has_a_proc_that_returns_its_result(self) -> None:
         self.start()
-        told = self.run_tcl(
+        output = self.run_tcl(
             """package require lefence
             set c [lefence::connect [lindex $argv 0]]
             set s [lefence::open $c f0]
@@ -51,7 +51,8 @@ class Tcl(HubCase):
             puts [lefence::commit $s]
             puts [lefence::pad $s 2]
             set report [lefence::check $s]
-            puts [dict get $report cells],[dict get $report unplaced],[lsort -unique [lmap v [dict get $report violations] {dict get $v rule}]]
+            set rules [lsort -unique [lmap v [dict get $report violations] {dict get $v rule}]]
+            puts [dict get $report cells],[dict get $report unplaced],$rules
             puts [lindex [dict get $report violations] 0]
             puts [lefence::revert $s]
             puts [lindex [split [lefence::def $s] \\n] end-1]
@@ -63,20 +64,21 @@ class Tcl(HubCase):
             self.folder / "s/f0.sock",
         )
         head = ["1", "400 0 N", "0 0 N", "2 0 0 N", "3", "4", "5", f"6 {CELLS - 2}", "7", "8", f"{CELLS},0,8"]
-        self.assertEqual(told[: len(head)], head)
-        self.assertRegex(told[len(head)], r"^cell f0c\d rule 8 other f0c\d$")
-        self.assertEqual(told[len(head) + 1 :], ["9", "END DESIGN", "9", "{} {}"])
+        self.assertEqual(output[: len(head)], head)
+        self.assertRegex(output[len(head)], r"^cell f0c\d rule 8 other f0c\d$")
+        self.assertEqual(output[len(head) + 1 :], ["9", "END DESIGN", "9", "{} {}"])
 
     def test_refusals_are_error_codes(self) -> None:
         self.start()
-        told = self.run_tcl(
+        output = self.run_tcl(
             """package require lefence
             set c [lefence::connect [lindex $argv 0]]
             set s [lefence::open $c f0]
             lefence::place $s f0c1 400 0 N
             foreach line {
-                {lefence::place $s f0c2 600 0 N} {lefence::where $s f0c2} {lefence::where $s nobody} {lefence::pad $s 17}
-                {lefence::place $s "f0c1 0 0 N\\nbye" 0 0 N} {lefence::place $s f0c2 0.5 0 N} {lefence::where nothing f0c2}
+                {lefence::place $s f0c2 600 0 N} {lefence::where $s f0c2} {lefence::where $s nobody}
+                {lefence::pad $s 17} {lefence::place $s "f0c1 0 0 N\\nbye" 0 0 N}
+                {lefence::place $s f0c2 0.5 0 N} {lefence::where nothing f0c2}
                 {lefence::export $c /tmp/x} {lefence::open $c f1} {lefence::connect /no/such.sock}
             } {
                 catch $line message options
@@ -88,22 +90,44 @@ class Tcl(HubCase):
             puts $c
             """,
             self.folder / "s/f0.sock",
-            told="lefence-shell: /no/such.sock: No such file or directory\n",
+            expected="lefence-shell: /no/such.sock: No such file or directory\n",
         )
-        codes = ["Illegal 7 8 f0c2 f0c1", "Unplaced 6 f0c2", "NoCell 5", "BadRequest 1", "BadName", "BadLength", "NoSession", "BadRequest 1"]
+        codes = [
+            "Illegal 7 8 f0c2 f0c1",
+            "Unplaced 6 f0c2",
+            "NoCell 5",
+            "BadRequest 1",
+            "BadName",
+            "BadLength",
+            "NoSession",
+            "BadRequest 1",
+        ]
         codes += ["NoTeam 2", "ConnectionLost"]
-        self.assertEqual(told[:-2], [*(f"LEFENCE {code}" for code in codes), "trapped", "1"])
-        # No channel is left open but that of the connection.
-        self.assertEqual(told[-2], told[-1])
+        self.assertEqual(output[:-2], [*(f"LEFENCE {code}" for code in codes), "trapped", "1"])
+        # No channel stays open except that of the connection.
+        self.assertEqual(output[-2], output[-1])
 
     def test_each_digit_of_a_length_counts(self) -> None:
-        lengths = ("010 0", "007.25 1000", "-0.4 1000", "1e-3 1000", "9007199254740993 1", "0.0000000004 1000", "0x10 0", "abc 0", "NaN 0")
-        script = "package require lefence; foreach {length units} [lindex $argv 0] {catch {lefence::Whole $length $units} told options\n"
-        script += "puts [expr {[dict exists $options -errorcode] ? [dict get $options -errorcode] : $told}]}"
+        lengths = (
+            "010 0",
+            "007.25 1000",
+            "-0.4 1000",
+            "1e-3 1000",
+            "9007199254740993 1",
+            "0.0000000004 1000",
+            "0x10 0",
+            "abc 0",
+            "NaN 0",
+        )
+        script = "package require lefence; foreach {length units} [lindex $argv 0] {\n"
+        script += "catch {lefence::Whole $length $units} result options\n"
+        script += "puts [expr {[dict exists $options -errorcode] ? [dict get $options -errorcode] : $result}]}"
         refused = ["LEFENCE BadLength"] * 4
-        self.assertEqual(self.run_tcl(script, " ".join(lengths)), ["10", "7250", "-400", "1", "9007199254740993", *refused])
+        self.assertEqual(
+            self.run_tcl(script, " ".join(lengths)), ["10", "7250", "-400", "1", "9007199254740993", *refused]
+        )
 
-    def test_microns_and_retries_where_asked(self) -> None:
+    def test_microns_and_retries_on_request(self) -> None:
         self.start()
         script = """package require lefence
             set c [lefence::connect [lindex $argv 0]]
@@ -115,14 +139,14 @@ class Tcl(HubCase):
             catch {lefence::place $other f0c1 0 0 N} message options
             puts [dict get $options -errorcode]
             """
-        told = ["2", "{0.6 2.0 FS} {600 2000 FS} {3 1.4 0.0 N}", "LEFENCE Stale 4 3"]
-        self.assertEqual(self.run_tcl(script, self.folder / "s/f0.sock"), told)
+        expected = ["2", "{0.6 2.0 FS} {600 2000 FS} {3 1.4 0.0 N}", "LEFENCE Stale 4 3"]
+        self.assertEqual(self.run_tcl(script, self.folder / "s/f0.sock"), expected)
         with self.service(1) as port:
-            self.assertEqual(self.run_tcl(script, f"localhost:{port}"), told)
+            self.assertEqual(self.run_tcl(script, f"localhost:{port}"), expected)
 
-    def test_orientations_of_openaccess_where_asked(self) -> None:
+    def test_orientations_of_openaccess_on_request(self) -> None:
         self.start()
-        told = self.run_tcl(
+        output = self.run_tcl(
             """package require lefence
             set c [lefence::connect [lindex $argv 0]]
             set s [lefence::open $c f0 -openaccess 1]
@@ -141,21 +165,27 @@ class Tcl(HubCase):
             self.folder / "s/f0.sock",
         )
         places = ["0 0 R0", "0 0 MY", "0 2000 MX", "0 2000 R180"]
-        self.assertEqual(told, [*places, "R0", "0 2000 S", "LEFENCE BadOrient", "LEFENCE BadOption"])
+        self.assertEqual(output, [*places, "R0", "0 2000 S", "LEFENCE BadOrient", "LEFENCE BadOption"])
 
     def test_the_example_of_the_page_runs(self) -> None:
         self.start()
         page = (FRONT.parent / "docs/FRONT.md").read_text()
-        code = page.partition("```tcl\n")[2].partition("```")[0].replace("/run/lefence/A.sock", str(self.folder / "s/f0.sock"))
-        told = self.run_tcl(code.replace("$connection A", "$connection f0").replace("session u", "session f0c"))
-        self.assertEqual(told, ["f0c2 f0c1", "0.4 0.0 N", "2"])
+        code = (
+            page.partition("```tcl\n")[2]
+            .partition("```")[0]
+            .replace("/run/lefence/A.sock", str(self.folder / "s/f0.sock"))
+        )
+        output = self.run_tcl(code.replace("$connection A", "$connection f0").replace("session u", "session f0c"))
+        self.assertEqual(output, ["f0c2 f0c1", "0.4 0.0 N", "2"])
 
     def test_orientations_are_those_of_the_library_for_python(self) -> None:
-        [told] = self.run_tcl("package require lefence; puts $lefence::ORIENTS")
-        self.assertEqual(told.split(), [word for pair in OPENACCESS.items() for word in pair])
+        [output] = self.run_tcl("package require lefence; puts $lefence::ORIENTS")
+        self.assertEqual(output.split(), [word for pair in OPENACCESS.items() for word in pair])
 
-    def test_the_version_is_that_of_the_package_which_leaves_variables_as_they_are(self) -> None:
-        self.assertEqual(self.run_tcl("set verb mine; puts [package require lefence]; puts $verb"), [lefence.__version__, "mine"])
+    def test_the_version_is_that_of_the_package(self) -> None:
+        self.assertEqual(
+            self.run_tcl("set verb mine; puts [package require lefence]; puts $verb"), [lefence.__version__, "mine"]
+        )
 
 
 if __name__ == "__main__":

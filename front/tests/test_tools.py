@@ -1,4 +1,4 @@
-"""What all tools share: help with an example, statuses, and no traceback whatever the words are."""
+"""The common behaviour of all tools: help with an example, exit statuses, and no traceback for any command line."""
 
 from __future__ import annotations
 
@@ -17,7 +17,7 @@ from unittest import mock
 from support import FRONT, PROGRAM, FrontCase, tool_words
 
 import lefence
-from lefence.faults import Fault, run_tool
+from lefence.base.faults import Fault, run_tool
 
 TOOLS = (
     *("lefence-hub", "lefence-slice", "lefence-push", "lefence-shell", "lefence-picture", "lefence-report"),
@@ -32,7 +32,7 @@ class Tools(FrontCase):
             self.assertEqual((done.returncode, done.stderr), (0, b""))
             self.assertIn(f"example:\n  {name} ", done.stdout.decode())
 
-    def test_words_that_are_no_command_end_with_2(self) -> None:
+    def test_bad_command_lines_end_with_2(self) -> None:
         for name in TOOLS:
             odd: tuple[tuple[str | bytes, ...], ...] = ((), (b"\xff", "--x\ufffd"))
             for words in odd:
@@ -40,11 +40,14 @@ class Tools(FrontCase):
                 self.assertEqual((done.returncode, done.stdout), (2, b""))
                 self.assertNotIn(b"Traceback", done.stderr)
 
-    def test_a_lef_text_that_is_not_needed_is_not_asked_for(self) -> None:
+    def test_an_unneeded_lef_file_is_not_required(self) -> None:
         self.assertIn(b"the following arguments are required: DEF\n", self.tool("lefence-slice", "--team", "f0").stderr)
-        self.assertIn(b"usage: lefence-farm [OPTION ..] WORK [DEF LEF ..] [-- COMMAND]\n", self.tool("lefence-farm", "--help").stdout)
+        self.assertIn(
+            b"usage: lefence-farm [OPTION ..] WORK [DEF LEF ..] [-- COMMAND]\n",
+            self.tool("lefence-farm", "--help").stdout,
+        )
 
-    def test_files_that_are_not_there_end_with_3(self) -> None:
+    def test_missing_files_end_with_3(self) -> None:
         sockets = ("--sockets", "s", "--journal", "j", "--program", PROGRAM)
         commands: tuple[tuple[str, tuple[str | bytes, ...]], ...] = (
             ("lefence-hub", (b"\xff.def", "t.lef", *sockets)),
@@ -77,7 +80,7 @@ class Tools(FrontCase):
             self.assertTrue(done.stderr.startswith(name.encode()), done.stderr)
             self.assertNotIn(b"Traceback", done.stderr)
 
-    def test_a_program_that_is_not_there_ends_with_2(self) -> None:
+    def test_a_missing_program_ends_with_2(self) -> None:
         sockets = ("--sockets", "s", "--journal", "j")
         design = ("t.def", "t.lef")
         for name, words in (
@@ -113,26 +116,28 @@ class Tools(FrontCase):
             near.symlink_to(FRONT / "bin" / name)
             far.symlink_to(near.name)
             for words in ([str(near)], [str(far)], [sys.executable, str(far)]):
-                self.assertEqual(subprocess.check_output([*words, "--version"], text=True), f"{name} {lefence.__version__}\n")
+                self.assertEqual(
+                    subprocess.check_output([*words, "--version"], text=True), f"{name} {lefence.__version__}\n"
+                )
 
 
 class Faults(unittest.TestCase):
-    """What a tool says where it fails."""
+    """The message of a tool that fails."""
 
-    def told(self, work: Callable[[], int]) -> tuple[int, str]:
-        with mock.patch("sys.stderr", io.StringIO()) as told:
-            return run_tool("x", work), told.getvalue()
+    def output_of(self, work: Callable[[], int]) -> tuple[int, str]:
+        with mock.patch("sys.stderr", io.StringIO()) as output:
+            return run_tool("x", work), output.getvalue()
 
-    def test_its_own_fault_is_not_one_of_what_it_was_given(self) -> None:
+    def test_a_bug_of_a_tool_is_not_an_input_error(self) -> None:
         nothing: dict[str, int] = {}
-        status, told = self.told(lambda: nothing["k"])
-        self.assertEqual((status, told.startswith("x: Traceback"), "KeyError: 'k'" in told), (3, True, True))
+        status, output = self.output_of(lambda: nothing["k"])
+        self.assertEqual((status, output.startswith("x: Traceback"), "KeyError: 'k'" in output), (3, True, True))
 
-    def test_what_would_steer_a_terminal_is_escaped(self) -> None:
+    def test_control_characters_are_escaped(self) -> None:
         def fail() -> int:
             raise Fault(1, "a\x1b[2Jb\udcff\u202e\x9b é")
 
-        self.assertEqual(self.told(fail), (1, "x: a\\x1b[2Jb\\udcff\\u202e\\x9b é\n"))
+        self.assertEqual(self.output_of(fail), (1, "x: a\\x1b[2Jb\\udcff\\u202e\\x9b é\n"))
         with tempfile.NamedTemporaryFile() as file:
             file.write(b"DESIGN t ;\nEND DESIGN\n")
             file.flush()
@@ -149,12 +154,21 @@ class Package(FrontCase):
             raise unittest.SkipTest(reason)
 
     def installed(self, *words: str) -> Path:
-        """The commands of an environment in which a copy of the package was installed without a network."""
+        """Installs a copy of the package without a network; returns the folder with its commands."""
         copy, made = self.folder / "copy", self.folder / "made"
         shutil.copytree(FRONT / "lefence", copy / "lefence", ignore=shutil.ignore_patterns("__pycache__"))
         shutil.copy(FRONT / "pyproject.toml", copy)
         venv.create(made, system_site_packages=True, symlinks=True)
-        pip = [str(made / "bin/python"), "-m", "pip", "install", "--no-index", "--no-build-isolation", *words, str(copy)]
+        pip = [
+            str(made / "bin/python"),
+            "-m",
+            "pip",
+            "install",
+            "--no-index",
+            "--no-build-isolation",
+            *words,
+            str(copy),
+        ]
         done = subprocess.run(pip, capture_output=True, text=True, cwd=self.folder)
         self.assertEqual(done.returncode, 0, done.stderr)
         return made / "bin"
@@ -162,22 +176,33 @@ class Package(FrontCase):
     def run_each(self, commands: Path) -> None:
         self.assertEqual(sorted(path.name for path in commands.glob("lefence-*")), sorted(TOOLS))
         for name in TOOLS:
-            told = subprocess.check_output([commands / name, "--version"], text=True, cwd=self.folder)
-            self.assertEqual(told, f"{name} {lefence.__version__}\n")
+            output = subprocess.check_output([commands / name, "--version"], text=True, cwd=self.folder)
+            self.assertEqual(output, f"{name} {lefence.__version__}\n")
         code = "import importlib.metadata; print(importlib.metadata.version('lefence'))"
-        told = subprocess.check_output([commands / "python", "-c", code], text=True, cwd=self.folder)
-        self.assertEqual(told, f"{lefence.__version__}\n")
-        words: list[str | Path] = [commands / "lefence-report", self.design, self.lef, "--program", PROGRAM, "-o", self.folder / "x.html"]
+        output = subprocess.check_output([commands / "python", "-c", code], text=True, cwd=self.folder)
+        self.assertEqual(output, f"{lefence.__version__}\n")
+        words: list[str | Path] = [
+            commands / "lefence-report",
+            self.design,
+            self.lef,
+            "--program",
+            PROGRAM,
+            "-o",
+            self.folder / "x.html",
+        ]
         self.assertEqual(subprocess.run(words, stderr=subprocess.DEVNULL).returncode, 0)
 
-    def test_an_installation_has_every_tool_and_what_it_reads(self) -> None:
+    def test_an_installation_has_every_tool_and_its_files(self) -> None:
         commands = self.installed()
         self.run_each(commands)
         [package] = commands.parent.glob("lib/python*/site-packages/lefence")
-        names = {path.name for path in (FRONT / "lefence").iterdir()} - {"__pycache__"}
-        self.assertEqual({path.name for path in package.iterdir()} - {"__pycache__"}, names)
 
-    def test_an_editable_installation_runs_what_stands_in_the_folder(self) -> None:
+        def files_of(folder: Path) -> set[str]:
+            return {str(path.relative_to(folder)) for path in folder.rglob("*") if "__pycache__" not in path.parts}
+
+        self.assertEqual(files_of(package), files_of(FRONT / "lefence"))
+
+    def test_an_editable_installation_runs_the_files_of_the_folder(self) -> None:
         commands = self.installed("--editable")
         self.run_each(commands)
         module = self.folder / "copy/lefence/__init__.py"

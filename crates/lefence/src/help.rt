@@ -11,18 +11,18 @@ pub(crate) const USAGE: &str =
                                 writes the design as JSON Lines: rows, fences, obstacles, cells with boxes and
                                 broken rules
   lefence replay DEF LEF... [--state FILE] [--save FILE] [--export FILE] [--lines N] [--sessions N]
-                                answers the lines of standard input over the design, N at most; then its text,
-                                with the committed places in it, goes to FILE
+                                answers at most N lines of standard input over the design; then writes its text,
+                                with the committed places, to FILE
   lefence serve DEF LEF... --port P --connections N [--state FILE] [--save FILE] [--export FILE] [--sessions N]
-                                answers the lines of N connections to port P of this machine, one after the other
+                                answers the lines of N connections to port P of this machine, one after another
   lefence repair DEF LEF... [--team NAME]... [--keep | --all] [--export FILE] [--lines FILE]
-                                gives the cells that break a rule or have no place legal places
-  (a path that begins with '-' stands behind '--'; docs/PROTOCOL.md says more)
+                                moves cells that break a rule or have no place to legal places
+  (put -- before a path that begins with '-'; docs/PROTOCOL.md says more)
 ";
 
 /// The text after the usage, if help was requested.
 const MORE: &str = "
-  lefence demo --help           and so for each of the others: what it does, with an example
+  lefence demo --help           what a subcommand does, with an example (so for each of them)
   lefence --version             the version
 ";
 
@@ -39,8 +39,9 @@ example:
 const CHECK: &str = "lefence check DEF LEF... [--state FILE] [--sessions N]
 
 Writes a report of the design as one line of JSON: how many cells there are, how many are unplaced, which break
-which rule, which overlap which. With --state, each cell stands where the state that was saved to FILE has it at
-work, of teams with N session slots (8 if not given). The exit status is 0 if the design is fully legal, and 4 if it is not.
+which rule, which overlap which. With --state, each cell is at its working place in
+the state that was saved to FILE. Each team has N session slots (8 if not given). The exit status is 0 if the design
+is fully legal, and 4 if it is not.
 
 example:
   lefence check chip.def tech.lef cells.lef
@@ -49,7 +50,7 @@ example:
 const DESCRIBE: &str = "lefence describe DEF LEF... [--state FILE] [--sessions N]
 
 Writes the design as JSON Lines: rows, fences, obstacles, cells with boxes and broken rules. With --state, each cell
-stands where the state that was saved to FILE has it at work, of teams with N session slots (8 if not given). The exit
+is at its working place in the state that was saved to FILE. Each team has N session slots (8 if not given). The exit
 status is 0 if the design is fully legal, and 4 if it is not.
 
 example:
@@ -60,10 +61,10 @@ const REPLAY: &str =
     "lefence replay DEF LEF... [--state FILE] [--save FILE] [--export FILE] [--lines N] [--sessions N]
 
 Answers the lines of standard input over the design, one reply to each line, to the end of the input or a line
-'bye'. N is the most lines that are answered (1 to 4294967295; 1000000 if not given). With --export, the DEF text
-with the committed places in it then goes to FILE; all else in it stays. With --save, the state at the end is saved
-to FILE, and with --state the lines go on from a state so saved. With --sessions, each team has N session slots (1 to
-64; 8 if not given), and the state at the beginning and at the end is of so many.
+'bye'. At most N lines are answered (1 to 4294967295; 1000000 if not given). --export then writes the DEF text with
+the committed places to FILE; all else in it is unchanged. --save writes the state at the end to FILE, and --state
+starts from a state that was saved so. With --sessions, each team has N session slots (1 to 64; 8 if not given); a
+state is read and written with the same number.
 
 example:
   lefence replay chip.def tech.lef cells.lef --export new.def < session.txt
@@ -74,9 +75,9 @@ const SERVE: &str =
               [--sessions N]
 
 Listens on port P (1 to 65535) of 127.0.0.1, writes a line 'listening', and answers the lines of N connections
-(1 to 1000000), one after the other. With --export, the DEF text with the committed places in it then goes to FILE.
-With --save, the state at the end is saved to FILE, and with --state the lines go on from a state so saved. With
---sessions, each team has N session slots (1 to 64; 8 if not given).
+(1 to 1000000), one after another. --export then writes the DEF text with the committed places to FILE. --save writes
+the state at the end to FILE, and --state starts from a state that was saved so. With --sessions, each team has N
+session slots (1 to 64; 8 if not given).
 
 example:
   lefence serve chip.def tech.lef cells.lef --port 5800 --connections 100 --export new.def
@@ -85,11 +86,11 @@ example:
 const REPAIR: &str =
     "lefence repair DEF LEF... [--team NAME]... [--keep | --all] [--export FILE] [--lines FILE]
 
-Gives the cells that break a rule or have no place legal places, of the teams that are named, or of all, and commits
-each team of which no cell is left. Legal cells may move only where a cell would have no place or would go far; with
---keep they stay, and with --all they move wherever that makes the whole way shorter. Writes a line of JSON for each
-team and one for all. With --export, the DEF text with the committed places in it goes to FILE; with --lines, the commands that
-did it. The exit status is 0 if the design is then fully legal, and 4 if it is not.
+Moves cells that break a rule or have no place to legal places: those of the named teams, or of all teams. Commits
+each team in which every cell is then legal. Legal cells move only if another cell would otherwise have no place or be
+moved far; with --keep they stay, and with --all they move wherever that shortens the total displacement. Writes a
+line of JSON for each team and one for all. --export writes the DEF text with the committed places to FILE, --lines
+the accepted commands. The exit status is 0 if the design is then fully legal, and 4 if it is not.
 
 example:
   lefence repair chip.def tech.lef cells.lef --export new.def

@@ -143,7 +143,7 @@ fence_words fence = codes "fence " ++ shown_bytes fence.name.items ++ fence_line
 
 -- The fence that overlaps the refused one.
 abbrev pub overlapped_fence_words : FenceLine → List ℕ
-overlapped_fence_words fence = codes " (meets " ++ fence_words fence ++ codes ")"
+overlapped_fence_words fence = codes " (overlaps " ++ fence_words fence ++ codes ")"
 
 -- The two fences that claim a component.
 abbrev pub claiming_fences_words : FenceLine → FenceLine → List ℕ
@@ -197,7 +197,7 @@ state_line path refusal = codes "lefence: " ++ state_words path ++ number_words 
 
 -- A port of this machine.
 abbrev pub port_text : ℕ → List ℕ
-port_text port = codes "port " ++ decimal port ++ codes " of 127.0.0.1"
+port_text port = codes "cannot listen on port " ++ decimal port ++ codes " of 127.0.0.1"
 
 -- True if the refusal is a failed allocation.
 abbrev pub is_memory : FaultNumber → Bool
@@ -234,7 +234,6 @@ complaint_words (Unwritten path why) = codes " cannot be written"
 complaint_words (Unsaved path why) = codes " cannot be written"
 complaint_words (Unlisted path why) = codes " cannot be written"
 complaint_words (NoTeam name) = codes " is not in the design"
-complaint_words (Bind port why) = codes " cannot be listened on"
 complaint_words _ = []
 
 -- Why a file cannot be read.
@@ -256,7 +255,7 @@ unwritable_words unwritable.NoFolder = codes ": there is no such folder"
 unwritable_words unwritable.Folder = codes ": it is a folder"
 unwritable_words unwritable.Denied = codes ": permission denied"
 unwritable_words unwritable.ReadOnly = codes ": its file system is read-only"
-unwritable_words unwritable.Full = codes ": there is no room left"
+unwritable_words unwritable.Full = codes ": the disk is full"
 unwritable_words unwritable.Other = []
 
 -- The reason of the fault, if the system reports it.

@@ -124,7 +124,7 @@ fn write_overlapped_fence<W: Sink>(sink: &mut W, fence: &FenceLine) -> Result<()
     ensures failed { OnErr result (W.has_failed sink.new ≡ true) }
     ensures held { W.holds sink.new ≡ W.holds sink.old }
 {
-    send(sink, b" (meets ")?;
+    send(sink, b" (overlaps ")?;
     put_fence(sink, fence)?;
     send(sink, b")")
 }
@@ -303,7 +303,7 @@ fn put_port<W: Sink>(sink: &mut W, port: u16) -> Result<(), DeviceFault>
     ensures failed { OnErr result (W.has_failed sink.new ≡ true) }
     ensures held { W.holds sink.new ≡ W.holds sink.old }
 {
-    send(sink, b"port ")?;
+    send(sink, b"cannot listen on port ")?;
     send(sink, Buffer::new().format(port).as_bytes())?;
     send(sink, b" of 127.0.0.1")
 }
@@ -335,7 +335,6 @@ fn complaint_of(fault: &Fault<'_>) -> &'static [u8]
         Fault::Unsaved(_, _) => b" cannot be written",
         Fault::Unlisted(_, _) => b" cannot be written",
         Fault::NoTeam(_) => b" is not in the design",
-        Fault::Bind(_, _) => b" cannot be listened on",
         _ => b"",
     }
 }
@@ -361,7 +360,7 @@ fn unwritable_words(why: WriteFailureKind) -> &'static [u8]
         WriteFailureKind::Folder => b": it is a folder",
         WriteFailureKind::Denied => b": permission denied",
         WriteFailureKind::ReadOnly => b": its file system is read-only",
-        WriteFailureKind::Full => b": there is no room left",
+        WriteFailureKind::Full => b": the disk is full",
         WriteFailureKind::Other => b"",
     }
 }

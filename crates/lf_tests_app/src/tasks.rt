@@ -551,7 +551,7 @@ fn fences_that_overlap_are_refused(rt: HostRuntime) -> Result<(), Fail> {
     let fence = b"- B ( 3999 0 ) ( 10000 8000 ) + TYPE FENCE ;";
     let def = with_line(rt.alloc(), DEMO_DEF, 12, fence)?;
     let fault = "lefence: 21 FencesOverlap B\n\
-        lefence: DEF file w.def, line 12 (meets fence A of line 11): - B ( 3999 0 ) ( 10000 8000 ) + TYPE FENCE ;\n";
+        lefence: DEF file w.def, line 12 (overlaps fence A of line 11): - B ( 3999 0 ) ( 10000 8000 ) + TYPE FENCE ;\n";
     assert!(rt; ends(&rt, &files_of(&def), LEFS, 1, fault)?);
     assert!(rt; checks(&rt, &files_of(&def), 1, "", fault)?);
     Ok(())
@@ -925,7 +925,7 @@ fn offered(rt: &HostRuntime) -> Result<Option<ServiceConfig>, AllocError> {
         &mut reader,
     );
     let faults =
-        "lefence: Bind\nlefence: port 5800 of 127.0.0.1 cannot be listened on: it is in use\n";
+        "lefence: Bind\nlefence: cannot listen on port 5800 of 127.0.0.1: it is in use\n";
     if !run.is(3, "", faults) {
         return Ok(None);
     }

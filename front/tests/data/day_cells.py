@@ -1,4 +1,4 @@
-"""Prints where the cells of a DEF text are: `klayout -zz -r day_cells.py`."""
+"""Prints the places of the cells in a DEF file: `klayout -zz -r day_cells.py`."""
 
 import pya
 
@@ -8,6 +8,6 @@ options.lefdef_config.read_lef_with_def = False
 options.lefdef_config.instance_property_name = "name"
 layout = pya.Layout()
 layout.read("done.def", options)
-# A transformation that only moves is told as where to.
+# KLayout prints a transformation that only moves as its displacement.
 places = (f"{cell.property('name')} {cell.dtrans}".replace(" r0", "") for cell in layout.top_cell().each_inst())
-print(*places, sep="; ")
+print(*places, sep="\n")

@@ -1,4 +1,4 @@
-"""Of KLayout's module what the scripts beside this use."""
+"""The part of KLayout's module that the scripts in this folder use."""
 
 from collections.abc import Iterator
 

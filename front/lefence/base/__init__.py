@@ -1,0 +1,12 @@
+"""The common base of all parts: the protocol, faults, the program and its description, and design files.
+
+Modules in reading order:
+- `protocol`: lines and replies of docs/PROTOCOL.md; `tables` has its verbs, and tools/verbs.py generates it.
+- `faults`: errors that end a tool, and the frame in which a tool runs.
+- `atomic_file`: files that are replaced as a whole.
+- `program`, `async_run`, `progress`: runs of the lefence program, blocking and for asyncio, and their progress.
+- `description`: the output of `lefence describe`.
+- `design`, `lef`: the sections, statements and words of DEF and LEF files.
+
+It must not import any other sub-package.
+"""

@@ -1,0 +1,75 @@
+"""LEF files, as far as rows and lists of cells need them: sites, macros, and their sizes."""
+
+from __future__ import annotations
+
+import re
+from collections.abc import Iterator
+from decimal import Decimal
+from typing import NamedTuple
+
+from .design import words_in
+
+# Sections that end with END and their name. They are skipped: a SITE inside them is another statement.
+_NAMED = frozenset(b"SITE MACRO LAYER VIA VIARULE NONDEFAULTRULE ARRAY".split())
+_LENGTH = re.compile(rb"[+-]?(\d{1,7}(\.\d{0,6})?|\.\d{1,6})")
+
+
+class Site(NamedTuple):
+    """A site: whether its CLASS is CORE, and its size in microns, or 0 if it has none."""
+
+    name: bytes
+    is_core: bool
+    width: Decimal
+    height: Decimal
+
+
+def sites_of(text: bytes) -> Iterator[Site]:
+    """Yields the sites of a LEF text in its order."""
+    for name, words in _sections(text, b"SITE"):
+        classes = [words[at + 1 : at + 2] for at, word in enumerate(words) if word == b"CLASS"]
+        yield Site(name, classes[-1:] == [[b"CORE"]], *_sizes(words)[-1])
+
+
+def sizes_of(text: bytes) -> Iterator[tuple[bytes, Decimal, Decimal]]:
+    """Yields the macros of a LEF text in its order, with their widths and heights in microns."""
+    for name, words in _sections(text, b"MACRO"):
+        yield name, *_sizes(words)[0]
+
+
+def _sections(text: bytes, keyword: bytes) -> Iterator[tuple[bytes, list[bytes]]]:
+    """Yields the names and words of the sections with this keyword; skips all others."""
+    words = words_in(text)
+    for word in words:
+        if word == keyword or word in _NAMED:
+            name = next(words, b"")
+            section = _section(words, name)
+            if word == keyword:
+                yield name, section
+        elif word == b"PROPERTYDEFINITIONS":
+            _section(words, word)
+        elif word == b"BEGINEXT":
+            next((each for each in words if each == b"ENDEXT"), None)
+
+
+def _sizes(words: list[bytes]) -> list[tuple[Decimal, Decimal]]:
+    """Lists the SIZEs of a macro or a site; (0, 0) if it has none. A pin or a property named SIZE has no BY."""
+    found = []
+    for at, word in enumerate(words):
+        if word == b"SIZE" and words[at + 2 : at + 3] == [b"BY"] and len(words) > at + 3:
+            found.append((length(words[at + 1]), length(words[at + 3])))
+    return found or [(Decimal(0), Decimal(0))]
+
+
+def _section(words: Iterator[bytes], name: bytes) -> list[bytes]:
+    """Returns the words up to END and this name."""
+    found: list[bytes] = []
+    for word in words:
+        if word == name and found[-1:] == [b"END"]:
+            return found[:-1]
+        found.append(word)
+    return found
+
+
+def length(word: bytes) -> Decimal:
+    """Returns a length in microns, or 0 if the word is not a length."""
+    return Decimal(word.decode()) if _LENGTH.fullmatch(word) else Decimal(0)

@@ -1,0 +1,229 @@
+"""The lefence program: how to find it, and how to run it over a design, blocking or with asyncio."""
+
+from __future__ import annotations
+
+import contextlib
+import fcntl
+import json
+import os
+import shutil
+import socket
+import subprocess
+import tempfile
+from collections.abc import Iterable
+from pathlib import Path
+from typing import IO, TYPE_CHECKING, Any
+
+from .faults import FAILED, USAGE, Fault
+from .protocol import MOST_LINES, SLOTS
+
+if TYPE_CHECKING:
+    from .async_run import AsyncRun
+    from .progress import Progress
+
+# Bytes read at a time, and seconds to wait between reads. The program writes line by line; waking up for each of a
+# million lines is slow.
+PIECE, PAUSE = 1 << 20, 0.002
+
+# Exit statuses of a complete repair: the design is fully legal, or it is not.
+REPAIRED = (0, 4)
+# The start of a line with the progress of a repair.
+REPAIRING = "lefence: repairing "
+
+# The program of the repository that contains this package.
+_BUILT = Path(__file__).resolve().parents[3] / "crates/lefence/out/lefence"
+
+
+def find_program(given: str | None) -> str:
+    """Returns the path of the program: the given one, else `lefence` of the search path, else the one of this
+    repository.
+    """
+    found = shutil.which(given or "lefence") or (str(_BUILT) if not given and os.access(_BUILT, os.X_OK) else None)
+    if found is None:
+        built = "" if given else "./lefence of the repository builds it, "
+        raise Fault(USAGE, f"{given or 'lefence'}: no such program; {built}--program PATH names another one")
+    return os.path.abspath(found)
+
+
+class Program:
+    """The program with the files of a design: `replay` answers lines, `describe` describes it, `repair` repairs its
+    teams.
+
+    A `Run` blocks. An `AsyncRun` uses asyncio, which is imported only then.
+    """
+
+    def __init__(self, path: str, texts: list[Path], slots: int = SLOTS) -> None:
+        """Makes a program of a path, a DEF file and LEF files, with `slots` session slots per team.
+
+        Raises a Fault if the path of a file is not UTF-8.
+        """
+        self.path = path
+        self.texts = texts
+        # (without the option, earlier programs work too)
+        self._slots = [] if slots == SLOTS else ["--sessions", str(slots)]
+        self._words = path_words(texts)
+
+    def answer(self, lines: Iterable[bytes], replies: IO[bytes], export: Path | None = None) -> None:
+        """Has the program answer lines, given in pieces, into a file, and export. Raises a Fault if it fails."""
+        words = self._replay_words(export)
+        with tempfile.TemporaryFile() as errors:
+            with subprocess.Popen(words, stdin=subprocess.PIPE, stdout=replies, stderr=errors) as process:
+                assert process.stdin
+                try:
+                    # (a broken pipe: the program has failed, or the caller finds that replies are missing)
+                    with contextlib.suppress(BrokenPipeError), process.stdin as input_pipe:
+                        input_pipe.writelines(lines)
+                    status = process.wait()
+                except BaseException:
+                    process.kill()
+                    raise
+            if status:
+                raise fault_of(status, errors, lost_text(status))
+
+    def repair(
+        self, options: Iterable[str], lines: Path, export: Path | None, progress: Progress
+    ) -> list[dict[str, Any]]:
+        """Has the program repair teams; returns its report: an object per team, then one of all.
+
+        Writes the lines of its commands to a file and, if `export` is given, the committed places to another. Raises a
+        Fault if the program fails.
+        """
+        words = [self.path, "repair", *self._words, *options, "--lines", os.path.abspath(lines)]
+        words += ["--export", os.path.abspath(export)] if export else []
+        with tempfile.TemporaryFile() as errors:
+            with subprocess.Popen(words, stdin=subprocess.DEVNULL, stdout=subprocess.PIPE, stderr=errors) as process:
+                try:
+                    output = progress.output_of(process, lambda: progress_line(errors))
+                except BaseException:
+                    process.kill()
+                    raise
+            if process.returncode in REPAIRED:
+                with contextlib.suppress(ValueError):
+                    report = [json.loads(line) for line in output.splitlines()]
+                    if report and "legal" in report[-1]:
+                        return report
+            raise fault_of(process.returncode, errors, lost_text(process.returncode))
+
+    def replay_on(self, end: socket.socket) -> subprocess.Popen[bytes]:
+        """Starts a program that answers the lines of a socket. It ignores the terminal's Ctrl-C and shares standard
+        error.
+        """
+        return subprocess.Popen(self._replay_words(), stdin=end.fileno(), stdout=end.fileno(), start_new_session=True)
+
+    def describe(self) -> Run:
+        """Starts a description of the design."""
+        return Run(self._describe_words())
+
+    async def replay_async(
+        self, export: str | None = None, state: Path | None = None, save: Path | None = None
+    ) -> AsyncRun:
+        """Starts a program that answers the lines of a pipe, with the caller's standard error.
+
+        It starts from `state`, and at the end of its input it writes `export` and `save`, each if given.
+        """
+        from .async_run import start_run
+
+        words = self._replay_words(export)
+        for option, path in (("--state", state), ("--save", save)):
+            words += [option, *path_words([path])] if path else []
+        return await start_run(words, has_input=True)
+
+    async def describe_async(self) -> AsyncRun:
+        """Starts a description of the design, for asyncio."""
+        from .async_run import start_run
+
+        return await start_run(self._describe_words(), has_input=False)
+
+    def _replay_words(self, export: str | Path | None = None) -> list[str]:
+        words = [self.path, "replay", *self._words, "--lines", str(MOST_LINES), *self._slots]
+        return words if export is None else [*words, "--export", os.path.abspath(export)]
+
+    def _describe_words(self) -> list[str]:
+        return [self.path, "describe", *self._words]
+
+
+class Run:
+    """A blocking run of the program with a pipe for its output. Its errors are kept for its fault."""
+
+    def __init__(self, words: list[str]) -> None:
+        """Starts the program with these words, without an input."""
+        self._errors: IO[bytes] = tempfile.TemporaryFile()
+        nothing, pipe = subprocess.DEVNULL, subprocess.PIPE
+        self._process = subprocess.Popen(words, stdin=nothing, stdout=pipe, stderr=self._errors, bufsize=0)
+        assert self._process.stdout
+        self._output = _enlarged(self._process.stdout.fileno())
+        self._rest = b""
+
+    def __enter__(self) -> Run:
+        return self
+
+    def __exit__(self, *_: object) -> None:
+        self.close()
+
+    def close(self) -> None:
+        """Ends the program if it still runs."""
+        self._process.kill()
+        self._process.wait()
+        for end in (self._process.stdout, self._errors):
+            if end:
+                end.close()
+
+    def lines(self) -> list[bytes]:
+        """Waits for bytes; returns the lines that are complete, without line feeds. Raises EOFError at the end of the
+        output.
+        """
+        piece = os.read(self._output, PIECE)
+        if not piece:
+            raise EOFError
+        *whole, self._rest = (self._rest + piece).split(b"\n")
+        return whole
+
+    def wait(self) -> int:
+        """Waits until the program has ended; returns its exit status."""
+        return self._process.wait()
+
+    def fault(self, otherwise: str) -> Fault:
+        """Waits until the run has ended; returns the fault that its kept errors describe."""
+        return fault_of(self._process.wait(), self._errors, otherwise)
+
+
+def path_words(paths: Iterable[Path]) -> list[str]:
+    """Returns the paths as arguments of the program: absolute, so that none is an option. Raises a Fault if one is not
+    UTF-8.
+    """
+    words = [os.path.abspath(path) for path in paths]
+    for word in words:
+        # Bytes that are not UTF-8 are surrogates in a command line; these cannot be encoded.
+        if word.encode(errors="replace").decode() != word:
+            raise Fault(FAILED, f"{word}: the program cannot open a path that is not UTF-8")
+    return words
+
+
+def lost_text(status: int) -> str:
+    """Returns the message for a program that ended with this status and printed no error."""
+    return f"the program ended unexpectedly with status {status}"
+
+
+def output_lines(errors: IO[bytes]) -> list[str]:
+    """Returns the lines that a program has written to this file so far."""
+    size = os.fstat(errors.fileno()).st_size
+    return os.pread(errors.fileno(), size, 0).decode(errors="backslashreplace").splitlines()
+
+
+def progress_line(errors: IO[bytes]) -> str | None:
+    """Returns the latest progress line of a repair in this file, or None."""
+    output = [line for line in output_lines(errors) if line.startswith(REPAIRING)]
+    return output[-1].removeprefix("lefence: ") if output else None
+
+
+def fault_of(status: int, errors: IO[bytes], otherwise: str) -> Fault:
+    """Returns the fault of a program with this status and the errors in this file, or else `otherwise`."""
+    text = "\n".join(line for line in output_lines(errors) if not line.startswith(REPAIRING)).strip() or otherwise
+    return Fault(status if status in (1, 2, 3) else FAILED, text.removeprefix("lefence: ").replace("\nlefence: ", "; "))
+
+
+def _enlarged(pipe: int) -> int:
+    """Enlarges the pipe's buffer if the system allows it."""
+    with contextlib.suppress(AttributeError, OSError):
+        fcntl.fcntl(pipe, fcntl.F_SETPIPE_SZ, PIECE)
+    return pipe

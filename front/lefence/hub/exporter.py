@@ -1,0 +1,83 @@
+"""Exports of a hub: a side program writes them from the journal while the first program serves."""
+
+from __future__ import annotations
+
+import asyncio
+import os
+from collections.abc import Callable
+from pathlib import Path
+
+from ..base.atomic_file import is_special, partial_file
+from ..base.faults import FAILED, Fault, reason_of
+from ..journal.journal import Journal
+from ..journal.segments import Position
+from .server import Server, ServerLost
+
+
+class SideProgram:
+    """A second program that replays the journal and writes an export or a state, one at a time."""
+
+    def __init__(self, server: Server, journal: Journal) -> None:
+        """Makes the side program of the design that `server` has."""
+        # Take the turn before each write.
+        self.turn = asyncio.Lock()
+        # The running side program.
+        self.server: Server | None = None
+        self._server = server
+        self._journal = journal
+
+    async def write(self, position: Position, export: str | None = None, save: Path | None = None) -> None:
+        """Replays the journal up to a position and writes the files. Raises a Fault or ServerLost if they are not
+        complete.
+        """
+        self.server = side_server = Server(self._server.program, self._server.sums, export, save)
+        try:
+            self._journal.refuse_loss()
+            with self._journal.tail(position) as tail:
+                await side_server.start(tail.state)
+                await side_server.restore(tail.records, None, tail.changes)
+            if await side_server.end():
+                raise Fault(FAILED, "the program could not write the file; see the hub's standard error")
+        finally:
+            self.server = None
+            await side_server.kill()
+
+
+class Exporter:
+    """Writes one export at a time."""
+
+    def __init__(self, server: Server, journal: Journal, side_program: SideProgram, say: Callable[[str], None]) -> None:
+        """Makes the exporter of a server and its journal."""
+        # Files that no export may replace, besides the journal and its copies of the design.
+        self.protected: list[Path] = []
+        self._server = server
+        self._journal = journal
+        self._side_program = side_program
+        self._say = say
+
+    def refuse(self, path: str) -> None:
+        """Raises a Fault if an export to the path would replace the journal or the design, or cannot be written."""
+        inputs = [file for file in (self._journal.path, *self._server.program.texts, *self.protected) if file.exists()]
+        if os.path.exists(path) and any(
+            os.path.samefile(path, file) for file in [*inputs, *self._journal.archive.files()]
+        ):
+            raise Fault(FAILED, f"{path} is the journal or a file of the design")
+        if os.path.isdir(path) or not os.access(os.path.dirname(os.path.abspath(path)), os.W_OK):
+            raise Fault(FAILED, f"cannot write {path}")
+
+    async def write(self, path: str, position: Position) -> str | None:
+        """Writes the committed places at a position of the journal; returns None, or the reason of the failure."""
+        async with self._side_program.turn:
+            try:
+                self.refuse(path)
+                if is_special(Path(path)):
+                    await self._side_program.write(position, export=path)
+                    return None
+                # (A killed hub leaves a program that writes what it has. The bytes are on the disk before the file gets
+                # its name.)
+                with partial_file(Path(path)) as partial:
+                    await self._side_program.write(position, export=str(partial))
+                return None
+            except (Fault, OSError, ServerLost) as fault:
+                self._say(f"export: {reason_of(fault)}")
+                return reason_of(fault)

@@ -1,0 +1,113 @@
+"""What a hub counts while it serves, and its status as metrics in Prometheus's text format."""
+
+from __future__ import annotations
+
+import time
+from collections import deque
+from collections.abc import Iterable, Iterator
+from pathlib import Path
+from typing import Any
+
+from ..base.protocol import REVISIONS, is_accepted
+
+# Number of batches for the statistics.
+_BATCHES = 4096
+_KIB = 1024
+# Commands after which a team's working places equal its committed ones.
+_EVEN = (b"commit", b"revert")
+
+
+class TeamMetrics:
+    """A team's revision, and its changes since the last commit or revert."""
+
+    def __init__(self) -> None:
+        self.revision = self.uncommitted = 0
+
+
+class Metrics:
+    """Counters of one hub."""
+
+    def __init__(self) -> None:
+        self.started = time.time()
+        self.teams: dict[bytes, TeamMetrics] = {}
+        # Restarts of the program.
+        self.restores = 0
+        self.lines = 0
+        # Seconds of the last syncs, and lines of the last batches.
+        self.syncs: deque[float] = deque(maxlen=_BATCHES)
+        self.batches: deque[int] = deque(maxlen=_BATCHES)
+
+    def note(self, fields: list[bytes], reply: bytes) -> None:
+        """Counts an answered line."""
+        if fields and fields[0] in REVISIONS and is_accepted(reply):
+            team = self.teams.setdefault(fields[1], TeamMetrics())
+            team.revision = int(reply.split()[1])
+            team.uncommitted = 0 if fields[0] in _EVEN else team.uncommitted + 1
+
+    def count(self, lines: int) -> None:
+        """Counts a batch."""
+        self.lines += lines
+        self.batches.append(lines)
+
+
+def percentile(values: Iterable[float], part: float) -> float:
+    """The value that this part of the values does not exceed; 0 for no values."""
+    found = sorted(values)
+    return found[min(len(found) - 1, int(len(found) * part))] if found else 0
+
+
+def memory_of(pid: int | None) -> int:
+    """The bytes of memory of a process; 0 if there is none."""
+    try:
+        lines = Path(f"/proc/{pid}/status").read_text().splitlines()
+        return next(int(line.split()[1]) * _KIB for line in lines if line.startswith("VmRSS:"))
+    except (OSError, StopIteration, ValueError):
+        return 0
+
+
+_METRICS = {
+    "uptime_seconds": ("gauge", "Seconds since this start."),
+    "clients": ("gauge", "Connections."),
+    "unread_bytes": ("gauge", "Bytes of replies that clients have not read."),
+    "lines_total": ("counter", "Lines answered since this start."),
+    "restores_total": ("counter", "Restarts of the program since this start."),
+    "changes_total": ("counter", "Changes in the journal."),
+    "states_total": ("counter", "States saved since this start."),
+    "journal_bytes": ("gauge", "Bytes of the journal's last segment."),
+    "past_bytes": ("gauge", "Bytes of the earlier segments and of the states."),
+    "journal_age_seconds": ("gauge", "Seconds since the last change."),
+    "sync_seconds_p50": ("gauge", "Median seconds of the last syncs of the journal."),
+    "sync_seconds_p99": ("gauge", "The same, 99 of 100."),
+    "batch_lines_p50": ("gauge", "Median lines of the last batches."),
+    "batch_lines_p99": ("gauge", "The same, 99 of 100."),
+    "program_bytes": ("gauge", "Memory of the program."),
+    "hub_bytes": ("gauge", "Memory of the hub."),
+}
+_TEAM_METRICS = {
+    "clients": ("gauge", "Connections of the team's socket."),
+    "sessions": ("gauge", "Open sessions of the team."),
+    "revision": ("counter", "The team's revision."),
+    "uncommitted": ("gauge", "Changes of the team since its last commit or revert."),
+}
+
+
+def prometheus(status: dict[str, Any]) -> str:
+    """Formats a status for Prometheus."""
+    lines: list[str] = []
+    for name, (kind, help_text) in _METRICS.items():
+        lines += [*_head(f"lefence_{name}", kind, help_text), f"lefence_{name} {status[name]}"]
+    for name, (kind, help_text) in _TEAM_METRICS.items():
+        lines += _head(f"lefence_team_{name}", kind, help_text)
+        lines += (f'lefence_team_{name}{{team="{team}"}} {value}' for team, value in _of_teams(status, name))
+    return "".join(f"{line}\n" for line in lines)
+
+
+def _head(name: str, kind: str, help_text: str) -> list[str]:
+    return [f"# HELP {name} {help_text}", f"# TYPE {name} {kind}"]
+
+
+def _of_teams(status: dict[str, Any], name: str) -> Iterator[tuple[str, int]]:
+    for team in status["teams"]:
+        value = team[name]
+        quoted = team["team"].replace("\\", "\\\\").replace('"', '\\"')
+        yield quoted, len(value) if isinstance(value, list) else value

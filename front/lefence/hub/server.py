@@ -1,0 +1,153 @@
+"""The program of a hub: one `lefence replay` on a pipe, and its restoration from a journal."""
+
+from __future__ import annotations
+
+import asyncio
+import itertools
+import time
+from collections.abc import Callable, Iterator
+from pathlib import Path
+
+from ..base.async_run import AsyncRun
+from ..base.description import add_team
+from ..base.faults import FAILED, REFUSED, Fault
+from ..base.program import PIECE, Program
+from ..base.protocol import GROUND, text_length
+from ..journal.frames import Record, sums_of
+from ..journal.segments import State
+
+# Lines per request while a journal is replayed.
+_CHUNK = 1000
+
+Note = Callable[[list[bytes], bytes], None]
+
+
+class ServerLost(Exception):
+    """The program is gone. What it did with the lines in flight is unknown."""
+
+
+class Server:
+    """A running program over a design whose files have the given SHA-256 sums."""
+
+    def __init__(self, program: Program, sums: list[str], export: str | None = None, save: Path | None = None) -> None:
+        """Makes a server. At the end of its input, the program writes the files `export` and `save`, if given."""
+        self.program = program
+        self.sums = sums
+        self._export, self._save = export, save
+        self._run: AsyncRun | None = None
+        # Since when the program has been silent although it has work; None if it has none.
+        self._since: float | None = None
+
+    @property
+    def pid(self) -> int | None:
+        """The process id of the program, or None."""
+        return self._run.pid if self._run else None
+
+    def seconds_silent(self) -> float:
+        """How many seconds the program has been silent although it has work."""
+        return 0 if self._since is None else time.monotonic() - self._since
+
+    def send_kill(self) -> None:
+        """Kills a hung program without waiting; pending calls raise ServerLost."""
+        if self._run:
+            self._run.send_kill()
+
+    async def start(self, state: State | None = None) -> None:
+        """Starts the program, and waits until it has loaded the design and the state.
+
+        Raises a Fault if it refuses one of them or its arguments, or if the files have other sums; ServerLost if it
+        dies.
+        """
+        await self.kill()
+        self._run = await self.program.replay_async(self._export, state.path if state else None, self._save)
+        try:
+            await self.execute([b""])
+        except ServerLost:
+            status = await self._run.wait()
+            if status in (1, 2):
+                reason = "see its message above" if status == 1 else "it does not know the options of `replay`"
+                raise Fault(
+                    REFUSED if status == 1 else FAILED, f"{self.program.path} does not start: {reason}"
+                ) from None
+            raise
+        if await asyncio.to_thread(sums_of, self.program.texts) != self.sums:
+            raise Fault(REFUSED, "the files of the design have changed")
+        if state and not await asyncio.to_thread(state.is_whole):
+            raise Fault(REFUSED, f"{state.path} has changed")
+
+    async def execute(self, lines: list[bytes]) -> list[bytes]:
+        """Returns the whole reply to each line; only the last may be a `def`. Raises ServerLost if the program dies."""
+        if not lines:
+            return []
+        self._since = time.monotonic()
+        try:
+            assert self._run
+            self._run.send(b"\n".join(lines) + b"\n")
+            return await self._replies(lines)
+        except (OSError, asyncio.IncompleteReadError) as error:
+            raise ServerLost(f"the program is lost: {error}") from None
+        finally:
+            self._since = None
+
+    async def _replies(self, lines: list[bytes]) -> list[bytes]:
+        assert self._run
+        reader = self._run.reader
+        pieces, line_feeds = [], 0
+        while line_feeds < len(lines):
+            piece = await reader.read(PIECE)
+            if not piece:
+                raise ConnectionResetError("end of its replies")
+            pieces.append(piece)
+            self._since = time.monotonic()
+            line_feeds += piece.count(b"\n")
+        *texts, rest = b"".join(pieces).split(b"\n", len(lines))
+        replies = [text + b"\n" for text in texts]
+        if length := text_length(lines[-1], replies[-1]):
+            replies[-1] += rest + await reader.readexactly(length - len(rest))
+        return replies
+
+    async def restore(self, records: Iterator[Record], on_record: Note | None = None, count: int = 0) -> int:
+        """Replays records, compares each reply and calls `on_record` for each. Returns their number plus `count`.
+
+        Raises a Fault at the first reply that differs; ServerLost if the program dies or is out of memory.
+        """
+        while chunk := list(itertools.islice(records, _CHUNK)):
+            for record, reply in zip(chunk, await self.execute([record.line for record in chunk])):
+                count += 1
+                if reply.startswith(b"no 12 "):
+                    raise ServerLost("the program is out of memory and cannot restore its state")
+                if reply != record.reply:
+                    place = f"change {count}: the journal has {record.reply!r} for {record.line!r}"
+                    raise Fault(REFUSED, f"{place}, but the program replies {reply!r}")
+                if on_record:
+                    on_record(record.line.split(), reply)
+        return count
+
+    async def end(self) -> int:
+        """Ends the program's input; returns its exit status."""
+        assert self._run
+        self._since = time.monotonic()
+        try:
+            return await self._run.finish()
+        finally:
+            self._since = None
+
+    async def kill(self) -> None:
+        """Kills the program if it runs."""
+        if self._run is not None:
+            await self._run.kill()
+        self._run = None
+
+
+async def described_teams(program: Program) -> list[str]:
+    """Team names from the head of `lefence describe`, which is stopped before it prints the cells."""
+    run = await program.describe_async()
+    teams = [GROUND]
+    try:
+        # (a program that dies may leave a partial last line)
+        while (line := await run.reader.readline()).endswith(b"\n"):
+            if not add_team(line, teams):
+                return teams
+        raise await run.fault(f"{program.path} does not report the teams of the design")
+    finally:
+        await run.kill()

@@ -1,0 +1,14 @@
+"""The command-line tools, one module each, and what they share.
+
+A tool `lefence-NAME` is the function `main` of module NAME.
+- `hub`, `journal`: start a hub; check, cut and export journals.
+- `shell`, `push`: type commands, or send the records of a journal to another hub.
+- `prepare`, `preparation`, `skipped`: make a design ready for the program, and list what the program skips.
+- `slice`, `merge`, `splice`: cut a design into one file a team, and put places back.
+- `repair`, `repair_run`, `repair_remote`: repair a design by the program, here or through a hub.
+- `farm`, `farm_runs`: run one job a team, each with its own hub.
+- `picture`, `report`, `report_moves`, `markers`: show a design; `scene`, `drawing` and `team_area` are what they share.
+- `summary`, `displacement`, `displacement_text`: how far the cells of a design have moved.
+
+The tools import all other sub-packages, and nothing imports them.
+"""

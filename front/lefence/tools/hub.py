@@ -1,0 +1,314 @@
+"""lefence-hub: serves many clients with one program, a socket for each team, and a journal."""
+
+from __future__ import annotations
+
+import argparse
+import asyncio
+import functools
+import json
+import os
+import resource
+import signal
+import sys
+import threading
+import traceback
+from collections.abc import Callable
+from pathlib import Path
+from typing import Any
+
+from ..base.faults import DONE, FAILED, REFUSED, Fault, Parser, log, run_tool
+from ..base.program import Program, find_program
+from ..base.protocol import MOST_SLOTS, socket_name
+from ..hub.checkpoints import TailLimits
+from ..hub.clients import MOST_CLIENTS
+from ..hub.hub import Hub, HubLimits
+from ..hub.hub_client import Client
+from ..hub.metrics import prometheus
+from ..hub.notify import notify
+from ..hub.server import Server
+from ..hub.sockets import bind_socket, claim_folder, groups_of
+from ..hub.status import read_status, uncommitted_text
+from ..journal.journal import Journal
+from ..journal.owner import this_process
+from ..journal.texts import remove_partial_texts, resolve_texts
+
+TOOL = "lefence-hub"
+# Connections of a socket that may wait for acceptance, and how many asyncio accepts at a time. If no descriptor is
+# left, asyncio reports that for each of these.
+_QUEUE, _AT_ONCE = 1024, 16
+# Seconds at the end for clients to read their replies.
+_LAST = 5
+
+
+def say(text: str) -> None:
+    log(TOOL, text)
+
+
+async def listen(hub: Hub, folder: Path, groups: dict[str, int]) -> list[asyncio.AbstractServer]:
+    """Serves the operator's socket and one for each team."""
+    loop = asyncio.get_running_loop()
+    create = functools.partial(loop.create_unix_server, backlog=_AT_ONCE)
+    if sys.version_info >= (3, 13):
+        create = functools.partial(create, cleanup_socket=False)
+    listeners: list[asyncio.AbstractServer] = []
+    for team in (None, *hub.teams):
+        mode, group = (0o600, None) if team is None else (0o660, groups.get(team))
+        bound = bind_socket(folder / socket_name(team), mode, team is not None, group)
+        client = functools.partial(Client, hub, None if team is None else team.encode())
+        listeners.append(await create(client, sock=bound))
+        # (asyncio uses one number for both)
+        bound.listen(_QUEUE)
+    return listeners
+
+
+async def serve(hub: Hub, options: argparse.Namespace, stopped: asyncio.Event) -> None:
+    """Starts and serves until a fault or a signal. Then it stops reading, but answers what was read."""
+    groups = groups_of(options.group)
+    stop, watch = asyncio.create_task(stopped.wait()), asyncio.create_task(hub.watch())
+    start = asyncio.create_task(hub.start([*options.team]))
+    tasks = [stop, watch, start]
+    try:
+        await asyncio.wait({start, stop, watch}, return_when=asyncio.FIRST_COMPLETED)
+        if not start.done():
+            start.cancel()
+            await asyncio.gather(start, return_exceptions=True)
+            return None if stop.done() else watch.result()
+        teams = start.result()
+        if missing := [team for team in groups if team not in teams]:
+            raise Fault(REFUSED, f"no team: {', '.join(missing)}")
+        files = resource.getrlimit(resource.RLIMIT_NOFILE)[0]
+        if options.roll:
+            return None
+        hub.pool.most_clients = max(1, min(MOST_CLIENTS, (files - 64) // (len(teams) + 1) - 1))
+        # (the first batch closes orphaned sessions, which are changes too)
+        ready = f"ready: {len(teams)} teams, {hub.journal.changes} changes restored"
+        run = asyncio.create_task(hub.run())
+        tasks.append(run)
+        listeners = await listen(hub, options.sockets, groups)
+        say(ready)
+        notify("READY=1", f"STATUS={ready}")
+        await asyncio.wait({run, stop, watch}, return_when=asyncio.FIRST_COMPLETED)
+        for listener in listeners:
+            listener.close()
+        if watch.done():
+            watch.result()
+        hub.stop()
+        await run
+        await disconnect_all(hub)
+    finally:
+        # (after a fault nothing more is acknowledged)
+        for task in tasks:
+            task.cancel()
+
+
+async def disconnect_all(hub: Hub) -> None:
+    """Ends the connections when the clients have read their replies, or after some seconds."""
+    for client in list(hub.pool.clients):
+        client.disconnect()
+    loop = asyncio.get_running_loop()
+    timer = loop.time() + _LAST
+    while hub.pool.clients and loop.time() < timer:
+        await asyncio.sleep(0.02)
+
+
+def end_by_signals(hub: Hub, stopped: asyncio.Event, grace: float) -> None:
+    """Sets the event at a signal. After `grace` seconds, or at a second signal, it ends this process at once."""
+
+    def give_up() -> None:
+        say(f"killed: not ended within {grace:g} seconds, or a second signal; no acknowledged change is lost")
+        hub.kill_programs()
+        os._exit(FAILED)
+
+    def stop() -> None:
+        if stopped.is_set():
+            give_up()
+        notify("STOPPING=1")
+        stopped.set()
+        timer = threading.Timer(grace, give_up)
+        timer.daemon = True
+        timer.start()
+
+    for number in (signal.SIGTERM, signal.SIGINT, signal.SIGHUP):
+        # (`nohup` ignores SIGHUP)
+        if number != signal.SIGHUP or signal.getsignal(number) != signal.SIG_IGN:
+            asyncio.get_running_loop().add_signal_handler(number, stop)
+
+
+def limit_loop_errors(hub: Hub) -> None:
+    """Prints messages of the event loop, for example that no descriptor is left, at most once a minute."""
+
+    def handle(loop: asyncio.AbstractEventLoop, context: dict[str, Any]) -> None:
+        error = context.get("exception")
+        text = (
+            context["message"]
+            if isinstance(error, OSError) or not error
+            else "".join(traceback.format_exception(error))
+        )
+        hub.log_limited(str(context["message"]), f"{text}: {error}")
+
+    asyncio.get_running_loop().set_exception_handler(handle)
+
+
+async def run(options: argparse.Namespace) -> None:
+    """Runs the hub from its locks to its last export."""
+    stopped = asyncio.Event()
+    paths = [options.design, *options.library]
+    program = find_program(options.program)
+    claim_folder(options.sockets)
+    texts, kept = resolve_texts(options.journal, paths, say)
+    journal = Journal(options.journal, texts, say, this_process(program), options.takeover, options.sessions)
+    journal.is_synced = not options.no_sync
+    remove_partial_texts(options.journal)
+    limits = HubLimits(
+        options.patience,
+        options.idle,
+        options.deadline,
+        TailLimits(options.tail_bytes, options.tail_seconds, options.keep),
+    )
+    hub = Hub(Server(Program(program, kept, journal.header.slots), [text.sum for text in texts]), journal, limits, say)
+    hub.exporter.protected = paths
+    if journal.former and journal.former.program != journal.owner.program:
+        which = f"{journal.former.program} of front {journal.former.front}"
+        say(f"the journal was written with another program, {which}; if replies differ, run that one with --roll first")
+    end_by_signals(hub, stopped, options.grace)
+    limit_loop_errors(hub)
+    try:
+        if options.export:
+            hub.exporter.refuse(options.export)
+        await serve(hub, options, stopped)
+        await hub.server.kill()
+        if hub.teams:
+            # (a start that was interrupted knows only some of the sessions)
+            if text := uncommitted_text(hub):
+                say(text)
+            await hub.checkpoints.make_last(hub.pool, hub.metrics, options.roll)
+        if options.roll and journal.tail_changes:
+            raise Fault(FAILED, "--roll could not save a state")
+        if options.export and await hub.exporter.write(options.export, journal.position) is not None:
+            raise Fault(FAILED, f"{options.export}: not exported")
+    finally:
+        await hub.server.kill()
+        journal.close()
+    say("ended")
+
+
+class StatusAction(argparse.Action):
+    """An option that prints the status of a hub and ends."""
+
+    def __call__(self, parser: argparse.ArgumentParser, _: object, value: Any, option: str | None = None) -> None:
+        def work() -> int:
+            status = read_status(value)
+            sys.stdout.write(prometheus(status) if option == "--metrics" else json.dumps(status) + "\n")
+            return DONE
+
+        parser.exit(run_tool(TOOL, work))
+
+
+def parser() -> Parser:
+    made = Parser(
+        TOOL,
+        "Serves many clients at once on one design. Each team has a socket DIR/TEAM.sock, the operator has\n"
+        "DIR/operator.sock. Accepted changes are in the journal before their replies are sent; the next start\n"
+        "restores them. SIGTERM ends the hub. docs/FRONT.md describes it.",
+        f"{TOOL} chip.def tech.lef cells.lef --sockets /run/lefence --journal chip.journal --export new.def",
+    )
+    _add_files(made)
+    _add_limits(made)
+    made.add_argument("--roll", action="store_true", help="save a state of the journal and end, without serving")
+    gone = "take over the journal of a hub of another host, which is certainly gone"
+    made.add_argument("--takeover", action="store_true", help=gone)
+    unsafe = "do not wait for the disk: a crash of the machine may lose changes"
+    made.add_argument("--no-sync", action="store_true", help=unsafe)
+    made.add_program()
+    queries = {
+        "--status": "print the status of the hub with its sockets in DIR, as JSON",
+        "--metrics": "the same for Prometheus",
+    }
+    for option, text in queries.items():
+        made.add_argument(option, metavar="DIR", type=Path, action=StatusAction, help=text)
+    return made
+
+
+def _add_files(made: Parser) -> None:
+    """Adds the arguments for files and teams."""
+    add = made.add_argument
+    add("design", metavar="DEF", type=Path, help="the design")
+    add("library", metavar="LEF", type=Path, nargs="+", help="its LEF files, in the program's order")
+    add("--sockets", metavar="DIR", type=Path, required=True, help="the folder of the sockets; made if it is missing")
+    add(
+        "--journal",
+        metavar="FILE",
+        type=Path,
+        required=True,
+        help="the journal of accepted changes; made if it is missing",
+    )
+    add("--export", metavar="FILE", help="export the committed places to FILE at the end")
+    add(
+        "--team",
+        metavar="NAME",
+        action="append",
+        default=[],
+        help="serve only this team; may be repeated (default: all teams)",
+    )
+    add("--group", metavar="TEAM=GROUP", action="append", default=[], help="the group of a team's socket")
+
+
+def _add_limits(made: Parser) -> None:
+    """Adds the options for limits, in seconds, bytes and numbers."""
+
+    def add(option: str, metavar: str, kind: Callable[[str], float], default: float | None, text: str) -> None:
+        made.add_argument(option, metavar=metavar, type=kind, default=default, help=text)
+
+    add("--patience", "S", second_count, 60.0, "seconds after which a client with unread replies is dropped (60)")
+    add("--idle", "S", second_count, 900.0, "seconds after which an idle client without a session is dropped (900)")
+    add("--deadline", "S", second_count, 600.0, "seconds of silence after which the program is restarted (600)")
+    add("--grace", "S", second_count, 240.0, "seconds after SIGTERM for everything, exports included (240)")
+    add("--tail-bytes", "B", byte_count, 16 << 20, "save a state after B bytes of changes (16777216; 0: never)")
+    add("--tail-seconds", "S", second_count, 20.0, "save a state after S seconds of the program's work (20)")
+    add("--keep", "N", state_count, 2, "keep N states, and the journal from the first of them on (2; 0: all)")
+    slots = "session slots of each team, 1 to 64 (default: as in the journal; 8 in a new one)"
+    add("--sessions", "N", slot_count, None, slots)
+
+
+def state_count(word: str) -> int:
+    """The value of --keep. One state is too few: a program may still read it while the next one is made."""
+    number = int(word)
+    if number < 0 or number == 1:
+        raise argparse.ArgumentTypeError(f"{word}: 0, or 2 or more")
+    return number
+
+
+def slot_count(word: str) -> int:
+    """The value of --sessions."""
+    number = int(word)
+    if not 1 <= number <= MOST_SLOTS:
+        raise argparse.ArgumentTypeError(f"{word}: 1 to {MOST_SLOTS}")
+    return number
+
+
+def byte_count(word: str) -> int:
+    """A number of bytes."""
+    number = int(word)
+    if number < 0:
+        raise argparse.ArgumentTypeError(f"{word}: 0 or more")
+    return number
+
+
+def second_count(word: str) -> float:
+    """A number of seconds for which the system can wait."""
+    number = float(word)
+    if not 0 <= number <= threading.TIMEOUT_MAX:
+        raise argparse.ArgumentTypeError(f"{word}: a number of seconds, 0 or more")
+    return number
+
+
+def main() -> int:
+    options = parser().parse_args()
+    files = resource.getrlimit(resource.RLIMIT_NOFILE)[1]
+    resource.setrlimit(resource.RLIMIT_NOFILE, (files, files))
+
+    def work() -> int:
+        asyncio.run(run(options))
+        return DONE
+
+    return run_tool(TOOL, work)

@@ -1,0 +1,306 @@
+"""Changes that make a DEF file loadable: adds rows, fences and groups, removes fillers. All other bytes stay."""
+
+from __future__ import annotations
+
+import itertools
+import re
+from collections import Counter
+from collections.abc import Iterator
+from dataclasses import dataclass, field
+from decimal import Decimal
+from typing import NamedTuple
+
+from ..base.description import Box
+from ..base.design import Entry, Statement, fences_of, pattern_of, section_parts, shown, statements, words_in
+from ..base.faults import REFUSED, USAGE, Fault
+from ..base.lef import Site
+
+# The most rows that the program loads.
+MOST_ROWS = 65_535
+_NUMBER = re.compile(rb"[+-]?\d{1,10}(\.0*)?")
+_WORD = re.compile(rb"[^ \t\r\n]+")
+_REST = re.compile(rb"[ \t\r]*(#[^\n]*)?(?=\n)")
+# A name or a pattern in a DEF file: not a quoted text, not a comment.
+_NAME = re.compile(r"[!$-~][!-~]*")
+# Orientations of cells in a row with orientation N, and in one with FS.
+_UPRIGHT, _FLIPPED = (b"N", b"FN"), (b"FS", b"S")
+
+
+class _Change(NamedTuple):
+    """Bytes that replace those from start up to stop."""
+
+    start: int
+    stop: int
+    text: bytes
+
+
+class Grid(NamedTuple):
+    """The origin of the rows up to whole sites, and whether the row there is N; `reason` says how it was found."""
+
+    x: int
+    y: int
+    is_upright: bool
+    reason: str
+
+
+@dataclass
+class PreparationOptions:
+    """The requested changes, in database units. The core is None if it is DIEAREA; `margin` is subtracted on every
+    side.
+    """
+
+    replaces_rows: bool = False
+    margin: int = 0
+    core: Box | None = None
+    fillers: list[str] = field(default_factory=list)
+    fences: dict[str, list[Box]] = field(default_factory=dict)
+    groups: dict[str, list[str]] = field(default_factory=dict)
+
+
+class Preparation:
+    """A DEF text with pending changes; `messages` has a line for each change."""
+
+    def __init__(self, text: bytes) -> None:
+        self.text = text
+        self._statements = statements(text)
+        self._changes: list[_Change] = []
+        self.messages: list[str] = []
+
+    @property
+    def units(self) -> int:
+        """The database units per micron."""
+        for statement in self._all(b"UNITS"):
+            number = (self._words(statement)[3:4] or [b""])[0]
+            if number.isdigit() and len(number) < 10 and int(number):
+                return int(number)
+        raise Fault(REFUSED, "the DEF file has no UNITS DISTANCE MICRONS")
+
+    @property
+    def has_rows(self) -> bool:
+        return any(True for _ in self._all(b"ROW"))
+
+    def result(self) -> bytes:
+        """Returns the text with all changes. Changes at one place keep their order."""
+        pieces, at = [], 0
+        for change in sorted(self._changes, key=lambda change: change.start):
+            pieces += [self.text[at : change.start], change.text]
+            at = change.stop
+        return b"".join([*pieces, self.text[at:]])
+
+    def position_before(self, place: int) -> int | None:
+        """Converts a place in the result into one of the original text; None if it is in an inserted part."""
+        shift = 0
+        for change in sorted(self._changes, key=lambda change: change.start):
+            if place < change.start + shift:
+                break
+            if place < change.start + shift + len(change.text):
+                return None
+            shift += len(change.text) - (change.stop - change.start)
+        return place - shift
+
+    def _all(self, keyword: bytes) -> Iterator[Statement]:
+        return (statement for statement in self._statements if statement.keyword == keyword)
+
+    def _words(self, statement: Statement) -> list[bytes]:
+        return list(words_in(self.text[statement.start : statement.stop]))
+
+    def _line_end(self, place: int) -> int:
+        """The end of the line if only a comment follows there, else the place itself."""
+        rest = _REST.match(self.text, place)
+        return rest.end() if rest else place
+
+    def _insert(self, place: int, text: bytes) -> None:
+        """Inserts new lines after the line that ends at this place."""
+        at = self._line_end(place)
+        self._changes.append(_Change(at, at, text))
+
+    def _remove(self, start: int, stop: int) -> None:
+        """Removes a statement or an entry, but not the comment in the line before it."""
+        self._changes.append(_Change(self._line_end(start), stop, b""))
+
+    def add_rows(self, site: Site, wanted: PreparationOptions) -> None:
+        """Adds rows of the site over the core, on the grid of the placed cells; removes the old rows."""
+        name = f"site {shown(site.name)}"
+        width, height = (_whole(length * self.units, name) for length in (site.width, site.height))
+        core = wanted.core or self._die()
+        core = Box(
+            core.left + wanted.margin, core.bottom + wanted.margin, core.right - wanted.margin, core.top - wanted.margin
+        )
+        grid = self._grid(core, width, height)
+        left, bottom = core.left + (grid.x - core.left) % width, core.bottom + (grid.y - core.bottom) % height
+        sites, rows = (core.right - left) // width, (core.top - bottom) // height
+        if sites < 1 or rows < 1:
+            raise Fault(REFUSED, f"no row of {name} fits into the core: {_box(core)} database units")
+        if rows > MOST_ROWS:
+            raise Fault(REFUSED, f"{rows} rows of {name} fit into the core; the program loads at most {MOST_ROWS}")
+        first = grid.is_upright == ((bottom - grid.y) // height % 2 == 0)
+        text = b"".join(
+            b"\nROW ROW_%d %b %d %d %b DO %d BY 1 STEP %d 0 ;"
+            % (row, site.name, left, bottom + row * height, b"N" if first == (row % 2 == 0) else b"FS", sites, width)
+            for row in range(rows)
+        )
+        if old := list(self._all(b"ROW")):
+            for row in old:
+                self._remove(row.start, row.stop)
+            self.messages.append(f"{len(old)} rows removed")
+        self._insert(old[-1].stop if old else self._place_of_rows(), text)
+        size = f"{sites} sites each, the first at {left} {bottom} is {'N' if first else 'FS'}"
+        self.messages += [f"{rows} rows of {name} added: {size}", grid.reason]
+
+    def _place_of_rows(self) -> int:
+        """The place for rows: after DIEAREA, else after UNITS."""
+        return next(statement.stop for keyword in (b"DIEAREA", b"UNITS") for statement in self._all(keyword))
+
+    def _die(self) -> Box:
+        for statement in self._all(b"DIEAREA"):
+            words = self._words(statement)
+            numbers = [int(Decimal(word.decode())) for word in words if _NUMBER.fullmatch(word)]
+            if len(numbers) != 4 or len(words) != 10:
+                raise Fault(REFUSED, "DIEAREA is not a rectangle in whole database units; use --core to place the rows")
+            xs, ys = sorted(numbers[::2]), sorted(numbers[1::2])
+            return Box(xs[0], ys[0], xs[1], ys[1])
+        raise Fault(REFUSED, "the DEF file has no DIEAREA; use --core to place the rows")
+
+    def _grid(self, core: Box, width: int, height: int) -> Grid:
+        """The grid of most placed cells; the core's corner if less than half of them agree."""
+        columns: Counter[int] = Counter()
+        # By the position of a cell in a pair of rows, and whether it is flipped; None if its orientation does not say.
+        row_pairs: Counter[tuple[int, bool | None]] = Counter()
+        for statement in self._all(b"COMPONENTS"):
+            for entry in section_parts(self.text, statement)[2]:
+                if found := _placed(entry):
+                    x, y, orient = found
+                    columns[x % width] += 1
+                    row_pairs[y % (2 * height), orient in _FLIPPED if orient in _UPRIGHT + _FLIPPED else None] += 1
+        row_levels: Counter[int] = Counter()
+        for (y, _), count in row_pairs.items():
+            row_levels[y % height] += count
+        cells = columns.total()
+        (x, count_x), (y, count_y) = (*columns.most_common(1), (0, 0))[0], (*row_levels.most_common(1), (0, 0))[0]
+        if not cells or 2 * min(count_x, count_y) < cells:
+            reason = f"less than half of the {cells} placed cells agree on a grid" if cells else "no cell is placed"
+            return Grid(core.left, core.bottom, True, f"{reason}: the rows start at the core's corner with N")
+        upright = row_pairs[y, False] + row_pairs[y + height, True]
+        flipped = row_pairs[y, True] + row_pairs[y + height, False]
+        reason = f"the rows follow the {cells} placed cells: {count_x} fit along x, {count_y} along y"
+        reason += f", {max(upright, flipped)} have their row's orientation"
+        return Grid(x, y, upright >= flipped, reason)
+
+    def remove_fillers(self, patterns: list[str]) -> None:
+        """Removes the components whose name or macro matches a pattern."""
+        are_fillers = {pattern: pattern_of(_word(pattern).encode()).fullmatch for pattern in patterns}
+        removed, unmatched = 0, set(patterns)
+        for statement in self._all(b"COMPONENTS"):
+            section = _Section(self.text, statement)
+            kept = 0
+            for start, entry in section.entries():
+                found = {pattern for pattern, is_filler in are_fillers.items() if any(map(is_filler, entry.words[:2]))}
+                if found:
+                    unmatched -= found
+                    self._remove(start, start + len(entry.text))
+                    removed += 1
+                else:
+                    kept += 1
+            self._changes.append(_Change(section.count, section.after_count, b"%d" % kept))
+        self.messages.append(f"{removed} fillers removed ({' '.join(patterns)})")
+        self.messages += [
+            f"no component has a name or a macro that matches {pattern}"
+            for pattern in patterns
+            if pattern in unmatched and removed
+        ]
+
+    def add_fences(self, fences: dict[str, list[Box]]) -> None:
+        """Adds FENCE regions of these rectangles."""
+        known = {entry.name for statement in self._all(b"REGIONS") for entry in section_parts(self.text, statement)[2]}
+        entries = []
+        for name, boxes in fences.items():
+            word = _word(name).encode()
+            if word in known:
+                raise Fault(REFUSED, f"the DEF file already has a region {name}")
+            points = b" ".join(b"( %d %d ) ( %d %d )" % box for box in boxes)
+            entries.append(b"\n- %b %b + TYPE FENCE ;" % (word, points))
+            self.messages.append(f"fence {name} added: {len(boxes)} {'rectangles' if len(boxes) > 1 else 'rectangle'}")
+        self._add_entries(b"REGIONS", entries, (b"COMPONENTS", b"PINS", b"NETS", b"GROUPS", b"END"))
+
+    def add_groups(self, groups: dict[str, list[str]], fences: list[str]) -> None:
+        """Adds groups of these patterns, each bound to the fence of its name; `fences` are the added ones."""
+        known = {*fences_of(self.text, self._statements), *(name.encode() for name in fences)}
+        taken = {entry.name for statement in self._all(b"GROUPS") for entry in section_parts(self.text, statement)[2]}
+        entries = []
+        for name, patterns in groups.items():
+            fence = _word(name).encode()
+            if fence not in known:
+                raise Fault(REFUSED, f"no fence {name} for the group; --fence {name} adds one")
+            names = (fence if number == 1 else b"%b_%d" % (fence, number) for number in itertools.count(1))
+            group = next(each for each in names if each not in taken)
+            members = b" ".join(_word(pattern).encode() for pattern in patterns)
+            entries.append(b"\n- %b %b + REGION %b ;" % (group, members, fence))
+        self._add_entries(b"GROUPS", entries, (b"BEGINEXT", b"END"))
+
+    def _add_entries(self, keyword: bytes, entries: list[bytes], followers: tuple[bytes, ...]) -> None:
+        """Adds entries to the first section with this keyword. Without one, adds a section before the first of the
+        followers.
+        """
+        if (statement := next(self._all(keyword), None)) is not None:
+            section = _Section(self.text, statement)
+            last, count = section.start, len(entries)
+            for start, entry in section.entries():
+                last, count = start + len(entry.text), count + 1
+            self._changes.append(_Change(section.count, section.after_count, b"%d" % count))
+            self._insert(last, b"".join(entries))
+            return
+        place = next((each.start for each in self._statements if each.keyword in followers), len(self.text))
+        self._insert(place, b"\n%b %d ;%b\nEND %b" % (keyword, len(entries), b"".join(entries), keyword))
+
+
+class _Section:
+    """A section, with the places of its parts in the text."""
+
+    def __init__(self, text: bytes, statement: Statement) -> None:
+        before, after, self._entries = section_parts(text, statement)
+        # The place of the count, and the start of the entries.
+        self.count = statement.start + len(before)
+        found = _WORD.match(text, self.count, statement.stop)
+        self.after_count = found.end() if found else self.count
+        self.start = self.after_count + len(after)
+
+    def entries(self) -> Iterator[tuple[int, Entry]]:
+        """Yields the start of each entry and the entry."""
+        at = self.start
+        for entry in self._entries:
+            yield at, entry
+            at += len(entry.text)
+
+
+def _placed(entry: Entry) -> tuple[int, int, bytes] | None:
+    """The point and orientation of a PLACED component, or None."""
+    words = entry.words
+    at = next((at for at in range(2, len(words) - 5) if words[at] == b"+" and words[at + 1] == b"PLACED"), None)
+    if at is None or not (_NUMBER.fullmatch(words[at + 3]) and _NUMBER.fullmatch(words[at + 4])):
+        return None
+    x, y = (int(Decimal(word.decode())) for word in words[at + 3 : at + 5])
+    return x, y, words[at + 6] if len(words) > at + 6 else b""
+
+
+def whole_units(microns: str, units: int) -> int:
+    """Converts a length of the command line, in microns, into database units."""
+    if not re.fullmatch(r"[+-]?(\d{1,7}(\.\d{0,6})?|\.\d{1,6})", microns, re.ASCII):
+        raise Fault(USAGE, f"{microns} is not a length in microns")
+    return _whole(Decimal(microns) * units, f"{microns} microns")
+
+
+def _whole(length: Decimal, what: str) -> int:
+    if length != int(length):
+        raise Fault(REFUSED, f"{what} is not a whole number of database units: {length.normalize():f}")
+    return int(length)
+
+
+def _word(word: str) -> str:
+    """Returns the word. Raises a Fault if it cannot be a name or a pattern in a DEF file."""
+    if not _NAME.fullmatch(word) or word in (";", "+", "-", "(", ")"):
+        raise Fault(USAGE, f"{word!r} cannot be a name in a DEF file")
+    return word
+
+
+def _box(box: Box) -> str:
+    return f"( {box.left} {box.bottom} ) ( {box.right} {box.top} )"
