@@ -120,7 +120,7 @@ class Mistakes(unittest.TestCase):
         self.said([W_DEF, "check", W_LEF], 2, USAGE)
         self.said(["--export", "new.def", "replay", *DESIGN], 2, USAGE)
 
-    def test_words_where_none_are_wanted(self) -> None:
+    def test_words_of_a_subcommand_that_takes_no_words(self) -> None:
         self.said(["demo", W_DEF], 2, USAGE)
         self.said(["demo", *DESIGN], 2, USAGE)
 

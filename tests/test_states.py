@@ -150,7 +150,7 @@ class Slots(States):
                 self.assertEqual(run(looked), (1, "", message))
                 self.assertEqual(run([*looked, *nine]), run([verb, *DESIGN]))
 
-    def test_a_number_that_is_none(self) -> None:
+    def test_a_malformed_number(self) -> None:
         for number in ("0", "65", "-1", "x", "", "4294967304"):
             for verb in ("check", "describe", "replay"):
                 with self.subTest((verb, number)):

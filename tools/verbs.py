@@ -6,10 +6,10 @@ lf_proto/src/verb.rt. That comment says what the verb does, then its reply and t
 in the order of VERBS. The row of open comes first and the row of bye last; both are made from the comments in
 src/request.rt.
 
-front/lefence/base/tables.py has the verbs of the same sources. A verb changes the floor if it is no query by `is_query` of
-lf_floor_model, and makes a revision if it is a Change. The table also has the refusals of src/reply.rt, with the
-numbers and names of src/reply_words.rt, the rules of lf_rules, and the orientations. front/tcl/tables.tcl has the verbs
-for Tcl.
+front/lefence/base/tables.py has the verbs of the same sources. A verb changes the floor if it is no query by
+`is_query` of lf_floor_model, and makes a revision if it is a Change. The table also has the refusals of src/reply.rt,
+with the numbers and names of src/reply_words.rt, the rules of lf_rules, and the orientations. front/tcl/tables.tcl has
+the verbs for Tcl.
 
 usage: tools/verbs.py            (from the top) prints the table
        tools/verbs.py --check    prints the lines in which the page and the front's tables differ, and verbs or refusals
@@ -143,8 +143,11 @@ def front_verbs(request: str, verb_text: str) -> list[str]:
     said = orders | actions | changes
     if left := (said.keys() - {verb.variant for verb in verbs}) - {"Within", "Change"}:
         raise NotThere(f"VERBS lacks {', '.join(sorted(left))}")
-    rows = (front_verb(verb, said.get(verb.variant, [""]), verb.variant not in unchanging, verb.variant in changes) for verb in verbs)
-    return [line for row in rows for line in row]
+    lines: list[str] = []
+    for verb in verbs:
+        is_change, makes_revision = verb.variant not in unchanging, verb.variant in changes
+        lines += front_verb(verb, said.get(verb.variant, [""]), is_change, makes_revision)
+    return lines
 
 
 def front_verb(verb: Verb, said: list[str], is_change: bool, makes_revision: bool) -> list[str]:
@@ -156,7 +159,8 @@ def front_verb(verb: Verb, said: list[str], is_change: bool, makes_revision: boo
     if makes_revision and not reply[1].startswith(" REV"):
         raise NotThere(f"the reply of {verb.name} does not begin with its revision")
     what = said[0][0].lower() + said[0][1:].removesuffix(".")
-    words = (quoted(verb.name), listed(verb.fields.split()), listed(reply[1].split()), str(is_change), str(makes_revision))
+    fields, replied = listed(verb.fields.split()), listed(reply[1].split())
+    words = (quoted(verb.name), fields, replied, str(is_change), str(makes_revision))
     line = f"    ({', '.join(words)}, {quoted(what)}),"
     return [line] if len(line) <= WIDEST else [f"    ({', '.join(words)},", f"     {quoted(what)}),"]
 
@@ -207,14 +211,16 @@ def front_tables() -> list[str]:
 
 def tcl_tables(tables: list[str]) -> list[str]:
     """The lines of the Tcl table, made from the front's tables: what a proc needs of each verb."""
-    [verbs] = [each.value for each in ast.parse("\n".join(tables)).body if isinstance(each, ast.AnnAssign) and each.value]
+    body = ast.parse("\n".join(tables)).body
+    [verbs] = [each.value for each in body if isinstance(each, ast.AnnAssign) and each.value]
     rows = ast.literal_eval(verbs)
-    lines = ["# The verbs of the program: the fields after TEAM and N, the words of the reply after ok, and what the verb does."]
+    head = "the fields after TEAM and N, the words of the reply after ok, and what the verb does."
+    lines = [f"# The verbs of the program: {head}"]
     lines += ["# tools/verbs.py --write generates this file from the program's sources: edit those.", ""]
     lines += ["namespace eval lefence {", "    variable VERBS {"]
     for name, fields, reply, _, _, text in rows:
         if set(text) & set("{}\\"):
-            raise NotThere(f"what {name} does is told with braces or backslashes, which the table of Tcl cannot have")
+            raise NotThere(f"the comment of {name} has braces or backslashes, which the table of Tcl cannot have")
         head = f"        {name} {{fields {{{' '.join(fields)}}} reply {{{' '.join(reply)}}}"
         line = f"{head} does {{{text}}}}}"
         lines += [line] if len(line) <= WIDEST else [head, f"            does {{{text}}}}}"]

@@ -53,14 +53,22 @@ WORDS = {
     "held fast": Word("(?:held|hold|holds) fast", "locked"),
     "marked": Word("marked cells?|cells? (?:that (?:is|are) |is |are )?marked", "locked", TEXTS),
     "cells left": Word(
-        "cells? (?:that )?(?:(?:is|are|was|were) )?left(?! (?:of|to|out|edge|and|or))",
+        "cells? (?:that )?(?:(?:is|are|was|were) )?left(?! (?:of|to|out|edge|and|or|without))",
         "remaining, unrepaired",
         TEXTS,
     ),
     "mend": Word("mend|mends|mended|mending|unmended", "repair"),
     "trial": Word("trials?", "candidate, attempt"),
-    "met": Word("met", "overlaps, conflicts with; of conditions: fulfilled"),
-    "meets": Word("meets", "overlaps, conflicts with"),
+    "met": Word(
+        "(?:cells?|fences?|rows?|spans?|box|boxes|strips?|obstacles?) (?:(?:that )?(?:is|are|was|were) )?met"
+        "|met by (?:an?|the|its) (?:cell|fence|box|row|search)",
+        "overlap, conflict with",
+        TEXTS,
+    ),
+    "meets": Word(
+        "meets(?! (?:an?|the|its|every|all) (?:\\w+ )?(?:premise|condition|limit|clause))", "overlaps, conflicts with"
+    ),
+    "met in a name": Word("met", "overlapping", (NAME,)),
     "asked": Word("asked", "sent, requested"),
     "judged": Word("judge|judges|judged|judging", "check"),
     "let go": Word("(?:let|lets|letting) (?:(?:it|them|this|that|(?:a|the) \\w+) )?go(?! on)", "drop, free"),
@@ -70,27 +78,26 @@ WORDS = {
     "at last": Word("at last|at first(?! sight)", "finally, initially, then, first", TEXTS),
     "want of": Word("want of \\w+|for want of", "out of memory, an allocation failed; lack of"),
     "passed over": Word(
-        "(?:passed|passing) over|pass(?:es)? over(?! (?:an?|all|the) (?:teams?|cells?|rows?|lists?|texts?))", "skip"
+        "(?:passed|passing) over|pass(?:es)? over(?! (?:an?|all|the|its?|each|every))", "skip"
     ),
     "so many": Word("so many(?! \\w+ that)|so far a|so long a", "the count, a name for the number"),
-    "that many": Word("that many", "the count, a name for the number"),
+    "that many": Word(
+        "(?:have|has|had|by|of|for|with|only|to|at|after|within|least|most) that many",
+        "the count, a name for the number",
+    ),
     "where there is": Word(
         "where there (?:is|are) (?:one|none|no|any|some|an?)|where (?:it|that|this) is(?: one)?", "if, when", TEXTS
     ),
     "of which": Word("of which", "a second sentence, whose", TEXTS),
-    "behind": Word("behind", "after, next, below"),
+    "behind": Word("behind(?! (?:an?|the) (?:reference|pointer|lock|proxy))", "after, next, below"),
     "beside": Word("beside", "next to, with, in addition to", TEXTS),
     "way": Word(
         "so far a way|ways of (?:the |its |their |all )*(?:cells?|teams?)|way of (?:a|each|the|every) (?:cell|team)"
         "|(?:least|greatest|longest|total|summed|whole) ways?|sums? of (?:the |its |their |all )*ways",
         "displacement, distance",
     ),
-    "look": Word("(?:an?|each|every|no|another) look(?! at| up)|looks of|the looks", "query", TEXTS),
-    "none": Word(
-        "none (?:is|are|was|were|has|have|had|may|can|must|does|do|of (?:it|them|these|those|its|the|their))",
-        "no .., `None`",
-        TEXTS,
-    ),
+    "look": Word("(?:an?|each|every|no|another) look(?!-| at| up)|looks of|the looks", "query", TEXTS),
+    "none": Word("(?:that|which) (?:is|are|was|were) none|where none", "no .., `None`"),
     "answers": Word("answers (?:true|false|whether|how|if|none)", "returns", TEXTS),
 }
 
@@ -123,15 +130,10 @@ LATER = (
     Exempt("judged", (NAME,), "Judging", "crates/*", "files of proofs"),
     Exempt("passed over", (NAME,), "pass*_over*", "crates/*", "definitions and tests about skipped statements"),
     Exempt("so many", (NAME,), "so_many", "crates/lf_occupancy/*", "a proof"),
+    Exempt("none", (NAME,), "a_text_that_is_none*", "crates/lf_tests_app/*", "a test"),
     Exempt("homes", (NAME,), "at_home", "crates/lf_task_designs/*", "a proof"),
     Exempt("lifted", (NAME,), "lift*", "crates/lf_repair_*", "a proof, and a parameter"),
-    Exempt("meets", (MESSAGE,), "*", "crates/*", "the message about fences that overlap, which tests quote"),
-    Exempt("meets", (MESSAGE,), "*", "tests/test_messages.py", "the same message"),
     Exempt("lane", (NAME, PROSE), "lanes", "t*", "tools/lanes.py, which docs/GATE.md names"),
-    *(
-        Exempt(key, (MESSAGE,), "*", "crates/lefence/src/help.rt", "the texts of --help, which tests quote")
-        for key in ("stands", "behind", "so many", "of which", "cells left", "way")
-    ),
 )
 
 
