@@ -39,9 +39,9 @@
 //! 8. the report or the description
 //! 9. the files written at the end
 //!
-//! Its one or two lines are written to `faults`, unless that has failed (`TaskExit::is_printed`). If
-//! the fault is that of a text, the design, a file or memory for them, nothing was written to the
-//! writer.
+//! Its one or two lines are written to `faults`, unless that has failed (`TaskExit::is_printed`).
+//! If the fault is that of a text, the design, a file or memory for them, nothing was written to
+//! the writer.
 //!
 //! Contracts know nothing of the files and the network of a runtime. The contract of `perform`
 //! therefore says nothing of texts, exports and services.

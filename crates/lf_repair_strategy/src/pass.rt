@@ -22,8 +22,8 @@ pub enum MovePolicy {
     All,
 }
 
-/// One pass over a team. `marks` says whether each cell is locked, and `wanted_places` has its target. Both
-/// lists are indexed by the cell's position in loading order.
+/// One pass over a team. `marks` says whether each cell is locked, and `wanted_places` has its
+/// target. Both lists are indexed by the cell's position in loading order.
 #[derive(Drop)]
 pub struct Pass {
     pub marks: Vec<bool>,

@@ -235,8 +235,8 @@ pub fn write_fault<W: Sink>(sink: &mut W, fault: &Fault<'_>) -> Result<(), Devic
     send(sink, b"\n")
 }
 
-/// Returns the exit status of a fault: 1 for `Refused`, `RefusedState`, `NoTeam`, `SetupOutOfMemory` and
-/// `OutputOutOfMemory`, otherwise 3.
+/// Returns the exit status of a fault: 1 for `Refused`, `RefusedState`, `NoTeam`,
+/// `SetupOutOfMemory` and `OutputOutOfMemory`, otherwise 3.
 pub fn status_of(fault: &Fault<'_>) -> u8
     ensures { result ≡ status_of fault.now }
 {
