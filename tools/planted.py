@@ -52,7 +52,7 @@ def plant(room: Path, edit: Edit) -> str:
     before = text = path.read_text()
     for old, new in edit.changes:
         if text.count(old) != 1:
-            sys.exit(f"tools/planted.py: {edit.name}: does not stand just once in {edit.file}: {old}")
+            sys.exit(f"tools/planted.py: {edit.name}: this text is not exactly once in {edit.file}: {old}")
         text = text.replace(old, new)
     path.write_text(text)
     return before

@@ -115,7 +115,7 @@ class Exempt(NamedTuple):
 
 # What stays.
 ALLOWED = (
-    Exempt("stand", (NAME, PROSE, MESSAGE), "[Ss]tand", "*", "rule 3 of legality, as the specification names it"),
+    Exempt("stand", (NAME, PROSE, MESSAGE), "Stand", "*", "rule 3 of legality, as the specification names it"),
     Exempt("stand", (NAME,), "stand_in", "front/tests/*", "a test double"),
     Exempt("tell", (NAME,), "tell", "*.py", "the method of Python's file objects"),
     Exempt("homes", (NAME,), "home", "front/*", "the folder of a user, as Python names it"),
@@ -196,7 +196,8 @@ def words_in(place: str, text: str) -> Iterator[tuple[str, int, str]]:
     """The words found in a text, each with its key in front and its position."""
     # (`None` is no word of a sentence)
     for found in PATTERNS[place].finditer(text.replace("None", "Some").lower()):
-        yield KEYS[int((found.lastgroup or "w0")[1:])], found.start(), " ".join(found[0].split())
+        words = " ".join(text[found.start() : found.end()].split())
+        yield KEYS[int((found.lastgroup or "w0")[1:])], found.start(), words
 
 
 @lru_cache(maxsize=None)
