@@ -38,16 +38,19 @@ def run(task: str, lef: str, def_: str) -> tuple[float, int, str]:
 
 
 def figures(lef: str, def_: str, count: int) -> Figures:
-    seconds, peak, told = run("check", lef, def_)
-    if told != f'{{"cells":{count},"unplaced":0,"violations":[]}}\n':
-        sys.exit(f"check: {told[:200]}")
+    seconds, peak, output = run("check", lef, def_)
+    if output != f'{{"cells":{count},"unplaced":0,"violations":[]}}\n':
+        sys.exit(f"check: {output[:200]}")
     return seconds, peak, run("replay", lef, def_)[0]
 
 
 def main() -> None:
     runs = int(sys.argv[1]) if len(sys.argv) > 1 else 5
     need(LEFENCE)
-    print(f"{'fences':>7} {'obstacles':>10} {'components':>11} {'check s':>9} {'times':>6} {'peak MB':>8} {'times':>6} {'replay s':>9} {'times':>6}")
+    print(
+        f"{'fences':>7} {'obstacles':>10} {'components':>11} {'check s':>9} {'times':>6} {'peak MB':>8} {'times':>6}"
+        f" {'replay s':>9} {'times':>6}"
+    )
     with tempfile.TemporaryDirectory() as folder:
         lef = os.path.join(folder, "x.lef")
         write(lef, "lef", 200)
@@ -59,7 +62,11 @@ def main() -> None:
             for count, now in zip(COUNTS, best([partial(figures, lef, text, cells) for text, cells in texts], runs)):
                 seconds, peak, replayed = now
                 times = grown(before, now)
-                print(f"{fences:>7} {obstacles:>10} {count:>11} {seconds:9.3f} {times[0]:>6} {peak / 1e6:8.1f} {times[1]:>6} {replayed:9.3f} {times[2]:>6}", flush=True)
+                print(
+                    f"{fences:>7} {obstacles:>10} {count:>11} {seconds:9.3f} {times[0]:>6} {peak / 1e6:8.1f}"
+                    f" {times[1]:>6} {replayed:9.3f} {times[2]:>6}",
+                    flush=True,
+                )
                 before = now
 
 

@@ -50,13 +50,13 @@ class Work:
     def run(self, words: list[str], lines: str) -> tuple[float, int]:
         """The cost of a run, and its peak memory."""
         front = ["valgrind", "--tool=callgrind", "--callgrind-out-file=/dev/null"] if self.is_counted else []
-        with tempfile.TemporaryFile() as source, tempfile.TemporaryFile() as told:
+        with tempfile.TemporaryFile() as source, tempfile.TemporaryFile() as errors:
             source.write(lines.encode())
             source.seek(0)
-            child = subprocess.Popen([*front, *words], stdin=source, stdout=subprocess.DEVNULL, stderr=told)
+            child = subprocess.Popen([*front, *words], stdin=source, stdout=subprocess.DEVNULL, stderr=errors)
             _, status, usage = os.wait4(child.pid, 0)
-            told.seek(0)
-            said = told.read()
+            errors.seek(0)
+            said = errors.read()
         # (4 if the design is then not fully legal)
         if (ended := os.waitstatus_to_exitcode(status)) not in (0, 4):
             sys.exit(f"{words[0]}: status {ended}: {said.decode()[-500:]}")

@@ -83,13 +83,15 @@ def main() -> None:
         for count in COUNTS:
             def_, lines, new = (os.path.join(folder, name) for name in ("x.def", "lines", "new.def"))
             write(def_, "placed", count, max(10, count // 2_000))
-            told, wanted = session(def_)
+            commands, wanted = session(def_)
             with open(lines, "w") as out:
-                out.write(told)
+                out.write(commands)
             plain, whole, copy, peak = best([lambda: figures(lef, def_, lines, new, wanted)], runs)[0]
             now = [max(whole - plain, 1e-6)]
             times = grown(before, now)
-            print(f"{count:>11} {os.path.getsize(def_) / 1e6:7.1f} {plain:9.3f} {now[0]:9.3f} {times[0]:>6} {copy:7.3f} {peak / 1e6:8.1f}", flush=True)
+            size = os.path.getsize(def_) / 1e6
+            cost = f"{plain:9.3f} {now[0]:9.3f} {times[0]:>6} {copy:7.3f} {peak / 1e6:8.1f}"
+            print(f"{count:>11} {size:7.1f} {cost}", flush=True)
             before = now
 
 

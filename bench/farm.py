@@ -4,7 +4,7 @@
 usage: bench/farm.py [CELLS] [FENCES]    (100000 and 20; from the top; LEFENCE names the program,
                                           crates/lefence/out/lefence by default)
 
-`slices` is the one pass over the DEF text that makes all slices. `teams` is all teams on 1, 2 and 4 processes.
+`slices` reads the DEF text once and makes all slices. `teams` is all teams on 1, 2 and 4 processes.
 `answers` and `merge` are the two methods to bring their work into one design: repeating all their commands over the
 whole design, and merging. Seconds are processor seconds of all processes of a part; they are higher if the machine is
 busy. `wall` is the elapsed time.
@@ -25,7 +25,8 @@ from pathlib import Path
 TOP = Path(__file__).resolve().parents[1]
 PROGRAM = os.environ.get("LEFENCE", str(TOP / "crates/lefence/out/lefence"))
 FARM = [sys.executable, "-B", str(TOP / "front/bin/lefence-farm")]
-WORKER = 'printf "open %s\\ntidy %s 0\\ncommit %s 0\\n" "$LEFENCE_TEAM" "$LEFENCE_TEAM" "$LEFENCE_TEAM" | "$0" -B "$1" --raw "$LEFENCE_SOCKET"'
+LINES = 'printf "open %s\\ntidy %s 0\\ncommit %s 0\\n" "$LEFENCE_TEAM" "$LEFENCE_TEAM" "$LEFENCE_TEAM"'
+WORKER = LINES + ' | "$0" -B "$1" --raw "$LEFENCE_SOCKET"'
 
 
 def seconds() -> float:
@@ -54,14 +55,18 @@ def measure_all(folder: Path) -> None:
     measure("slices, no team works", lambda: farm(folder, "none", "--merge", command=("false",)))
     for processes in (1, 2, 4):
         farm(folder, f"on{processes}", "--merge", command=("false",))
-        measure(f"teams, {processes} processes", lambda: farm(folder, f"on{processes}", "--merge", "--processes", str(processes), command=tidy))
+        measure(
+            f"teams, {processes} processes",
+            lambda: farm(folder, f"on{processes}", "--merge", "--processes", str(processes), command=tidy),
+        )
     collect = [*FARM, "on4", "--collect"]
     measure("merge", lambda: subprocess.run(collect, cwd=folder, check=True, capture_output=True))
     shutil.copy(folder / "on4/new.def", folder / "merged.def")
     plan = folder / "on4/farm.json"
     plan.write_text(plan.read_text().replace('"is_merged": true', '"is_merged": false'))
     measure("answers", lambda: subprocess.run(collect, cwd=folder, check=True, capture_output=True))
-    print("the same text" if (folder / "on4/new.def").read_bytes() == (folder / "merged.def").read_bytes() else "OTHER TEXTS")
+    made, merged = ((folder / name).read_bytes() for name in ("on4/new.def", "merged.def"))
+    print("the same text" if made == merged else "OTHER TEXTS")
 
 
 def main() -> None:

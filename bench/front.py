@@ -37,9 +37,13 @@ sys.exit(main())"""
 
 def design() -> str:
     """Fences f0.. next to each other over eight rows, each with a hundred cells."""
-    rows = "".join(f"ROW r{at} core 0 {at * 2000} {('N', 'FS')[at % 2]} DO {SITES * FENCES} BY 1 STEP 200 0 ;\n" for at in range(8))
+    rows = "".join(
+        f"ROW r{at} core 0 {at * 2000} {('N', 'FS')[at % 2]} DO {SITES * FENCES} BY 1 STEP 200 0 ;\n" for at in range(8)
+    )
     width = SITES * 200
-    fences = "".join(f"- f{at} ( {at * width} 0 ) ( {(at + 1) * width} 16000 ) + TYPE FENCE ;\n" for at in range(FENCES))
+    fences = "".join(
+        f"- f{at} ( {at * width} 0 ) ( {(at + 1) * width} 16000 ) + TYPE FENCE ;\n" for at in range(FENCES)
+    )
     cells = "".join(f"- f{team}c{at} INV ;\n" for team in range(FENCES) for at in range(100))
     groups = "".join(f"- g{at} f{at}c* + REGION f{at} ;\n" for at in range(FENCES))
     return (
@@ -66,7 +70,9 @@ class Hub:
     def __init__(self, folder: Path, program: str, *extra: str, is_slow: bool = False) -> None:
         self.folder = folder
         tool = [sys.executable, "-c", SLOW, str(TOP / "front")] if is_slow else [str(TOP / "front/bin/lefence-hub")]
-        words = [str(folder / "t.def"), str(folder / "t.lef"), "--sockets", str(folder / "s"), "--journal", str(folder / "j")]
+        words = [
+            str(folder / "t.def"), str(folder / "t.lef"), "--sockets", str(folder / "s"), "--journal", str(folder / "j")
+        ]
         begin = time.monotonic()
         self.process = subprocess.Popen([*tool, *words, "--program", program, *extra], stderr=subprocess.PIPE)
         assert self.process.stderr
@@ -155,7 +161,10 @@ def measure_lines(folder: Path, program: str, seconds: float) -> None:
                 hub = Hub(folder, program, *extra)
                 row.append(f"{drive([hub.client(number) for number in range(count)], line, flight, seconds):,.0f}")
                 hub.end()
-            print(f"{count} clients, {name} each: durable place {row[0]}, without sync {row[1]}, where {row[2]} lines/s", flush=True)
+            print(
+                f"{count} clients, {name} each: durable place {row[0]}, without sync {row[1]}, where {row[2]} lines/s",
+                flush=True,
+            )
 
 
 def measure_waits(folder: Path, program: str, seconds: float) -> None:
@@ -166,9 +175,14 @@ def measure_waits(folder: Path, program: str, seconds: float) -> None:
         prober = multiprocessing.Process(target=probe, args=(folder, seconds, answers))
         prober.start()
         numbers = [number for number in range(54) if number % FENCES != FENCES - 1][:50]
-        drive([hub.client(number) for number in numbers], lambda at, turn: place(numbers[at], turn), flight, seconds + 0.5)
+        drive(
+            [hub.client(number) for number in numbers], lambda at, turn: place(numbers[at], turn), flight, seconds + 0.5
+        )
         disk = ", a sync 5 ms longer" if is_slow else ""
-        print(f"a durable place beside 50 clients with {flight} in flight each{disk}: {quantiles(answers.get())}", flush=True)
+        print(
+            f"a durable place next to 50 clients with {flight} in flight each{disk}: {quantiles(answers.get())}",
+            flush=True,
+        )
         prober.join()
         hub.end()
 

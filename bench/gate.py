@@ -75,7 +75,10 @@ def main(words: list[str]) -> int:
     for crate, kinds in taken.items():
         print(f"| {crate} |", " | ".join(f"{kinds[it]:.1f}" for it in KINDS), "|")
     whole = [sum(it[kind] for it in taken.values()) for kind in KINDS]
-    print(f"{time.monotonic() - start:.0f} s; processor minutes:", ", ".join(f"{it} {sum_of:.1f}" for it, sum_of in zip(KINDS, whole)))
+    print(
+        f"{time.monotonic() - start:.0f} s; processor minutes:",
+        ", ".join(f"{it} {sum_of:.1f}" for it, sum_of in zip(KINDS, whole)),
+    )
     return command.returncode
 
 

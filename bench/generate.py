@@ -74,7 +74,8 @@ def def_(components: int, fences: int, rows: int, seed: int, *, starred: bool = 
     yield f"REGIONS {fences} ;\n"
     band = max(1, rows // fences)
     for fence in range(fences):
-        yield f"- f{fence} ( 0 {fence * band * 2000} ) ( {sites // 2 * 200} {(fence + 1) * band * 2000} ) + TYPE FENCE ;\n"
+        low, high = fence * band * 2000, (fence + 1) * band * 2000
+        yield f"- f{fence} ( 0 {low} ) ( {sites // 2 * 200} {high} ) + TYPE FENCE ;\n"
     yield f"END REGIONS\nCOMPONENTS {components} ;\n"
     for number in range(components):
         block = f"block{number % (fences + 1)}/" if starred else ""
@@ -86,7 +87,8 @@ def def_(components: int, fences: int, rows: int, seed: int, *, starred: bool = 
             yield f"- {name} {mac} + SOURCE NETLIST + PLACED ( {x} {y} ) N ;\n"
     yield f"END COMPONENTS\nGROUPS {fences} ;\n"
     for fence in range(fences):
-        members = f"block{fence}/*" if starred else " ".join(f"u{number}" for number in range(fence, components, fences + 1))
+        listed = (f"u{number}" for number in range(fence, components, fences + 1))
+        members = f"block{fence}/*" if starred else " ".join(listed)
         yield f"- g{fence} {members} + REGION f{fence} ;\n"
     yield "END GROUPS\nEND DESIGN\n"
 
@@ -120,7 +122,7 @@ def regions(fences: int, across: int, wide: int, high: int) -> Iterator[str]:
 FILLED = 0.7    # the share of the ground that cells take; the rest is gaps between them
 
 
-def standing(
+def placed_cells(
     wanted: int, fences: int, blockages: int, rows: int, sites: int, rng: random.Random
 ) -> tuple[list[Cell], list[tuple[int, int]]] | None:
     """Cells (macro, x in sites, row, fence) next to each other in pairs of rows, and blockages (x, row); None if there
@@ -162,7 +164,7 @@ def placed(components: int, fences: int, blockages: int, seed: int) -> Iterator[
         rows = max(8, int((area / 10) ** 0.5) // 2 * 2)
         sites = max(area // rows, 40 * tiles(fences, rows)[0])
         rng = random.Random(seed)
-        found = standing(components, fences, blockages, rows, sites, rng)
+        found = placed_cells(components, fences, blockages, rows, sites, rng)
     cells, blocked = found
     rng.shuffle(cells)
     across, high = tiles(fences, rows)
@@ -196,7 +198,8 @@ def tall() -> Iterator[str]:
     yield "VERSION 5.8 ;\nUNITS\n  DATABASE MICRONS 1000 ;\nEND UNITS\n" + SITE
     for number, (sites, rows) in enumerate(TALL):
         width = f"{sites * 0.2:.1f}"
-        yield (f"MACRO T{number}\n  CLASS CORE ;\n  SIZE {width} BY {rows * 2.0:.1f} ;\n  SYMMETRY X Y ;\n  SITE core ;\n"
+        yield (f"MACRO T{number}\n  CLASS CORE ;\n  SIZE {width} BY {rows * 2.0:.1f} ;\n"
+               f"  SYMMETRY X Y ;\n  SITE core ;\n"
                + pin("VSS", "GROUND", width, -0.1, 0.1) + f"END T{number}\n")
     yield "END LIBRARY\n"
 
@@ -220,7 +223,9 @@ def stacked(left: int, right: int, percent: int, rng: random.Random) -> list[tup
 
     while True:
         sites, rows = TALL[mac := rng.randrange(len(TALL))]
-        bottom = min([b for b in range(5 - rows) if rows % 2 == 1 or b % 2 == 0], key=lambda low: max(ends[low:low + rows]))
+        bottom = min(
+            [b for b in range(5 - rows) if rows % 2 == 1 or b % 2 == 0], key=lambda low: max(ends[low:low + rows])
+        )
         x = max(ends[bottom:bottom + rows])
         if x + sites > right:
             break
@@ -247,7 +252,9 @@ def packed(components: int, fences: int, percent: int, illegal: int, seed: int) 
                 begin, middle, end = column * wide, column * wide + wide // 2, (column + 1) * wide
                 parts = [(begin, middle, fence), (middle, end, None)] if fence < fences else [(begin, end, None)]
                 for left, right, team in parts:
-                    cells += [(mac, x, quad * 4 + bottom, team) for mac, x, bottom in stacked(left, right, percent, rng)]
+                    cells += [
+                        (mac, x, quad * 4 + bottom, team) for mac, x, bottom in stacked(left, right, percent, rng)
+                    ]
         if len(cells) >= components:
             break
         wide = wide * 51 // 50 + 1

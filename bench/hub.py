@@ -122,13 +122,15 @@ def measure(folder: Path, program: str, turns: Turns, count: int, words: list[st
     print(f"  export {exported:.2f} s, {peaks(hub)}", flush=True)
     hub.process.kill()
     hub.process.wait()
-    for name in ("start", "start behind its end"):
+    for name in ("start", "start after its end"):
         hub = Hub(folder, program, *words)
         print(f"  {name} {hub.seconds:.2f} s, {peaks(hub)}; end {seconds_of(hub.end):.2f} s", flush=True)
 
 
 def generated(*words: str) -> bytes:
-    return subprocess.run([sys.executable, str(TOP / "bench/generate.py"), *words], stdout=subprocess.PIPE, check=True).stdout
+    return subprocess.run(
+        [sys.executable, str(TOP / "bench/generate.py"), *words], stdout=subprocess.PIPE, check=True
+    ).stdout
 
 
 def main(words: list[str]) -> int:
@@ -140,8 +142,8 @@ def main(words: list[str]) -> int:
         (folder / "t.def").write_bytes(text)
         (folder / "t.lef").write_bytes(generated("tall"))
         turns = Turns(text.decode())
-        for told, options in (("no checkpoints", "--tail-bytes 0"), ("with checkpoints", "")):
-            print(f"{changes:,} changes of {cells:,} cells, {told}:", flush=True)
+        for label, options in (("no checkpoints", "--tail-bytes 0"), ("with checkpoints", "")):
+            print(f"{changes:,} changes of {cells:,} cells, {label}:", flush=True)
             measure(folder, program, turns, changes, options.split())
     return 0
 

@@ -36,7 +36,9 @@ def need(program: str) -> None:
 
 def write(path: str, *words: str | int) -> None:
     with open(path, "wb") as out:
-        subprocess.run([sys.executable, os.path.join(TOP, "bench", "generate.py"), *map(str, words)], stdout=out, check=True)
+        subprocess.run(
+            [sys.executable, os.path.join(TOP, "bench", "generate.py"), *map(str, words)], stdout=out, check=True
+        )
 
 
 def load(lef: str, def_: str) -> tuple[float, int, str]:
@@ -83,7 +85,10 @@ def main() -> None:
     fences, rows, runs = words + [500, 10_000, 5][len(words):]
     for program in (PROGRAM, LEFENCE):
         need(program)
-    print(f"{'design':>7} {'components':>10} {'DEF MB':>7} {'load s':>8} {'times':>6} {'replay s':>9} {'times':>6} {'peak MB':>8} {'times':>6}")
+    print(
+        f"{'design':>7} {'components':>10} {'DEF MB':>7} {'load s':>8} {'times':>6} {'replay s':>9} {'times':>6}"
+        f" {'peak MB':>8} {'times':>6}"
+    )
     with tempfile.TemporaryDirectory() as folder:
         lef = os.path.join(folder, "x.lef")
         write(lef, "lef", 200)
@@ -96,7 +101,11 @@ def main() -> None:
             for count, text, now in zip(counts, texts, best([partial(figures, lef, text) for text in texts], runs)):
                 seconds, whole, peak = now
                 times = grown(before, now)
-                print(f"{design:>7} {count:>10} {os.path.getsize(text) / 1e6:7.1f} {seconds:8.3f} {times[0]:>6} {whole:9.3f} {times[1]:>6} {peak / 1e6:8.1f} {times[2]:>6}", flush=True)
+                print(
+                    f"{design:>7} {count:>10} {os.path.getsize(text) / 1e6:7.1f} {seconds:8.3f} {times[0]:>6}"
+                    f" {whole:9.3f} {times[1]:>6} {peak / 1e6:8.1f} {times[2]:>6}",
+                    flush=True,
+                )
                 before = now
 
 

@@ -56,7 +56,9 @@ def main() -> None:
         with open(plain) as text:
             design = text.read()
         designs = {"as it is": plain}
-        for name, changed in (("20,000 blockages", blocked), ("20,000 rectangles", fenced), ("2,000 star patterns", starred)):
+        for name, changed in (
+            ("20,000 blockages", blocked), ("20,000 rectangles", fenced), ("2,000 star patterns", starred)
+        ):
             designs[name] = os.path.join(folder, changed.__name__ + ".def")
             with open(designs[name], "w") as text:
                 text.write(changed(design))

@@ -5,7 +5,7 @@ usage: bench/memory.py [--program PATH ...] [--runs N] [--design DEF LEF] [COUNT
        (that of crates/lefence, which is built first: rt run there; 1; the designs below; 1000000)
 
 Without --design the designs are those of `generate.py packed`, COUNT cells in 10 fences that take 60 percent of the
-sites: `legal`, and `beside`, whose cells are all half a site off their places. The session is one of `lefence serve
+sites: `legal`, and `illegal`, whose cells are all half a site off their places. The session is one of `lefence serve
 --export`. It opens all teams. Then it checks each, writes it as a DEF text, tidies and commits it, verb after verb. The
 export comes last.
 
@@ -74,7 +74,10 @@ def ask(send: socket.socket, replies: BinaryIO, line: str) -> None:
 def session(program: str, design: Path, lef: Path, folder: Path, teams: list[str]) -> Figures:
     """The figures of one session."""
     port = free_port()
-    words = [program, "serve", str(design), str(lef), "--port", str(port), "--connections", "1", "--export", str(folder / "new.def")]
+    words = [
+        program, "serve", str(design), str(lef), "--port", str(port), "--connections", "1", "--export",
+        str(folder / "new.def"),
+    ]
     child = subprocess.Popen(words, stdout=subprocess.PIPE)
     assert child.stdout is not None
     if child.stdout.readline() != b"listening\n":
@@ -115,7 +118,7 @@ def designs(folder: Path, count: int) -> Iterator[tuple[str, Path, Path]]:
     generate = [sys.executable, str(TOP / "bench/generate.py")]
     lef = folder / "x.lef"
     lef.write_bytes(subprocess.run([*generate, "tall"], stdout=subprocess.PIPE, check=True).stdout)
-    for kind, illegal in (("legal", 0), ("beside", 100)):
+    for kind, illegal in (("legal", 0), ("illegal", 100)):
         design = folder / f"{kind}.def"
         with design.open("wb") as out:
             subprocess.run([*generate, "packed", str(count), "10", "60", str(illegal)], stdout=out, check=True)

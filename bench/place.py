@@ -28,7 +28,7 @@ from collections.abc import Iterable
 from load import LEFENCE, need, write
 
 RUNS = 3
-ASKED = 500    # commands of a verb
+COMMANDS = 500    # commands of a verb
 # A cell: its macro, its corner and its orientation.
 Cell = tuple[str, int, int, str]
 # For each team its cells by name.
@@ -50,36 +50,43 @@ def cells_of(def_: str) -> Teams:
                 members = [word for word in members if word in cells]
                 first = first or members
                 fences.update(members)
-    return {"f0": {name: cells[name] for name in first}, "-": {name: cell for name, cell in cells.items() if name not in fences}}
+    return {
+        "f0": {name: cells[name] for name in first},
+        "-": {name: cell for name, cell in cells.items() if name not in fences},
+    }
 
 
 def verbs(teams: Teams) -> dict[str, list[str]]:
     """For each verb its commands, in the order in which they are sent."""
     rng = random.Random(3)
-    told: dict[str, list[str]] = {verb: [] for verb in ("where", "find", "place", "swap", "legalize", "unplace", "undo")}
+    commands: dict[str, list[str]] = {
+        verb: [] for verb in ("where", "find", "place", "swap", "legalize", "unplace", "undo")
+    }
     for team, cells in teams.items():
-        names = rng.sample(sorted(cells), min(ASKED // 2, len(cells)))
+        names = rng.sample(sorted(cells), min(COMMANDS // 2, len(cells)))
         alike: dict[tuple[str, str], list[str]] = {}
         for name, (mac, x, y, orient) in cells.items():
             alike.setdefault((mac, orient), []).append(name)
         for name in names:
             mac, x, y, orient = cells[name]
             near = f"{x + rng.randrange(-20, 21) * 200} {y + rng.randrange(-2, 3) * 2000}"
-            told["where"].append(f"where {team} 0 {name}\n")
-            told["find"].append(f"find {team} 0 {name} {near}\n")
-            told["place"].append(f"place {team} 0 {name} {x} {y} {'FN' if orient == 'N' else 'S'}\n")
-            told["swap"].append(f"swap {team} 0 {name} {rng.choice(alike[mac, orient])}\n")
-            told["legalize"].append(f"legalize {team} 0 {name} {near}\n")
-            told["unplace"].append(f"unplace {team} 0 {name}\n")
-        told["undo"] += [f"undo {team} 0\n"] * min(60, len(names))
-    return told
+            commands["where"].append(f"where {team} 0 {name}\n")
+            commands["find"].append(f"find {team} 0 {name} {near}\n")
+            commands["place"].append(f"place {team} 0 {name} {x} {y} {'FN' if orient == 'N' else 'S'}\n")
+            commands["swap"].append(f"swap {team} 0 {name} {rng.choice(alike[mac, orient])}\n")
+            commands["legalize"].append(f"legalize {team} 0 {name} {near}\n")
+            commands["unplace"].append(f"unplace {team} 0 {name}\n")
+        commands["undo"] += [f"undo {team} 0\n"] * min(60, len(names))
+    return commands
 
 
 class Program:
     """The program over a pipe, with a session for each of these teams, which have this padding."""
 
     def __init__(self, lef: str, def_: str, teams: Iterable[str], padding: int) -> None:
-        self.child = subprocess.Popen([LEFENCE, "replay", def_, lef], stdin=subprocess.PIPE, stdout=subprocess.PIPE, bufsize=0)
+        self.child = subprocess.Popen(
+            [LEFENCE, "replay", def_, lef], stdin=subprocess.PIPE, stdout=subprocess.PIPE, bufsize=0
+        )
         assert self.child.stdin and self.child.stdout
         self.requests, self.replies = self.child.stdin, open(self.child.stdout.fileno(), "rb", closefd=False)
         self.ask([f"open {team}\n" for team in teams])
@@ -105,22 +112,30 @@ class Program:
         self.child.wait()
 
 
-def best(asked: list[tuple[list[str], float]], lef: str, def_: str, teams: Iterable[str], padding: int) -> list[float]:
+def best(lists: list[tuple[list[str], float]], lef: str, def_: str, teams: Iterable[str], padding: int) -> list[float]:
     """The best time of each list of commands over all runs, in seconds times its factor. A run sends the lists one
     after another."""
-    found = [float("inf")] * len(asked)
+    found = [float("inf")] * len(lists)
     for _ in range(RUNS):
         program = Program(lef, def_, teams, padding)
-        found = [min(time_, program.ask(lines) * factor) for time_, (lines, factor) in zip(found, asked)]
+        found = [min(time_, program.ask(lines) * factor) for time_, (lines, factor) in zip(found, lists)]
         program.end()
     return found
 
 
 def settle(lef: str, def_: str, teams: list[str], padding: int) -> None:
     """Moves the cells of all teams to places that are legal for the padding."""
-    lines = [line for team in teams for line in (f"open {team}", f"pad {team} 0 {padding}", f"tidy {team} 0", f"commit {team} 0")]
+    lines: list[str] = []
+    for team in teams:
+        lines += [f"open {team}", f"pad {team} 0 {padding}", f"tidy {team} 0", f"commit {team} 0"]
     settled = def_ + ".settled"
-    subprocess.run([LEFENCE, "replay", def_, lef, "--export", settled], input="\n".join(lines) + "\n", text=True, stdout=subprocess.PIPE, check=True)
+    subprocess.run(
+        [LEFENCE, "replay", def_, lef, "--export", settled],
+        input="\n".join(lines) + "\n",
+        text=True,
+        stdout=subprocess.PIPE,
+        check=True,
+    )
     os.replace(settled, def_)
 
 
@@ -147,16 +162,18 @@ def line_of(lef: str, def_: str, design: tuple[int, int, int], room: int, paddin
     if room:
         settle(lef, def_, all_teams, room)
     teams = cells_of(def_)
-    told = verbs(teams)
-    single = [best([(lines, 1e6 / len(lines)) for lines in told.values()], lef, def_, teams, padding) for padding in paddings]
+    commands = verbs(teams)
+    timed = [(lines, 1e6 / len(lines)) for lines in commands.values()]
+    single = [best(timed, lef, def_, teams, padding) for padding in paddings]
     if room:
         displace(def_)
     else:
         write(def_, "packed", count, fences, percent, 10)
-    asked = [([f"{verb} {team} 0\n" for team in all_teams], 1.0) for verb in ("tidy", "commit", "check")]
-    whole = [best(asked, lef, def_, all_teams, padding) for padding in paddings]
+    lists = [([f"{verb} {team} 0\n" for team in all_teams], 1.0) for verb in ("tidy", "commit", "check")]
+    whole = [best(lists, lef, def_, all_teams, padding) for padding in paddings]
     return [
-        "".join(f" {t:{w}.1f}" for t, w in zip(times, (7, 7, 7, 7, 8, 7, 7))) + "    " + "".join(f" {t:7.3f}" for t in seconds)
+        "".join(f" {t:{w}.1f}" for t, w in zip(times, (7, 7, 7, 7, 8, 7, 7)))
+        + "    " + "".join(f" {t:7.3f}" for t in seconds)
         for times, seconds in zip(single, whole)
     ]
 
@@ -169,8 +186,8 @@ def main() -> None:
     given = words.parse_args()
     counts = given.counts or [10_000, 100_000, 1_000_000]
     need(LEFENCE)
-    print(f"{'cells':>8} {'fences':>6} {'%':>3} {'where':>7} {'find':>7} {'place':>7} {'swap':>7} {'legalize':>8} {'unplace':>7} {'undo':>7}"
-          f" us {'tidy':>7} {'commit':>7} {'check':>7} s")
+    print(f"{'cells':>8} {'fences':>6} {'%':>3} {'where':>7} {'find':>7} {'place':>7} {'swap':>7} {'legalize':>8}"
+          f" {'unplace':>7} {'undo':>7} us {'tidy':>7} {'commit':>7} {'check':>7} s")
     paddings = [given.padding, 0] if given.room else [given.padding]
     with tempfile.TemporaryDirectory() as folder:
         lef, def_ = os.path.join(folder, "x.lef"), os.path.join(folder, "x.def")

@@ -20,7 +20,9 @@ PROGRAM = os.path.join(TOP, "crates", "lefence_bench", "out", "lefence_bench")
 
 def write(path: str, kind: str, count: int) -> None:
     with open(path, "wb") as out:
-        subprocess.run([sys.executable, os.path.join(TOP, "bench", "generate.py"), kind, str(count)], stdout=out, check=True)
+        subprocess.run(
+            [sys.executable, os.path.join(TOP, "bench", "generate.py"), kind, str(count)], stdout=out, check=True
+        )
 
 
 def generated(folder: str, kind: str, count: int) -> str:
@@ -47,12 +49,14 @@ def run(task: str, path: str) -> tuple[float, int]:
 
 def split_seconds(path: str) -> float:
     # in a separate process: a child's peak memory begins with its parent's
-    script = "import sys,time;data=open(sys.argv[1],'rb').read();t=time.perf_counter();data.split();print(time.perf_counter()-t)"
+    script = "import sys,time;data=open(sys.argv[1],'rb').read();t=time.perf_counter();data.split();"
+    script += "print(time.perf_counter()-t)"
     return float(subprocess.run([sys.executable, "-c", script, path], capture_output=True, check=True).stdout)
 
 
 def klayout_seconds(path: str) -> float | None:
-    script = "import pya,time;o=pya.LoadLayoutOptions();t=time.perf_counter();pya.Layout().read('%s',o);print(time.perf_counter()-t)" % path
+    script = "import pya,time;o=pya.LoadLayoutOptions();t=time.perf_counter();pya.Layout().read('%s',o);" % path
+    script += "print(time.perf_counter()-t)"
     with tempfile.NamedTemporaryFile("w", suffix=".py") as file:
         file.write(script)
         file.flush()
@@ -66,7 +70,10 @@ def klayout_seconds(path: str) -> float | None:
 def main() -> None:
     if not os.access(PROGRAM, os.X_OK):
         sys.exit("build it first: (cd crates/lefence_bench && rt run)")
-    print(f"{'text':>14} {'MB':>7} {'lex MB/s':>9} {'read MB/s':>10} {'split MB/s':>11} {'klayout MB/s':>13} {'peak / text':>12}")
+    print(
+        f"{'text':>14} {'MB':>7} {'lex MB/s':>9} {'read MB/s':>10} {'split MB/s':>11} {'klayout MB/s':>13}"
+        f" {'peak / text':>12}"
+    )
     with tempfile.TemporaryDirectory() as folder:
         for kind, counts in (("lef", (1_000, 10_000, 100_000)), ("def", (10_000, 100_000, 1_000_000))):
             for count in counts:
@@ -75,8 +82,10 @@ def main() -> None:
                 lex, _ = run("lex", path)
                 read, peak = run(kind, path)
                 klayout = klayout_seconds(path)
-                row = [f"{size / 1e6 / seconds:.0f}" if seconds else "none" for seconds in (lex, read, split_seconds(path), klayout)]
-                print(f"{count:>10} {kind} {size / 1e6:7.1f} {row[0]:>9} {row[1]:>10} {row[2]:>11} {row[3]:>13} {peak / size:12.1f}")
+                taken = (lex, read, split_seconds(path), klayout)
+                row = [f"{size / 1e6 / seconds:.0f}" if seconds else "none" for seconds in taken]
+                rates = f"{row[0]:>9} {row[1]:>10} {row[2]:>11} {row[3]:>13}"
+                print(f"{count:>10} {kind} {size / 1e6:7.1f} {rates} {peak / size:12.1f}")
 
 
 if __name__ == "__main__":

@@ -44,7 +44,7 @@ TOP = Path(__file__).resolve().parents[1]
 SITE, ROW = 200, 2000
 PLACED = re.compile(r"PLACED \( (-?\d+) (-?\d+) \)")
 # A component's name, and its place.
-STANDS = re.compile(r"^\s*- (\S+) [^;]*?\+ (?:PLACED|FIXED) \( (-?\d+) (-?\d+) \)", re.M)
+LOCATION = re.compile(r"^\s*- (\S+) [^;]*?\+ (?:PLACED|FIXED) \( (-?\d+) (-?\d+) \)", re.M)
 FENCE = re.compile(r"^\s*- (\S+) [^;]*\+ TYPE FENCE", re.M)
 GROUP = re.compile(r"^\s*- \S+ [^;]*\+ REGION (\S+)", re.M)
 Value = TypeVar("Value")
@@ -64,14 +64,14 @@ def moved(kind: str, found: re.Match[str], rng: random.Random) -> str:
 
 
 def places(text: Path) -> dict[str, tuple[int, int]]:
-    return {name: (int(x), int(y)) for name, x, y in STANDS.findall(text.read_text())}
+    return {name: (int(x), int(y)) for name, x, y in LOCATION.findall(text.read_text())}
 
 
-def ways(before: Path, after: Path) -> str:
+def displacements(before: Path, after: Path) -> str:
     """The sum of all displacements, the mean of the cells that moved, and the largest displacement."""
     old, new = places(before), places(after)
     found = [abs(x - new[name][0]) + abs(y - new[name][1]) for name, (x, y) in old.items() if name in new]
-    gone = [way for way in found if way]
+    gone = [one for one in found if one]
     return f"{sum(gone):>14,} {sum(gone) / max(1, len(gone)):8.0f} {max(gone, default=0):8}"
 
 
@@ -84,17 +84,17 @@ def apart(work: Callable[..., Value], *given: object) -> Value:
 
 def figures_of(words: list[str], lines: str) -> tuple[float, int, bytes]:
     """Processor seconds and peak memory in bytes of a program over these lines, and its output."""
-    with tempfile.TemporaryFile() as asked, tempfile.TemporaryFile() as told, tempfile.TemporaryFile() as said:
-        asked.write(lines.encode())
-        asked.seek(0)
-        child = subprocess.Popen(words, stdin=asked, stdout=told, stderr=said)
+    with tempfile.TemporaryFile() as requests, tempfile.TemporaryFile() as output, tempfile.TemporaryFile() as said:
+        requests.write(lines.encode())
+        requests.seek(0)
+        child = subprocess.Popen(words, stdin=requests, stdout=output, stderr=said)
         _, ended, usage = os.wait4(child.pid, 0)
         child.returncode = status = os.waitstatus_to_exitcode(ended)
-        told.seek(0)
+        output.seek(0)
         said.seek(0)
         if status not in (0, 4):
             sys.exit(f"{words[0]}: status {status}: {said.read().decode()}")
-        return usage.ru_utime + usage.ru_stime, usage.ru_maxrss * 1024, told.read()
+        return usage.ru_utime + usage.ru_stime, usage.ru_maxrss * 1024, output.read()
 
 
 @dataclass(frozen=True)
@@ -142,17 +142,17 @@ def given_designs(folder: Path, given: list[Path], by: int) -> Iterator[Design]:
     text, lef = given
     yield Design(text.stem, text, lef)
     if by:
-        beside = folder / "beside.def"
-        apart(shift, text, beside, by)
-        yield Design(f"{text.stem} + {by}", beside, lef)
+        shifted = folder / "shifted.def"
+        apart(shift, text, shifted, by)
+        yield Design(f"{text.stem} + {by}", shifted, lef)
 
 
-def result(name: str, told: bytes) -> str:
+def result(name: str, output: bytes) -> str:
     """What a repair or a tidy of all teams reports."""
     if name == "repair":
-        every = json.loads(told.splitlines()[-1])
+        every = json.loads(output.splitlines()[-1])
         return f"  {every['cells']} cells, {every['left_cells']} left, {every['least_largest']} or more in any repair"
-    return f"  {told.count(b'no 8 ')} teams refused" if name == "tidy" else ""
+    return f"  {output.count(b'no 8 ')} teams refused" if name == "tidy" else ""
 
 
 def measure(design: Design, folder: Path, program: str, reference: str | None) -> None:
@@ -163,10 +163,11 @@ def measure(design: Design, folder: Path, program: str, reference: str | None) -
     if reference is not None:
         command, *options = shlex.split(reference)
         runs.append(("reference", [command, *texts, *options], ""))
-    for name, words, asked in runs:
-        seconds, peak, told = figures_of([*words, "--export", str(out)], asked)
+    for name, words, requests in runs:
+        seconds, peak, output = figures_of([*words, "--export", str(out)], requests)
         memory = f"{peak / 1e6:8.1f} MB {peak / size:5.2f} x"
-        print(f"{design.name:>24} {name:>9} | {seconds:8.2f} s {memory} {apart(ways, design.text, out)}{result(name, told)}", flush=True)
+        moves = apart(displacements, design.text, out)
+        print(f"{design.name:>24} {name:>9} | {seconds:8.2f} s {memory} {moves}{result(name, output)}", flush=True)
 
 
 def main() -> int:
@@ -177,10 +178,11 @@ def main() -> int:
     words.add_argument("--shift", type=int, default=0)
     words.add_argument("counts", type=int, nargs="*", default=[100_000])
     given = words.parse_args()
-    print(f"{'':>34} | {'time':>10} {'peak':>11} {'by DEF':>7} {'all ways':>14} {'mean':>8} {'largest':>8}")
+    print(f"{'':>34} | {'time':>10} {'peak':>11} {'by DEF':>7} {'total':>14} {'mean':>8} {'largest':>8}")
     with tempfile.TemporaryDirectory() as name:
         folder = Path(name)
-        for design in given_designs(folder, given.design, given.shift) if given.design else designs(folder, given.counts):
+        shown = given_designs(folder, given.design, given.shift) if given.design else designs(folder, given.counts)
+        for design in shown:
             measure(design, folder, given.program, given.reference)
     return 0
 

@@ -35,13 +35,13 @@ def commands(def_: str, count: int) -> Lines:
     """For each verb `count` commands to the cells of the first fence."""
     with open(def_) as text:
         entries = [line.split() for line in text if line.startswith("- ")]
-    standing = {words[1]: words[-5:-1] for words in entries if "PLACED" in words}
+    placed = {words[1]: words[-5:-1] for words in entries if "PLACED" in words}
     members = next(words[2:-4] for words in entries if words[-3:-1] == ["REGION", "f0"])
     where: list[bytes] = []
     place: list[bytes] = []
     for number in range(count):
         name = members[number % len(members)]
-        x, y, _, orient = standing[name]
+        x, y, _, orient = placed[name]
         if number // len(members) % 2 == 0:
             orient = TURNED[orient]
         where.append(f"where f0 0 {name}\n".encode())
@@ -49,7 +49,7 @@ def commands(def_: str, count: int) -> Lines:
     return {"where": where, "place": place}
 
 
-def asked(send: Send, replies: BinaryIO, lines: list[bytes], at_a_time: int) -> float:
+def rate_of(send: Send, replies: BinaryIO, lines: list[bytes], at_a_time: int) -> float:
     """Commands per second, for lines sent `at_a_time` at a time."""
     start = time.perf_counter()
     for number in range(0, len(lines), at_a_time):
@@ -66,7 +66,7 @@ def session(send: Send, replies: BinaryIO, lines: Lines) -> list[float]:
     """The figures of one session: for each verb one by one, and a hundred at a time."""
     send(b"open f0\n")
     replies.readline()
-    return [asked(send, replies, lines[verb], at_a_time) for verb in ("where", "place") for at_a_time in (1, 100)]
+    return [rate_of(send, replies, lines[verb], at_a_time) for verb in ("where", "place") for at_a_time in (1, 100)]
 
 
 def over_pipe(lef: str, def_: str, lines: Lines) -> list[float]:
@@ -88,7 +88,9 @@ def over_loopback(lef: str, def_: str, lines: Lines) -> list[float]:
     with socket.socket() as free:
         free.bind(("127.0.0.1", 0))
         port = free.getsockname()[1]
-    child = subprocess.Popen([LEFENCE, "serve", def_, lef, "--port", str(port), "--connections", "1"], stdout=subprocess.PIPE)
+    child = subprocess.Popen(
+        [LEFENCE, "serve", def_, lef, "--port", str(port), "--connections", "1"], stdout=subprocess.PIPE
+    )
     assert child.stdout
     if child.stdout.readline() != b"listening\n":
         sys.exit("serve: not listening")
@@ -103,7 +105,8 @@ def main() -> None:
     words = [int(word) for word in sys.argv[1:]]
     cells, count, runs = words + [100_000, 20_000, 5][len(words):]
     need(LEFENCE)
-    print(f"{'over':>9} {'where one':>10} {'where hundred':>14} {'place one':>10} {'place hundred':>14}    commands per second")
+    columns = f"{'over':>9} {'where one':>10} {'where hundred':>14} {'place one':>10} {'place hundred':>14}"
+    print(f"{columns}    commands per second")
     with tempfile.TemporaryDirectory() as folder:
         lef, def_ = (os.path.join(folder, name) for name in ("x.lef", "x.def"))
         write(lef, "lef", 200)

@@ -42,7 +42,8 @@ def replay(program: str, words: list[Path | str], lines: str) -> Figures:
 def stages(program: str, folder: Path, design: Path, lef: Path) -> dict[str, Figures]:
     """The figures of each stage."""
     teams = teams_of(design)
-    lines = "".join(f"open {team}\ntidy {team} 0\n" for team in teams) + "".join(f"commit {team} 0\n" for team in teams[:-1])
+    lines = "".join(f"open {team}\ntidy {team} 0\n" for team in teams)
+    lines += "".join(f"commit {team} 0\n" for team in teams[:-1])
     texts: list[Path | str] = [design, lef]
     state, again = folder / "x.state", folder / "again.state"
     found = {"start": replay(program, texts, ""), "session": replay(program, texts, lines)}

@@ -48,7 +48,8 @@ class Design:
     def def_text(self) -> Iterator[str]:
         yield "DESIGN bench ;\nUNITS DISTANCE MICRONS 1000 ;\n"
         for row in range(self.rows):
-            yield f"ROW r{row} core 0 {row * ROW} {'N' if row % 2 == 0 else 'FS'} DO {self.sites} BY 1 STEP {SITE} 0 ;\n"
+            orient = "N" if row % 2 == 0 else "FS"
+            yield f"ROW r{row} core 0 {row * ROW} {orient} DO {self.sites} BY 1 STEP {SITE} 0 ;\n"
         yield f"COMPONENTS {len(self.cells)} ;\n"
         for name, x, y, _, _ in self.cells:
             yield f"- {name} INV + PLACED ( {x} {y} ) {'N' if y // ROW % 2 == 0 else 'FS'} ;\n"
@@ -60,9 +61,11 @@ class Design:
             box, orient = [0, row * ROW, self.sites * SITE, (row + 1) * ROW], "N" if row % 2 == 0 else "FS"
             yield f'{{"box":{box},"kind":"row","name":"r{row}","orient":"{orient}","sites":{self.sites}}}\n'
         for name, x, y, rule, other in self.cells:
-            known = f'"height":{ROW},"kind":"cell","macro":"INV","name":"{name}","orient":"{"N" if y // ROW % 2 == 0 else "FS"}"'
-            meets = f'"{other}"' if other else "null"
-            yield f'{{"box":[{x},{y},{x + 400},{y + ROW}],{known},"other":{meets},"rule":{rule},"team":"-","width":400}}\n'
+            orient = "N" if y // ROW % 2 == 0 else "FS"
+            known = f'"height":{ROW},"kind":"cell","macro":"INV","name":"{name}","orient":"{orient}"'
+            overlapped = f'"{other}"' if other else "null"
+            broken = f'"other":{overlapped},"rule":{rule}'
+            yield f'{{"box":[{x},{y},{x + 400},{y + ROW}],{known},{broken},"team":"-","width":400}}\n'
         known = f'"cells":{len(self.cells)},"fences":0,"illegal":{len(self.cells)},"kind":"total","obstacles":0'
         yield f'{{{known},"rows":{self.rows},"soft":0,"unplaced":0}}\n'
 
@@ -90,13 +93,16 @@ def write_design(folder: Path, name: str, is_described: bool, kind: str, cells: 
 
 def measure(folder: Path, what: str, tool: str, *words: str) -> None:
     start = time.monotonic()
-    with open(folder / "told", "wb") as told:
-        process = subprocess.Popen([TOP / "front/bin" / tool, *words], cwd=folder, stdout=told, stderr=told)
+    with open(folder / "output", "wb") as output:
+        process = subprocess.Popen([TOP / "front/bin" / tool, *words], cwd=folder, stdout=output, stderr=output)
     _, status, usage = os.wait4(process.pid, 0)
     if status:
-        sys.exit((folder / "told").read_text())
+        sys.exit((folder / "output").read_text())
     busy = usage.ru_utime + usage.ru_stime
-    print(f"{what:<35} {time.monotonic() - start:6.1f} s, {busy:6.1f} s busy, {usage.ru_maxrss / 1024:5.0f} MB", flush=True)
+    print(
+        f"{what:<35} {time.monotonic() - start:6.1f} s, {busy:6.1f} s busy, {usage.ru_maxrss / 1024:5.0f} MB",
+        flush=True,
+    )
 
 
 def main() -> None:

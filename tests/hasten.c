@@ -1,5 +1,5 @@
-/* Preloaded into the program: makes time pass faster. A socket's write time-out is a sixtieth of the requested one, so that a minute
-   becomes a second. Each time the clock is read, it is three seconds later than the time before. */
+/* Preloaded into the program: makes time pass faster. A socket's write time-out is a sixtieth of the requested one: a
+   minute becomes a second. Each time the clock is read, it is three seconds later than the time before. */
 #define _GNU_SOURCE
 #include <dlfcn.h>
 #include <sys/socket.h>
@@ -18,11 +18,13 @@ int clock_gettime(clockid_t clock, struct timespec *now) {
 int setsockopt(int file, int level, int name, const void *value, socklen_t size) {
     struct timeval sooner;
     if (level == SOL_SOCKET && name == SO_SNDTIMEO) {
-        const struct timeval *asked = value;
-        long long parts = (asked->tv_sec * 1000000LL + asked->tv_usec) / 60;
+        const struct timeval *requested = value;
+        long long parts = (requested->tv_sec * 1000000LL + requested->tv_usec) / 60;
         sooner.tv_sec = parts / 1000000;
         sooner.tv_usec = parts % 1000000;
         value = &sooner;
     }
-    return ((int (*)(int, int, int, const void *, socklen_t))dlsym(RTLD_NEXT, "setsockopt"))(file, level, name, value, size);
+    int (*set)(int, int, int, const void *, socklen_t) = (int (*)(int, int, int, const void *, socklen_t))dlsym(
+        RTLD_NEXT, "setsockopt");
+    return set(file, level, name, value, size);
 }

@@ -1,5 +1,5 @@
-/* Preloaded into the program: appends the names of the calls that store and rename files, in order, to the file named by
-   RECORD. */
+/* Preloaded into the program: appends the names of the calls that store and rename files, in order, to the file named
+   by RECORD. */
 #define _GNU_SOURCE
 #include <dlfcn.h>
 #include <fcntl.h>

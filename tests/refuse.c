@@ -1,7 +1,8 @@
 /* Preloaded into the program: refuses allocations by their number.
  *
- * The file named by REFUSE_CONTROL has four numbers: the count of allocations requested since a test set it to 0, the first
- * and the last number to refuse (0: refuse nothing), and the count of those refused. A test writes it between two commands. */
+ * The file named by REFUSE_CONTROL has four numbers: the count of allocations requested since a test set it to 0, the
+ * first and the last number to refuse (0: refuse nothing), and the count of those refused. A test writes it between two
+ * commands. */
 #define _GNU_SOURCE
 #include <dlfcn.h>
 #include <fcntl.h>
@@ -11,7 +12,7 @@
 #include <unistd.h>
 
 struct control {
-    volatile uint64_t asked, first, last, refused;
+    volatile uint64_t requested, first, last, refused;
 };
 
 static struct control *control;
@@ -32,7 +33,7 @@ __attribute__((constructor)) static void begin(void) {
 
 static int is_refused(void) {
     if (!control) return 0;
-    uint64_t number = ++control->asked;
+    uint64_t number = ++control->requested;
     if (!control->first || number < control->first || control->last < number) return 0;
     control->refused++;
     return 1;

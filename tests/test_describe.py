@@ -31,11 +31,16 @@ SMALL = """\
 {"kind":"fence","name":"A","rects":[[0,0,4000,4000]]}
 {"kind":"fence","name":"B","rects":[[6000,0,10000,8000]]}
 {"box":[4000,0,4400,2000],"kind":"obstacle","name":null}
-{"box":null,"height":2000,"kind":"cell","macro":"INV","name":"a1","orient":null,"other":null,"rule":null,"team":"A","width":400}
-{"box":null,"height":2000,"kind":"cell","macro":"INV","name":"a2","orient":null,"other":null,"rule":null,"team":"A","width":400}
-{"box":null,"height":4000,"kind":"cell","macro":"DBL","name":"a3","orient":null,"other":null,"rule":null,"team":"A","width":600}
-{"box":null,"height":2000,"kind":"cell","macro":"INV","name":"b1","orient":null,"other":null,"rule":null,"team":"B","width":400}
-{"box":null,"height":2000,"kind":"cell","macro":"INV","name":"g1","orient":null,"other":null,"rule":null,"team":"-","width":400}
+{"box":null,"height":2000,"kind":"cell","macro":"INV","name":"a1","orient":null,"other":null,"rule":null,\
+"team":"A","width":400}
+{"box":null,"height":2000,"kind":"cell","macro":"INV","name":"a2","orient":null,"other":null,"rule":null,\
+"team":"A","width":400}
+{"box":null,"height":4000,"kind":"cell","macro":"DBL","name":"a3","orient":null,"other":null,"rule":null,\
+"team":"A","width":600}
+{"box":null,"height":2000,"kind":"cell","macro":"INV","name":"b1","orient":null,"other":null,"rule":null,\
+"team":"B","width":400}
+{"box":null,"height":2000,"kind":"cell","macro":"INV","name":"g1","orient":null,"other":null,"rule":null,\
+"team":"-","width":400}
 {"cells":5,"fences":2,"illegal":0,"kind":"total","obstacles":1,"rows":4,"soft":0,"unplaced":5}
 """
 # Four rows. The third begins further left.
@@ -172,8 +177,10 @@ class Describe(InFolder):
         """The lines for this DEF text, after they were compared with the text and with the report of `check`."""
         words = self.design(text)
         lines = self.described(words, status)
-        judged = [{key: value for key, value in line.items() if key not in ("rule", "other")} for line in lines[:-1]]
-        self.assertEqual(judged, reported_of(text, LEF.read_text()))
+        without_rules = [
+            {key: value for key, value in line.items() if key not in ("rule", "other")} for line in lines[:-1]
+        ]
+        self.assertEqual(without_rules, reported_of(text, LEF.read_text()))
         checked, report, said = run(["check", *words])
         self.assertEqual((checked, said), (status, ""))
         found = json.loads(report)

@@ -109,7 +109,7 @@ class Exported(Exports):
         self.assertEqual((within / "made.def").read_text(), EXPORTED)
         self.assertEqual((self.names(), sorted(os.listdir(within))), (["new.def", "within"], ["made.def", "next.def"]))
 
-    def test_beside_temporary_files_that_were_left(self) -> None:
+    def test_next_to_temporary_files_of_other_runs(self) -> None:
         left = self.folder / "new.def.partial0"
         left.write_text("left")
         self.assertEqual(self.export(self.target), DONE)
@@ -146,10 +146,10 @@ class Exported(Exports):
         self.assertEqual(self.export("/dev/null"), DONE)
         self.assertTrue(stat.S_ISCHR(os.stat("/dev/null").st_mode))
 
-    def test_to_standard_output_that_is_a_pipe_behind_the_replies(self) -> None:
+    def test_to_standard_output_that_is_a_pipe_after_the_replies(self) -> None:
         self.assertEqual(self.export("/dev/stdout"), (0, REPLIES + EXPORTED, ""))
 
-    def test_to_the_file_of_standard_output_behind_the_replies(self) -> None:
+    def test_to_the_file_of_standard_output_after_the_replies(self) -> None:
         for path in ("/dev/stdout", str(self.target)):
             for mode, before in (("ab", "older\n"), ("wb", "")):
                 with self.subTest(path=path, mode=mode):
@@ -180,7 +180,9 @@ class NotExported(Exports):
         missing = self.folder / "missing" / "new.def"
         self.refused_early(missing, NO_FOLDER)
         bounds = ["--port", str(free_port()), "--connections", "1"]
-        self.assertEqual(run(["serve", *DESIGN, *bounds, "--export", str(missing)]), (3, "", unwritten(missing, NO_FOLDER)))
+        self.assertEqual(
+            run(["serve", *DESIGN, *bounds, "--export", str(missing)]), (3, "", unwritten(missing, NO_FOLDER))
+        )
         self.assertEqual(self.names(), [])
 
     def test_to_a_folder(self) -> None:
@@ -247,7 +249,7 @@ class NotExported(Exports):
             self.assertEqual(ran, (3, "", "lefence: TooManyLines\n"))
             self.assertEqual(self.names(), [])
 
-    def test_after_as_many_lines_as_are_asked_for(self) -> None:
+    def test_after_the_requested_number_of_lines(self) -> None:
         words = ["replay", *DESIGN, "--export", str(self.target), "--lines", "1000001"]
         ran = run(words, b"\n" * 1_000_001, Start(stdout=subprocess.DEVNULL))
         self.assertEqual((ran, self.target.read_bytes()), ((0, "", ""), DEF.read_bytes()))

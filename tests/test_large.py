@@ -44,8 +44,12 @@ def lef_text() -> str:
     parts = ["VERSION 5.8 ;\nSITE core\n  CLASS CORE ;\n  SYMMETRY Y ;\n  SIZE 0.2 BY 2.0 ;\nEND core\n"]
     for number, (sites, rows) in enumerate(MACROS):
         width, height = f"{sites * 0.2:.1f}", f"{rows * 2.0:.1f}"
-        parts.append(f"MACRO M{number}\n  CLASS CORE ;\n  SIZE {width} BY {height} ;\n  SYMMETRY X Y ;\n  SITE core ;\n")
-        parts.append(f"  PIN VSS\n    USE GROUND ;\n    PORT\n      LAYER m1 ;\n      RECT 0 -0.1 {width} 0.1 ;\n    END\n")
+        parts.append(
+            f"MACRO M{number}\n  CLASS CORE ;\n  SIZE {width} BY {height} ;\n  SYMMETRY X Y ;\n  SITE core ;\n"
+        )
+        parts.append(
+            f"  PIN VSS\n    USE GROUND ;\n    PORT\n      LAYER m1 ;\n      RECT 0 -0.1 {width} 0.1 ;\n    END\n"
+        )
         parts.append(f"  END VSS\nEND M{number}\n")
     return "".join(parts) + "END LIBRARY\n"
 

@@ -142,7 +142,8 @@ def random_design(source: random.Random) -> str:
         [
             "VERSION 5.8 ;\nDESIGN r ;\nUNITS DISTANCE MICRONS 1000 ;",
             *rows,
-            "REGIONS 2 ;\n- A ( 0 0 ) ( 4000 8000 ) + TYPE FENCE ;\n- B ( 6000 0 ) ( 10000 12000 ) + TYPE FENCE ;\nEND REGIONS",
+            "REGIONS 2 ;\n- A ( 0 0 ) ( 4000 8000 ) + TYPE FENCE ;\n- B ( 6000 0 ) ( 10000 12000 ) + TYPE FENCE ;\n"
+            "END REGIONS",
             f"COMPONENTS {len(cells)} ;",
             *(entry(*cell) for cell in cells),
             "END COMPONENTS\nGROUPS 2 ;\n- ga a* + REGION A ;\n- gb b* + REGION B ;\nEND GROUPS\nEND DESIGN\n",
@@ -222,9 +223,9 @@ class WithRefusals(unittest.TestCase):
         """The allocations to refuse: each alone, and all from each on."""
         self.refusing.refuse(0, 0)
         subprocess.run(words, env=self.refusing.environment, input=lines, capture_output=True, text=True)
-        asked = struct.unpack("=4Q", self.refusing.numbers[:])[0]
-        self.assertGreater(asked, 100)
-        for number in range(1, asked + 1):
+        requested = struct.unpack("=4Q", self.refusing.numbers[:])[0]
+        self.assertGreater(requested, 100)
+        for number in range(1, requested + 1):
             yield number, number
             yield number, ALL
 
@@ -280,15 +281,15 @@ class GrowthsRefused(WithRefusals):
             number, is_left = 1, True
             while is_left:
                 session = self.open(words)
-                for asked, reply in script[:at]:
-                    self.assertEqual(session.ask(asked), reply)
+                for request, reply in script[:at]:
+                    self.assertEqual(session.ask(request), reply)
                 self.refusing.refuse(number, number)
                 answer = session.ask(line)
                 is_left = self.refusing.refused() > 0
                 later = script[at:] if is_left else script[at + 1 :]
                 self.assertEqual(answer, SHORT if is_left else script[at][1])
-                for asked, reply in later:
-                    self.assertEqual(session.ask(asked), reply, f"{line} was refused growth {number}")
+                for request, reply in later:
+                    self.assertEqual(session.ask(request), reply, f"{line} was refused growth {number}")
                 session.end()
                 number += 1
 
@@ -387,8 +388,8 @@ class StartsRefused(WithRefusals):
         words = [str(PROGRAM), "replay", str(DEF), str(LEF), "--state", str(state), "--save", str(target)]
         lines = "undo A 0\nlegalize A 0 a2 400 0\n"
         saved = []
-        for asked, replies in ((lines, "ok 4\nok 5 400 0 N\n"), (lines[:9], "ok 4\n")):
-            self.assertEqual(self.run_with(words, asked, 0, 0)[:3], (0, replies, ""))
+        for requests, replies in ((lines, "ok 4\nok 5 400 0 N\n"), (lines[:9], "ok 4\n")):
+            self.assertEqual(self.run_with(words, requests, 0, 0)[:3], (0, replies, ""))
             saved.append(target.read_text())
         moved, unmoved = saved
         spared = []
@@ -467,12 +468,12 @@ class RowsRefused(WithRefusals):
 
     def text_of(self, short: tuple[int, ...]) -> str:
         """The text of the row without these requests. Only the index of the rows searches for places."""
-        asked = [request for at, (request, _) in enumerate(self.worked.script) if at not in short]
-        return "\n".join([self.heading, "= index", *self.worked.settings, *asked, ""])
+        requests = [request for at, (request, _) in enumerate(self.worked.script) if at not in short]
+        return "\n".join([self.heading, "= index", *self.worked.settings, *requests, ""])
 
     def lines_of(self, written: str) -> list[str]:
-        *lines, behind = written.split("\n")
-        self.assertEqual(behind, "", "the last line has no end")
+        *lines, rest = written.split("\n")
+        self.assertEqual(rest, "", "the last line has no end")
         return lines
 
     def replies_in(self, lines: list[str], short: tuple[int, ...]) -> tuple[list[list[str]], list[str]]:

@@ -43,30 +43,54 @@ class Mistakes(unittest.TestCase):
             self.said([verb], 2, USAGE)
             self.said([verb, W_DEF], 2, USAGE)
 
-    def test_the_wrong_word_and_what_it_may_be_stand_before_the_usage(self) -> None:
-        for words, told in (
+    def test_the_wrong_word_and_a_tip_come_before_the_usage(self) -> None:
+        for words, messages in (
             (["chekc", *DESIGN], ["unrecognized subcommand 'chekc'", "tip: a similar subcommand exists: 'check'"]),
-            (["replay", *DESIGN, "--exprot", "x"], ["unexpected argument '--exprot' found", "tip: a similar argument exists: '--export'"]),
+            (
+                ["replay", *DESIGN, "--exprot", "x"],
+                ["unexpected argument '--exprot' found", "tip: a similar argument exists: '--export'"],
+            ),
             (
                 ["serve", *DESIGN, "--port", "99999", "--connections", "1"],
                 ["invalid value '99999' for '--port <port>': 99999 is not in 1..=65535"],
             ),
-            (["replay", *DESIGN, "--sessions", "65"], ["invalid value '65' for '--sessions <sessions>': 65 is not in 1..=64"]),
-            (["serve", *DESIGN, "--sessions", "0"], ["invalid value '0' for '--sessions <sessions>': 0 is not in 1..=64"]),
+            (
+                ["replay", *DESIGN, "--sessions", "65"],
+                ["invalid value '65' for '--sessions <sessions>': 65 is not in 1..=64"],
+            ),
+            (
+                ["serve", *DESIGN, "--sessions", "0"],
+                ["invalid value '0' for '--sessions <sessions>': 0 is not in 1..=64"],
+            ),
             (["check", W_DEF], ["the following required arguments were not provided:", "<lef>..."]),
             (["repair", *DESIGN, "--keep", "--all"], ["the argument '--keep' cannot be used with '--all'"]),
-            (["replay", *DESIGN, "--save", "a", "--save", "b"], ["the argument '--save <save>' cannot be used multiple times"]),
-            (["replay", "chip.def", "a.lef", "--save", "chip.def"], ["the argument '--save' names the file of another argument: 'chip.def'"]),
-            (["replay", "chip.def", "a.lef", "--export=a.lef"], ["the argument '--export' names the file of another argument: 'a.lef'"]),
-            (["replay", *DESIGN, "--save", "x", "--export", "x"], ["the argument '--export' names the file of another argument: 'x'"]),
-            (["repair", "chip.def", "a.lef", "--lines", "a.lef"], ["the argument '--lines' names the file of another argument: 'a.lef'"]),
+            (
+                ["replay", *DESIGN, "--save", "a", "--save", "b"],
+                ["the argument '--save <save>' cannot be used multiple times"],
+            ),
+            (
+                ["replay", "chip.def", "a.lef", "--save", "chip.def"],
+                ["the argument '--save' names the file of another argument: 'chip.def'"],
+            ),
+            (
+                ["replay", "chip.def", "a.lef", "--export=a.lef"],
+                ["the argument '--export' names the file of another argument: 'a.lef'"],
+            ),
+            (
+                ["replay", *DESIGN, "--save", "x", "--export", "x"],
+                ["the argument '--export' names the file of another argument: 'x'"],
+            ),
+            (
+                ["repair", "chip.def", "a.lef", "--lines", "a.lef"],
+                ["the argument '--lines' names the file of another argument: 'a.lef'"],
+            ),
         ):
             with self.subTest(" ".join(words)):
                 status, written, said = run(words)
                 self.assertEqual((status, written), (2, ""))
                 lines = said.split("\n")
-                self.assertEqual(lines[: len(told) + 1], [USAGE, *(f"lefence: {line}" for line in told)])
-                self.assertTrue(lines[len(told) + 1].startswith("  lefence [demo] "), said)
+                self.assertEqual(lines[: len(messages) + 1], [USAGE, *(f"lefence: {line}" for line in messages)])
+                self.assertTrue(lines[len(messages) + 1].startswith("  lefence [demo] "), said)
 
     def test_a_text_that_is_read_is_not_written_over(self) -> None:
         with tempfile.TemporaryDirectory() as folder:
@@ -96,7 +120,7 @@ class Mistakes(unittest.TestCase):
         self.said([W_DEF, "check", W_LEF], 2, USAGE)
         self.said(["--export", "new.def", "replay", *DESIGN], 2, USAGE)
 
-    def test_words_where_none_are_wanted(self) -> None:
+    def test_words_of_a_subcommand_that_takes_no_words(self) -> None:
         self.said(["demo", W_DEF], 2, USAGE)
         self.said(["demo", *DESIGN], 2, USAGE)
 
@@ -153,19 +177,34 @@ class Mistakes(unittest.TestCase):
                     self.said([verb, W_DEF, W_LEF, path], 3, "lefence: File", f"LEF file {path} cannot be read: {why}")
 
     def test_a_path_is_shown_in_bytes_that_can_be_read(self) -> None:
-        self.said(["check", "no\n\u00e9.def", W_LEF], 3, "lefence: File", "DEF file no\\x0a\\xc3\\xa9.def cannot be read: there is no such file")
+        self.said(
+            ["check", "no\n\u00e9.def", W_LEF],
+            3,
+            "lefence: File",
+            "DEF file no\\x0a\\xc3\\xa9.def cannot be read: there is no such file",
+        )
 
     def test_a_lef_text_in_place_of_the_def_text(self) -> None:
         line = LEF.read_text().splitlines()[1]
         for verb in ("check", "describe", "replay"):
             hint = "(read as DEF: is the DEF text first?)"
-            self.said([verb, W_LEF, W_LEF], 1, "lefence: 6 UnknownStatement line 2", f"DEF file {W_LEF} {hint}, line 2: {line}")
+            self.said(
+                [verb, W_LEF, W_LEF],
+                1,
+                "lefence: 6 UnknownStatement line 2",
+                f"DEF file {W_LEF} {hint}, line 2: {line}",
+            )
 
     def test_the_lef_text_first(self) -> None:
         last = len(DEF.read_text().splitlines()) + 1
         for verb in ("check", "describe", "replay"):
             hint = "(read as LEF: is the DEF text first?)"
-            self.said([verb, W_LEF, W_DEF], 1, f"lefence: 2 UnexpectedEnd line {last}", f"LEF file {W_DEF} {hint}, line {last}: ")
+            self.said(
+                [verb, W_LEF, W_DEF],
+                1,
+                f"lefence: 2 UnexpectedEnd line {last}",
+                f"LEF file {W_DEF} {hint}, line {last}: ",
+            )
 
     def test_a_compressed_text(self) -> None:
         with tempfile.TemporaryDirectory() as folder:
@@ -192,15 +231,18 @@ class Mistakes(unittest.TestCase):
             path = Path(folder) / "refused.def"
             path.write_text(text)
             at, line = max((at, line) for at, line in enumerate(text.splitlines(), 1) if line.startswith(entry))
-            self.said(["check", str(path), W_LEF], 1, f"lefence: {message}", f"DEF file {path}, line {at} ({says}): {line}")
+            self.said(
+                ["check", str(path), W_LEF], 1, f"lefence: {message}", f"DEF file {path}, line {at} ({says}): {line}"
+            )
 
     def test_a_second_component_of_one_name_is_shown(self) -> None:
         text = DEF.read_text().replace("- a2 INV", "- a1 INV", 1)
         self.shown(text, "- a1 INV", f"the first is in line {line_of(text, '- a1 INV')}", "17 SecondName a1")
 
-    def test_a_fence_that_meets_another_is_shown_with_that_one(self) -> None:
+    def test_a_fence_that_overlaps_another_is_shown_with_that_one(self) -> None:
         others = "- Z ( 0 6000 ) ( 400 8000 ) + TYPE FENCE ;\n- G ( 0 0 ) ( 10000 8000 ) + TYPE GUIDE ;\n"
-        text = DEF.read_text().replace("REGIONS 2 ;\n", f"REGIONS 4 ;\n{others}").replace("- B ( 6000 0 )", "- B ( 3900 0 )")
+        text = DEF.read_text().replace("REGIONS 2 ;\n", f"REGIONS 4 ;\n{others}")
+        text = text.replace("- B ( 6000 0 )", "- B ( 3900 0 )")
         self.shown(text, "- B (", f"overlaps fence A of line {line_of(text, '- A (')}", "21 FencesOverlap B")
 
     def test_a_component_of_two_fences_is_shown_with_both(self) -> None:
@@ -220,20 +262,30 @@ class Mistakes(unittest.TestCase):
             long = Path(folder) / "long.def"
             long.write_bytes(b"VERSION 5.8 ;\nWHAT\t\xff" + b"." * 200 + b" ;\nEND DESIGN\n")
             shown = "WHAT\\x09\\xff" + "." * 74
-            self.said(["check", str(long), W_LEF], 1, "lefence: 6 UnknownStatement line 2", f"DEF file {long}, line 2: {shown}")
+            self.said(
+                ["check", str(long), W_LEF],
+                1,
+                "lefence: 6 UnknownStatement line 2",
+                f"DEF file {long}, line 2: {shown}",
+            )
 
     def test_a_report_that_cannot_be_written(self) -> None:
         with open("/dev/full", "wb") as full:
             self.said(["check", *DESIGN], 3, "lefence: Output", start=Start(stdout=full))
             self.said(["describe", *DESIGN], 3, "lefence: Output", start=Start(stdout=full))
-            self.said(["serve", *DESIGN, "--port", str(free_port()), "--connections", "1"], 3, "lefence: Output", start=Start(stdout=full))
+            self.said(
+                ["serve", *DESIGN, "--port", str(free_port()), "--connections", "1"],
+                3,
+                "lefence: Output",
+                start=Start(stdout=full),
+            )
 
     def test_no_words_at_all_answer_the_lines_of_the_demo(self) -> None:
         lists: list[list[str]] = [[], ["demo"]]
         for words in lists:
             self.assertEqual(run(words, "open A\nplace A 0 a1 0 0 N\n"), (0, "ok 0 0\nok 1\n", ""))
 
-    def test_a_path_that_begins_with_a_dash_stands_behind_two(self) -> None:
+    def test_a_path_that_begins_with_a_dash_comes_after_two_dashes(self) -> None:
         with tempfile.TemporaryDirectory() as folder:
             (Path(folder) / "-w.def").write_bytes(DEF.read_bytes())
             self.said(["check", "-w.def", W_LEF], 2, USAGE, start=Start(folder=folder))
@@ -244,7 +296,7 @@ class Mistakes(unittest.TestCase):
 class Help(unittest.TestCase):
     """The help of the program, on standard output."""
 
-    def test_what_the_program_can_be_asked(self) -> None:
+    def test_the_usage(self) -> None:
         _, _, said = run(["help"])
         usage = said.removeprefix("lefence: usage\n")
         status, written, said = run(["--help"])
@@ -275,7 +327,7 @@ class Help(unittest.TestCase):
 class Wrapper(unittest.TestCase):
     """./lefence, if it cannot prove and build the program."""
 
-    def test_what_is_lacking_is_told(self) -> None:
+    def test_a_missing_tool_is_reported(self) -> None:
         with tempfile.TemporaryDirectory() as folder:
             top, program = Path(folder), Path(folder, "crates/lefence/out/lefence")
             shutil.copy(TESTS.parent / "lefence", top)
@@ -284,16 +336,16 @@ class Wrapper(unittest.TestCase):
             for tool in ("dirname", "find", "head"):
                 (top / tool).symlink_to(shutil.which(tool) or "")
 
-            def told() -> tuple[int, str]:
+            def first_line() -> tuple[int, str]:
                 done = subprocess.run([top / "lefence"], env={"PATH": folder}, capture_output=True, text=True)
                 return done.returncode, done.stderr.partition("\n")[0]
 
             lacking = "takes rt, which is not on the PATH"
-            self.assertEqual(told(), (70, f"lefence: the program is not built, and to build it {lacking}"))
+            self.assertEqual(first_line(), (70, f"lefence: the program is not built, and to build it {lacking}"))
             program.touch(0o755)
             os.utime(program, (0, 0))
-            newer = f"lefence: the sources are newer than the program, and to build it anew {lacking}"
-            self.assertEqual(told(), (70, f"{newer}; crates/lefence/out/lefence is the program as it was built"))
+            newer = f"lefence: the sources are newer than the program, and to build it again {lacking}"
+            self.assertEqual(first_line(), (70, f"{newer}; crates/lefence/out/lefence is the program as it was built"))
 
 
 class Recipes(unittest.TestCase):

@@ -12,10 +12,16 @@ from pathlib import Path
 from program import DEF, LEF, InFolder, Start, preloading, run
 
 # The keys of the line of a team, and of the line of all teams, in order.
-TEAM_KEYS = ["cells", "gaps", "kept", "largest", "least_largest", "left", "mean", "moved", "placed", "pushed", "team", "total", "turned"]
-ALL_KEYS = ["cells", "kept", "largest", "least_largest", "left_cells", "legal", "mean", "moved", "placed", "pushed", "teams", "total", "turned"]
+TEAM_KEYS = [
+    "cells", "gaps", "kept", "largest", "least_largest", "left", "mean", "moved", "placed", "pushed", "team",
+    "total", "turned",
+]
+ALL_KEYS = [
+    "cells", "kept", "largest", "least_largest", "left_cells", "legal", "mean", "moved", "placed", "pushed",
+    "teams", "total", "turned",
+]
 # The cells of team A, with a2 one site right of a1 and overlapping it, and the other cells at legal places.
-STANDING = {
+PLACED_CELLS = {
     "- a1 INV + SOURCE DIST ;": "- a1 INV + SOURCE DIST + PLACED ( 0 0 ) N ;",
     "- a2 INV + UNPLACED ;": "- a2 INV + PLACED ( 200 0 ) N ;",
     "- a3 DBL + WEIGHT 3 ;": "- a3 DBL + WEIGHT 3 + PLACED ( 2000 0 ) N ;",
@@ -32,7 +38,10 @@ GAPS = {"w8": (8, 11), "s4": (4, 28), "w5": (5, 12), "s5": (5, 3), "w3": (3, 12)
 
 def of_gaps(site: dict[str, int]) -> tuple[str, str]:
     """The LEF and DEF texts of that row, with its cells at these sites."""
-    macros = "".join(f"MACRO W{it} CLASS CORE ; SIZE {0.2 * it:.1f} BY 2.0 ; SYMMETRY X Y ; SITE core ; END W{it}\n" for it in (3, 4, 5, 8))
+    macros = "".join(
+        f"MACRO W{it} CLASS CORE ; SIZE {0.2 * it:.1f} BY 2.0 ; SYMMETRY X Y ; SITE core ; END W{it}\n"
+        for it in (3, 4, 5, 8)
+    )
     cells = "".join(f"- {name} W{width} + PLACED ( {200 * site[name]} 0 ) N ;\n" for name, (width, _) in GAPS.items())
     lef = f"SITE core CLASS CORE ; SYMMETRY Y ; SIZE 0.2 BY 2.0 ; END core\n{macros}END LIBRARY\n"
     rows = "DESIGN w ;\nUNITS DISTANCE MICRONS 1000 ;\nROW r0 core 0 0 N DO 36 BY 1 STEP 200 0 ;\n"
@@ -43,8 +52,9 @@ def tight(sites: int, a1: int) -> dict[str, str]:
     """A fence of A around a3 and `sites` sites of a row to its left, with a1 at site `a1`."""
     left = 200 * sites
     return {
-        **STANDING,
-        "- A ( 0 0 ) ( 4000 4000 ) + TYPE FENCE ;": f"- A ( 0 0 ) ( {left} 2000 ) ( {left} 0 ) ( {left + 600} 4000 ) + TYPE FENCE ;",
+        **PLACED_CELLS,
+        "- A ( 0 0 ) ( 4000 4000 ) + TYPE FENCE ;":
+            f"- A ( 0 0 ) ( {left} 2000 ) ( {left} 0 ) ( {left + 600} 4000 ) + TYPE FENCE ;",
         "- a1 INV + SOURCE DIST ;": f"- a1 INV + SOURCE DIST + PLACED ( {200 * a1} 0 ) N ;",
         "- a3 DBL + WEIGHT 3 ;": f"- a3 DBL + WEIGHT 3 + PLACED ( {left} 0 ) N ;",
     }
@@ -85,18 +95,21 @@ class Repairs(InFolder):
         self.text.write_text(design({}))
         words = ["repair", str(self.text), str(LEF), "--lines", str(self.lines)]
         slowly = run(words, start=Start(environment=preloading("hasten.c", self.folder)))
-        asked = [line.split()[1] for line in self.lines.read_text().splitlines()]
-        told = 'lefence: repairing "{}", team {} of 3: {} commands so far\n'.format
-        begun = told("A", 1, 0) + told("B", 2, asked.count("A")) + told("-", 3, asked.count("A") + asked.count("B"))
+        teams = [line.split()[1] for line in self.lines.read_text().splitlines()]
+        progress = 'lefence: repairing "{}", team {} of 3: {} commands so far\n'.format
+        begun = progress("A", 1, 0) + progress("B", 2, teams.count("A"))
+        begun += progress("-", 3, teams.count("A") + teams.count("B"))
         self.assertEqual(slowly, (0, run(words)[1], begun))
 
     def test_a_cell_that_overlaps_moves(self) -> None:
-        status, report = self.repair(STANDING, "--export", str(self.new))
+        status, report = self.repair(PLACED_CELLS, "--export", str(self.new))
         self.assertEqual((status, self.check(self.new)), (0, 0))
         self.assertEqual([line["team"] for line in report[:-1]], ["A", "B", "-"])
         first, last = report[0], report[-1]
         self.assertEqual((first["cells"], first["kept"], first["placed"], first["left"]), (2, 1, 0, []))
-        self.assertEqual((last["cells"], last["kept"], last["teams"], last["left_cells"], last["legal"]), (2, 3, 3, 0, True))
+        self.assertEqual(
+            (last["cells"], last["kept"], last["teams"], last["left_cells"], last["legal"]), (2, 3, 3, 0, True)
+        )
         self.assertEqual(last["total"], first["total"])
 
     def test_cells_without_a_place_get_one(self) -> None:
@@ -105,9 +118,11 @@ class Repairs(InFolder):
         self.assertEqual([line["placed"] for line in report], [3, 1, 1, 5])
 
     def test_the_lines_do_the_repair_again(self) -> None:
-        self.assertEqual(self.repair(STANDING, "--export", str(self.new), "--lines", str(self.lines))[0], 0)
+        self.assertEqual(self.repair(PLACED_CELLS, "--export", str(self.new), "--lines", str(self.lines))[0], 0)
         again = self.folder / "again.def"
-        status, replies, said = run(["replay", str(self.text), str(LEF), "--export", str(again)], self.lines.read_text())
+        status, replies, said = run(
+            ["replay", str(self.text), str(LEF), "--export", str(again)], self.lines.read_text()
+        )
         self.assertEqual((status, said), (0, ""))
         self.assertTrue(all(reply.split()[0] == "ok" for reply in replies.splitlines()), replies)
         self.assertEqual(again.read_text(), self.new.read_text())
@@ -121,25 +136,27 @@ class Repairs(InFolder):
     def test_legal_cells_stay(self) -> None:
         for more in ("", "--keep"):
             with self.subTest(more):
-                self.repair(STANDING, "--export", str(self.new), *more.split())
+                self.repair(PLACED_CELLS, "--export", str(self.new), *more.split())
                 new = self.new.read_text()
                 for name in ("a3", "b1", "g1"):
                     line = next(line for line in self.text.read_text().splitlines() if line.startswith(f"- {name} "))
                     self.assertIn(line, new)
 
     def test_a_legal_cell_moves_where_another_would_be_left(self) -> None:
-        for stands in ("UNPLACED", "PLACED ( 600 2000 ) FS"):
-            changes = {**tight(4, 1), "- a2 INV + UNPLACED ;": f"- a2 INV + {stands} ;"}
+        for clause in ("UNPLACED", "PLACED ( 600 2000 ) FS"):
+            changes = {**tight(4, 1), "- a2 INV + UNPLACED ;": f"- a2 INV + {clause} ;"}
             for more, status, left, pushed in (("--keep", 4, ["a2"], 0), ("", 0, [], 1)):
-                with self.subTest(stands + more):
+                with self.subTest(clause + more):
                     done, report = self.repair(changes, "--export", str(self.new), *more.split())
                     self.assertEqual((done, self.check(self.new)), (status, status))
-                    self.assertEqual((report[0]["left"], report[0]["pushed"], report[-1]["pushed"]), (left, pushed, pushed))
+                    self.assertEqual(
+                        (report[0]["left"], report[0]["pushed"], report[-1]["pushed"]), (left, pushed, pushed)
+                    )
                     self.assertEqual(report[0]["gaps"], [200] if left else [])
 
     def test_a_legal_cell_stays_where_that_helps_nobody(self) -> None:
-        stands = "- a1 INV + SOURCE DIST ;"
-        changes = {**tight(3, 0), stands: stands, "- a2 INV + UNPLACED ;": "- a2 INV + PLACED ( 0 0 ) N ;"}
+        clause = "- a1 INV + SOURCE DIST ;"
+        changes = {**tight(3, 0), clause: clause, "- a2 INV + UNPLACED ;": "- a2 INV + PLACED ( 0 0 ) N ;"}
         status, report = self.repair(changes, "--lines", str(self.lines))
         self.assertEqual((status, report[0]["left"], report[0]["kept"], report[0]["pushed"]), (4, ["a1"], 2, 0))
         last = [line for line in self.lines.read_text().splitlines() if " a2 " in line][-1]
@@ -148,21 +165,21 @@ class Repairs(InFolder):
     def test_the_widest_goes_first_where_another_order_leaves_it(self) -> None:
         # In another order w8 and w3 stay in the widest run, and w5 finds no room next to cells that do not move.
         begin = {name: site for name, (_, site) in GAPS.items()}
-        lef, (widths, stands) = self.folder / "gaps.lef", of_gaps(begin)
+        lef, (widths, clause) = self.folder / "gaps.lef", of_gaps(begin)
         lef.write_text(widths)
-        self.text.write_text(stands)
+        self.text.write_text(clause)
         status, written, said = run(["repair", str(self.text), str(lef), "--keep", "--export", str(self.new)])
         self.assertEqual((status, said), (0, ""))
         self.assertEqual(self.new.read_text(), of_gaps({**begin, "w8": 15, "w5": 10, "w3": 0})[1])
         self.assertEqual([json.loads(line)["total"] for line in written.splitlines()], [3600, 3600])
 
     def test_all_cells_may_move(self) -> None:
-        status, report = self.repair(STANDING, "--all", "--export", str(self.new))
+        status, report = self.repair(PLACED_CELLS, "--all", "--export", str(self.new))
         self.assertEqual((status, self.check(self.new)), (0, 0))
         self.assertEqual(report[-1]["left_cells"], 0)
 
     def test_a_cell_without_room_is_named_and_its_team_is_as_it_was(self) -> None:
-        status, report = self.repair({**STANDING, **NARROW}, "--export", str(self.new), "--lines", str(self.lines))
+        status, report = self.repair({**PLACED_CELLS, **NARROW}, "--export", str(self.new), "--lines", str(self.lines))
         self.assertEqual(status, 4)
         left = report[0]["left"]
         assert isinstance(left, list)
@@ -172,14 +189,14 @@ class Repairs(InFolder):
         self.assertNotIn("commit A", self.lines.read_text())
 
     def test_a_team_that_is_not_in_the_design(self) -> None:
-        self.text.write_text(design(STANDING))
+        self.text.write_text(design(PLACED_CELLS))
         words = ["repair", str(self.text), str(LEF), "--team", "A", "--team", "x\ty", "--export", str(self.new)]
         said = "lefence: NoTeam\nlefence: team x\\x09y is not in the design\n"
         self.assertEqual(run(words), (1, "", said))
         self.assertEqual(self.names(), ["old.def"])
 
-    def test_files_that_cannot_be_written_are_told_before_the_work(self) -> None:
-        self.text.write_text(design(STANDING))
+    def test_files_that_cannot_be_written_are_reported_before_the_work(self) -> None:
+        self.text.write_text(design(PLACED_CELLS))
         missing = self.folder / "no" / "file"
         for option, word in (("--export", "export"), ("--lines", "lines")):
             words = ["repair", str(self.text), str(LEF), option, str(missing)]
@@ -188,34 +205,39 @@ class Repairs(InFolder):
         self.assertEqual(self.names(), ["old.def"])
 
     def test_the_text_itself_may_be_replaced(self) -> None:
-        self.assertEqual(self.repair(STANDING, "--export", str(self.text))[0], 0)
+        self.assertEqual(self.repair(PLACED_CELLS, "--export", str(self.text))[0], 0)
         self.assertEqual(self.check(self.text), 0)
         self.assertEqual(self.names(), ["old.def"])
 
-    def test_the_least_largest_way_is_that_of_a_cell_alone(self) -> None:
+    def test_the_least_largest_displacement_is_that_of_a_cell_alone(self) -> None:
         # a1 is 50 + 30 from its site; a2 moves left into A's ground, g1 out of B's ground, and b1 into B's ground and
         # to a row.
         changes = {
-            **STANDING,
+            **PLACED_CELLS,
             "- a1 INV + SOURCE DIST ;": "- a1 INV + SOURCE DIST + PLACED ( 150 30 ) N ;",
             "- a2 INV + UNPLACED ;": "- a2 INV + PLACED ( 4000 0 ) N ;",
             "- b1 INV ;": "- b1 INV + PLACED ( 5000 1000 ) N ;",
             "- g1 INV ;": "- g1 INV + PLACED ( 6100 0 ) N ;",
         }
         soft = {"BLOCKAGES 1 ;": "BLOCKAGES 2 ;\n- PLACEMENT + SOFT RECT ( 6000 0 ) ( 6400 4000 ) ;"}
-        for text, ways in ((changes, [400, 2000, 500, 2000]), ({**changes, **soft}, [400, 2400, 500, 2400])):
-            with self.subTest(ways):
+        for text, displacements in ((changes, [400, 2000, 500, 2000]), ({**changes, **soft}, [400, 2400, 500, 2400])):
+            with self.subTest(displacements):
                 status, report = self.repair(text)
-                self.assertEqual((status, [line["least_largest"] for line in report], [line["largest"] for line in report]), (0, ways, ways))
+                self.assertEqual(
+                    (status, [line["least_largest"] for line in report], [line["largest"] for line in report]),
+                    (0, displacements, displacements),
+                )
 
-    def test_the_least_largest_way_counts_no_cell_in_the_way(self) -> None:
+    def test_the_least_largest_displacement_ignores_other_cells(self) -> None:
         # a1 and a2 are on one place, where either may be alone. b1 has no place, and is not counted.
-        changes = {**STANDING, "- a2 INV + UNPLACED ;": "- a2 INV + PLACED ( 0 0 ) N ;", "- b1 INV ;": "- b1 INV ;"}
+        changes = {**PLACED_CELLS, "- a2 INV + UNPLACED ;": "- a2 INV + PLACED ( 0 0 ) N ;", "- b1 INV ;": "- b1 INV ;"}
         status, report = self.repair(changes)
-        self.assertEqual((status, [line["least_largest"] for line in report], report[0]["largest"]), (0, [0, 0, 0, 0], 400))
+        self.assertEqual(
+            (status, [line["least_largest"] for line in report], report[0]["largest"]), (0, [0, 0, 0, 0], 400)
+        )
 
     def test_a_legal_design_stays(self) -> None:
-        legal = {**STANDING, "- a2 INV + UNPLACED ;": "- a2 INV + PLACED ( 400 0 ) N ;"}
+        legal = {**PLACED_CELLS, "- a2 INV + UNPLACED ;": "- a2 INV + PLACED ( 400 0 ) N ;"}
         status, report = self.repair(legal, "--export", str(self.new))
         self.assertEqual((status, report[-1]["cells"], report[-1]["kept"], report[-1]["moved"]), (0, 0, 5, 0))
         self.assertEqual(self.new.read_text(), self.text.read_text())

@@ -34,7 +34,9 @@ def listened_on(port: int) -> list[str]:
             if int(number, 16) == port and words[3] == "0A":
                 octets = bytes.fromhex(address)
                 is_old = len(octets) == 4
-                found.append(socket.inet_ntoa(octets[::-1] if sys.byteorder == "little" else octets) if is_old else address)
+                found.append(
+                    socket.inet_ntoa(octets[::-1] if sys.byteorder == "little" else octets) if is_old else address
+                )
     return found
 
 
@@ -50,16 +52,16 @@ class Listening(unittest.TestCase):
             service.client().close()
             self.assertEqual(service.end(), (0, LISTENING, ""))
 
-    def test_a_port_in_use_is_told_and_its_service_goes_on(self) -> None:
+    def test_a_port_in_use_is_reported_and_its_service_goes_on(self) -> None:
         with Service(1) as service:
             words = ["serve", *DESIGN, "--port", str(service.port), "--connections", "1"]
-            told = f"lefence: Bind\nlefence: cannot listen on port {service.port} of 127.0.0.1: it is in use\n"
-            self.assertEqual(run(words), (3, "", told))
+            message = f"lefence: Bind\nlefence: cannot listen on port {service.port} of 127.0.0.1: it is in use\n"
+            self.assertEqual(run(words), (3, "", message))
             with service.client() as client:
                 self.assertEqual(client.ask("open A"), "ok 0 0")
             self.assertEqual(service.end(), (0, LISTENING, ""))
 
-    def test_ends_after_so_many_connections_and_then_exports(self) -> None:
+    def test_ends_after_a_number_of_connections_and_then_exports(self) -> None:
         with tempfile.TemporaryDirectory() as folder:
             target = Path(folder) / "new.def"
             with Service(3, [*DESIGN, "--export", str(target)]) as service:
@@ -123,7 +125,7 @@ class InTurn(unittest.TestCase):
                 self.assertEqual(client.ask_all(lines), ["ok 3", "ok 4", "ok 6000 0 N"])
             self.assertEqual(service.end(), (0, LISTENING, ""))
 
-    def test_no_line_behind_a_bye_is_acted_on(self) -> None:
+    def test_no_line_after_a_bye_is_acted_on(self) -> None:
         with Service(2) as service:
             with service.client() as client:
                 client.send(b"open A\nbye\nplace A 0 a1 0 0 N\n")

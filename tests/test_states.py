@@ -125,7 +125,7 @@ class States(InFolder):
 class Slots(States):
     """Teams with another number of session slots than 8."""
 
-    def test_a_team_has_as_many_sessions_as_are_asked_for(self) -> None:
+    def test_a_team_has_the_requested_number_of_sessions(self) -> None:
         for most in (8, 1, 9, 64):
             words = ["--sessions", str(most)] if most != 8 else []
             with self.subTest(most):
@@ -137,20 +137,20 @@ class Slots(States):
             with service.client() as client:
                 self.assertEqual(client.ask_all(["open A"] * 10)[7:], ["ok 7 0", "ok 8 0", "no 10 SessionsFull"])
 
-    def test_a_state_is_one_of_so_many_slots(self) -> None:
+    def test_a_state_belongs_to_one_number_of_slots(self) -> None:
         nine = ["--sessions", "9"]
         self.assertEqual(self.save("open A\n" * 9, nine)[0], 0)
         self.assertEqual(self.resume("sync A 8\nopen A\n", nine), (0, "ok 0\nno 10 SessionsFull\n", ""))
-        told = f"lefence: 26 OtherDesign line 3\nlefence: state file {self.state}, line 3: team A 0 0 9 3 0\n"
-        self.assertEqual(self.resume("open A\n"), (1, "", told))
-        self.assertEqual(self.resume("open A\n", ["--sessions", "10"]), (1, "", told))
+        message = f"lefence: 26 OtherDesign line 3\nlefence: state file {self.state}, line 3: team A 0 0 9 3 0\n"
+        self.assertEqual(self.resume("open A\n"), (1, "", message))
+        self.assertEqual(self.resume("open A\n", ["--sessions", "10"]), (1, "", message))
         for verb in ("check", "describe"):
             with self.subTest(verb):
                 looked = [verb, *DESIGN, "--state", str(self.state)]
-                self.assertEqual(run(looked), (1, "", told))
+                self.assertEqual(run(looked), (1, "", message))
                 self.assertEqual(run([*looked, *nine]), run([verb, *DESIGN]))
 
-    def test_a_number_that_is_none(self) -> None:
+    def test_a_malformed_number(self) -> None:
         for number in ("0", "65", "-1", "x", "", "4294967304"):
             for verb in ("check", "describe", "replay"):
                 with self.subTest((verb, number)):
@@ -171,7 +171,7 @@ class Saved(States):
         self.assertEqual(self.save(CHANGED_BY), (0, "ok 0 0\nok 1\nok 2\nok 3\n", ""))
         self.assertEqual(self.state.read_text(), CHANGED)
 
-    def test_a_session_may_be_cut_behind_each_line(self) -> None:
+    def test_a_session_may_be_cut_after_each_line(self) -> None:
         _, whole, _ = run(["replay", *DESIGN], joined(LINES))
         for cut in range(len(LINES) + 1):
             with self.subTest(cut):
@@ -198,15 +198,15 @@ class Saved(States):
         self.assertGreater(len(rows), 50)
         for name, lines in rows:
             replay = ["replay", *self.row_design(lines)]
-            asked = [line.removeprefix("> ") for line in lines if line.startswith("> ")]
+            requests = [line.removeprefix("> ") for line in lines if line.startswith("> ")]
             whole = joined([line for line in lines if not line.startswith(("= ", "> "))][1:])
             # (a session ends at its `bye`, and later lines get no reply)
-            ends = [at for at, line in enumerate(asked) if line.split() == ["bye"]]
-            for cut in range(1, min([len(asked), *ends]), 1 + len(asked) // CUTS):
+            ends = [at for at, line in enumerate(requests) if line.split() == ["bye"]]
+            for cut in range(1, min([len(requests), *ends]), 1 + len(requests) // CUTS):
                 with self.subTest(name, cut=cut):
-                    status, before, said = run([*replay, "--save", str(self.state)], joined(asked[:cut]))
+                    status, before, said = run([*replay, "--save", str(self.state)], joined(requests[:cut]))
                     self.assertEqual((status, said), (0, ""))
-                    status, after, said = run([*replay, "--state", str(self.state)], joined(asked[cut:]))
+                    status, after, said = run([*replay, "--state", str(self.state)], joined(requests[cut:]))
                     self.assertEqual((status, before + after, said), (0, whole, ""))
 
     def test_a_state_is_gone_on_from_and_saved_over_itself(self) -> None:
@@ -275,7 +275,9 @@ class NotSaved(States):
     def test_the_export_path_is_tried_first(self) -> None:
         export, save = self.folder / "missing" / "new.def", self.folder / "missing" / "w.state"
         ran = run(["replay", *DESIGN, "--save", str(save), "--export", str(export)], "open A\n")
-        self.assertEqual(ran, (3, "", f"lefence: File\nlefence: export file {export} cannot be written: there is no such folder\n"))
+        self.assertEqual(
+            ran, (3, "", f"lefence: File\nlefence: export file {export} cannot be written: there is no such folder\n")
+        )
 
     def test_beyond_a_limit_on_file_size(self) -> None:
         self.state.write_text("older")
@@ -316,9 +318,9 @@ class Refused(States):
     def refuse(self, text: str | bytes, fault: str, line: int, shown: str) -> None:
         self.state.write_bytes(text if isinstance(text, bytes) else text.encode())
         save, export = self.folder / "new.state", self.folder / "new.def"
-        told = f"lefence: {fault} line {line}\nlefence: state file {self.state}, line {line}: {shown}\n"
+        message = f"lefence: {fault} line {line}\nlefence: state file {self.state}, line {line}: {shown}\n"
         words = ["--save", str(save), "--export", str(export)]
-        self.assertEqual(self.resume("open A\n", words), (1, "", told))
+        self.assertEqual(self.resume("open A\n", words), (1, "", message))
         self.assertEqual(self.names(), ["w.state"])
 
     def test_a_text_that_ends_early(self) -> None:
@@ -329,7 +331,9 @@ class Refused(States):
                 self.state.write_text(LOADED[:cut])
                 status, written, said = self.resume("open A\n")
                 self.assertEqual((status, written), (1, ""))
-                self.assertTrue(said.startswith(("lefence: 2 UnexpectedEnd line ", "lefence: 25 OtherVersion line 1\n")), said)
+                self.assertTrue(
+                    said.startswith(("lefence: 2 UnexpectedEnd line ", "lefence: 25 OtherVersion line 1\n")), said
+                )
 
     def test_each_kind_of_fault(self) -> None:
         cases = [
@@ -379,7 +383,9 @@ class Refused(States):
                     again.unlink()
                 else:
                     self.assertEqual((status, written), (1, ""))
-                    self.assertRegex(said, r"^lefence: (2 UnexpectedEnd|3 Unexpected|4 BadNumber|2[567] \w+) line \d+\n")
+                    self.assertRegex(
+                        said, r"^lefence: (2 UnexpectedEnd|3 Unexpected|4 BadNumber|2[567] \w+) line \d+\n"
+                    )
                 self.assertEqual(self.names(), ["w.state"])
         self.assertIn(accepted, range(1, 100))
 
@@ -388,14 +394,14 @@ class Refused(States):
         other.write_text(DEF.read_text().replace("- a3 DBL", "- a4 DBL"))
         self.assertEqual(run(["replay", str(other), str(LEF), "--save", str(self.state)]), (0, "", ""))
         line = LOADED.split("\n").index("a3 - -") + 1
-        told = f"lefence: 26 OtherDesign line {line}\nlefence: state file {self.state}, line {line}: a4 - -\n"
-        self.assertEqual(self.resume("open A\n"), (1, "", told))
+        message = f"lefence: 26 OtherDesign line {line}\nlefence: state file {self.state}, line {line}: a4 - -\n"
+        self.assertEqual(self.resume("open A\n"), (1, "", message))
 
     def test_a_file_that_cannot_be_read(self) -> None:
-        told = f"lefence: File\nlefence: state file {self.state} cannot be read: there is no such file\n"
-        self.assertEqual(self.resume("open A\n"), (3, "", told))
+        message = f"lefence: File\nlefence: state file {self.state} cannot be read: there is no such file\n"
+        self.assertEqual(self.resume("open A\n"), (3, "", message))
         bounds = ["--port", str(free_port()), "--connections", "1"]
-        self.assertEqual(run(["serve", *DESIGN, "--state", str(self.state), *bounds]), (3, "", told))
+        self.assertEqual(run(["serve", *DESIGN, "--state", str(self.state), *bounds]), (3, "", message))
 
     def test_the_design_is_refused_before_the_state(self) -> None:
         broken = self.folder / "broken.def"
@@ -412,7 +418,11 @@ CROSSED = {**PLACES, "a2": (200, 0)}
 
 def state_at(places: dict[str, tuple[int, int]]) -> str:
     """A state with the cells at these working places, and all of them committed elsewhere."""
-    return re.sub("(?m)^([abg][0-9]) - -$", lambda found: f"{found[1]} {places[found[1]][0]},{places[found[1]][1]},N 2000,2000,FS", LOADED)
+    return re.sub(
+        "(?m)^([abg][0-9]) - -$",
+        lambda found: f"{found[1]} {places[found[1]][0]},{places[found[1]][1]},N 2000,2000,FS",
+        LOADED,
+    )
 
 
 def text_at(places: dict[str, tuple[int, int]]) -> str:
@@ -437,20 +447,22 @@ class LookedAt(States):
         status, written, said = self.look("describe")
         self.assertEqual((status, said), (0, ""))
         cell = (
-            '{"box":[400,0,800,2000],"height":2000,"kind":"cell","macro":"INV","name":"a2","orient":"N","other":null,"rule":null,'
-            '"team":"A","width":400}'
+            '{"box":[400,0,800,2000],"height":2000,"kind":"cell","macro":"INV","name":"a2","orient":"N","other":null,'
+            '"rule":null,"team":"A","width":400}'
         )
         self.assertIn(cell, written.split("\n"))
 
     def test_the_violations_are_those_of_the_state(self) -> None:
         self.state.write_text(state_at(CROSSED))
-        met = '{"cell":"a1","other":"a2","rule":8},{"cell":"a2","other":"a1","rule":8}'
-        self.assertEqual(self.look("check"), (4, f'{{"cells":5,"unplaced":0,"violations":[{met}]}}\n', ""))
+        overlaps = '{"cell":"a1","other":"a2","rule":8},{"cell":"a2","other":"a1","rule":8}'
+        self.assertEqual(self.look("check"), (4, f'{{"cells":5,"unplaced":0,"violations":[{overlaps}]}}\n', ""))
 
     def test_working_places_of_a_session(self) -> None:
         self.assertEqual(self.save(CHANGED_BY)[0], 0)
         self.assertEqual(self.look("check"), (4, '{"cells":5,"unplaced":4,"violations":[]}\n', ""))
-        self.assertIn('{"box":[6200,0,6600,2000],"height":2000,"kind":"cell","macro":"INV","name":"b1"', self.look("describe")[1])
+        self.assertIn(
+            '{"box":[6200,0,6600,2000],"height":2000,"kind":"cell","macro":"INV","name":"b1"', self.look("describe")[1]
+        )
 
     def test_a_state_is_seen_as_a_text_with_its_places(self) -> None:
         text = self.folder / "placed.def"
@@ -484,15 +496,15 @@ class LookedAt(States):
         ]
         for old, new, fault, line, shown in cases:
             self.state.write_text(LOADED.replace(old, new))
-            told = f"lefence: {fault} line {line}\nlefence: state file {self.state}, line {line}: {shown}\n"
+            message = f"lefence: {fault} line {line}\nlefence: state file {self.state}, line {line}: {shown}\n"
             for verb in ("check", "describe"):
                 with self.subTest((verb, new)):
-                    self.assertEqual(self.look(verb), (1, "", told))
+                    self.assertEqual(self.look(verb), (1, "", message))
 
     def test_a_file_that_cannot_be_read(self) -> None:
-        told = f"lefence: File\nlefence: state file {self.state} cannot be read: there is no such file\n"
+        message = f"lefence: File\nlefence: state file {self.state} cannot be read: there is no such file\n"
         for verb in ("check", "describe"):
-            self.assertEqual(self.look(verb), (3, "", told))
+            self.assertEqual(self.look(verb), (3, "", message))
 
 
 if __name__ == "__main__":

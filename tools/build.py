@@ -22,7 +22,7 @@ import time
 from collections.abc import Iterator
 from pathlib import Path
 
-from lanes import lanes
+from lanes import parallel_checks
 from libraries import below, lines_of
 
 TOP = Path(__file__).resolve().parent.parent
@@ -41,7 +41,9 @@ def lay_out(copy: Path, crates: list[str], listed: dict[str, list[str]]) -> None
     copy.mkdir()
     for crate in crates:
         shutil.copytree(TOP / "crates" / crate, copy / "crates" / crate, ignore=UNREAD)
-    (copy / "crates.txt").write_text("".join(f"{crate}: {' '.join(listed[crate])}\n" for crate in crates), encoding="utf-8")
+    (copy / "crates.txt").write_text(
+        "".join(f"{crate}: {' '.join(listed[crate])}\n" for crate in crates), encoding="utf-8"
+    )
     shutil.copy(TOP / "HANDLES", copy)
 
 
@@ -52,7 +54,7 @@ def lines_of_build(copy: Path, files: Path) -> Iterator[str]:
         build = subprocess.Popen(
             ["rt", "ci"],
             cwd=copy,
-            env={"RT_JOBS": str(lanes()), **os.environ, "TMPDIR": str(files)},
+            env={"RT_JOBS": str(parallel_checks()), **os.environ, "TMPDIR": str(files)},
             stdin=subprocess.DEVNULL,
             stdout=subprocess.PIPE,
             stderr=subprocess.STDOUT,
@@ -73,7 +75,8 @@ def lines_of_build(copy: Path, files: Path) -> Iterator[str]:
 def is_proved(copy: Path, files: Path, crates: list[str]) -> bool:
     """Proves the crates in the copy, and prints what remains as each ends. Returns whether all are proved and the
     program ran."""
-    minutes = {name: float(told) for name, told in ROW.findall((TOP / "tools/minutes.txt").read_text(encoding="utf-8"))}
+    table = (TOP / "tools/minutes.txt").read_text(encoding="utf-8")
+    minutes = {name: float(number) for name, number in ROW.findall(table)}
     left, done, since, status = list(crates), 0.0, time.monotonic(), ""
     for status in lines_of_build(copy, files):
         ended = ENDED.match(status)
@@ -83,7 +86,9 @@ def is_proved(copy: Path, files: Path, crates: list[str]) -> bool:
             # (in proportion to the time so far, by the table)
             rate = (time.monotonic() - since) / 60 / done if done else 1.0
             some = rate * sum(minutes.get(it, 1.0) for it in left)
-            print(f"lefence: {ended[1]} is proved; {len(left)} crates are left, some {some:.0f} minutes", file=sys.stderr)
+            print(
+                f"lefence: {ended[1]} is proved; {len(left)} crates are left, some {some:.0f} minutes", file=sys.stderr
+            )
     return status == "status 0"
 
 

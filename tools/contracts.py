@@ -25,13 +25,15 @@ from libraries import lines_of
 
 HEAD = """# Contracts
 
-What each crate promises. Of a function here are its conditions alone (`requires`, which the caller must show), and of a law the
-theorem. What a function ensures is said in words: *if and only if* holds both ways, as far as no allocation fails. A call whose
-error has `AllocError` or out of memory among its cases may fail for want of memory; what it then leaves unchanged is said where
-a clause says so. Every function is proved safe (no index out of range, no sum that wraps, no lossy cast) and proved to return.
+What each crate promises. A function is printed with its conditions (`requires`), which the caller must show, and a law
+with its theorem. Comments state what a function ensures: *if and only if* holds both ways unless an allocation fails. A
+call may fail because an allocation fails if its error has `AllocError` or out of memory among its cases. The comment
+states what is then unchanged, if a clause does. Every function is proved safe (no index out of range, no sum that
+wraps, no lossy cast) and proved to return.
 
-A *model* is what contracts see of a value in place of its fields. What a type *keeps*, here or by a `ghost` field, holds of each
-of its values, so no caller has to show it. A *law* is a public function with an empty body whose contract is a theorem.
+A *model* is what contracts see of a value in place of its fields. What a type *keeps*, here or by a `ghost` field, is
+true of each of its values, so no caller has to show it. A *law* is a public function with an empty body whose contract
+is a theorem.
 """
 PAGE = Path("docs/ARCHITECTURE.md")
 # The line in front of the list of crates.
@@ -76,8 +78,12 @@ def source_of(crate: str) -> Source:
     root = next(path for name in ("lib.rt", "main.rt") if (path := folder / name).exists())
     text = root.read_text(encoding="utf-8")
     head = [line.removeprefix("//!").removeprefix(" ") for line in text.splitlines() if line.startswith("//!")]
-    modules = [path for name in re.findall(r"^mod (\w+);", text, flags=re.M) if (path := folder / f"{name}.rt").exists()]
-    exported: dict[str, Path | str] = {name: root for _, name in ITEM.findall("\n".join(line for line in text.splitlines() if line.startswith("pub ")))}
+    modules = [
+        path for name in re.findall(r"^mod (\w+);", text, flags=re.M) if (path := folder / f"{name}.rt").exists()
+    ]
+    exported: dict[str, Path | str] = {
+        name: root for _, name in ITEM.findall("\n".join(line for line in text.splitlines() if line.startswith("pub ")))
+    }
     for named, several, renamed in USE.findall(text):
         names = re.findall(r"\w+", several) if several else [renamed or named.rpartition("::")[2]]
         module = named.split("::")[0]
@@ -115,13 +121,15 @@ def function(lines: list[str], at: int) -> list[str]:
     for line in lines[at + 1 :]:
         if CLAUSE.match(line):
             clauses.append([line])
-        elif clauses and line.strip() not in ENDS and line.startswith(" " * (indent(lines[at]) + 4)) and not clauses[-1][-1].endswith(";"):
+        elif not clauses or line.strip() in ENDS or clauses[-1][-1].endswith(";"):
+            break
+        elif line.startswith(" " * (indent(lines[at]) + 4)):
             clauses[-1].append(line)
         else:
             break
     is_law = line.strip() == "{}" if clauses else False
-    kept = [line.removesuffix(";") for clause in clauses if is_law or clause[0].lstrip().startswith("requires") for line in clause]
-    return [*text, *kept]
+    kept = [clause for clause in clauses if is_law or clause[0].lstrip().startswith("requires")]
+    return [*text, *(line.removesuffix(";") for clause in kept for line in clause)]
 
 
 def indent(line: str) -> int:
@@ -178,12 +186,14 @@ def items_of(crate: str, source: Source) -> list[Item]:
             elif line == "}":
                 owner = ""
             item = ITEM.match(line.removeprefix("    ") if owner else line)
-            home = source.exported.get(owner or item[2]) if item else None
-            if not item or not isinstance(home, Path) or home != path and not owner:
+            origin = source.exported.get(owner or item[2]) if item else None
+            if not item or not isinstance(origin, Path) or origin != path and not owner:
                 continue
             text = function(lines, at) if item[1] == "fn" else type_of(lines, at, item[1])
             text = [line.removeprefix("    ") for line in text] if owner else text
-            found.append(Item(f"{owner}::{item[2]}" if owner else item[2], f"{path}:{at + 1}", text, comment(lines, at)))
+            found.append(
+                Item(f"{owner}::{item[2]}" if owner else item[2], f"{path}:{at + 1}", text, comment(lines, at))
+            )
     return [item._replace(said=[*item.said, *facts.get(item.name, [])]) for item in found]
 
 
@@ -197,7 +207,9 @@ def owner_of(lines: list[str], at: int, facts: dict[str, list[str]]) -> str:
     if words[2:3] != ["for"]:
         return words[1]
     seen = [f"{SAYS[what]}: `{' '.join(said.split())}`." for what, said in SEEN.findall("\n".join(block(lines, at)))]
-    facts.setdefault(words[3], []).extend(line for fact in seen or [f"It implements `{words[1]}`."] for line in ("", fact))
+    facts.setdefault(words[3], []).extend(
+        line for fact in seen or [f"It implements `{words[1]}`."] for line in ("", fact)
+    )
     return ""
 
 
@@ -206,9 +218,11 @@ def print_crate(crate: str) -> None:
     source = source_of(crate)
     print(f"\n## {crate}\n\n" + "\n".join(source.head))
     for library in dict.fromkeys(of for of in source.exported.values() if isinstance(of, str)):
-        print(f"\nIt names again, of {library}: {', '.join(f'`{name}`' for name, of in source.exported.items() if of == library)}.")
+        names = ", ".join(f"`{name}`" for name, of in source.exported.items() if of == library)
+        print(f"\nIt also exports, from {library}: {names}.")
     for item in items_of(crate, source):
-        print("\n".join([f"\n### {crate}: {item.name}\n", "```rust", *item.text, "```", *([""] if item.said else []), *item.said]))
+        said = ["", *item.said] if item.said else []
+        print("\n".join([f"\n### {crate}: {item.name}\n", "```rust", *item.text, "```", *said]))
 
 
 def first_sentence(head: list[str]) -> str:
@@ -239,17 +253,24 @@ def lacking(crates: list[str]) -> list[str]:
 
 def unknown(crates: list[str]) -> list[str]:
     """Names in the examples of the crates' first lines that neither a crate nor the list STD declares."""
-    texts = [path.read_text(encoding="utf-8") for crate in crates for path in Path("crates", crate, "src").rglob("*.rt")]
+    texts = [
+        path.read_text(encoding="utf-8") for crate in crates for path in Path("crates", crate, "src").rglob("*.rt")
+    ]
     known = {name for text in texts for pair in DECLARED.findall(text) for name in pair} | STD
     shown = {crate: QUOTED.sub("", "".join(CODE.findall("\n".join(source_of(crate).head)))) for crate in crates}
-    named = {crate: {name for several in NAMED.findall(text) for name in several if name} for crate, text in shown.items()}
-    return [f"crates/{crate}/src: its first lines call {name}, which is not there" for crate in crates for name in sorted(named[crate] - known)]
+    named = {
+        crate: {name for several in NAMED.findall(text) for name in several if name} for crate, text in shown.items()
+    }
+    missing = [(crate, name) for crate in crates for name in sorted(named[crate] - known)]
+    return [f"crates/{crate}/src: its first lines call {name}, which is not there" for crate, name in missing]
 
 
 def methods_without(item: Item) -> list[str]:
     """The methods of a trait that have no comment."""
     inner = [(before, line) for before, line in zip(item.text, item.text[1:]) if line.startswith("    fn ")]
-    return [f"{item.name}::{line.split('(')[0].split()[-1]}" for before, line in inner if not before.startswith("    ///")]
+    return [
+        f"{item.name}::{line.split('(')[0].split()[-1]}" for before, line in inner if not before.startswith("    ///")
+    ]
 
 
 def compare(crates: list[str], is_written: bool) -> int:

@@ -18,11 +18,11 @@ from typing import NamedTuple
 
 HEAD = """# Definitions
 
-Each definition that contracts cite, by its name, with what it says, file by file; the title line of a file names the section of
-the LEF/DEF 5.8 Language Reference that it follows, where there is one. A name with a capital is a fact, one without is a
-value. Definitions without a line of their own are the cases of the one that stands before or after them. Of each crate there
-stands first what the clauses of public functions and types reach, and behind it, under 'inside', what only clauses of its
-inside use.
+Each definition that contracts cite, with its meaning, file by file. The title line of a file names the section of the
+LEF/DEF 5.8 Language Reference that it follows, if there is one. A name with a capital is a fact, one without is a
+value. Definitions without a line of their own are cases of the one above or below them. The definitions that clauses of
+public functions and types reach come first in each crate. Those that only private clauses use come next, under
+'inside'.
 """
 # The first line of a declaration with a keyword, and of any declaration: `abbrev pub NAME : ..`, or `NAME : ..` alone.
 START = re.compile(r"(?:(?:abbrev|unfoldable|pub|record|data|ruleset|infix[lr]? +\d+) +)+(?!mod )([^\s:({]+)")

@@ -111,5 +111,7 @@ def depth_of(roots: list[Name]) -> Depth:
 
 def lines_of(name: Name) -> int:
     """The number of lines of the definition, without comments and empty lines."""
-    text = COMMENT.sub("", next(it.text for it in module_of(name.crate, name.module).definitions if it.name == name.name))
+    text = COMMENT.sub(
+        "", next(it.text for it in module_of(name.crate, name.module).definitions if it.name == name.name)
+    )
     return sum(1 for line in text.split("\n") if line.strip())

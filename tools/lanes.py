@@ -40,9 +40,10 @@ def memory() -> int:
     return min(free, limit - held) if limit is not None and held is not None else free
 
 
-def lanes() -> int:
+def parallel_checks() -> int:
+    """The number of checks to run in parallel."""
     return max(1, min(processors(), memory() // CHECK))
 
 
 if __name__ == "__main__":
-    print(lanes())
+    print(parallel_checks())

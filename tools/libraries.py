@@ -65,12 +65,12 @@ def main(words: list[str]) -> int:
     listed = lines_of(text)
     libraries = [*listed, *sorted({it for found in listed.values() for it in found} - set(listed))]
     differing = 0
-    for crate, told in listed.items():
+    for crate, present in listed.items():
         named = named_by(crate)
         wanted = [it for it in libraries if it in named]
-        if set(told) != set(wanted):
+        if set(present) != set(wanted):
             differing += 1
-            print(f"crates.txt: {crate} names {' '.join(told)}; its sources name {' '.join(wanted)}")
+            print(f"crates.txt: {crate} names {' '.join(present)}; its sources name {' '.join(wanted)}")
             text = re.sub(rf"^{crate}:.*$", f"{crate}: {' '.join(wanted)}".rstrip(), text, flags=re.M)
     if words:
         path.write_text(text, encoding="utf-8")

@@ -52,7 +52,7 @@ def plant(room: Path, edit: Edit) -> str:
     before = text = path.read_text()
     for old, new in edit.changes:
         if text.count(old) != 1:
-            sys.exit(f"tools/planted.py: {edit.name}: does not stand just once in {edit.file}: {old}")
+            sys.exit(f"tools/planted.py: {edit.name}: this text is not exactly once in {edit.file}: {old}")
         text = text.replace(old, new)
     path.write_text(text)
     return before
@@ -99,7 +99,10 @@ def build(room: Path, folder: Path) -> None:
     connection."""
     port = free_port()
     data = [word for name in ("w.def", "w.lef") for word in ("--data", f"{name}={room}/tests/data/{name}")]
-    words = ["rt", "try", "--seconds", "600", *data, "--", "serve", "w.def", "w.lef", "--port", str(port), "--connections", "1"]
+    words = [
+        "rt", "try", "--seconds", "600", *data, "--", "serve", "w.def", "w.lef", "--port", str(port),
+        "--connections", "1",
+    ]
     with open(folder / "built", "wb") as said:
         environment = {**os.environ, "TMPDIR": str(folder)}
         trying = subprocess.Popen(words, cwd=room / "crates/lefence", stdout=said, stderr=said, env=environment)

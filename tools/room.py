@@ -14,7 +14,7 @@ import subprocess
 import tempfile
 from pathlib import Path
 
-from lanes import CHECK, lanes, memory
+from lanes import CHECK, memory, parallel_checks
 
 IN_MEMORY = Path("/dev/shm")
 # The most bytes that a check uses of it, with the folder that its must-fail edits share.
@@ -43,7 +43,7 @@ def has_room(folder: Path, checks: int) -> bool:
 
 
 def room() -> str:
-    if has_room(IN_MEMORY, lanes()) and holds_programs(IN_MEMORY):
+    if has_room(IN_MEMORY, parallel_checks()) and holds_programs(IN_MEMORY):
         return str(IN_MEMORY)
     return tempfile.gettempdir()
 

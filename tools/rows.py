@@ -27,19 +27,19 @@ def text_of(path: Path) -> str:
 
 def split(lines: list[str]) -> tuple[list[str], list[str]]:
     """The lines that rows give to stdin, with an empty one between rows, and those that they give to stdout."""
-    asked: list[str] = []
+    requests: list[str] = []
     written: list[str] = []
     for line in lines:
         if line.startswith("# "):
-            asked += ["", line] if asked else [line]
+            requests += ["", line] if requests else [line]
             written.append(line)
         elif line.startswith("= "):
-            asked.append(line)
+            requests.append(line)
         elif line.startswith("> "):
-            asked.append(line[2:])
+            requests.append(line[2:])
         elif line:
             written.append(line)
-    return asked, written
+    return requests, written
 
 
 def main(words: list[str]) -> int:
@@ -47,9 +47,9 @@ def main(words: list[str]) -> int:
         print(__doc__, file=sys.stderr)
         return 2
     files = sorted((CRATE / "rows").glob("*.rows"))
-    asked, written = split([line for path in files for line in text_of(path).split("\n")])
+    requests, written = split([line for path in files for line in text_of(path).split("\n")])
     differing = 0
-    for name, lines in (("stdin", asked), ("stdout", written)):
+    for name, lines in (("stdin", requests), ("stdout", written)):
         path = CRATE / name
         text = "\n".join(lines) + "\n"
         if words:

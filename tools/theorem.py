@@ -40,7 +40,9 @@ CLAUSE = re.compile(r"\s*(?:requires|ensures)\b *(\w*)")
 FIELD = re.compile(r"\s*pub (?:ghost )?(\w+):")
 # The comment of a row of the table of depth, and the head of the table.
 ROW = re.compile(r"<!-- depth: (.*?): (\+ )?(.*) -->")
-HEADING = ["| what it rests on | definitions | their lines | types of the code | quoted here |", "|---|---|---|---|---|"]
+HEADING = [
+    "| what it rests on | definitions | their lines | types of the code | quoted here |", "|---|---|---|---|---|"
+]
 
 
 class NotThere(Exception):

@@ -6,10 +6,10 @@ lf_proto/src/verb.rt. That comment says what the verb does, then its reply and t
 in the order of VERBS. The row of open comes first and the row of bye last; both are made from the comments in
 src/request.rt.
 
-front/lefence/base/tables.py has the verbs of the same sources. A verb changes the floor if it is no query by `is_query` of
-lf_floor_model, and makes a revision if it is a Change. The table also has the refusals of src/reply.rt, with the
-numbers and names of src/reply_words.rt, the rules of lf_rules, and the orientations. front/tcl/tables.tcl has the verbs
-for Tcl.
+front/lefence/base/tables.py has the verbs of the same sources. A verb changes the floor if it is no query by
+`is_query` of lf_floor_model, and makes a revision if it is a Change. The table also has the refusals of src/reply.rt,
+with the numbers and names of src/reply_words.rt, the rules of lf_rules, and the orientations. front/tcl/tables.tcl has
+the verbs for Tcl.
 
 usage: tools/verbs.py            (from the top) prints the table
        tools/verbs.py --check    prints the lines in which the page and the front's tables differ, and verbs or refusals
@@ -134,16 +134,20 @@ def looks(text: str) -> set[str]:
 
 def front_verbs(request: str, verb_text: str) -> list[str]:
     """The lines of the verbs in the front's table."""
-    changes, actions, orders = (comments(text, name) for text, name in ((verb_text, "Change"), (verb_text, "Action"), (request, "TeamCommand")))
+    enums = ((verb_text, "Change"), (verb_text, "Action"), (request, "TeamCommand"))
+    changes, actions, orders = (comments(text, name) for text, name in enums)
     unchanging = looks(LOOKS.read_text(encoding="utf-8"))
     if not unchanging <= actions.keys() - {"Change"}:
-        raise NotThere(f"a look of {LOOKS} is no action that changes nothing")
+        raise NotThere(f"a query of {LOOKS} is no action that changes nothing")
     verbs = [Verb("Open", "open", ""), *verbs_of(verb_text)]
     said = orders | actions | changes
     if left := (said.keys() - {verb.variant for verb in verbs}) - {"Within", "Change"}:
         raise NotThere(f"VERBS lacks {', '.join(sorted(left))}")
-    rows = (front_verb(verb, said.get(verb.variant, [""]), verb.variant not in unchanging, verb.variant in changes) for verb in verbs)
-    return [line for row in rows for line in row]
+    lines: list[str] = []
+    for verb in verbs:
+        is_change, makes_revision = verb.variant not in unchanging, verb.variant in changes
+        lines += front_verb(verb, said.get(verb.variant, [""]), is_change, makes_revision)
+    return lines
 
 
 def front_verb(verb: Verb, said: list[str], is_change: bool, makes_revision: bool) -> list[str]:
@@ -155,7 +159,8 @@ def front_verb(verb: Verb, said: list[str], is_change: bool, makes_revision: boo
     if makes_revision and not reply[1].startswith(" REV"):
         raise NotThere(f"the reply of {verb.name} does not begin with its revision")
     what = said[0][0].lower() + said[0][1:].removesuffix(".")
-    words = (quoted(verb.name), listed(verb.fields.split()), listed(reply[1].split()), str(is_change), str(makes_revision))
+    fields, replied = listed(verb.fields.split()), listed(reply[1].split())
+    words = (quoted(verb.name), fields, replied, str(is_change), str(makes_revision))
     line = f"    ({', '.join(words)}, {quoted(what)}),"
     return [line] if len(line) <= WIDEST else [f"    ({', '.join(words)},", f"     {quoted(what)}),"]
 
@@ -173,7 +178,8 @@ def listed(words: list[str]) -> str:
 def refusals() -> dict[int, str]:
     """The refusals of the program by their numbers, which begin at 1 and have no gap."""
     variants = list(comments((SOURCES / "reply.rt").read_text(encoding="utf-8"), "Refusal"))
-    found = {int(number): name for number, name in NUMBERED.findall((SOURCES / "reply_words.rt").read_text(encoding="utf-8"))}
+    words = (SOURCES / "reply_words.rt").read_text(encoding="utf-8")
+    found = {int(number): name for number, name in NUMBERED.findall(words)}
     if [found[number] for number in sorted(found)] != variants or sorted(found) != list(range(1, len(found) + 1)):
         raise NotThere("the refusals of reply.rt are not those that reply_words.rt numbers")
     return dict(sorted(found.items()))
@@ -194,23 +200,27 @@ def front_tables() -> list[str]:
     orients = re.findall(r'Orient::\w+ => b"(\w+)"', ORIENTS.read_text(encoding="utf-8"))
     if len(orients) != 8:
         raise NotThere(f"not eight orientations in {ORIENTS}")
-    lines = [*HEADING.split("\n"), "VERBS: tuple[tuple[str, tuple[str, ...], tuple[str, ...], bool, bool, str], ...] = ("]
+    lines = [*HEADING.split("\n")]
+    lines += ["VERBS: tuple[tuple[str, tuple[str, ...], tuple[str, ...], bool, bool, str], ...] = ("]
     lines += [*front_verbs(request, verb_text), ")", ""]
     for what, name, table in (("refusals", "REFUSALS", refusals()), ("rules of a place", "RULES", rules())):
-        lines += [f"# The names of the {what} by their number.", f"{name} = {{", *(f"    {number}: {quoted(it)}," for number, it in table.items()), "}", ""]
+        entries = (f"    {number}: {quoted(it)}," for number, it in table.items())
+        lines += [f"# The names of the {what} by their number.", f"{name} = {{", *entries, "}", ""]
     return [*lines, f"ORIENTS = {listed(orients)}", ""]
 
 
 def tcl_tables(tables: list[str]) -> list[str]:
     """The lines of the Tcl table, made from the front's tables: what a proc needs of each verb."""
-    [verbs] = [each.value for each in ast.parse("\n".join(tables)).body if isinstance(each, ast.AnnAssign) and each.value]
+    body = ast.parse("\n".join(tables)).body
+    [verbs] = [each.value for each in body if isinstance(each, ast.AnnAssign) and each.value]
     rows = ast.literal_eval(verbs)
-    lines = ["# The verbs of the program: the fields after TEAM and N, the words of the reply after ok, and what the verb does."]
+    head = "the fields after TEAM and N, the words of the reply after ok, and what the verb does."
+    lines = [f"# The verbs of the program: {head}"]
     lines += ["# tools/verbs.py --write generates this file from the program's sources: edit those.", ""]
     lines += ["namespace eval lefence {", "    variable VERBS {"]
     for name, fields, reply, _, _, text in rows:
         if set(text) & set("{}\\"):
-            raise NotThere(f"what {name} does is told with braces or backslashes, which the table of Tcl cannot have")
+            raise NotThere(f"the comment of {name} has braces or backslashes, which the table of Tcl cannot have")
         head = f"        {name} {{fields {{{' '.join(fields)}}} reply {{{' '.join(reply)}}}"
         line = f"{head} does {{{text}}}}}"
         lines += [line] if len(line) <= WIDEST else [head, f"            does {{{text}}}}}"]
@@ -221,22 +231,25 @@ def lacking() -> list[str]:
     """What the client library lacks: functions of CLIENT that make a verb's line, and classes of REFUSALS with a
     refusal's number."""
     client = CLIENT.read_text(encoding="utf-8")
-    asked = set(re.findall(r'scope\.line\("(\w+)"|f"(\w+) \{name\(team\)\}', client))
-    names = {first or second for first, second in asked}
+    pairs = set(re.findall(r'scope\.line\("(\w+)"|f"(\w+) \{name\(team\)\}', client))
+    names = {first or second for first, second in pairs}
     verb_text = (SOURCES / "verb.rt").read_text(encoding="utf-8")
     wanted = ["open", *(verb.name for verb in verbs_of(verb_text))]
     said = [f"{CLIENT} has no request of {name}" for name in wanted if name not in names]
     kinds = [node for node in ast.parse(REFUSALS.read_text(encoding="utf-8")).body if isinstance(node, ast.ClassDef)]
     classes = [(kind.name, number) for kind in kinds for number in numbers_of(kind)]
     numbers = [number for _, number in classes]
-    said += [f"{REFUSALS} has two classes of number {number}" for number in dict.fromkeys(numbers) if numbers.count(number) > 1]
-    return said + [f"{REFUSALS} has no class {name} of number {number}" for number, name in refusals().items() if (name, number) not in classes]
+    twice = [number for number in dict.fromkeys(numbers) if numbers.count(number) > 1]
+    missing = [(number, name) for number, name in refusals().items() if (name, number) not in classes]
+    said += [f"{REFUSALS} has two classes of number {number}" for number in twice]
+    return said + [f"{REFUSALS} has no class {name} of number {number}" for number, name in missing]
 
 
 def numbers_of(kind: ast.ClassDef) -> list[object]:
     """The values that the class assigns to `number`."""
-    assigned = (node for node in kind.body if isinstance(node, ast.Assign) and isinstance(node.value, ast.Constant))
-    return [node.value.value for node in assigned if isinstance(node.value, ast.Constant) and ast.unparse(node.targets[0]) == "number"]
+    assigned = (node for node in kind.body if isinstance(node, ast.Assign))
+    values = (node.value for node in assigned if ast.unparse(node.targets[0]) == "number")
+    return [value.value for value in values if isinstance(value, ast.Constant)]
 
 
 def differing(had: list[str], made: list[str], path: Path, what: str) -> bool:
@@ -269,8 +282,10 @@ def main(words: list[str]) -> int:
         TCL.write_text("\n".join(tcl), encoding="utf-8")
     else:
         differs = [differing(page[start:stop], made, PAGE, "the table of commands differs")]
-        for path, lines, what in ((TABLES, tables, "the front's tables differ"), (TCL, tcl, "the table of Tcl differs")):
-            differs.append(differing(path.read_text(encoding="utf-8").split("\n") if path.exists() else [], lines, path, what))
+        generated = ((TABLES, tables, "the front's tables differ"), (TCL, tcl, "the table of Tcl differs"))
+        for path, lines, what in generated:
+            had = path.read_text(encoding="utf-8").split("\n") if path.exists() else []
+            differs.append(differing(had, lines, path, what))
         if any(differs):
             return 1
     print("\n".join(lacks) or f"{len(made) - len(HEAD)} commands agree")

@@ -39,7 +39,7 @@ pub none_marked : (f : Frame) (number padding count : ℕ) (cells : List Cell) (
 none_marked f number padding count cells marks are own marked =
     absurd (no_true count own (subst (λ (ms : List Bool). slice_get ms own ≡ Some true) are marked))
 
--- one more cell is marked, and it is legal
+-- one more mark is set, and its cell is legal
 pub one_more_mark : (f : Frame) (number padding own : ℕ) (cells : List Cell) (old new : List Bool) → new ≡ set old own true →
     IsLegalCell f number padding (map member_of cells) own → AreMarked f number padding cells old → AreMarked f number padding cells new
 one_more_mark f number padding own cells old new is is_in_place are other marked = ⊎_elim

@@ -119,7 +119,7 @@ unplaced_listed number (c ∷ cells) =
     ∙ ap (λ (n : ℕ). cond (is_none c.working) 1 0 + n) (unplaced_listed number cells)
     ∙ sym (sum_by-cons (λ (x : Listed (List ℕ)). cond (is_none x.place) 1 0) (listed_of number c) (map (listed_of number) cells))
 
--- the names of cells, each of which a text can have
+-- the names of cells; a text can have each of them
 pub names_printed : (cells : List Cell) → All (λ c. IsDesignName c.name) cells → All IsDesignName (names_of cells)
 names_printed cells printed = All-map IsDesignName (λ (c : Cell). c.name) cells printed
 

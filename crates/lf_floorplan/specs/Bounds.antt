@@ -62,7 +62,7 @@ pub record IsPrinted (byte : ℕ) : Type 0 where
   pub least : 33 ≤ byte
   pub most : byte ≤ 126
 
--- A name of at most 1,024 bytes, each of which a word may have.
+-- A name of at most 1,024 bytes; a word may have each of these bytes.
 pub record IsDesignName (name : List ℕ) : Type 0 where
   pub short : length name ≤ 1024
   pub printed : All IsPrinted name

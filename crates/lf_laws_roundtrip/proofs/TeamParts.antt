@@ -1,4 +1,4 @@
--- The text of a team as a printed text: its parts, each of which can be printed.
+-- The text of a team as a printed text. Each of its parts can be printed.
 use Rattle.std.proofs.Common.{◌≡◌, ◌≢◌, ℕ, ◌≤◌, true, List, [], ◌∷◌, ◌++◌, All, map, length, get_or, Option, Some, None, refl, ap, sym, ◌∙◌, append_assoc}
 use Rattle.std.proofs.Common.{append-nil, subst, arith}
 use Rattle.std.specs.Prelude.{codes, decimal, IfSome, IsSome, slice_get}

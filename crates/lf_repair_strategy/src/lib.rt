@@ -27,7 +27,7 @@
 //! ```
 //! let placement = floor.placement();
 //! let owner = PaddedTeam::new(placement.frame(), number, floor.padding_of(number));
-//! edits_for(alloc, placement, &owner, go, phase)
+//! edits_for(alloc, placement, &owner, pass, phase)
 //! ```
 #![tactic(auto)]
 

@@ -59,7 +59,7 @@ KeepsCommittedPlaces team old new = committed_in new team ≡ committed_in old t
 
 -- ---- at the start of a repair
 
--- the marked cells are exactly those that are legal
+-- the flags are true exactly at the legal cells
 pub record AreLegalFlags (team : List ℕ) (floor : FloorState) (marks : List Bool) : Type 0 where
   pub legal : (own : ℕ) → IsLegalIn floor team own → slice_get marks own ≡ Some true
   pub only : (s : TeamState) → state_of floor team ≡ Some s → (own : ℕ) → slice_get marks own ≡ Some true → IsLegalIn floor team own

@@ -31,8 +31,8 @@
 //! From `crates/lf_floor/src/restore.rt`:
 //!
 //! ```
-//! let told = StateView { tables };
-//! read_state(alloc, &told, text)
+//! let reported = StateView { tables };
+//! read_state(alloc, &reported, text)
 //! ```
 #![tactic(auto)]
 

@@ -75,7 +75,7 @@ pub(crate) fn read_cells<D: DesignSchema>(
     Ok(items)
 }
 
-/// Reads `count` moves of `cells` cells. A text may have any number of them: at first, room is
+/// Reads `count` moves of `cells` cells. A text may have any number of them. Initially, room is
 /// reserved for at most one move of each cell.
 fn read_moves(
     alloc: Global,

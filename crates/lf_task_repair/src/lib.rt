@@ -20,7 +20,7 @@
 //! let exports = &mut around.exports;
 //! let writer = &mut around.writer;
 //! let progress = &mut around.progress;
-//! repair(alloc, &around.texts, exports, writer, progress, &asked)
+//! repair(alloc, &around.texts, exports, writer, progress, &requested)
 //! ```
 #![tactic(auto)]
 

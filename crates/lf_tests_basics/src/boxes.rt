@@ -1,5 +1,5 @@
-//! Boxes in a row, each of which overlaps the next: the boxes near one, and the least number of
-//! those that overlap it.
+//! Boxes in a row, where each overlaps the next: the boxes near one, and the least number of those
+//! that overlap it.
 
 use lf_rtree::{Placed, RTree};
 use lf_units::Rect;
