@@ -1,5 +1,5 @@
 pub mod DesignSteps
-mod Opening
+mod OpenedTexts
 mod Reporting
 mod Shown
 pub mod Ends

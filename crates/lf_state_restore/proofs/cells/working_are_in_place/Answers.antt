@@ -26,10 +26,10 @@ loop-own-preserved c =
     let place = c.place-place.result in
     let is : place ≡ get_or to n place = c.place-place.ensures ∙ read_at (λ s. s.working) saved n c.index-saved-own.result place c.loop-own-test.true in
     elim c.if-not-same_place.branch [
-      | then-not-are_alike w ↦
+      | then-not-same_place w ↦
           subst (λ (cells : Cells). ArePlacedSoFar k (n + 1) to old cells) (sym w.cells-is)
           (one_so_far k n to old now less many c.loop-own.invariant w.put_at.new.cells place is w.put_at.ensures.own w.put_at.ensures.others)
-      | else-not-are_alike w ↦
+      | else-not-same_place w ↦
           let alike : place ≡ c.place.result = (w.if-not-same_place.ensures {u = tt}).0 refl in
           let there : get_or (working_places_of (cells_of old k)) n place ≡ get_or to n place =
           ap (λ (ps : Places). get_or ps n place) c.requires.are_placed

@@ -1,4 +1,4 @@
-use Rattle.lf_task_designs.proofs.Opening.{both_ok}
+use Rattle.lf_task_designs.proofs.OpenedTexts.{both_ok}
 use Rattle.lf_task_designs.proofs.opening.open_design.Goals as goal
 
 pub returns-clause-ok : goal.returns-clause-ok

@@ -1,6 +1,6 @@
 use Rattle.std.proofs.Common.{inr}
 use Rattle.std.proofs.lemmas.Result.{IfErr-weaker, IfOk-weaker}
-use Rattle.lf_task_designs.proofs.Opening.{both_ok}
+use Rattle.lf_task_designs.proofs.OpenedTexts.{both_ok}
 use Rattle.lf_task_designs.proofs.opening.open_file.Goals as goal
 
 pub returns-clause-given : goal.returns-clause-given

@@ -1,5 +1,5 @@
 use Rattle.lf_def.specs.Contents.{contents}
-use Rattle.lf_task_designs.proofs.Opening.{both_ok}
+use Rattle.lf_task_designs.proofs.OpenedTexts.{both_ok}
 use Rattle.lf_task_designs.proofs.opening.open_text.Goals as goal
 
 pub returns-clause-ok : goal.returns-clause-ok
