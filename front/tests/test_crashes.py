@@ -75,7 +75,7 @@ class Crashes(HubCase):
             file=sys.stderr,
         )
 
-    def start_anew(self) -> None:
+    def start_again(self) -> None:
         while self.rng.random() < 0.3:
             # And again during the restart.
             again = Hub(self.folder, self.words(*self.extra))
@@ -85,7 +85,7 @@ class Crashes(HubCase):
 
     def kill_9_of_hub(self) -> None:
         self.hub.kill()
-        self.start_anew()
+        self.start_again()
 
     def kill_9_of_server(self) -> None:
         os.kill(self.hub.server_pid(), signal.SIGKILL)
@@ -98,7 +98,7 @@ class Crashes(HubCase):
                 os.kill(pid, signal.SIGKILL)
             time.sleep(self.rng.choice([0, 0.001, 0.03]))
         self.hub.process.wait()
-        self.start_anew()
+        self.start_again()
 
     def test_kill_9_of_the_hub(self) -> None:
         self.under_load(self.kill_9_of_hub)

@@ -463,7 +463,7 @@ class Ends(HubCase):
             self.assertEqual(self.hub.process.wait(PATIENCE), 2, number)
         self.assertFalse(self.journal.exists())
         full = [f"ok {number} 0" for number in range(9)] + ["no 10 SessionsFull"]
-        # (a journal without changes is written anew)
+        # (a journal without changes is written again)
         self.start()
         self.hub.end()
         self.start("--sessions", "9")

@@ -216,7 +216,7 @@ class Journals(unittest.TestCase):
             # After its end a journal has no owner.
             self.open().close()
 
-    def test_a_journal_without_changes_is_written_anew(self) -> None:
+    def test_a_journal_without_changes_is_written_again(self) -> None:
         self.open().close()
         other = [Text("1" * 64, Path("/c.def"))]
         journal = self.open(other)

@@ -26,7 +26,8 @@ class RepairsThere(HubCase):
             done = self.repair("f1", "--keep")
             self.assertEqual((done.returncode, done.stdout), (0, b""), done.stderr)
             self.assertIn(
-                f"lefence-repair: team f1: 0 moved, 0 turned, {CELLS - 1} newly placed, 1 unmoved, 0 unrepaired\n".encode(),
+                f"lefence-repair: team f1: 0 moved, 0 turned, {CELLS - 1} newly placed, 1 unmoved, "
+                "0 unrepaired\n".encode(),
                 done.stderr,
             )
             revision = session.sync()

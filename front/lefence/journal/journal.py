@@ -98,8 +98,8 @@ class Journal:
     ) -> None:
         """Opens or makes the journal of these files for a new owner. Removes an incomplete end and reports it.
 
-        With `slots` each team must have that many session slots. Without it, a journal keeps its number and a new one
-        has 8.
+        With `slots` each team must have this number of session slots. Without it, a journal keeps its number and a new
+        one has 8.
 
         Raises a Fault, and changes nothing, if
         - another hub has locked the file;
@@ -210,7 +210,7 @@ class Journal:
         return last
 
     def _belongs_to(self, texts: list[Text], slots: int | None) -> bool:
-        """Whether the journal has these files and slots; False if it must be written anew. Raises a Fault if it has
+        """Whether the journal has these files and slots; False if it must be written again. Raises a Fault if it has
         others.
         """
         if self._header and [text.sum for text in self._header.texts] == [text.sum for text in texts]:

@@ -235,7 +235,8 @@ class Drawing:
         head = min(6 / self.scale, math.hypot(x1 - x0, y1 - y0) / 2)
         angle = math.atan2(y0 - y1, x0 - x1)
         ends = [
-            f"{x1 + head * math.cos(angle + turn):.1f} {y1 + head * math.sin(angle + turn):.1f}" for turn in (0.45, -0.45)
+            f"{x1 + head * math.cos(angle + turn):.1f} {y1 + head * math.sin(angle + turn):.1f}"
+            for turn in (0.45, -0.45)
         ]
         line = f"M{x0:g} {y0:g}L{x1:g} {y1:g}M{ends[0]}L{x1:g} {y1:g}L{ends[1]}"
         return f'<path d="{line}"><title>{text_of(move.name)}</title></path>\n'

@@ -21,7 +21,7 @@ from ..base.program import find_program
 from ..base.protocol import GROUND
 
 TOOL = "lefence-slice"
-# Sections of which a slice has only a team's entries.
+# Sections whose entries a slice has only for one team.
 _SLICED = (b"COMPONENTS", b"GROUPS")
 # Sections about components or nets that a slice lacks; they do not affect legality.
 _DROPPED = frozenset(b"PINS PINPROPERTIES SLOTS FILLS SPECIALNETS NETS SCANCHAINS BEGINEXT".split())
