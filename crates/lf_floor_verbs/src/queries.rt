@@ -20,7 +20,7 @@ use std::alloc::AllocError;
 impl Tables {
     /// Returns the working place of a cell. Refuses with `NoCell` if the team has no cell of that
     /// name, then with `Unplaced` if the cell has no place.
-    #[tactic(auto, unfolding(lf_floor_model::specs::Looks::located))]
+    #[tactic(auto, unfolding(lf_floor_model::specs::Queries::located))]
     pub(crate) fn run_where(&self, number: usize, name: &[u8]) -> Reply
         ensures { IsOutcome (located name.now (own_team number self.now)) result (own_team number self.now) }
     {
@@ -36,7 +36,7 @@ impl Tables {
     /// Returns the report of the team's cells at their working places.
     ///
     /// `Err` if an allocation fails.
-    #[tactic(auto, unfolding(lf_floor_model::specs::Looks::checked))]
+    #[tactic(auto, unfolding(lf_floor_model::specs::Queries::checked))]
     pub(crate) fn check<S>(&self, around: &TeamContext<'_, S>) -> Result<Reply, AllocError>
         requires team { IsTeamOf (frame_of self.now) (team_in around.now self.now) }
         ensures ok { (l : Legalizer) → IfOk result (λ reply. IsOutcome
@@ -53,7 +53,7 @@ impl Tables {
     /// Returns the team's DEF text with its cells at their working places.
     ///
     /// `Err` if an allocation fails.
-    #[tactic(auto, unfolding(lf_floor_model::specs::Looks::written))]
+    #[tactic(auto, unfolding(lf_floor_model::specs::Queries::written))]
     pub(crate) fn write_def<S>(&self, around: &TeamContext<'_, S>) -> Result<Reply, AllocError>
         ensures ok { (l : Legalizer) → IfOk result (λ reply. IsOutcome
             (written (context_in l around.now self.now) (team_in around.now self.now))
@@ -75,7 +75,7 @@ impl Tables {
     /// name, then with `NoPlace` if no place is legal for it.
     ///
     /// `Err` if an allocation fails.
-    #[tactic(auto, unfolding(lf_floor_model::specs::Looks::found))]
+    #[tactic(auto, unfolding(lf_floor_model::specs::Queries::found))]
     pub(crate) fn find<S: Seeker>(
         &self,
         around: &TeamContext<'_, S>,
