@@ -76,7 +76,7 @@ class Pictures(FrontCase):
             "breaks a rule 3 cells",
             "FIXED component 1",
             "soft blockage 1",
-            "90 without",
+            "90 unplaced",
             "1 outside",
         ):
             self.assertIn(text, legend)
