@@ -22,7 +22,7 @@ import time
 from collections.abc import Iterator
 from pathlib import Path
 
-from lanes import parallel_checks
+from jobs import parallel_checks
 from libraries import below, lines_of
 
 TOP = Path(__file__).resolve().parent.parent

@@ -133,7 +133,6 @@ LATER = (
     Exempt("none", (NAME,), "a_text_that_is_none*", "crates/lf_tests_app/*", "a test"),
     Exempt("homes", (NAME,), "at_home", "crates/lf_task_designs/*", "a proof"),
     Exempt("lifted", (NAME,), "lift*", "crates/lf_repair_*", "a proof, and a parameter"),
-    Exempt("lane", (NAME, PROSE), "lanes", "t*", "tools/lanes.py, which docs/GATE.md names"),
 )
 
 

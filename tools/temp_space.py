@@ -1,7 +1,7 @@
 #!/usr/bin/env python3
 """Prints the folder in which ./test lets the provers put their temporary files.
 
-usage: tools/room.py
+usage: tools/temp_space.py
 
 It is the folder in memory, if programs may run there and it has room for all files next to the checks themselves;
 otherwise the usual one. Each check writes up to 400 MB of small files there. Proofs take another 6 GB of disk.
@@ -14,7 +14,7 @@ import subprocess
 import tempfile
 from pathlib import Path
 
-from lanes import CHECK, memory, parallel_checks
+from jobs import CHECK, memory, parallel_checks
 
 IN_MEMORY = Path("/dev/shm")
 # The most bytes that a check uses of it, with the folder that its must-fail edits share.
@@ -42,11 +42,11 @@ def has_room(folder: Path, checks: int) -> bool:
     return found.f_bavail * found.f_frsize >= checks * FILES and memory() >= checks * (CHECK + FILES)
 
 
-def room() -> str:
+def temp_space() -> str:
     if has_room(IN_MEMORY, parallel_checks()) and holds_programs(IN_MEMORY):
         return str(IN_MEMORY)
     return tempfile.gettempdir()
 
 
 if __name__ == "__main__":
-    print(room())
+    print(temp_space())

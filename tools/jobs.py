@@ -1,7 +1,7 @@
 #!/usr/bin/env python3
 """Prints how many checks the kit should run in parallel: the default of RT_JOBS in ./test and ./lefence.
 
-usage: tools/lanes.py
+usage: tools/jobs.py
 
 It is one check for each available processor, as far as free memory allows. The kit itself plans three times the memory
 that our checks take. It would therefore delay the crates on which most others depend, and run small ones first.
