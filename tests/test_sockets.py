@@ -55,7 +55,7 @@ class Listening(unittest.TestCase):
     def test_a_port_in_use_is_reported_and_its_service_goes_on(self) -> None:
         with Service(1) as service:
             words = ["serve", *DESIGN, "--port", str(service.port), "--connections", "1"]
-            message = f"lefence: Bind\nlefence: cannot listen on port {service.port} of 127.0.0.1: it is in use\n"
+            message = f"lefence: Bind\nlefence: port {service.port} of 127.0.0.1 is not available: it is in use\n"
             self.assertEqual(run(words), (3, "", message))
             with service.client() as client:
                 self.assertEqual(client.ask("open A"), "ok 0 0")

@@ -197,7 +197,7 @@ state_line path refusal = codes "lefence: " ++ state_words path ++ number_words 
 
 -- A port of this machine.
 abbrev pub port_text : ℕ → List ℕ
-port_text port = codes "cannot listen on port " ++ decimal port ++ codes " of 127.0.0.1"
+port_text port = codes "port " ++ decimal port ++ codes " of 127.0.0.1"
 
 -- True if the refusal is a failed allocation.
 abbrev pub is_memory : FaultNumber → Bool
@@ -234,6 +234,7 @@ complaint_words (Unwritten path why) = codes " cannot be written"
 complaint_words (Unsaved path why) = codes " cannot be written"
 complaint_words (Unlisted path why) = codes " cannot be written"
 complaint_words (NoTeam name) = codes " is not in the design"
+complaint_words (Bind port why) = codes " is not available"
 complaint_words _ = []
 
 -- Why a file cannot be read.

@@ -303,7 +303,7 @@ fn put_port<W: Sink>(sink: &mut W, port: u16) -> Result<(), DeviceFault>
     ensures failed { OnErr result (W.has_failed sink.new ≡ true) }
     ensures held { W.holds sink.new ≡ W.holds sink.old }
 {
-    send(sink, b"cannot listen on port ")?;
+    send(sink, b"port ")?;
     send(sink, Buffer::new().format(port).as_bytes())?;
     send(sink, b" of 127.0.0.1")
 }
@@ -335,6 +335,7 @@ fn complaint_of(fault: &Fault<'_>) -> &'static [u8]
         Fault::Unsaved(_, _) => b" cannot be written",
         Fault::Unlisted(_, _) => b" cannot be written",
         Fault::NoTeam(_) => b" is not in the design",
+        Fault::Bind(_, _) => b" is not available",
         _ => b"",
     }
 }

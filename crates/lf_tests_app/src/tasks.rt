@@ -924,7 +924,7 @@ fn offered(rt: &HostRuntime) -> Result<Option<ServiceConfig>, AllocError> {
         &task,
         &mut reader,
     );
-    let faults = "lefence: Bind\nlefence: cannot listen on port 5800 of 127.0.0.1: it is in use\n";
+    let faults = "lefence: Bind\nlefence: port 5800 of 127.0.0.1 is not available: it is in use\n";
     if !run.is(3, "", faults) {
         return Ok(None);
     }
