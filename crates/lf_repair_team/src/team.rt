@@ -399,7 +399,7 @@ pub fn repair_team<S: Seeker + Drop, K: Sink>(
     ensures run { (l : Legalizer) → IfOk result (λ _. IsWrittenRun l team.now floor.old (K.contents lines.old) (K.contents lines.new) floor.new) }
     ensures err { (l : Legalizer) → OnErr result (IsRunWithCutLine l team.now floor.old (K.contents lines.old) (K.contents lines.new) floor.new) }
     ensures only { ChangesOnly team.now floor.old floor.new }
-    ensures unknown { team_number floor.old.frame team.now ≡ None → result ≡ Err Fault.NoTeam }
+    ensures unknown { team_number floor.old.frame team.now ≡ None → result ≡ Err RepairFault.NoTeam }
     ensures kept { how ≡ Keep → KeepsLegalPlaces team.now floor.old floor.new }
     ensures changed { IfOk result (λ repaired. OnlyListedMove team.now floor.old floor.new repaired.changed.items) }
     ensures moved { IfOk result (λ repaired. AllListedMove team.now floor.old floor.new repaired.changed.items) }
