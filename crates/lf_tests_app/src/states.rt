@@ -14,7 +14,7 @@ const STATE: &str = "w.state";
 const BEFORE: &str = "open A\nplace A 0 a1 0 0 N\ncommit A 0\nplace A 0 a1 400 0 N\nopen B\n\
     place B 0 b1 6000 0 N\npad B 0 2\n";
 
-const AfterEnd: &str =
+const AFTER_END: &str =
     "where A 0 a1\nundo A 0\nwhere A 0 a1\nundo A 0\nwhere A 0 a1\nrevert A 0\nopen A\n\
     undo A 0\nplace A 1 a2 400 0 N\nsync A 1\nplace A 1 a2 400 0 N\nwhere B 0 b1\ncommit B 0\ncheck B 0\n";
 
@@ -86,9 +86,9 @@ fn begun(rt: &HostRuntime, lines: &str) -> Result<Run, AllocError> {
 fn a_state_and_the_lines_after_it_answer_as_all_lines(rt: HostRuntime) -> Result<(), Fail> {
     let state = saved_after(&rt, BEFORE)?;
     let before = begun(&rt, BEFORE)?;
-    let after_it = gone_on(&rt, &state, AfterEnd)?;
+    let after_it = gone_on(&rt, &state, AFTER_END)?;
     let mut lines = Vec::from_slice(rt.alloc(), BEFORE.as_bytes())?;
-    lines.extend_from_slice(AfterEnd.as_bytes())?;
+    lines.extend_from_slice(AFTER_END.as_bytes())?;
     let mut exports = Kept::at(rt.alloc(), None);
     let task = replay_of(rt.alloc(), None, None)?;
     let files = files_of(DEMO_DEF);
