@@ -262,6 +262,8 @@ class ManyClients(HubCase):
     def test_a_million_lines_of_one_connection_are_no_limit(self) -> None:
         self.start()
         talker, text = self.talk("f0"), b"\n" * 1_000_100 + b"open f0\n"
+        # (the timeout is for all of a sending)
+        talker.socket.settimeout(10 * PATIENCE)
         sender = threading.Thread(target=talker.socket.sendall, args=(text,))
         sender.start()
         length, last = 0, b""
