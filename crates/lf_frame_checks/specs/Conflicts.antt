@@ -39,7 +39,7 @@ abbrev pub IsOverlappedBy : List Region → List ℕ → Option (List ℕ) → T
 IsOverlappedBy regions name found =
     MatchOption (fence_named regions name) (found ≡ None) (λ fence. NameOfFirst (λ r. r.name) (OverlapsFence fence) regions found)
 
--- Holds if the group is bound to a fence other than `told`, and names the component.
+-- Holds if the group is bound to a fence other than `reported`, and names the component.
 abbrev pub ClaimsBut : List Region → List ℕ → Option (List ℕ) → List Group → Group → Type 0
 ClaimsBut regions name reported earlier g = (fence : List ℕ) × Claims regions g name fence × (reported ≢ Some fence)
 

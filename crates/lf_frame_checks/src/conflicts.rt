@@ -90,7 +90,7 @@ fn has_fence(regions: &[Region], name: &[u8]) -> bool
         .any(|region| is_fence(region) && region.name.is(name))
 }
 
-/// True if the group binds the name to a fence other than `told`.
+/// True if the group binds the name to a fence other than `reported`.
 fn claims_but(regions: &[Region], name: &[u8], reported: Option<&[u8]>, group: &Group) -> bool
     ensures { IsTrue result ↔ ClaimsBut regions.now name.now (option_copied reported.entry) [] group.now }
 {
@@ -102,7 +102,7 @@ fn claims_but(regions: &[Region], name: &[u8], reported: Option<&[u8]>, group: &
         && is_named_by(group, name)
 }
 
-/// Returns the number of the first group that binds the name to a fence other than `told`, or
+/// Returns the number of the first group that binds the name to a fence other than `reported`, or
 /// `None`.
 fn first_claiming(
     regions: &[Region],
@@ -120,7 +120,7 @@ fn first_claiming(
     None
 }
 
-/// Returns the first fence other than `told` to which a group binds the name, or `None`.
+/// Returns the first fence other than `reported` to which a group binds the name, or `None`.
 fn claimer<'d>(document: &'d DefDoc, name: &[u8], reported: Option<&[u8]>) -> Option<&'d [u8]>
     ensures { NameOfFirst region_name (ClaimsBut document.now.regions name.now (option_copied reported.entry)) document.now.groups (option_copied result) }
 {

@@ -57,8 +57,8 @@ fence_line_in text name = record { name = name; line = nth_line name 0 (tokens_o
 abbrev pub fence_line_of : FenceLine → FenceLineFact
 fence_line_of fence = record { name = fence.name.items; line = fence.line }
 
--- The fault `told` with its fences is reported for the fault that was found. It is the same fault,
--- or a failed allocation without fences.
+-- The fault `reported` with its fences is reported for the fault that was found. It is the same
+-- fault, or a failed allocation without fences.
 abbrev pub IsReportedConflict : LoadFault → Conflict → LoadFault → Conflict → Type 0
 IsReportedConflict found overlapping_one reported fences = ((reported ≡ found) × (fences ≡ overlapping_one)) ⊎ ((reported ≡ load_fault_of Memory) × (fences ≡ no_fence))
 
