@@ -11,7 +11,8 @@ from support import PROGRAM, FrontCase
 from lefence.base.description import Box
 from lefence.base.faults import Fault
 from lefence.base.lef import sites_of
-from lefence.tools.preparation import Preparation, PreparationOptions
+from lefence.tools.library_text import LibraryText
+from lefence.tools.preparation import PreparationOptions, Stages
 from lefence.tools.prepare import prepare
 
 LEF = """VERSION 5.8 ;
@@ -87,6 +88,7 @@ class Preparations(FrontCase):
             "fence B added: 1 rectangle",
             "nothing of group B matches no component",
             "fence B has no cells",
+            "1 cell of team - is inside fence A: b/one; --adopt A binds them to its team",
             "team A has 2 cells",
             "it loads: 4 cells, 0 unplaced, 2 illegal (1 by rule 2 Row, 1 by rule 6 Fence)",
         )
@@ -99,7 +101,7 @@ class Preparations(FrontCase):
             (TEXT.replace("PLACED", "UNPLACED"), "no cell is placed"),
             (TEXT.replace("( 50 4040 )", "( 3 77 )"), "less than half of the 5 placed cells agree on a grid"),
         ):
-            preparation = Preparation(text.encode())
+            preparation = Stages(text.encode())
             prepare(preparation, PreparationOptions(), [LEF.encode()], None)
             self.assertEqual(preparation.messages[1], f"{expected}: the rows start at the core's corner with N")
             rows = b"\nROW ROW_0 core -100 -300 N DO 21 BY 1 STEP 200 0 ;\nROW ROW_1 core -100 1700 FS "
@@ -204,10 +206,18 @@ class Preparations(FrontCase):
                 at = self.rng.randrange(len(text))
                 odd = self.rng.choice([b"", b";", b"\xff", b" - ", b" END ", b'"', b"9" * 30, b"#"])
                 text[at : at + self.rng.randrange(30)] = odd
-            wanted = PreparationOptions(fillers=["F*"], fences={"A": [Box(0, 0, 1, 1)]}, groups={"A": ["*"]})
+            wanted = PreparationOptions(
+                fillers=["F*"],
+                fences={"A": [Box(0, 0, 1, 1)]},
+                groups={"A": ["*"]},
+                fixed=["x*"],
+                adds_halos=True,
+                splits_patterns=True,
+            )
+            LibraryText(bytes(text)).result()
             try:
-                preparation = Preparation(bytes(text))
-                self.assertIsInstance(preparation.units, int)
+                preparation = Stages(bytes(text))
+                self.assertIsInstance(preparation.next().units, int)
                 prepare(preparation, wanted, [bytes(text), LEF.encode()], None)
                 preparation.result()
             except Fault:

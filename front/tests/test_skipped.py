@@ -164,15 +164,11 @@ class Looks(FrontCase):
         self.assertEqual((done.returncode, done.stdout), (1, expected))
 
     def test_a_file_that_is_not_def_is_reported(self) -> None:
-        for text, expected in (
-            (b"", ""),
-            (self.lef.read_bytes(), ""),
-            (gzip.compress(TEXT.encode()), " but compressed by gzip"),
-        ):
+        for text in (b"", self.lef.read_bytes(), gzip.compress(self.lef.read_bytes())):
             self.design.write_bytes(text)
             for words in (("--look",), ("-o", "x.def")):
                 done = self.run_on(*words)
-                output = f"lefence-prepare: t.def has no DESIGN: it is not a DEF file{expected}\n"
+                output = "lefence-prepare: t.def has no DESIGN: it is not a DEF file\n"
                 self.assertEqual((done.returncode, done.stdout, done.stderr.decode()), (1, b"", output))
 
     def test_look_excludes_options_that_prepare(self) -> None:

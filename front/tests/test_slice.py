@@ -117,16 +117,12 @@ class Slices(HubCase):
         self.assertIn(b"not checked", done.stderr)
 
     def test_a_file_that_is_not_def_is_reported(self) -> None:
-        text = self.design.read_bytes()
-        for other, expected in (
-            (LEF.encode(), "it is not a DEF file"),
-            (gzip.compress(text), "it is not a DEF file but compressed by gzip"),
-        ):
+        for other in (LEF.encode(), gzip.compress(LEF.encode())):
             self.design.write_bytes(other)
             done = self.tool("lefence-slice", self.design, "--team", "f0")
             self.assertEqual(
                 (done.returncode, done.stderr.decode()),
-                (1, f"lefence-slice: {self.design} has no DESIGN: {expected}\n"),
+                (1, f"lefence-slice: {self.design} has no DESIGN: it is not a DEF file\n"),
             )
 
     def test_a_truncated_design_is_refused(self) -> None:

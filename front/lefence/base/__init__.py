@@ -3,7 +3,8 @@
 Modules in reading order:
 - `protocol`: lines and replies of docs/PROTOCOL.md; `tables` has its verbs, and tools/verbs.py generates it.
 - `faults`: errors that end a tool, and the frame in which a tool runs.
-- `atomic_file`: files that are replaced as a whole.
+- `compression`, `atomic_file`: compressed files, and files that are replaced as a whole.
+- `input_files`: plain copies of compressed input files.
 - `program`, `async_run`, `progress`: runs of the lefence program, blocking and for asyncio, and their progress.
 - `description`: the output of `lefence describe`.
 - `design`, `lef`: the sections, statements and words of DEF and LEF files.

@@ -10,7 +10,8 @@ from itertools import count
 from pathlib import Path
 from typing import BinaryIO
 
-from .faults import FAILED, USAGE, Fault
+from .compression import packing
+from .faults import FAILED, USAGE, Fault, as_given
 
 
 @contextlib.contextmanager
@@ -29,13 +30,20 @@ def atomic_file(path: Path, mode: int = 0o666) -> Iterator[BinaryIO]:
         os.fsync(file.fileno())
 
 
+@contextlib.contextmanager
+def output_file(path: Path) -> Iterator[BinaryIO]:
+    """Opens a new file as `atomic_file` does. Its bytes are compressed if its name ends with .gz, .xz or .bz2."""
+    with atomic_file(path) as file, packing(path, file) as packed:
+        yield packed
+
+
 def write_output(path: Path | None, data: bytes) -> None:
-    """Writes bytes to a file as a whole or, without a path, to standard output."""
+    """Writes bytes to a file as a whole, compressed by its name, or without a path to standard output."""
     if path is None:
         sys.stdout.buffer.write(data)
         sys.stdout.buffer.flush()
         return
-    with atomic_file(path) as file:
+    with output_file(path) as file:
         file.write(data)
 
 
@@ -90,7 +98,7 @@ def _create_partial(target: Path, mode: int) -> Path:
 
 
 def refuse_inputs(output: Path, inputs: Iterable[Path]) -> None:
-    """Raises a Fault if the output is one of the input files."""
-    for path in inputs:
+    """Raises a Fault if the output is one of the input files, or the compressed file of one."""
+    for path in (Path(as_given(str(each))) for each in inputs):
         if output.exists() and path.exists() and output.samefile(path):
             raise Fault(USAGE, f"{output} is an input file, so it cannot be the output")

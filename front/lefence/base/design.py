@@ -248,8 +248,7 @@ class Design:
 def refuse_no_design(path: Path, text: bytes) -> None:
     """Raises a Fault if the text is not a DEF text."""
     if not any(statement.keyword == b"DESIGN" for statement in statements_in(text)):
-        compressed = " but compressed by gzip" if text[:2] == b"\x1f\x8b" else ""
-        raise Fault(REFUSED, f"{path} has no DESIGN: it is not a DEF file{compressed}")
+        raise Fault(REFUSED, f"{path} has no DESIGN: it is not a DEF file")
 
 
 def complete_design(path: Path, text: bytes) -> Design:

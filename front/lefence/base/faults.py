@@ -27,6 +27,22 @@ class Fault(Exception):
         self.status = status
 
 
+# The paths of input files as they were given, by the paths of their plain copies (`input_files`).
+_GIVEN: dict[str, str] = {}
+
+
+def show_as(copy: str, given: str) -> None:
+    """Has messages show a file's copy as the file that was given."""
+    _GIVEN[copy] = given
+
+
+def as_given(text: str) -> str:
+    """Returns a message that shows the files that were given in place of their copies."""
+    for copy, given in _GIVEN.items():
+        text = text.replace(copy, given)
+    return text
+
+
 class Parser(argparse.ArgumentParser):
     """The command line of a tool, with an example at the end of its help."""
 
@@ -71,7 +87,7 @@ def reason_of(error: Exception) -> str:
 def log(tool: str, text: str) -> None:
     """Prints a line on standard error, with unprintable characters escaped. Errors of the write are ignored."""
     try:
-        print(f"{tool}: {printable(text)}", file=sys.stderr, flush=True)
+        print(f"{tool}: {printable(as_given(text))}", file=sys.stderr, flush=True)
     except OSError:
         pass
 

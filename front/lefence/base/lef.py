@@ -15,25 +15,39 @@ _LENGTH = re.compile(rb"[+-]?(\d{1,7}(\.\d{0,6})?|\.\d{1,6})")
 
 
 class Site(NamedTuple):
-    """A site: whether its CLASS is CORE, and its size in microns, or 0 if it has none."""
+    """A site: whether its CLASS is CORE, its size in microns, or 0 if it has none, and whether it has a SYMMETRY."""
 
     name: bytes
     is_core: bool
     width: Decimal
     height: Decimal
+    has_symmetry: bool
 
 
 def sites_of(text: bytes) -> Iterator[Site]:
     """Yields the sites of a LEF text in its order."""
     for name, words in _sections(text, b"SITE"):
         classes = [words[at + 1 : at + 2] for at, word in enumerate(words) if word == b"CLASS"]
-        yield Site(name, classes[-1:] == [[b"CORE"]], *_sizes(words)[-1])
+        yield Site(name, classes[-1:] == [[b"CORE"]], *_sizes(words)[-1], b"SYMMETRY" in words)
 
 
 def sizes_of(text: bytes) -> Iterator[tuple[bytes, Decimal, Decimal]]:
     """Yields the macros of a LEF text in its order, with their widths and heights in microns."""
     for name, words in _sections(text, b"MACRO"):
         yield name, *_sizes(words)[0]
+
+
+def rails_of(text: bytes) -> Iterator[tuple[bytes, bool]]:
+    """Yields the macros of a LEF text in its order; each with whether a POWER or GROUND pin of it has a RECT."""
+    for name, words in _sections(text, b"MACRO"):
+        is_rail = has_rect = is_known = False
+        for at, word in enumerate(words):
+            if word in (b"PIN", b"OBS"):
+                is_rail = has_rect = False
+            is_rail = is_rail or (word == b"USE" and words[at + 1 : at + 2] in ([b"POWER"], [b"GROUND"]))
+            has_rect = has_rect or word == b"RECT"
+            is_known = is_known or (is_rail and has_rect)
+        yield name, is_known
 
 
 def _sections(text: bytes, keyword: bytes) -> Iterator[tuple[bytes, list[bytes]]]:

@@ -4,10 +4,12 @@ from __future__ import annotations
 
 import asyncio
 import os
+import shutil
 from collections.abc import Callable
 from pathlib import Path
 
 from ..base.atomic_file import is_special, partial_file
+from ..base.compression import is_packed_name, packing
 from ..base.faults import FAILED, Fault, reason_of
 from ..journal.journal import Journal
 from ..journal.segments import Position
@@ -76,8 +78,29 @@ class Exporter:
                 # (A killed hub leaves a program that writes what it has. The bytes are on the disk before the file gets
                 # its name.)
                 with partial_file(Path(path)) as partial:
-                    await self._side_program.write(position, export=str(partial))
+                    if is_packed_name(Path(path)):
+                        await self._write_packed(path, partial, position)
+                    else:
+                        await self._side_program.write(position, export=str(partial))
                 return None
             except (Fault, OSError, ServerLost) as fault:
                 self._say(f"export: {reason_of(fault)}")
                 return reason_of(fault)
+
+    async def _write_packed(self, path: str, partial: Path, position: Position) -> None:
+        """Has the program write the text next to the file, and compresses it into the file as the path's name says."""
+        plain = Path(f"{partial}.text")
+        try:
+            await self._side_program.write(position, export=str(plain))
+            await asyncio.to_thread(_pack, plain, partial, Path(path))
+        finally:
+            plain.unlink(missing_ok=True)
+
+
+def _pack(plain: Path, target: Path, named: Path) -> None:
+    """Compresses a file into another, as the name says, and syncs it to the disk."""
+    with open(plain, "rb") as source, open(target, "wb") as file:
+        with packing(named, file) as packed:
+            shutil.copyfileobj(source, packed, 1 << 20)
+        file.flush()
+        os.fsync(file.fileno())

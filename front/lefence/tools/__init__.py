@@ -3,7 +3,8 @@
 A tool `lefence-NAME` is the function `main` of module NAME.
 - `hub`, `journal`: start a hub; check, cut and export journals.
 - `shell`, `push`: type commands, or send the records of a journal to another hub.
-- `prepare`, `preparation`, `skipped`: make a design ready for the program, and list what the program skips.
+- `prepare`, `preparation`, `preparation_cells`, `library_text`: make DEF and LEF files ready for the program.
+- `text_check`, `skipped`, `pitfalls`: list what the program skips in them, and what may go wrong.
 - `slice`, `merge`, `splice`: cut a design into one file a team, and put places back.
 - `repair`, `repair_run`, `repair_remote`: repair a design by the program, here or through a hub.
 - `farm`, `farm_runs`: run one job a team, each with its own hub.

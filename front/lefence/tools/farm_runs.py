@@ -27,7 +27,7 @@ from pathlib import Path
 from types import FrameType
 from typing import BinaryIO
 
-from ..base.atomic_file import atomic_file
+from ..base.atomic_file import atomic_file, output_file
 from ..base.design import Design, shown
 from ..base.faults import DONE, FAILED, REFUSED, USAGE, Fault, log, reason_of
 from ..base.program import Program
@@ -241,14 +241,14 @@ def collect(work: Path) -> int:
     if plan.is_merged:
         _merge(work, plan, done)
     else:
-        with atomic_file(Path(plan.export)) as file:
+        with output_file(Path(plan.export)) as file:
             _answer(work, plan, done, file)
     log(TOOL, f"{plan.export}: the work of {len(done)} of {len(plan.teams)} teams")
     return INCOMPLETE if unfinished else DONE
 
 
 def _merge(work: Path, plan: Plan, done: list[int]) -> None:
-    with atomic_file(Path(plan.export)) as file:
+    with output_file(Path(plan.export)) as file:
         count = merge(Path(plan.design), [work / str(number) / "new.def" for number in done], file)
     log(TOOL, f"merged {count} components of the teams' slices")
 

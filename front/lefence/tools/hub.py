@@ -4,6 +4,7 @@ from __future__ import annotations
 
 import argparse
 import asyncio
+import contextlib
 import functools
 import json
 import os
@@ -12,11 +13,12 @@ import signal
 import sys
 import threading
 import traceback
-from collections.abc import Callable
+from collections.abc import Callable, Iterator
 from pathlib import Path
 from typing import Any
 
 from ..base.faults import DONE, FAILED, REFUSED, Fault, Parser, log, run_tool
+from ..base.input_files import use_plain_files
 from ..base.program import Program, find_program
 from ..base.protocol import MOST_SLOTS, socket_name
 from ..hub.checkpoints import TailLimits
@@ -31,6 +33,7 @@ from ..hub.status import read_status, uncommitted_text
 from ..journal.journal import Journal
 from ..journal.owner import this_process
 from ..journal.texts import remove_partial_texts, resolve_texts
+from .pitfalls import start_warning
 
 TOOL = "lefence-hub"
 # Connections of a socket that may wait for acceptance, and how many asyncio accepts at a time. If no descriptor is
@@ -87,7 +90,8 @@ async def serve(hub: Hub, options: argparse.Namespace, stopped: asyncio.Event) -
         listeners = await listen(hub, options.sockets, groups)
         say(ready)
         notify("READY=1", f"STATUS={ready}")
-        await asyncio.wait({run, stop, watch}, return_when=asyncio.FIRST_COMPLETED)
+        with warning_of(hub):
+            await asyncio.wait({run, stop, watch}, return_when=asyncio.FIRST_COMPLETED)
         for listener in listeners:
             listener.close()
         if watch.done():
@@ -99,6 +103,18 @@ async def serve(hub: Hub, options: argparse.Namespace, stopped: asyncio.Event) -
         # (after a fault nothing more is acknowledged)
         for task in tasks:
             task.cancel()
+
+
+@contextlib.contextmanager
+def warning_of(hub: Hub) -> Iterator[None]:
+    """Prints what may go wrong with the design, in a process of its own, which ends with the block at the latest."""
+    program = hub.server.program
+    warning = start_warning(TOOL, program.path, program.texts[0], program.texts[1:])
+    try:
+        yield
+    finally:
+        warning.kill()
+        warning.wait()
 
 
 async def disconnect_all(hub: Hub) -> None:
@@ -152,6 +168,7 @@ def limit_loop_errors(hub: Hub) -> None:
 async def run(options: argparse.Namespace) -> None:
     """Runs the hub from its locks to its last export."""
     stopped = asyncio.Event()
+    use_plain_files(options, "design", "library")
     paths = [options.design, *options.library]
     program = find_program(options.program)
     claim_folder(options.sockets)

@@ -15,6 +15,7 @@ from pathlib import Path
 
 from ..base.atomic_file import atomic_file, refuse_inputs, sync_folder
 from ..base.faults import DONE, FAILED, REFUSED, Fault, Parser, log, run_tool
+from ..base.input_files import use_plain_files
 from ..base.program import Program, find_program
 from ..base.protocol import SLOTS
 from ..hub.server import Server, ServerLost
@@ -268,6 +269,7 @@ def main() -> int:
         if options.verb == "cut":
             return cut(options.journal, options.at, options.takeover)
         if options.verb == "verify":
+            use_plain_files(options, "texts")
             return verify(options.journal, options.texts, options.program, options.all)
         with open_segments(options.journal) as readers:
             if options.verb == "list":

@@ -13,6 +13,7 @@ from xml.sax.saxutils import escape
 from ..base.atomic_file import atomic_file, refuse_inputs
 from ..base.description import Box, Cell, Description, Facts
 from ..base.faults import DONE, FAILED, USAGE, Fault, Parser, log, run_tool
+from ..base.input_files import use_plain_files
 from ..base.program import find_program
 from ..base.progress import Progress
 from ..base.protocol import RULES
@@ -163,6 +164,7 @@ def main() -> int:
     options = parser().parse_args()
 
     def work() -> int:
+        use_plain_files(options, "design", "libraries")
         inputs = (options.design, *options.libraries)
         program = find_program(options.program)
         for output in (options.output, options.technology):

@@ -15,6 +15,7 @@ from pathlib import Path
 from ..base.atomic_file import atomic_file, refuse_inputs
 from ..base.description import Box, Cell, Description
 from ..base.faults import DONE, FAILED, USAGE, Fault, Parser, log, run_tool
+from ..base.input_files import use_plain_files
 from ..base.program import find_program
 from ..base.progress import Progress
 from .drawing import Drawing, Move
@@ -147,6 +148,7 @@ def main() -> int:
     options = parser().parse_args()
 
     def work() -> int:
+        use_plain_files(options, "design", "libraries", "before")
         outputs = options.output or []
         for output in outputs:
             refuse_inputs(output, [options.design, *options.libraries, *([options.before] if options.before else [])])

@@ -46,15 +46,21 @@ class Grid(NamedTuple):
 @dataclass
 class PreparationOptions:
     """The requested changes, in database units. The core is None if it is DIEAREA; `margin` is subtracted on every
-    side.
+    side. Lists have patterns of names, or names of sites, regions and fences.
     """
 
     replaces_rows: bool = False
     margin: int = 0
     core: Box | None = None
+    dropped_sites: list[str] = field(default_factory=list)
     fillers: list[str] = field(default_factory=list)
+    fixed: list[str] = field(default_factory=list)
+    regions: list[str] = field(default_factory=list)
     fences: dict[str, list[Box]] = field(default_factory=dict)
     groups: dict[str, list[str]] = field(default_factory=dict)
+    splits_patterns: bool = False
+    adds_halos: bool = False
+    adopting: list[str] = field(default_factory=list)
 
 
 class Preparation:
@@ -62,25 +68,31 @@ class Preparation:
 
     def __init__(self, text: bytes) -> None:
         self.text = text
-        self._statements = statements(text)
+        self.statements = statements(text)
         self._changes: list[_Change] = []
         self.messages: list[str] = []
 
     @property
     def units(self) -> int:
         """The database units per micron."""
-        for statement in self._all(b"UNITS"):
-            number = (self._words(statement)[3:4] or [b""])[0]
+        for statement in self.all_of(b"UNITS"):
+            number = (self.words_of(statement)[3:4] or [b""])[0]
             if number.isdigit() and len(number) < 10 and int(number):
                 return int(number)
         raise Fault(REFUSED, "the DEF file has no UNITS DISTANCE MICRONS")
 
     @property
     def has_rows(self) -> bool:
-        return any(True for _ in self._all(b"ROW"))
+        return any(True for _ in self.all_of(b"ROW"))
+
+    @property
+    def is_changed(self) -> bool:
+        return bool(self._changes)
 
     def result(self) -> bytes:
         """Returns the text with all changes. Changes at one place keep their order."""
+        if not self._changes:
+            return self.text
         pieces, at = [], 0
         for change in sorted(self._changes, key=lambda change: change.start):
             pieces += [self.text[at : change.start], change.text]
@@ -98,10 +110,12 @@ class Preparation:
             shift += len(change.text) - (change.stop - change.start)
         return place - shift
 
-    def _all(self, keyword: bytes) -> Iterator[Statement]:
-        return (statement for statement in self._statements if statement.keyword == keyword)
+    def all_of(self, keyword: bytes) -> Iterator[Statement]:
+        """Yields the statements or sections with this keyword."""
+        return (statement for statement in self.statements if statement.keyword == keyword)
 
-    def _words(self, statement: Statement) -> list[bytes]:
+    def words_of(self, statement: Statement) -> list[bytes]:
+        """Lists the words of a statement."""
         return list(words_in(self.text[statement.start : statement.stop]))
 
     def _line_end(self, place: int) -> int:
@@ -109,19 +123,23 @@ class Preparation:
         rest = _REST.match(self.text, place)
         return rest.end() if rest else place
 
-    def _insert(self, place: int, text: bytes) -> None:
+    def replace(self, start: int, stop: int, text: bytes) -> None:
+        """Replaces the bytes from start up to stop."""
+        self._changes.append(_Change(start, stop, text))
+
+    def insert(self, place: int, text: bytes) -> None:
         """Inserts new lines after the line that ends at this place."""
         at = self._line_end(place)
         self._changes.append(_Change(at, at, text))
 
-    def _remove(self, start: int, stop: int) -> None:
+    def remove(self, start: int, stop: int) -> None:
         """Removes a statement or an entry, but not the comment in the line before it."""
         self._changes.append(_Change(self._line_end(start), stop, b""))
 
     def add_rows(self, site: Site, wanted: PreparationOptions) -> None:
         """Adds rows of the site over the core, on the grid of the placed cells; removes the old rows."""
         name = f"site {shown(site.name)}"
-        width, height = (_whole(length * self.units, name) for length in (site.width, site.height))
+        width, height = (whole(length * self.units, name) for length in (site.width, site.height))
         core = wanted.core or self._die()
         core = Box(
             core.left + wanted.margin, core.bottom + wanted.margin, core.right - wanted.margin, core.top - wanted.margin
@@ -139,26 +157,28 @@ class Preparation:
             % (row, site.name, left, bottom + row * height, b"N" if first == (row % 2 == 0) else b"FS", sites, width)
             for row in range(rows)
         )
-        if old := list(self._all(b"ROW")):
+        if old := list(self.all_of(b"ROW")):
             for row in old:
-                self._remove(row.start, row.stop)
+                self.remove(row.start, row.stop)
             self.messages.append(f"{len(old)} rows removed")
-        self._insert(old[-1].stop if old else self._place_of_rows(), text)
+        self.insert(old[-1].stop if old else self._place_of_rows(), text)
         size = f"{sites} sites each, the first at {left} {bottom} is {'N' if first else 'FS'}"
         self.messages += [f"{rows} rows of {name} added: {size}", grid.reason]
 
     def _place_of_rows(self) -> int:
         """The place for rows: after DIEAREA, else after UNITS."""
-        return next(statement.stop for keyword in (b"DIEAREA", b"UNITS") for statement in self._all(keyword))
+        return next(statement.stop for keyword in (b"DIEAREA", b"UNITS") for statement in self.all_of(keyword))
 
     def _die(self) -> Box:
-        for statement in self._all(b"DIEAREA"):
-            words = self._words(statement)
+        for statement in self.all_of(b"DIEAREA"):
+            words = self.words_of(statement)
             numbers = [int(Decimal(word.decode())) for word in words if _NUMBER.fullmatch(word)]
-            if len(numbers) != 4 or len(words) != 10:
+            xs, ys = numbers[::2], numbers[1::2]
+            corners = set(zip(xs, ys))
+            is_rectangle = len(corners) == 2 or corners == {(x, y) for x in set(xs) for y in set(ys)}
+            if len(numbers) not in (4, 8) or len(words) != 2 + 2 * len(numbers) or not is_rectangle:
                 raise Fault(REFUSED, "DIEAREA is not a rectangle in whole database units; use --core to place the rows")
-            xs, ys = sorted(numbers[::2]), sorted(numbers[1::2])
-            return Box(xs[0], ys[0], xs[1], ys[1])
+            return Box(min(xs), min(ys), max(xs), max(ys))
         raise Fault(REFUSED, "the DEF file has no DIEAREA; use --core to place the rows")
 
     def _grid(self, core: Box, width: int, height: int) -> Grid:
@@ -166,9 +186,9 @@ class Preparation:
         columns: Counter[int] = Counter()
         # By the position of a cell in a pair of rows, and whether it is flipped; None if its orientation does not say.
         row_pairs: Counter[tuple[int, bool | None]] = Counter()
-        for statement in self._all(b"COMPONENTS"):
+        for statement in self.all_of(b"COMPONENTS"):
             for entry in section_parts(self.text, statement)[2]:
-                if found := _placed(entry):
+                if found := placed_in(entry):
                     x, y, orient = found
                     columns[x % width] += 1
                     row_pairs[y % (2 * height), orient in _FLIPPED if orient in _UPRIGHT + _FLIPPED else None] += 1
@@ -186,18 +206,40 @@ class Preparation:
         reason += f", {max(upright, flipped)} have their row's orientation"
         return Grid(x, y, upright >= flipped, reason)
 
+    def drop_rows(self, sites: list[str]) -> None:
+        """Removes the rows of these sites."""
+        for site in sites:
+            name = word_of(site).encode()
+            self._remove_rows([row for row in self.all_of(b"ROW") if self._site_of(row) == name], f"site {site}")
+
+    def keep_site(self, site: Site, core_sites: set[bytes]) -> None:
+        """Removes the rows of the other core sites, so that this is the core site."""
+        rows = list(self.all_of(b"ROW"))
+        if not any(self._site_of(row) == site.name for row in rows):
+            raise Fault(USAGE, f"the DEF file has rows, but none of site {shown(site.name)}; --rows replaces them")
+        others = [row for row in rows if self._site_of(row) in core_sites - {site.name}]
+        self._remove_rows(others, "other core sites")
+
+    def _site_of(self, row: Statement) -> bytes:
+        return (self.words_of(row)[2:3] or [b""])[0]
+
+    def _remove_rows(self, rows: list[Statement], what: str) -> None:
+        for row in rows:
+            self.remove(row.start, row.stop)
+        self.messages.append(f"{len(rows)} rows removed ({what})")
+
     def remove_fillers(self, patterns: list[str]) -> None:
         """Removes the components whose name or macro matches a pattern."""
-        are_fillers = {pattern: pattern_of(_word(pattern).encode()).fullmatch for pattern in patterns}
+        are_fillers = {pattern: pattern_of(word_of(pattern).encode()).fullmatch for pattern in patterns}
         removed, unmatched = 0, set(patterns)
-        for statement in self._all(b"COMPONENTS"):
-            section = _Section(self.text, statement)
+        for statement in self.all_of(b"COMPONENTS"):
+            section = Section(self.text, statement)
             kept = 0
             for start, entry in section.entries():
                 found = {pattern for pattern, is_filler in are_fillers.items() if any(map(is_filler, entry.words[:2]))}
                 if found:
                     unmatched -= found
-                    self._remove(start, start + len(entry.text))
+                    self.remove(start, start + len(entry.text))
                     removed += 1
                 else:
                     kept += 1
@@ -211,49 +253,84 @@ class Preparation:
 
     def add_fences(self, fences: dict[str, list[Box]]) -> None:
         """Adds FENCE regions of these rectangles."""
-        known = {entry.name for statement in self._all(b"REGIONS") for entry in section_parts(self.text, statement)[2]}
+        sections = list(self.all_of(b"REGIONS"))
+        known = {entry.name for section in sections for entry in section_parts(self.text, section)[2]}
         entries = []
         for name, boxes in fences.items():
-            word = _word(name).encode()
+            word = word_of(name).encode()
             if word in known:
                 raise Fault(REFUSED, f"the DEF file already has a region {name}")
             points = b" ".join(b"( %d %d ) ( %d %d )" % box for box in boxes)
             entries.append(b"\n- %b %b + TYPE FENCE ;" % (word, points))
             self.messages.append(f"fence {name} added: {len(boxes)} {'rectangles' if len(boxes) > 1 else 'rectangle'}")
-        self._add_entries(b"REGIONS", entries, (b"COMPONENTS", b"PINS", b"NETS", b"GROUPS", b"END"))
+        self.add_entries(b"REGIONS", entries, (b"COMPONENTS", b"PINS", b"NETS", b"GROUPS", b"END"))
 
     def add_groups(self, groups: dict[str, list[str]], fences: list[str]) -> None:
         """Adds groups of these patterns, each bound to the fence of its name; `fences` are the added ones."""
-        known = {*fences_of(self.text, self._statements), *(name.encode() for name in fences)}
-        taken = {entry.name for statement in self._all(b"GROUPS") for entry in section_parts(self.text, statement)[2]}
+        known = {*fences_of(self.text, self.statements), *(name.encode() for name in fences)}
+        taken = {entry.name for statement in self.all_of(b"GROUPS") for entry in section_parts(self.text, statement)[2]}
         entries = []
         for name, patterns in groups.items():
-            fence = _word(name).encode()
+            fence = word_of(name).encode()
             if fence not in known:
                 raise Fault(REFUSED, f"no fence {name} for the group; --fence {name} adds one")
             names = (fence if number == 1 else b"%b_%d" % (fence, number) for number in itertools.count(1))
             group = next(each for each in names if each not in taken)
-            members = b" ".join(_word(pattern).encode() for pattern in patterns)
+            members = b" ".join(word_of(pattern).encode() for pattern in patterns)
             entries.append(b"\n- %b %b + REGION %b ;" % (group, members, fence))
-        self._add_entries(b"GROUPS", entries, (b"BEGINEXT", b"END"))
+        self.add_entries(b"GROUPS", entries, (b"BEGINEXT", b"END"))
 
-    def _add_entries(self, keyword: bytes, entries: list[bytes], followers: tuple[bytes, ...]) -> None:
+    def add_entries(self, keyword: bytes, entries: list[bytes], followers: tuple[bytes, ...]) -> None:
         """Adds entries to the first section with this keyword. Without one, adds a section before the first of the
         followers.
         """
-        if (statement := next(self._all(keyword), None)) is not None:
-            section = _Section(self.text, statement)
+        if (statement := next(self.all_of(keyword), None)) is not None:
+            section = Section(self.text, statement)
             last, count = section.start, len(entries)
             for start, entry in section.entries():
                 last, count = start + len(entry.text), count + 1
             self._changes.append(_Change(section.count, section.after_count, b"%d" % count))
-            self._insert(last, b"".join(entries))
+            self.insert(last, b"".join(entries))
             return
-        place = next((each.start for each in self._statements if each.keyword in followers), len(self.text))
-        self._insert(place, b"\n%b %d ;%b\nEND %b" % (keyword, len(entries), b"".join(entries), keyword))
+        place = next((each.start for each in self.statements if each.keyword in followers), len(self.text))
+        self.insert(place, b"\n%b %d ;%b\nEND %b" % (keyword, len(entries), b"".join(entries), keyword))
 
 
-class _Section:
+class Stages:
+    """Preparations one after the other, each of the last one's result: changes of one do not overlap."""
+
+    def __init__(self, text: bytes) -> None:
+        self._stages = [Preparation(text)]
+
+    @property
+    def text(self) -> bytes:
+        """The original text."""
+        return self._stages[0].text
+
+    @property
+    def messages(self) -> list[str]:
+        """The messages of all stages."""
+        return [message for stage in self._stages for message in stage.messages]
+
+    def next(self) -> Preparation:
+        """Returns a preparation for changes that may concern what was changed before."""
+        if self._stages[-1].is_changed:
+            self._stages.append(Preparation(self._stages[-1].result()))
+        return self._stages[-1]
+
+    def result(self) -> bytes:
+        """Returns the text with the changes of all stages."""
+        return self._stages[-1].result()
+
+    def position_before(self, place: int) -> int | None:
+        """Converts a place in the result into one of the original text; None if it is in an inserted part."""
+        found: int | None = place
+        for stage in reversed(self._stages):
+            found = None if found is None else stage.position_before(found)
+        return found
+
+
+class Section:
     """A section, with the places of its parts in the text."""
 
     def __init__(self, text: bytes, statement: Statement) -> None:
@@ -272,10 +349,10 @@ class _Section:
             at += len(entry.text)
 
 
-def _placed(entry: Entry) -> tuple[int, int, bytes] | None:
-    """The point and orientation of a PLACED component, or None."""
+def placed_in(entry: Entry, clause: bytes = b"PLACED") -> tuple[int, int, bytes] | None:
+    """Returns the point and orientation in a placement clause of a component, or None."""
     words = entry.words
-    at = next((at for at in range(2, len(words) - 5) if words[at] == b"+" and words[at + 1] == b"PLACED"), None)
+    at = next((at for at in range(2, len(words) - 5) if words[at] == b"+" and words[at + 1] == clause), None)
     if at is None or not (_NUMBER.fullmatch(words[at + 3]) and _NUMBER.fullmatch(words[at + 4])):
         return None
     x, y = (int(Decimal(word.decode())) for word in words[at + 3 : at + 5])
@@ -286,16 +363,17 @@ def whole_units(microns: str, units: int) -> int:
     """Converts a length of the command line, in microns, into database units."""
     if not re.fullmatch(r"[+-]?(\d{1,7}(\.\d{0,6})?|\.\d{1,6})", microns, re.ASCII):
         raise Fault(USAGE, f"{microns} is not a length in microns")
-    return _whole(Decimal(microns) * units, f"{microns} microns")
+    return whole(Decimal(microns) * units, f"{microns} microns")
 
 
-def _whole(length: Decimal, what: str) -> int:
+def whole(length: Decimal, what: str) -> int:
+    """Returns a length that must be a whole number of database units; messages call it `what`."""
     if length != int(length):
         raise Fault(REFUSED, f"{what} is not a whole number of database units: {length.normalize():f}")
     return int(length)
 
 
-def _word(word: str) -> str:
+def word_of(word: str) -> str:
     """Returns the word. Raises a Fault if it cannot be a name or a pattern in a DEF file."""
     if not _NAME.fullmatch(word) or word in (";", "+", "-", "(", ")"):
         raise Fault(USAGE, f"{word!r} cannot be a name in a DEF file")

@@ -1,108 +1,83 @@
-"""lefence-prepare: makes a DEF file loadable, for example one without rows or fences."""
+"""lefence-prepare: makes DEF and LEF files loadable, for example without rows or fences, and puts places back."""
 
 from __future__ import annotations
 
 import argparse
 import functools
 import tempfile
-from collections import Counter
-from dataclasses import dataclass
+from decimal import Decimal
 from pathlib import Path
 
-from ..base.atomic_file import atomic_file, refuse_inputs
-from ..base.description import Box, Description, Facts, Total
+from ..base.atomic_file import atomic_file, output_file, refuse_inputs
+from ..base.description import Box, Description
 from ..base.design import refuse_no_design, shown
-from ..base.faults import DONE, REFUSED, USAGE, Fault, Parser, log, run_tool
-from ..base.lef import Site, sites_of
+from ..base.faults import DONE, REFUSED, USAGE, Fault, Parser, as_given, log, run_tool, show_as
+from ..base.input_files import use_plain_files
+from ..base.lef import Site, sites_of, sizes_of
 from ..base.program import find_program
 from ..base.progress import Progress
-from ..base.protocol import RULES
-from .preparation import Preparation, PreparationOptions, whole_units
-from .skipped import Remark, line_of, remarks_of
+from .library_text import LibraryText
+from .preparation import Preparation, PreparationOptions, Stages, whole_units
+from .preparation_cells import FenceGround, add_halos, adopt, fix, make_fences, split_patterns, strangers_in
+from .skipped import line_of
+from .splice import with_places_of
+from .text_check import NOT_LEGAL, check
 
 TOOL = "lefence-prepare"
-# The exit status if every cell breaks a rule, or if --look has found something.
-NOT_LEGAL = 4
 _BOX_WORDS = ("X1", "Y1", "X2", "Y2")
 
 
-def prepare(preparation: Preparation, wanted: PreparationOptions, libraries: list[bytes], site: str | None) -> None:
-    """Makes the requested changes. Rows are made if the text has none."""
-    if wanted.replaces_rows or not preparation.has_rows:
-        preparation.add_rows(_core_site(libraries, site), wanted)
+def prepare(stages: Stages, wanted: PreparationOptions, libraries: list[bytes], site: str | None) -> None:
+    """Makes the requested changes, except for adopted cells. Rows are made if the text has none."""
+    first = stages.next()
+    if wanted.dropped_sites:
+        first.drop_rows(wanted.dropped_sites)
+    if wanted.replaces_rows or not first.has_rows:
+        first.add_rows(_core_site(libraries, site), wanted)
+    elif site is not None and wanted.core is None and not wanted.margin:
+        first.keep_site(_core_site(libraries, site), {each.name for each in _usable_sites(libraries)})
     elif site is not None or wanted.core is not None or wanted.margin:
         raise Fault(USAGE, "the DEF file has rows; --rows replaces them")
     if wanted.fillers:
-        preparation.remove_fillers(wanted.fillers)
+        first.remove_fillers(wanted.fillers)
+    if wanted.fixed:
+        fix(stages.next(), wanted.fixed)
+    if wanted.regions:
+        make_fences(stages.next(), wanted.regions)
     if wanted.fences:
-        preparation.add_fences(wanted.fences)
+        stages.next().add_fences(wanted.fences)
     if wanted.groups:
-        preparation.add_groups(wanted.groups, list(wanted.fences))
+        stages.next().add_groups(wanted.groups, list(wanted.fences))
+    if wanted.splits_patterns:
+        split_patterns(stages.next())
+    if wanted.adds_halos:
+        sizes = {name: (width, height) for text in reversed(libraries) for name, width, height in _reversed_sizes(text)}
+        add_halos(stages.next(), sizes)
 
 
-def _core_site(libraries: list[bytes], name: str | None) -> Site:
-    """Returns the named site, or the first one with CLASS CORE and a size. Of two with one name the first counts."""
+def _reversed_sizes(library: bytes) -> list[tuple[bytes, Decimal, Decimal]]:
+    """The macros of a LEF text with their sizes, the last one first: of two with one name the first counts."""
+    return list(sizes_of(library))[::-1]
+
+
+def _usable_sites(libraries: list[bytes]) -> list[Site]:
+    """Lists the sites with CLASS CORE and a size. Of two with one name the first counts."""
     sites: dict[bytes, Site] = {}
     for library in libraries:
         for site in sites_of(library):
             sites.setdefault(site.name, site)
-    usable = [site for site in sites.values() if site.is_core and site.width > 0 and site.height > 0]
+    return [site for site in sites.values() if site.is_core and site.width > 0 and site.height > 0]
+
+
+def _core_site(libraries: list[bytes], name: str | None) -> Site:
+    """Returns the named site, or the first one with CLASS CORE and a size."""
+    usable = _usable_sites(libraries)
     wanted = [site for site in usable if name is None or site.name == name.encode(errors="surrogateescape")]
     if not wanted:
         found = ", ".join(shown(site.name) for site in usable) or "none"
         what = "a site" if name is None else f"a site {name}"
         raise Fault(REFUSED, f"no LEF file has {what} with CLASS CORE and a SIZE; found: {found}")
     return wanted[0]
-
-
-@dataclass
-class TextSummary:
-    """What the program reports of a text: totals, cells per team, violations per rule, and cells per height."""
-
-    facts: Facts
-    total: Total
-    teams: Counter[str]
-    rules: Counter[int]
-    heights: Counter[int]
-
-    @property
-    def fits_rows(self) -> bool:
-        """Whether any cell is 1 to 8 rows high, or there is no cell. Otherwise no place is legal."""
-        site = self.facts.site_height
-        return not self.heights or any(height % site == 0 and height <= 8 * site for height in self.heights)
-
-    @property
-    def is_all_illegal(self) -> bool:
-        """Whether there are cells and each of them breaks a rule."""
-        return 0 < self.total.cells == self.total.illegal
-
-    def in_words(self) -> str:
-        """The totals."""
-        broken = ", ".join(
-            f"{count} by rule {rule} {RULES.get(rule, '')}" for rule, count in sorted(self.rules.items())
-        )
-        illegal = f"{self.total.illegal} illegal ({broken})" if broken else "0 illegal"
-        return f"it loads: {self.total.cells} cells, {self.total.unplaced} unplaced, {illegal}"
-
-
-def text_summary_of(program: str, text: bytes, libraries: list[Path], name: str) -> TextSummary:
-    """Has the program read a text. Raises a Fault, with this name for the text, if it does not load."""
-    with tempfile.NamedTemporaryFile(suffix=".def") as file:
-        file.write(text)
-        file.flush()
-        teams: Counter[str] = Counter()
-        rules: Counter[int] = Counter()
-        heights: Counter[int] = Counter()
-        try:
-            with Description(program, Path(file.name), libraries) as description:
-                for cell in Progress(TOOL, "cells").over(description.cells()):
-                    teams[cell.team] += 1
-                    heights[cell.height] += 1
-                    if cell.rule is not None:
-                        rules[cell.rule] += 1
-                return TextSummary(description.frame.facts, description.total, teams, rules, heights)
-        except Fault as fault:
-            raise Fault(fault.status, str(fault).replace(f"DEF file {file.name}", name)) from None
 
 
 def wanted_of(options: argparse.Namespace, units: int) -> PreparationOptions:
@@ -117,7 +92,20 @@ def wanted_of(options: argparse.Namespace, units: int) -> PreparationOptions:
             raise Fault(USAGE, f"--group {name} names no component")
         groups.setdefault(name, []).extend(patterns)
     core = _box(options.core, units) if options.core else None
-    return PreparationOptions(options.rows, margin, core, options.fillers, fences, groups)
+    return PreparationOptions(
+        replaces_rows=options.rows,
+        margin=margin,
+        core=core,
+        dropped_sites=options.drop_rows,
+        fillers=options.fillers,
+        fixed=options.fix,
+        regions=options.as_fence,
+        fences=fences,
+        groups=groups,
+        splits_patterns=options.longest_pattern,
+        adds_halos=options.halos,
+        adopting=options.adopt,
+    )
 
 
 def _box(corners: list[str], units: int) -> Box:
@@ -132,116 +120,176 @@ def _box(corners: list[str], units: int) -> Box:
 def parser() -> Parser:
     made = Parser(
         TOOL,
-        "Makes a DEF file loadable: adds rows if it has none, adds fences and groups, removes fillers. All other\n"
-        "bytes stay. The result is written if the program can load it. Lengths are microns.",
+        "Makes DEF and LEF files of a flow loadable: adds rows if there are none, adds fences and groups, removes\n"
+        "fillers, fixes cells, and writes LEF files in the words that the program reads. All other bytes stay. A DEF\n"
+        "file is written if the program can load it. Lengths are microns.",
         f"{TOOL} chip.def tech.lef cells.lef --look\n"
-        f"{TOOL} chip.def tech.lef cells.lef --output ready.def --fillers 'FILL*' \\\n"
-        "    --fence A 0 0 100 50 --group A 'u1/*' 'u2/*'",
+        f"{TOOL} chip.def tech.lef cells.lef --output ready.def --lef-output lef --fillers 'FILL*' \\\n"
+        "    --fence A 0 0 100 50 --group A 'u1/*' 'u2/*'\n"
+        f"{TOOL} placed.def lef/tech.lef lef/cells.lef --back chip.def --output chip_placed.def",
     )
     made.add_design()
+    _add_outputs(made)
+    _add_rows(made)
+    _add_components(made)
+    made.add_program()
+    return made
+
+
+def _add_outputs(made: Parser) -> None:
     add = made.add_argument
     add("-o", "--output", metavar="FILE", type=Path, help="write the prepared DEF file to FILE")
+    add("--lef-output", metavar="FOLDER", type=Path, help="write the LEF files to FOLDER as the program reads them")
     add(
         "--look",
         action="store_true",
-        help="print what the program skips in the DEF file and what is odd there, and write nothing",
+        help="print what the program skips in the DEF file and what may go wrong, and write nothing",
     )
+    add(
+        "--back",
+        metavar="ORIGINAL",
+        type=Path,
+        help="DEF was prepared from ORIGINAL and then placed: write ORIGINAL with the places of DEF",
+    )
+    add("--force", action="store_true", help="write the DEF file even if it does not load")
+
+
+def _add_rows(made: Parser) -> None:
+    add = made.add_argument
     add("--rows", action="store_true", help="replace the rows if there are some")
-    add("--site", metavar="NAME", help="the site of the rows (default: the first one with CLASS CORE)")
+    add(
+        "--site",
+        metavar="NAME",
+        help="the site of the new rows (default: the first one with CLASS CORE); if the DEF file has rows of it, remove"
+        " those of other core sites",
+    )
     add("--core", metavar=_BOX_WORDS, nargs=4, help="make the rows in this rectangle (default: DIEAREA)")
     add("--margin", metavar="M", help="the distance of the rows from the sides of the core (0)")
+    add("--drop-rows", metavar="SITE", action="append", default=[], help="remove the rows of this site")
+
+
+def _add_components(made: Parser) -> None:
+    add = made.add_argument
     add_many = functools.partial(add, action="append", default=[])
     add_many(
         "--fillers", metavar="PATTERN", help="remove components by name or macro, for example FILL*; may be repeated"
     )
+    add_many("--fix", metavar="PATTERN", help="make PLACED components FIXED, by name or macro")
+    add("--halos", action="store_true", help="add a placement blockage around each FIXED component with a HALO")
+    add_many("--as-fence", metavar="NAME", help="make a region without TYPE a fence")
     add_many("--fence", metavar=("NAME", *_BOX_WORDS), nargs=5, help="add a fence; repeat its name for more rectangles")
     add_many("--group", metavar=("NAME", "PATTERN"), nargs="+", help="bind components to the fence of this name")
-    add("--force", action="store_true", help="write the DEF file even if it does not load")
-    made.add_program()
-    return made
+    add(
+        "--longest-pattern",
+        action="store_true",
+        help="where groups of two fences name a component, the longer pattern binds it",
+    )
+    add_many(
+        "--adopt", metavar="FENCE", help="bind the cells inside this fence that no group names; it may be a pattern"
+    )
 
 
 def main() -> int:
     options = parser().parse_args()
 
     def work() -> int:
-        program = find_program(options.program)
+        use_plain_files(options, "design", "libraries", "back")
         if options.look:
-            return list_skipped(program, options)
-        if options.output is None:
-            raise Fault(USAGE, "--output FILE is missing; only --look needs none")
-        refuse_inputs(options.output, (options.design, *options.libraries))
-        text = options.design.read_bytes()
-        refuse_no_design(options.design, text)
-        preparation = Preparation(text)
-        wanted = wanted_of(options, preparation.units)
-        prepare(preparation, wanted, [path.read_bytes() for path in options.libraries], options.site)
-        for line in preparation.messages:
-            log(TOOL, line)
-        text = preparation.result()
-        status = _report(program, preparation, text, options, wanted)
-        if status in (DONE, NOT_LEGAL) or options.force:
-            with atomic_file(options.output) as file:
-                file.write(text)
-        else:
-            log(TOOL, "nothing is written; --force writes it anyway")
-        return status
+            return list_skipped(find_program(options.program), options)
+        if options.output is None and options.lef_output is None:
+            raise Fault(USAGE, "--output FILE or --lef-output FOLDER is missing; only --look needs none")
+        if options.output is not None:
+            refuse_inputs(options.output, (options.design, *options.libraries))
+        if options.back is not None:
+            return put_back(options)
+        if options.lef_output is not None:
+            options.libraries = write_libraries(options.lef_output, options.libraries)
+        return prepare_design(options) if options.output is not None else DONE
 
     return run_tool(TOOL, work)
 
 
+def prepare_design(options: argparse.Namespace) -> int:
+    """Makes and checks the prepared DEF file, and writes it; returns the exit status."""
+    program = find_program(options.program)
+    text = options.design.read_bytes()
+    refuse_no_design(options.design, text)
+    stages = Stages(text)
+    wanted = wanted_of(options, stages.next().units)
+    prepare(stages, wanted, [path.read_bytes() for path in options.libraries], options.site)
+    if wanted.adopting:
+        stage = stages.next()
+        adopt(stage, wanted.adopting, strangers_of(program, stage.text, options.libraries))
+    for line in stages.messages:
+        log(TOOL, line)
+    text = stages.result()
+    status = _report(program, stages, text, options, wanted)
+    if status in (DONE, NOT_LEGAL) or options.force:
+        with output_file(options.output) as file:
+            file.write(text)
+    else:
+        log(TOOL, "nothing is written; --force writes it anyway")
+    return status
+
+
+def strangers_of(program: str, text: bytes, libraries: list[Path]) -> list[tuple[str, str]]:
+    """Lists the cells of the ground team that are inside a fence, each with the fence."""
+    with tempfile.NamedTemporaryFile(suffix=".def") as file:
+        file.write(text)
+        file.flush()
+        show_as(file.name, "the prepared DEF file")
+        with Description(program, Path(file.name), libraries) as description:
+            ground = FenceGround(description.frame)
+            return list(strangers_in(Progress(TOOL, "cells").over(description.cells()), ground))
+
+
+def write_libraries(folder: Path, libraries: list[Path]) -> list[Path]:
+    """Writes each LEF file into a folder, in the form that the program reads; lists what was changed. Returns the new
+    paths.
+    """
+    targets = [folder / path.name for path in libraries]
+    if len(set(targets)) < len(targets):
+        raise Fault(USAGE, "two LEF files have one name, so they cannot be written to one folder")
+    folder.mkdir(parents=True, exist_ok=True)
+    for path, target in zip(libraries, targets):
+        refuse_inputs(target, libraries)
+        library = LibraryText(path.read_bytes())
+        for change in sorted(library.changes):
+            if change.text:
+                log(TOOL, f"LEF file {path}, line {line_of(library.text, change.start)}: {change.text}")
+        with atomic_file(target) as file:
+            file.write(library.result())
+    return targets
+
+
+def put_back(options: argparse.Namespace) -> int:
+    """Writes the original DEF file with the places of the prepared one; returns the exit status."""
+    if options.output is None:
+        raise Fault(USAGE, "--back needs --output FILE")
+    placed, original = options.design.read_bytes(), options.back.read_bytes()
+    refuse_no_design(options.design, placed)
+    refuse_no_design(options.back, original)
+    text, messages = with_places_of(original, placed)
+    for line in messages:
+        log(TOOL, line)
+    with output_file(options.output) as file:
+        file.write(text)
+    return DONE
+
+
 def list_skipped(program: str, options: argparse.Namespace) -> int:
-    """Prints what the program skips in the text as it is."""
-    if (
-        options.output
-        or options.rows
-        or options.site
-        or options.core
-        or options.margin
-        or options.fillers
-        or options.fence
-        or options.group
-    ):
+    """Prints what the program skips in the text as it is, and what may go wrong."""
+    prepares = vars(options).keys() - {"design", "libraries", "look", "program", "force"}
+    if any(getattr(options, name) for name in prepares):
         raise Fault(USAGE, "--look cannot be combined with options that prepare or write a DEF file")
     text = options.design.read_bytes()
     refuse_no_design(options.design, text)
-    result = check(program, text, options.libraries, str(options.design))
+    result = check(TOOL, program, text, options.libraries, str(options.design))
     lines = [_located(options.design, text, remark.place, remark.text) for remark in result.remarks]
     if not Preparation(text).has_rows:
         lines.append("no ROW; a run with --output adds rows")
-    print("\n".join([*lines, *result.lines]).encode("utf-8", "backslashreplace").decode())
+    print(as_given("\n".join([*lines, *result.lines])).encode("utf-8", "backslashreplace").decode())
     return result.status or (NOT_LEGAL if lines else DONE)
-
-
-@dataclass
-class CheckResult:
-    """Messages about a text, and the exit status: 0, 4 if every cell breaks a rule, or that of the fault."""
-
-    status: int
-    lines: list[str]
-    remarks: list[Remark]
-    teams: Counter[str]
-
-
-def check(program: str, text: bytes, libraries: list[Path], name: str) -> CheckResult:
-    """Has the program read a text, and lists what it skips there. Messages call the text by this name."""
-    try:
-        summary = text_summary_of(program, text, libraries, name)
-    except Fault as fault:
-        return CheckResult(fault.status, [f"it does not load: {fault}"], remarks_of(text, None), Counter())
-    lines, status = [summary.in_words()], DONE
-    if not summary.fits_rows:
-        heights = ", ".join(f"{height / summary.facts.units:g}" for height in sorted(summary.heights)[:5])
-        site = f"{summary.facts.site}, {summary.facts.site_height / summary.facts.units:g} microns high"
-        lines.append(
-            f"no cell fits the rows of site {site}: the cells are {heights} microns high;"
-            " use --rows --site NAME for another site"
-        )
-        status = REFUSED
-    elif summary.is_all_illegal:
-        lines.append("every cell breaks a rule; lefence-repair finds legal places")
-        status = NOT_LEGAL
-    return CheckResult(status, lines, remarks_of(text, summary.facts), summary.teams)
 
 
 def _located(path: Path, text: bytes, place: int | None, message: str) -> str:
@@ -250,10 +298,10 @@ def _located(path: Path, text: bytes, place: int | None, message: str) -> str:
 
 
 def _report(
-    program: str, preparation: Preparation, text: bytes, options: argparse.Namespace, wanted: PreparationOptions
+    program: str, preparation: Stages, text: bytes, options: argparse.Namespace, wanted: PreparationOptions
 ) -> int:
     """Prints the check of the prepared DEF file, with lines of the original text; returns the exit status."""
-    result = check(program, text, options.libraries, "the prepared DEF file")
+    result = check(TOOL, program, text, options.libraries, "the prepared DEF file")
     for remark in result.remarks:
         place = None if remark.place is None else preparation.position_before(remark.place)
         log(TOOL, _located(options.design, preparation.text, place, remark.text))

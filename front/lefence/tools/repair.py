@@ -7,14 +7,17 @@ from __future__ import annotations
 
 import argparse
 import tempfile
+import threading
 from contextlib import AbstractContextManager, nullcontext
 from pathlib import Path
 from typing import Any, BinaryIO
 
-from ..base.atomic_file import atomic_file, refuse_inputs
+from ..base.atomic_file import output_file, refuse_inputs
 from ..base.faults import DONE, Parser, log, run_tool
+from ..base.input_files import use_plain_files
 from ..base.program import Program, find_program
 from .drawing import number
+from .pitfalls import warn
 from .repair_remote import repair_remote
 from .repair_run import RepairRun, print_moves
 
@@ -25,15 +28,29 @@ NOT_LEGAL = 4
 
 def repair_design(options: argparse.Namespace) -> int:
     """Repairs what the command line requests; returns the exit status."""
+    use_plain_files(options, "design", "libraries")
     if options.output:
         refuse_inputs(options.output, options.libraries)
     teams, program = options.team or [], Program(find_program(options.program), [options.design, *options.libraries])
+    # (at the same time as the repair, which takes longer)
+    warning = threading.Thread(
+        target=warn, args=(lambda text: log(TOOL, text), program.path, options.design, options.libraries), daemon=True
+    )
+    warning.start()
+    try:
+        return _repair(options, teams, program)
+    finally:
+        warning.join()
+
+
+def _repair(options: argparse.Namespace, teams: list[str], program: Program) -> int:
+    """Repairs teams of a design, or the team of a socket; returns the exit status."""
     words = [f"--{option}" for option in ("keep", "all") if getattr(options, option)]
     if options.socket:
         repair = repair_remote(TOOL, options.socket, teams, program, words)
         return _end_of(repair.total, is_written=True, team=repair.teams[0]["team"])
     words += [f"--team={team}" for team in teams]
-    file: AbstractContextManager[BinaryIO | None] = atomic_file(options.output) if options.output else nullcontext()
+    file: AbstractContextManager[BinaryIO | None] = output_file(options.output) if options.output else nullcontext()
     with file as output, tempfile.TemporaryDirectory(prefix=TOOL) as folder:
         repair = RepairRun(TOOL, program, words, Path(folder), is_exported=bool(output))
         moves = repair.moves(is_all=not output)

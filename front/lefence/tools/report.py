@@ -19,6 +19,7 @@ from .. import __version__
 from ..base.atomic_file import refuse_inputs, write_output
 from ..base.description import Box, Cell, Description, Frame, Obstacle
 from ..base.faults import DONE, Parser, log, run_tool
+from ..base.input_files import use_plain_files
 from ..base.program import find_program
 from ..base.progress import Progress
 from ..base.protocol import GROUND, RULES
@@ -362,6 +363,7 @@ def main() -> int:
     options = parser().parse_args()
 
     def work() -> int:
+        use_plain_files(options, "design", "libraries", "before")
         if options.output is not None:
             refuse_inputs(
                 options.output, [options.design, *options.libraries, *([options.before] if options.before else [])]

@@ -12,6 +12,7 @@ from collections.abc import Iterable
 from pathlib import Path
 
 from ..base.faults import DONE, FAILED, REFUSED, USAGE, Fault, Parser, printable, reason_of, run_tool
+from ..base.input_files import plain_file
 from ..base.protocol import OPENACCESS, ORIENTS, VERBS, ProtocolError
 from ..client.blocking import Connection, Session
 from ..client.endpoint import Endpoint, connect_to, start_program
@@ -301,7 +302,7 @@ def _endpoint_of(options: argparse.Namespace) -> Endpoint:
     """Connects as the command line requests."""
     first, *more = options.where
     if more:
-        return start_program(options.program, [Path(word) for word in options.where])
+        return start_program(options.program, [plain_file(Path(word)) for word in options.where])
     if os.path.isfile(first):
         raise Fault(
             USAGE, f"{first} is not a socket; for a design, give its LEF files too: {TOOL} chip.def tech.lef .."

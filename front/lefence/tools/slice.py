@@ -17,6 +17,7 @@ from ..base.atomic_file import refuse_inputs, write_output
 from ..base.description import Cell, Description
 from ..base.design import Design, Entry, Statement, complete_design, section_parts
 from ..base.faults import DONE, REFUSED, Fault, Parser, log, run_tool
+from ..base.input_files import use_plain_files
 from ..base.program import find_program
 from ..base.protocol import GROUND
 
@@ -168,6 +169,7 @@ def main() -> int:
     options = parser().parse_args()
 
     def work() -> int:
+        use_plain_files(options, "design", "libraries")
         if options.output is not None:
             refuse_inputs(options.output, [options.design, *options.libraries])
         text = options.design.read_bytes()

@@ -4,6 +4,7 @@ from __future__ import annotations
 
 import re
 from collections.abc import Iterator, Mapping
+from decimal import Decimal
 from itertools import islice
 from typing import NamedTuple
 
@@ -55,3 +56,40 @@ def _end(word: re.Match[bytes], tokens: Iterator[re.Match[bytes]]) -> int:
     if opening[1] != b"(":
         return word.end()
     return [next(tokens) for _ in range(4)][-1].end()
+
+
+def with_places_of(original: bytes, placed: bytes) -> tuple[bytes, list[str]]:
+    """Returns the original text with the places that its movable components have in another text, and messages.
+
+    Components that are FIXED or COVER in one of the texts, or are in one of them alone, stay as they are.
+    """
+    spots = {entry.name: _spot_of(entry) for entry in _movable(placed)}
+    known, moved = set(), dict[str, Spot | None]()
+    for entry in _movable(original):
+        known.add(entry.name)
+        if entry.name in spots and spots[entry.name] != _spot_of(entry):
+            moved[entry.name.decode("ascii", "replace")] = spots[entry.name]
+    lost, others = len(spots.keys() - known), len(known - spots.keys())
+    messages = [f"{len(moved)} components have new places"]
+    if lost:
+        messages.append(f"{lost} components are not movable in the original: their places are lost")
+    if others:
+        messages.append(f"{others} movable components of the original are not movable in the prepared file: they stay")
+    return with_spots(original, moved), messages
+
+
+def _movable(text: bytes) -> Iterator[Entry]:
+    """Yields the components of a text that are neither FIXED nor COVER."""
+    for entry in entries(text, statements(text), b"COMPONENTS"):
+        if not (entry.has(b"FIXED") or entry.has(b"COVER")):
+            yield entry
+
+
+def _spot_of(entry: Entry) -> Spot | None:
+    """The place of a movable component, None if it is unplaced."""
+    words = entry.words
+    for at in range(2, len(words) - 6):
+        if words[at : at + 3] == [b"+", b"PLACED", b"("]:
+            x, y = (int(Decimal(word.decode())) for word in words[at + 3 : at + 5])
+            return Spot(x, y, words[at + 6].decode())
+    return None

@@ -8,6 +8,7 @@ from pathlib import Path
 
 from ..base.description import Description, Frame
 from ..base.faults import DONE, REFUSED, Fault, Parser, run_tool
+from ..base.input_files import use_plain_files
 from ..base.program import find_program
 from ..base.progress import Progress
 from .displacement import MOST_FAR, Summary, notes_of, summary_of
@@ -56,6 +57,7 @@ def main() -> int:
     options = parser().parse_args()
 
     def work() -> int:
+        use_plain_files(options, "before", "after", "libraries")
         summary = summary_of_files(
             find_program(options.program), options.before, options.after, options.libraries, max(0, options.most)
         )

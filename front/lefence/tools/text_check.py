@@ -1,0 +1,110 @@
+"""What the program makes of a DEF text: whether it loads, its cells, and remarks on what is skipped or may go wrong."""
+
+from __future__ import annotations
+
+import tempfile
+from collections import Counter
+from dataclasses import dataclass
+from pathlib import Path
+
+from ..base.description import Description, Facts, Total
+from ..base.faults import DONE, REFUSED, Fault, as_given
+from ..base.progress import Progress
+from ..base.protocol import RULES
+from .pitfalls import CellPitfalls, design_pitfalls, library_pitfalls
+from .skipped import Remark, remarks_of
+
+# The exit status if every cell breaks a rule, or if --look has found something.
+NOT_LEGAL = 4
+
+
+@dataclass
+class TextSummary:
+    """What the program reports of a text: totals, cells per team, violations per rule, cells per height, and cells that
+    may go wrong.
+    """
+
+    facts: Facts
+    total: Total
+    teams: Counter[str]
+    rules: Counter[int]
+    heights: Counter[int]
+    pitfalls: CellPitfalls
+
+    @property
+    def fits_rows(self) -> bool:
+        """Whether any cell is 1 to 8 rows high, or there is no cell. Otherwise no place is legal."""
+        site = self.facts.site_height
+        return not self.heights or any(height % site == 0 and height <= 8 * site for height in self.heights)
+
+    @property
+    def is_all_illegal(self) -> bool:
+        """Whether there are cells and each of them breaks a rule."""
+        return 0 < self.total.cells == self.total.illegal
+
+    def in_words(self) -> str:
+        """The totals."""
+        broken = ", ".join(
+            f"{count} by rule {rule} {RULES.get(rule, '')}" for rule, count in sorted(self.rules.items())
+        )
+        illegal = f"{self.total.illegal} illegal ({broken})" if broken else "0 illegal"
+        return f"it loads: {self.total.cells} cells, {self.total.unplaced} unplaced, {illegal}"
+
+
+def text_summary_of(tool: str, program: str, text: bytes, libraries: list[Path], name: str) -> TextSummary:
+    """Has the program read a text. Raises a Fault, with this name for the text, if it does not load."""
+    with tempfile.NamedTemporaryFile(suffix=".def") as file:
+        file.write(text)
+        file.flush()
+        teams: Counter[str] = Counter()
+        rules: Counter[int] = Counter()
+        heights: Counter[int] = Counter()
+        try:
+            with Description(program, Path(file.name), libraries) as description:
+                pitfalls = CellPitfalls(description.frame)
+                for cell in Progress(tool, "cells").over(description.cells()):
+                    pitfalls.add(cell)
+                    teams[cell.team] += 1
+                    heights[cell.height] += 1
+                    if cell.rule is not None:
+                        rules[cell.rule] += 1
+                facts, total = description.frame.facts, description.total
+                return TextSummary(facts, total, teams, rules, heights, pitfalls)
+        except Fault as fault:
+            raise Fault(fault.status, str(fault).replace(f"DEF file {file.name}", name)) from None
+
+
+@dataclass
+class CheckResult:
+    """Messages about a text, and the exit status: 0, 4 if every cell breaks a rule, or that of the fault."""
+
+    status: int
+    lines: list[str]
+    remarks: list[Remark]
+    teams: Counter[str]
+
+
+def check(tool: str, program: str, text: bytes, libraries: list[Path], name: str) -> CheckResult:
+    """Has the program read a text, and lists what it skips there and what may go wrong. Messages call the text by this
+    name.
+    """
+    texts = {as_given(str(path)): path.read_bytes() for path in libraries if path.is_file()}
+    remarks = [*library_pitfalls(texts), *design_pitfalls(text)]
+    try:
+        summary = text_summary_of(tool, program, text, libraries, name)
+    except Fault as fault:
+        return CheckResult(fault.status, [f"it does not load: {fault}"], [*remarks_of(text, None), *remarks], Counter())
+    lines, status = [summary.in_words()], DONE
+    if not summary.fits_rows:
+        heights = ", ".join(f"{height / summary.facts.units:g}" for height in sorted(summary.heights)[:5])
+        site = f"{summary.facts.site}, {summary.facts.site_height / summary.facts.units:g} microns high"
+        lines.append(
+            f"no cell fits the rows of site {site}: the cells are {heights} microns high;"
+            " use --rows --site NAME for another site"
+        )
+        status = REFUSED
+    elif summary.is_all_illegal:
+        lines.append("every cell breaks a rule; lefence-repair finds legal places")
+        status = NOT_LEGAL
+    remarks += summary.pitfalls.remarks(summary.facts, list(texts.values()))
+    return CheckResult(status, lines, [*remarks_of(text, summary.facts), *remarks], summary.teams)
