@@ -22,7 +22,7 @@ from lefence.base.faults import Fault, run_tool
 TOOLS = (
     *("lefence-hub", "lefence-slice", "lefence-push", "lefence-shell", "lefence-picture", "lefence-report"),
     *("lefence-summary", "lefence-markers", "lefence-prepare", "lefence-repair", "lefence-journal", "lefence-farm"),
-    "lefence-fill",
+    *("lefence-fill", "lefence-carry"),
 )
 
 

@@ -151,9 +151,11 @@ class Description:
     frame: Frame
     total: Total
 
-    def __init__(self, program: str, design: Path, libraries: list[Path]) -> None:
-        """Starts the program over a DEF file and LEF files, and reads the frame."""
-        self._run = Program(program, [design, *libraries]).describe()
+    def __init__(self, program: str, design: Path, libraries: list[Path], state: Path | None = None) -> None:
+        """Starts the program over a DEF file and LEF files, with the working places of a state if one is given; reads
+        the frame.
+        """
+        self._run = Program(program, [design, *libraries]).describe(state)
         self._batches = self._read_batches()
         # Lines after the frame that were read with it.
         self._read_ahead: list[bytes] = []

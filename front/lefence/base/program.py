@@ -110,9 +110,10 @@ class Program:
         """
         return subprocess.Popen(self._replay_words(), stdin=end.fileno(), stdout=end.fileno(), start_new_session=True)
 
-    def describe(self) -> Run:
-        """Starts a description of the design."""
-        return Run(self._describe_words())
+    def describe(self, state: Path | None = None) -> Run:
+        """Starts a description of the design, with the working places of a state text if one is given."""
+        words = self._describe_words()
+        return Run([*words, "--state", *path_words([state])] if state else words)
 
     async def replay_async(
         self, export: str | None = None, state: Path | None = None, save: Path | None = None

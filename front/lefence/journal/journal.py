@@ -11,7 +11,7 @@ import errno
 import fcntl
 import os
 import time
-from collections.abc import Callable, Iterator
+from collections.abc import Callable, Iterable, Iterator
 from pathlib import Path
 
 from ..base.atomic_file import sync_folder
@@ -244,6 +244,8 @@ class Journal:
                 return unusable
             if state:
                 problem = "is not the state that the journal names" if state.path.exists() else "is not there"
+                if first.number == 1:
+                    raise Fault(REFUSED, f"{state.path} {problem}, and the journal begins with it")
                 self._say(f"{state.path} {problem}; the changes before it are replayed")
             unusable.append(first.number)
             if first.number == 1:
@@ -335,8 +337,18 @@ class Journal:
         self._write_step(seal)
         self._reserved = self.end
 
-    def keep_state(self, source: Path, size: int, digest: str) -> None:
-        """Makes a written file the state at the start of the last segment, given its length and SHA-256.
+    def begin_with(self, source: Path, size: int, digest: str, notes: list[bytes]) -> None:
+        """Makes a written file the state with which a journal without changes begins; `notes` are about its teams.
+
+        Raises a Fault if the journal has changes or begins with a state already.
+        """
+        if self.changes or self.header.number > 1 or self._state:
+            raise Fault(REFUSED, f"{self.path} has a state or changes already: only a new journal can begin with a state")
+        self._notes += notes
+        self.keep_state(source, size, digest, notes)
+
+    def keep_state(self, source: Path, size: int, digest: str, notes: Iterable[bytes] = ()) -> None:
+        """Makes a written file the state at the start of the last segment, given its length and SHA-256, with notes.
 
         When it returns, the state and its name in the journal are on the disk. After an OSError there is no state.
         """
@@ -347,7 +359,7 @@ class Journal:
         try:
             os.replace(source, state.path)
             sync_folder(self.archive.folder)
-            if not self._note(state.note(self.owner)):
+            if not self._note(b"\n".join([*notes, state.note(self.owner)])):
                 raise OSError(errno.ENOSPC, "the disk is full: the state cannot be named in the journal")
         except OSError:
             state.path.unlink(missing_ok=True)

@@ -252,6 +252,8 @@ def read_records(path: Path) -> Iterator[Record]:
         if first.number > 1:
             message = f"{path}: its first {first.changes} changes exist only as a state"
             raise Fault(REFUSED, f"{message}; to push a journal, run its hub with --keep 0 from the start")
+        if Archive(path).state_named(1, readers[0].notes()):
+            raise Fault(REFUSED, f"{path}: it begins with a state, which cannot be pushed")
         yield from records_in(readers)
 
 

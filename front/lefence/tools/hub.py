@@ -9,6 +9,7 @@ import functools
 import json
 import os
 import resource
+import shutil
 import signal
 import sys
 import threading
@@ -21,6 +22,7 @@ from ..base.faults import DONE, FAILED, REFUSED, Fault, Parser, log, run_tool
 from ..base.input_files import use_plain_files
 from ..base.program import Program, find_program
 from ..base.protocol import MOST_SLOTS, socket_name
+from ..base.state_text import teams_in
 from ..hub.checkpoints import TailLimits
 from ..hub.clients import MOST_CLIENTS
 from ..hub.hub import Hub, HubLimits
@@ -30,6 +32,7 @@ from ..hub.notify import notify
 from ..hub.server import Server
 from ..hub.sockets import bind_socket, claim_folder, groups_of
 from ..hub.status import read_status, uncommitted_text
+from ..journal.frames import sum_of
 from ..journal.journal import Journal
 from ..journal.owner import this_process
 from ..journal.texts import remove_partial_texts, resolve_texts
@@ -176,6 +179,8 @@ async def run(options: argparse.Namespace) -> None:
     journal = Journal(options.journal, texts, say, this_process(program), options.takeover, options.sessions)
     journal.is_synced = not options.no_sync
     remove_partial_texts(options.journal)
+    if options.begin is not None:
+        begin_with(journal, options.begin)
     limits = HubLimits(
         options.patience,
         options.idle,
@@ -207,6 +212,26 @@ async def run(options: argparse.Namespace) -> None:
         await hub.server.kill()
         journal.close()
     say("ended")
+
+
+def begin_with(journal: Journal, path: Path) -> None:
+    """Has a new journal begin with a copy of a state text. The program checks it when it starts."""
+    notes, count = [], 0
+    with open(path, "rb") as file:
+        for team, cells in teams_in(file):
+            count = sum(cell.working != cell.committed for cell in cells)
+            notes.append(b"team %b %d %d -" % (team.name, team.revision, count))
+    journal.archive.make()
+    copy = journal.archive.temporary_state(1)
+    try:
+        with open(path, "rb") as file, open(copy, "xb") as target:
+            shutil.copyfileobj(file, target)
+            target.flush()
+            os.fsync(target.fileno())
+        journal.begin_with(copy, copy.stat().st_size, sum_of(copy), notes)
+    finally:
+        copy.unlink(missing_ok=True)
+    say(f"the journal begins with the state {path}")
 
 
 class StatusAction(argparse.Action):
@@ -259,6 +284,7 @@ def _add_files(made: Parser) -> None:
         required=True,
         help="the journal of accepted changes; made if it is missing",
     )
+    add("--begin", metavar="FILE", type=Path, help="a state text with which a new journal begins (lefence-carry)")
     add("--export", metavar="FILE", help="export the committed places to FILE at the end")
     add(
         "--team",

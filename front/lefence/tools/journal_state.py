@@ -1,0 +1,36 @@
+"""The state of a hub, from its journal alone."""
+
+from __future__ import annotations
+
+from pathlib import Path
+
+from ..base.faults import FAILED, REFUSED, Fault
+from ..base.program import Program
+from ..hub.server import Server, ServerLost
+from ..journal.segments import last_state, open_segments, records_in
+from ..journal.texts import kept_text
+
+
+async def save_state(journal: Path, program: str, target: Path) -> list[Path]:
+    """Saves the state at the end of a journal, whose hub may be running; returns the kept copies of its design's files.
+
+    Raises a Fault if a copy is missing, the journal is damaged, or the program replies otherwise than recorded.
+    """
+    with open_segments(journal) as readers:
+        header = readers[0].header()
+        kept = [found for text in header.texts if (found := kept_text(journal, text))]
+        if len(kept) != len(header.texts):
+            raise Fault(REFUSED, f"{journal}: {len(header.texts)} files, but {len(kept)} are kept next to it")
+        state, following = last_state(journal, readers, is_all=False)
+        sums = [text.sum for text in header.texts]
+        server = Server(Program(program, kept, header.slots), sums, save=target)
+        try:
+            await server.start(state)
+            await server.restore(records_in(following))
+            if await server.end():
+                raise Fault(FAILED, f"{journal}: the program could not save its state; see its message above")
+        except ServerLost as lost:
+            raise Fault(FAILED, f"{journal}: {lost}") from None
+        finally:
+            await server.kill()
+    return kept
