@@ -62,7 +62,7 @@ class Fillers(FrontCase):
             )
             self.assertEqual(description.total.illegal, 0)
 
-    def test_soft_blockages_stay_free_if_asked(self) -> None:
+    def test_soft_blockages_can_stay_free(self) -> None:
         soft = "BLOCKAGES 1 ;\n- PLACEMENT + SOFT RECT ( 69100 0 ) ( 70500 2000 ) ;\nEND BLOCKAGES\n"
         self.design.write_text(self.design.read_text().replace("GROUPS 8", f"{soft}GROUPS 8"))
         for words, is_free in ((("--off-soft",), True), ((), False)):

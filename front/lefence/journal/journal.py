@@ -343,7 +343,8 @@ class Journal:
         Raises a Fault if the journal has changes or begins with a state already.
         """
         if self.changes or self.header.number > 1 or self._state:
-            raise Fault(REFUSED, f"{self.path} has a state or changes already: only a new journal can begin with a state")
+            why = "has a state or changes already: only a new journal can begin with a state"
+            raise Fault(REFUSED, f"{self.path} {why}")
         self._notes += notes
         self.keep_state(source, size, digest, notes)
 

@@ -79,8 +79,10 @@ class TeamFill:
 
 def masters_of(names: list[str], libraries: list[bytes], frame: Frame) -> Masters:
     """Finds the masters in the LEF files. Raises a Fault if one is not one row high and whole sites wide."""
-    sizes = {name: (width, height) for text in reversed(libraries) for name, width, height in list(sizes_of(text))[::-1]}
     facts, widths = frame.facts, {}
+    # (of two macros with one name the first counts)
+    macros = [macro for text in libraries for macro in sizes_of(text)]
+    sizes = {name: (width, height) for name, width, height in reversed(macros)}
     for name in names:
         if (size := sizes.get(word_of(name).encode())) is None:
             raise Fault(REFUSED, f"no LEF file has a macro {name}")

@@ -5,7 +5,6 @@ from __future__ import annotations
 import argparse
 import functools
 import tempfile
-from decimal import Decimal
 from pathlib import Path
 
 from ..base.atomic_file import atomic_file, output_file, refuse_inputs
@@ -51,13 +50,9 @@ def prepare(stages: Stages, wanted: PreparationOptions, libraries: list[bytes], 
     if wanted.splits_patterns:
         split_patterns(stages.next())
     if wanted.adds_halos:
-        sizes = {name: (width, height) for text in reversed(libraries) for name, width, height in _reversed_sizes(text)}
-        add_halos(stages.next(), sizes)
-
-
-def _reversed_sizes(library: bytes) -> list[tuple[bytes, Decimal, Decimal]]:
-    """The macros of a LEF text with their sizes, the last one first: of two with one name the first counts."""
-    return list(sizes_of(library))[::-1]
+        # (of two macros with one name the first counts)
+        macros = [macro for text in libraries for macro in sizes_of(text)]
+        add_halos(stages.next(), {name: (width, height) for name, width, height in reversed(macros)})
 
 
 def _usable_sites(libraries: list[bytes]) -> list[Site]:
