@@ -12,21 +12,19 @@ only if no edit survived.
 
 from __future__ import annotations
 
-import json
-import os
 import signal
-import socket
 import subprocess
 import sys
 import tempfile
-import time
 from dataclasses import dataclass
 from pathlib import Path
 
+from unproved import build
+
 TOP = Path(__file__).resolve().parent.parent
 EDITS = "tests/planted"
-# The most seconds of a build.
-PATIENCE = 1_800
+# Where the tests expect the program.
+PROGRAM = "crates/lefence/out/lefence"
 
 
 @dataclass(frozen=True)
@@ -58,79 +56,6 @@ def plant(room: Path, edit: Edit) -> str:
     return before
 
 
-def free_port() -> int:
-    with socket.socket() as free:
-        free.bind(("127.0.0.1", 0))
-        return int(free.getsockname()[1])
-
-
-def words_of_program(folder: Path) -> list[str] | None:
-    """The command line of a running program that is in the folder, up to the program's own path."""
-    for path in Path("/proc").glob("[0-9]*/cmdline"):
-        try:
-            words = [word.decode() for word in path.read_bytes().split(b"\0")]
-        except (OSError, UnicodeDecodeError):
-            continue
-        for at, word in enumerate(words):
-            if word.startswith(str(folder)) and word.endswith("/program"):
-                return words[: at + 1]
-    return None
-
-
-def launcher(words: list[str], target: Path) -> None:
-    """Makes a program that runs these words followed by its own arguments. Unlike a shell it needs no descriptor."""
-    source = target.with_suffix(".c")
-    listed = ", ".join(map(json.dumps, words))
-    source.write_text(
-        "#include <stdlib.h>\n#include <string.h>\n#include <unistd.h>\n"
-        f"static char *front[] = {{{listed}}};\n"
-        "int main(int count, char **own) {\n"
-        "    size_t known = sizeof front / sizeof *front;\n"
-        "    char **all = calloc(known + count, sizeof *all);\n"
-        "    memcpy(all, front, sizeof front);\n"
-        "    memcpy(all + known, own + 1, count * sizeof *all);\n"
-        "    execv(all[0], all);\n    return 127;\n}\n"
-    )
-    subprocess.run(["cc", "-o", str(target), str(source)], check=True)
-
-
-def build(room: Path, folder: Path) -> None:
-    """Builds the copy's program unproved, and puts it where the tests expect it. It is copied while it serves a
-    connection."""
-    port = free_port()
-    data = [word for name in ("w.def", "w.lef") for word in ("--data", f"{name}={room}/tests/data/{name}")]
-    words = [
-        "rt", "try", "--seconds", "600", *data, "--", "serve", "w.def", "w.lef", "--port", str(port),
-        "--connections", "1",
-    ]
-    with open(folder / "built", "wb") as said:
-        environment = {**os.environ, "TMPDIR": str(folder)}
-        trying = subprocess.Popen(words, cwd=room / "crates/lefence", stdout=said, stderr=said, env=environment)
-    try:
-        keep_program(trying, room, folder)
-    finally:
-        # (it ends when this tool ends, for any reason)
-        trying.terminate()
-        trying.wait()
-
-
-def keep_program(trying: subprocess.Popen[bytes], room: Path, folder: Path) -> None:
-    """Waits for the built program to serve, and puts it where the tests expect it."""
-    end = time.monotonic() + PATIENCE
-    while (found := words_of_program(folder)) is None:
-        if trying.poll() is not None or time.monotonic() > end:
-            trying.kill()
-            sys.exit(f"tools/planted.py: cannot be built:\n{(folder / 'built').read_text()}")
-        time.sleep(0.2)
-    target = room / "crates/lefence/out/lefence"
-    target.parent.mkdir(exist_ok=True)
-    kept = folder / "program"
-    kept.unlink(missing_ok=True)
-    kept.write_bytes(Path(found[-1]).read_bytes())
-    kept.chmod(0o755)
-    launcher([*found[:-1], str(kept)], target)
-
-
 def passes(room: Path, test: str) -> bool:
     ran = subprocess.run([sys.executable, "-B", "-m", "unittest", test], cwd=room / "tests", capture_output=True)
     return ran.returncode == 0
@@ -148,13 +73,13 @@ def main(names: list[str]) -> int:
         packed = subprocess.run(["git", "-C", str(TOP), "archive", "HEAD"], check=True, capture_output=True).stdout
         subprocess.run(["tar", "-x", "-C", str(room)], check=True, input=packed)
         edits = [edit_of(path) for path in sorted((room / EDITS).glob("*.edit")) if not names or path.stem in names]
-        build(room, folder)
+        build(room, folder, room / PROGRAM)
         for test in sorted({edit.test for edit in edits}):
             if not passes(room, test):
                 sys.exit(f"tools/planted.py: fails on the program as it is: {test}")
         for edit in edits:
             before = plant(room, edit)
-            build(room, folder)
+            build(room, folder, room / PROGRAM)
             is_refused = not passes(room, edit.test)
             (room / edit.file).write_text(before)
             survived += not is_refused

@@ -4,8 +4,13 @@
 # the output.
 # Two steps need KLayout (`apt install klayout`).
 front=$(cd -- "$(dirname -- "$0")/.." && pwd)
-export PATH="$front/bin:$PATH:${front%/*}"
-cp "$front"/tests/data/day* .
+data=$front/examples
+if [ -d "$front/bin" ]; then
+  # in a checkout
+  export PATH="$front/bin:$PATH:${front%/*}"
+  data=$front/tests/data
+fi
+cp "$data"/day.* "$data"/day_*.py .
 
 # The design has no rows and no fences, but fillers.
 lefence check day.def day.lef

@@ -165,7 +165,6 @@ def start_warning(tool: str, program: str, design: Path, libraries: list[Path]) 
 
 
 if __name__ == "__main__":
-    os.nice(10)
     _tool, _program, *_texts = sys.argv[1:]
     _design, *_libraries = map(Path, _texts)
     warn(lambda text: log(_tool, text), _program, _design, _libraries)
