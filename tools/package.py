@@ -76,7 +76,8 @@ def manual_page(name: str, text: str) -> bytes:
 
 def completion(helps: dict[str, str]) -> str:
     """A script that completes subcommands and options for bash, and file names."""
-    lines = ["# bash completion of lefence and its tools", "_lefence() {", "  local words", "  case ${COMP_WORDS[0]##*/} in"]
+    lines = ["# bash completion of lefence and its tools", "_lefence() {", "  local words"]
+    lines.append("  case ${COMP_WORDS[0]##*/} in")
     for name, text in helps.items():
         options = sorted(set(OPTION.findall(text)))
         subcommands = sorted(set(SUBCOMMAND.findall(text))) if name == "lefence" else []
@@ -143,7 +144,7 @@ def make(program: Path, folder: Path) -> Path:
 def main() -> int:
     parser = argparse.ArgumentParser(description="Makes a Debian package of the program and the front.")
     parser.add_argument("--program", metavar="PATH", type=Path, default=PROGRAM, help="the proved program")
-    parser.add_argument("folder", metavar="FOLDER", type=Path, nargs="?", default=Path(), help="where it is written")
+    parser.add_argument("folder", metavar="FOLDER", type=Path, nargs="?", default=Path(), help="the folder of the package")
     options = parser.parse_args()
     if not options.program.is_file():
         print(f"tools/package.py: {options.program} is not there: ./lefence proves and builds it", file=sys.stderr)

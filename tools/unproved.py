@@ -3,9 +3,9 @@
 
 usage: tools/unproved.py
 
-The kit compiles and runs a program before any proof (`rt try`), with tests of indices and sums in place of proofs. It is
-copied while it runs. That takes one to three minutes, and counts for nothing: only the proved program meets the
-contracts.
+The kit compiles and runs a program before any proof (`rt try`), with tests of indices and sums in place of proofs. It
+is copied while it runs. That takes one to three minutes. Nothing is claimed of this program: only the other one is
+proved.
 """
 
 from __future__ import annotations
