@@ -5,8 +5,8 @@ usage: tools/package.py [--program PATH] [FOLDER]    into FOLDER, else the prese
                                                      one that ./lefence has proved and built
 
 The package needs Debian 12 with its python3, and no kit. It has the program, the tools, the Python and Tcl libraries, a
-unit of systemd, the documents, an example, manual pages made of the texts of `--help`, and completion for bash. It needs
-dpkg-deb, which each Debian has.
+unit of systemd, the documents, an example, manual pages made of the texts of `--help`, and completion for bash. It is
+made by dpkg-deb, which each Debian has.
 """
 
 from __future__ import annotations
@@ -144,7 +144,7 @@ def make(program: Path, folder: Path) -> Path:
 def main() -> int:
     parser = argparse.ArgumentParser(description="Makes a Debian package of the program and the front.")
     parser.add_argument("--program", metavar="PATH", type=Path, default=PROGRAM, help="the proved program")
-    parser.add_argument("folder", metavar="FOLDER", type=Path, nargs="?", default=Path(), help="the folder of the package")
+    parser.add_argument("folder", metavar="FOLDER", type=Path, nargs="?", default=Path(), help="its folder")
     options = parser.parse_args()
     if not options.program.is_file():
         print(f"tools/package.py: {options.program} is not there: ./lefence proves and builds it", file=sys.stderr)
