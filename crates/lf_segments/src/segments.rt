@@ -90,20 +90,20 @@ fn indexed(alloc: Global, frame: &Frame, list: Vec<Segment>) -> Result<Segments,
 
 /// The segments of a frame, and the land.
 #[derive(Drop)]
-pub(crate) struct Cuts {
-    pub(crate) segments: Segments,
-    pub(crate) land: Segments,
+pub struct SegmentsAndLand {
+    pub segments: Segments,
+    pub land: Segments,
 }
 
 /// Returns the segments of the frame, and the land. `Err` if an allocation fails.
-pub(crate) fn cuts_of(alloc: Global, frame: &Frame) -> Result<Cuts, AllocError>
+pub fn segments_and_land(alloc: Global, frame: &Frame) -> Result<SegmentsAndLand, AllocError>
     ensures segments { IfOk result (λ cuts. IsCut frame.now cuts.segments) }
     ensures land { IfOk result (λ cuts. IsCutBeside frame.now [] cuts.land) }
 {
     let lists = cut_both(alloc, frame)?;
     let segments = indexed(alloc, frame, lists.segments)?;
     let land = indexed(alloc, frame, lists.land)?;
-    Ok(Cuts { segments, land })
+    Ok(SegmentsAndLand { segments, land })
 }
 
 impl Segments {
@@ -141,7 +141,7 @@ impl Segments {
 
     /// Returns the positions in the list of the segments of the row; an empty range if there are no
     /// such segments. Takes one lookup.
-    pub(crate) fn range_of(&self, row: usize) -> RowRange
+    pub fn range_of(&self, row: usize) -> RowRange
         ensures { IsRangeOf (rows_of self.now) row result.start result.end }
     {
         range_in(&self.list, &self.starts, row)

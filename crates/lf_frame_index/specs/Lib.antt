@@ -1,0 +1,6 @@
+pub mod Laws
+pub mod RowsByY
+pub mod Strips
+pub mod Soft
+pub mod Indexes
+pub mod IndexedFrames
