@@ -23,17 +23,15 @@ pub struct Segments {
 }
 
 impl Model for Segments {
-    ghost use Rattle.std.specs.Prelude.{List, All, AllPairs};
-    ghost use Rattle.lf_spans.specs.Spans.{IsFilled};
+    ghost use Rattle.std.specs.Prelude.{List};
     ghost use Rattle.lf_segments.specs.declared.segment.Segment.{Segment};
-    ghost use Rattle.lf_segments.specs.RowStarts.{AreRowStarts, rows_of};
-    ghost use Rattle.lf_segments.specs.Segments.{ComesBefore};
+    ghost use Rattle.lf_segments.specs.RowStarts.{HaveRowStarts};
 
     ghost Value = { List Segment };
 
     ghost view = { λ s. s.list.items };
 
-    ghost invariant = { λ s. AllPairs ComesBefore s.list.items × (All (λ g. IsFilled g.span) s.list.items × AreRowStarts (rows_of s.list.items) s.starts) };
+    ghost invariant = { λ s. HaveRowStarts s.list.items s.starts };
 }
 
 /// Returns the segments of all rows. Visits for each row only the boxes near it. `Err` if an
