@@ -24,7 +24,7 @@ LONG = {
     "lf_laws_slice_texts": 6, "lf_laws_slices": 7, "lf_lef": 46, "lf_legalize": 42, "lf_lex": 13, "lf_names": 22,
     "lf_occupancy": 99, "lf_placement": 35, "lf_proto": 31, "lf_repair_bounds": 10, "lf_repair_packing": 9,
     "lf_repair_planner": 3, "lf_repair_report": 6, "lf_repair_strategy": 1, "lf_repair_team": 74, "lf_reports": 33,
-    "lf_rtree": 1, "lf_rules": 21, "lf_segments": 16, "lf_server": 48, "lf_sessions": 3, "lf_spans": 3,
+    "lf_rtree": 1, "lf_rules": 21, "lf_segments": 15, "lf_server": 48, "lf_sessions": 3, "lf_spans": 3,
     "lf_state_restore": 8, "lf_state_text": 35, "lf_task_designs": 56, "lf_task_files": 57, "lf_task_repair": 70,
     "lf_task_serve": 57, "lf_team_def": 7, "lf_tests_app": 2, "lf_tests_protocol": 4, "lf_undo": 8, "lf_units": 3,
     "lf_write": 19,
