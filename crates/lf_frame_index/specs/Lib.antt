@@ -4,3 +4,4 @@ pub mod Strips
 pub mod Soft
 pub mod Indexes
 pub mod IndexedFrames
+pub mod Lookups

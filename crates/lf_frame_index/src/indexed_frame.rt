@@ -1,10 +1,10 @@
 //! A frame together with its index, borrowed as a pair.
 
-ghost use Rattle.std.specs.Prelude.{◌≡◌, ◌↔◌, ◌<ℤ◌, IsTrue};
+ghost use Rattle.std.specs.Prelude.{◌≡◌, ◌↔◌, IsTrue};
 ghost use Rattle.lf_floorplan.specs.Ground.{IsClear, StaysInGround};
-ghost use Rattle.lf_floorplan.specs.Standing.{RestsOnRows};
 ghost use Rattle.lf_frame_index.specs.Indexes.{IsExtentOf, IsIndexOf};
 ghost use Rattle.lf_frame_index.specs.IndexedFrames.{AreRowsAt, AreRowsBetween, IsSoftOf};
+ghost use Rattle.lf_frame_index.specs.Lookups.{IsBoxOnRows};
 
 use crate::frame_index::FrameIndex;
 use crate::laws::{cut_is_unique, lies_in_segments};
@@ -37,8 +37,7 @@ impl<'a> Model for IndexedFrame<'a> {
 /// Returns whether every point of the box is ground of the team. The box must rest on rows.
 fn keeps_ground(frame: &Frame, index: &FrameIndex, team: usize, rect: &Rect) -> bool
     requires index { IsIndexOf frame.now index.now }
-    requires wide { rect.now.x1 <ℤ rect.now.x2 }
-    requires is_in_place { RestsOnRows frame.now rect.now }
+    requires box_on_rows { IsBoxOnRows frame.now rect.now }
     ensures { IsTrue result ↔ StaysInGround frame.now team rect.now }
 {
     lies_in_segments();
@@ -49,29 +48,12 @@ fn keeps_ground(frame: &Frame, index: &FrameIndex, team: usize, rect: &Rect) -> 
 /// ground.
 fn keeps_clear(frame: &Frame, index: &FrameIndex, team: usize, rect: &Rect) -> bool
     requires index { IsIndexOf frame.now index.now }
-    requires wide { rect.now.x1 <ℤ rect.now.x2 }
-    requires is_in_place { RestsOnRows frame.now rect.now }
+    requires box_on_rows { IsBoxOnRows frame.now rect.now }
     requires inside { StaysInGround frame.now team rect.now }
     ensures { IsTrue result ↔ IsClear frame.now rect.now }
 {
     lies_in_segments();
     lies_in(frame, index.rows(), index.segments(), team, rect)
-}
-
-/// Returns the rows at y.
-fn rows_at<'a>(frame: &Frame, index: &'a FrameIndex, y: &i64) -> &'a [RowEntry]
-    requires { IsIndexOf frame.now index.now }
-    ensures { AreRowsAt frame.now y.now result.now }
-{
-    index.rows().at(*y)
-}
-
-/// Returns the rows from one y on and below another.
-fn rows_between<'a>(frame: &Frame, index: &'a FrameIndex, from: &i64, to: &i64) -> &'a [RowEntry]
-    requires { IsIndexOf frame.now index.now }
-    ensures { AreRowsBetween frame.now from.now to.now result.now }
-{
-    index.rows().between(*from, *to)
 }
 
 /// Returns the soft spans of a segment.
@@ -103,7 +85,7 @@ impl<'a> IndexedFrame<'a> {
     pub fn rows_at(&self, y: i64) -> &'a [RowEntry]
         ensures { AreRowsAt self.now y result.now }
     {
-        rows_at(self.frame, self.index, &y)
+        self.index.rows().at(y)
     }
 
     /// Returns the rows from one y on and below another, in database units, in order of y and then
@@ -111,7 +93,7 @@ impl<'a> IndexedFrame<'a> {
     pub fn rows_between(&self, from: i64, to: i64) -> &'a [RowEntry]
         ensures { AreRowsBetween self.now from to result.now }
     {
-        rows_between(self.frame, self.index, &from, &to)
+        self.index.rows().between(from, to)
     }
 
     /// Returns a rectangle that holds all rows, in database units.

@@ -7,6 +7,7 @@ ghost use Rattle.lf_floorplan.specs.Rows.{IsCoreRow, row_area};
 ghost use Rattle.lf_floorplan.specs.Standing.{ExtendsOver, RestsOnRows};
 ghost use Rattle.lf_segments.specs.Boxes.{x_extent};
 ghost use Rattle.lf_frame_index.specs.Laws.{LiesAt, LiesInSegments};
+ghost use Rattle.lf_frame_index.specs.Lookups.{CanLookUp};
 ghost use Rattle.lf_frame_index.specs.RowsByY.{IsEntryOf, IsRowsByY};
 ghost use Rattle.lf_segments.specs.Segments.{ComesBefore, LiesInSegment};
 
@@ -80,9 +81,7 @@ fn lies_at(
     rect: &Rect,
     y: &i64,
 ) -> bool
-    requires rows { IsRowsByY frame.now rows.now }
-    requires order { AllPairs ComesBefore segments.now }
-    requires wide { rect.now.x1 <ℤ rect.now.x2 }
+    requires { CanLookUp frame.now rows.now segments.now rect.now }
     ensures { IsTrue result ↔ LiesAt frame.now segments.now team rect.now y.now }
 {
     match row_at(frame, rows, y, &rect.x1) {
@@ -111,9 +110,7 @@ pub(crate) fn lies_in(
     team: usize,
     rect: &Rect,
 ) -> bool
-    requires rows { IsRowsByY frame.now rows.now }
-    requires order { AllPairs ComesBefore segments.now }
-    requires wide { rect.now.x1 <ℤ rect.now.x2 }
+    requires lookup { CanLookUp frame.now rows.now segments.now rect.now }
     requires is_in_place { RestsOnRows frame.now rect.now }
     ensures { IsTrue result ↔ LiesInSegments frame.now segments.now team rect.now }
 {

@@ -3,6 +3,7 @@
 ghost use Rattle.std.specs.Prelude.{◌≡◌, ◌<◌, ◌≤◌, ◌<ℤ◌, ◌≤ℤ◌, ◌+ℤ◌, ℕ, ℤ, All, AllPairs, IfOk, int_lt, length, map, negsuc, pos, true, false};
 ghost use Rattle.lf_frame_index.specs.declared.strip.Strip.{Strip};
 ghost use Rattle.lf_segments.specs.RowStarts.{rows_of};
+ghost use Rattle.lf_frame_index.specs.Lookups.{AreWideStrips, IsRowHeight};
 ghost use Rattle.lf_frame_index.specs.Strips.{AreNear, AreRowsNear, LiesBefore, is_begun, is_earlier, is_ended, row_y, rows_in, strip_of};
 
 use crate::rows_by_y::{RowEntry, RowsByY};
@@ -83,8 +84,7 @@ fn is_before(strip: &Strip, row: usize, team: usize, left: bool) -> bool
 /// Returns the number of strips of an earlier row or team, or of this row and team that end at x or
 /// left of it.
 fn count_ended(strips: &[Strip], row: usize, team: usize, x: &i64) -> usize
-    requires order { AllPairs LiesBefore strips.now }
-    requires wide { All (λ g. g.area.x1 <ℤ g.area.x2) strips.now }
+    requires { AreWideStrips strips.now }
     ensures within { result ≤ length strips.now }
     ensures ended { (k : ℕ) → (d : Strip) → k < result → is_ended strips.now row team x.now k d ≡ true }
     ensures rest { (k : ℕ) → (d : Strip) → result ≤ k → k < length strips.now → is_ended strips.now row team x.now k d ≡ false }
@@ -104,8 +104,7 @@ fn begins_before(strip: &Strip, row: usize, team: usize, x: &i64) -> bool
 /// or team, or of this row and team and does not begin left of x. Returns the number of strips if
 /// there is no such strip.
 fn end_of_begun(strips: &[Strip], first: usize, row: usize, team: usize, x: &i64) -> usize
-    requires order { AllPairs LiesBefore strips.now }
-    requires wide { All (λ g. g.area.x1 <ℤ g.area.x2) strips.now }
+    requires strips { AreWideStrips strips.now }
     requires first { first ≤ length strips.now }
     ensures within { result ≤ length strips.now }
     ensures begun { (k : ℕ) → (d : Strip) → first ≤ k → k < result → is_begun strips.now row team x.now k d ≡ true }
@@ -129,8 +128,7 @@ pub(crate) fn near_strips(
     lo: &i64,
     hi: &i64,
 ) -> StripRange
-    requires order { AllPairs LiesBefore strips.now }
-    requires wide { All (λ g. g.area.x1 <ℤ g.area.x2) strips.now }
+    requires strips { AreWideStrips strips.now }
     requires rows { rows_in strips.now ≡ rows_of segments.now }
     ensures { AreNear strips.now row team lo.now hi.now result.start result.end }
 {
@@ -147,8 +145,7 @@ pub(crate) fn near_strips(
 /// Returns the lowest y at which the strip of a row of this height may share a point with the
 /// rectangle.
 fn lowest_near(height: &i64, rect: &Rect) -> i64
-    requires high { pos 0 <ℤ height.now }
-    requires small { height.now ≤ℤ pos 20000000000 }
+    requires { IsRowHeight height.now }
     ensures { (y : ℤ) → negsuc 2147483647 ≤ℤ y → rect.now.y1 <ℤ (y +ℤ height.now) → result ≤ℤ y }
 {
     rect.y1.max(LOWEST) - *height + 1
@@ -157,8 +154,7 @@ fn lowest_near(height: &i64, rect: &Rect) -> i64
 /// Returns the entries of the rows of this height whose strips may share a point with the
 /// rectangle. Found by binary search.
 pub(crate) fn rows_near<'a>(rows: &'a RowsByY, height: &i64, rect: &Rect) -> &'a [RowEntry]
-    requires high { pos 0 <ℤ height.now }
-    requires small { height.now ≤ℤ pos 20000000000 }
+    requires { IsRowHeight height.now }
     ensures { AreRowsNear rows.now height.now rect.now result.now }
 {
     rows.between(lowest_near(height, rect), rect.y2)

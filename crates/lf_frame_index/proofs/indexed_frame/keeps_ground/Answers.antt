@@ -8,4 +8,4 @@ pub returns : goal.returns
 returns c =
     let f = c.args.frame.now in
     let cut = subst (λ (xs : List Segment). IsCutBeside f [] xs) (sym c.ground_segments.ensures) c.requires.index.land in
-    ground_of f c.ground_segments.result.now c.args.team c.args.rect.now c.lies_in.result c.lies_in_segments.ensures cut c.requires.is_in_place c.requires.wide c.lies_in.ensures
+    ground_of f c.ground_segments.result.now c.args.team c.args.rect.now c.lies_in.result c.lies_in_segments.ensures cut c.requires.box_on_rows.is_in_place c.requires.box_on_rows.wide c.lies_in.ensures

@@ -16,7 +16,7 @@ returns-then-rect-y c =
     let at = c.level_above-y.ensures in
     let test = c.if-rect-y.true in
     let ends : box.y2 ≤ℤ (box.y1 +ℤ (pos level *ℤ f.pitch.y)) = omega (arith, ints, at, test) in (
-      λ yes. all_lie f c.args.segments.now c.args.team box level c.requires.wide c.loop-level.invariant (ends_by_level f box level ends),
+      λ yes. all_lie f c.args.segments.now c.args.team box level c.requires.lookup.wide c.loop-level.invariant (ends_by_level f box level ends),
       λ lies. refl,
     )
 
@@ -33,7 +33,7 @@ returns-then-not-lies_at c =
       λ yes. absurd cc,
       λ lies.
           c.if-not-lies_at.ensures.1
-          (subst (LiesAt f xs c.args.team box) (sym (same ∙ at)) (level_lies f xs c.args.team box level c.requires.wide c.requires.is_in_place under lies)),
+          (subst (LiesAt f xs c.args.team box) (sym (same ∙ at)) (level_lies f xs c.args.team box level c.requires.lookup.wide c.requires.is_in_place under lies)),
     )
 
 pub loop-level-preserved : goal.loop-level-preserved
@@ -49,6 +49,6 @@ returns c =
     let level = c.loop-level.level in
     let test = c.loop-level-test.false in
     let most : (k : ℕ) → IsSitesHigh f box k → k ≤ level = λ k high. let bound = high.most in omega (arith, test, bound) in (
-      λ yes. all_lie f c.args.segments.now c.args.team box level c.requires.wide c.loop-level.invariant most,
+      λ yes. all_lie f c.args.segments.now c.args.team box level c.requires.lookup.wide c.loop-level.invariant most,
       λ lies. refl,
     )
