@@ -1,7 +1,7 @@
 -- Rows in order of their y: the order that a sort gives, the entries, and runs found by binary
 -- search.
 use Rattle.std.proofs.Common.{◌≡◌, ◌≢◌, ◌⊎◌, inl, inr, ℕ, ℤ, pos, ◌+◌, ◌-◌, ◌<◌, ◌≤◌, ◌≤ℤ◌, ◌<ℤ◌, zero, suc, true, false, refl, List, [], ◌∷◌, Some, slice_get, map}
-use Rattle.std.proofs.Common.{◌++◌, length, get_or, take, drop, sym, ap, subst, ◌∙◌, arith, int_le, int_lt, eqb, Ordering}
+use Rattle.std.proofs.Common.{◌++◌, length, get_or, take, drop, sym, ap, subst, ◌∙◌, arith, int_lt, eqb, Ordering}
 use Rattle.std.specs.declared.cmp.Ordering.TheVariants.{Less, Equal, Greater}
 use Rattle.std.specs.Prelude.{All, AllPairs, Any, Contains, IsPermutation}
 use Rattle.std.specs.Ordering.{int_cmp, is_lt, ordering_then, MatchOrdering}
@@ -16,6 +16,7 @@ use Rattle.std.proofs.lemmas.List.Sorted.{sorted_far, ranks_by, All-permutation,
 use Rattle.std.proofs.lemmas.Map.Keys.{IsDistinct-IsPermutation}
 use Rattle.std.proofs.lemmas.Map.Made.{AllPairs-from_IsDistinct, IsDistinct-from_AllPairs}
 use Rattle.std.proofs.lemmas.Option.{slice_get-get_or, slice_get_within, get_or_from_slice_get}
+use Rattle.lf_spans.proofs.Comparisons.{less_of, of_less, not_less_of}
 use Rattle.lf_floorplan.specs.declared.frame.Frame.{Frame}
 use Rattle.lf_floorplan.specs.declared.parts.Row.{Row}
 use Rattle.lf_frame_index.specs.declared.rows_by_y.RowEntry.{RowEntry}
@@ -57,7 +58,7 @@ entry_first rows k d e within =
     let same : 0 + k ≡ k = omega arith in
     entry_at rows 0 k d e within ∙ ap (λ (m : ℕ). entry m (get_or rows k e)) same
 
-some_row : (rows : List Row) (k : ℕ) → k < length rows → Row
+pub some_row : (rows : List Row) (k : ℕ) → k < length rows → Row
 some_row [] k within = absurd (omega (arith, within))
 some_row (r ∷ rows) k within = r
 
@@ -130,21 +131,6 @@ rows_by_y f es moved in_order = record {
 }
 
 -- The facts that a binary search by y gives about the entries in front of its result and after it.
-pub less_of : (a b : ℤ) → int_lt a b ≡ true → a <ℤ b
-less_of a b e = grind (arith, ints)
-
-pub of_less : (a b : ℤ) → a <ℤ b → int_lt a b ≡ true
-of_less a b h = grind (arith, ints)
-
-pub not_less_of : (a b : ℤ) → int_lt a b ≡ false → b ≤ℤ a
-not_less_of a b e = grind (arith, ints)
-
-pub most_of : (a b : ℤ) → int_le a b ≡ true → a ≤ℤ b
-most_of a b e = grind (arith, ints)
-
-pub of_most : (a b : ℤ) → a ≤ℤ b → int_le a b ≡ true
-of_most a b h = grind (arith, ints)
-
 pub no_lower : (a b : RowEntry) → PrecedesByY a b → a.y ≤ℤ b.y
 no_lower a b (inl less) = omega (arith, ints, less)
 no_lower a b (inr both) = let same = both.0 in omega (arith, ints, same)

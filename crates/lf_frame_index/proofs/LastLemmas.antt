@@ -7,7 +7,8 @@ use Rattle.std.proofs.lemmas.List.{get_or_default}
 use Rattle.std.proofs.lemmas.List.Elements.{Contains-get_or}
 use Rattle.lf_frame_index.specs.declared.rows_by_y.RowEntry.{RowEntry}
 use Rattle.lf_frame_index.specs.RowsByY.{BeginsUpTo, IsUpToPoint, is_up_to_point, IsLastAt, PrecedesByY}
-use Rattle.lf_frame_index.proofs.HeightLemmas.{exactly, heights_rise, less_of, most_of, not_less_of, of_less, of_most}
+use Rattle.lf_spans.proofs.Comparisons.{less_of, most_of, not_less_of, of_less, of_most}
+use Rattle.lf_frame_index.proofs.HeightLemmas.{exactly, heights_rise}
 
 -- A choice of three.
 pub record IsThird (a b c : Bool) : Type 0 where

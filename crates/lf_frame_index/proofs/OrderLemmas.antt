@@ -8,6 +8,7 @@ use Rattle.std.proofs.lemmas.Bool.{false≢true}
 use Rattle.std.proofs.lemmas.Bool.Decides.{nat_tests, eqb_tells}
 use Rattle.std.proofs.lemmas.Int.{ints}
 use Rattle.std.proofs.lemmas.List.{get_or_default}
+use Rattle.lf_spans.proofs.Comparisons.{less_of, of_less, most_of, of_most, not_most_of}
 use Rattle.lf_frame_index.specs.declared.strip.Strip.{Strip}
 use Rattle.lf_frame_index.specs.Strips.{AreNear, LiesBefore, IsNear, is_earlier}
 
@@ -89,36 +90,21 @@ parted row team left xs pairs falls i j d order within t = elim same_or [
     same_or : (i ≡ j) ⊎ (i < j)
     same_or = grind arith
 
-le_of : (a b : ℤ) → int_le a b ≡ true → a ≤ℤ b
-le_of a b e = grind (arith, ints)
-
-of_le : (a b : ℤ) → a ≤ℤ b → int_le a b ≡ true
-of_le a b h = grind (arith, ints)
-
-lt_of : (a b : ℤ) → int_lt a b ≡ true → a <ℤ b
-lt_of a b e = grind (arith, ints)
-
-of_lt : (a b : ℤ) → a <ℤ b → int_lt a b ≡ true
-of_lt a b h = grind (arith, ints)
-
-not_le : (a b : ℤ) → int_le a b ≡ false → b <ℤ a
-not_le a b e = grind (arith, ints)
-
 pub ended_parted : (row team : ℕ) (x : ℤ) (xs : List Strip) → AllPairs LiesBefore xs → All (λ g. g.area.x1 <ℤ g.area.x2) xs →
     IsPartitionedBy (λ g. is_earlier row team (int_le g.area.x2 x) g) xs
 ended_parted row team x xs pairs wide = parted row team (λ g. int_le g.area.x2 x) xs pairs
     (λ i j d less within apart h.
     let w = wide j d within in
-    let l = le_of (get_or xs j d).area.x2 x h in
-    of_le (get_or xs i d).area.x2 x (omega (arith, ints, w, l, apart)))
+    let l = most_of (get_or xs j d).area.x2 x h in
+    of_most (get_or xs i d).area.x2 x (omega (arith, ints, w, l, apart)))
 
 pub begun_parted : (row team : ℕ) (x : ℤ) (xs : List Strip) → AllPairs LiesBefore xs → All (λ g. g.area.x1 <ℤ g.area.x2) xs →
     IsPartitionedBy (λ g. is_earlier row team (int_lt g.area.x1 x) g) xs
 begun_parted row team x xs pairs wide = parted row team (λ g. int_lt g.area.x1 x) xs pairs
     (λ i j d less within apart h.
     let w = wide i d (omega (arith, less, within)) in
-    let l = lt_of (get_or xs j d).area.x1 x h in
-    of_lt (get_or xs i d).area.x1 x (omega (arith, ints, w, l, apart)))
+    let l = less_of (get_or xs j d).area.x1 x h in
+    of_less (get_or xs i d).area.x1 x (omega (arith, ints, w, l, apart)))
 
 -- If one strip is not begun, no strip after it is.
 pub not_begun_after : (row team : ℕ) (x : ℤ) (xs : List Strip) → AllPairs LiesBefore xs → All (λ g. g.area.x1 <ℤ g.area.x2) xs → (n : ℕ) (e : Strip) →
@@ -159,12 +145,12 @@ near_of row team lo hi g first second = from (earlier_of row team (int_lt g.area
 
     right : (b : Bool) → int_le g.area.x2 lo ≡ b → g.row ≡ row → g.team ≡ team → lo <ℤ g.area.x2
     right true e same alike = absurd (never (by_x same alike e))
-    right false e same alike = not_le g.area.x2 lo e
+    right false e same alike = not_most_of g.area.x2 lo e
 
     from : Earlier row team (int_lt g.area.x1 hi) g → IsNear row team lo hi g
     from (by_row h) = absurd (never (by_row h))
     from (by_team e h) = absurd (never (by_team e h))
-    from (by_x e f h) = record { in_row = e; of_team = f; right = right (int_le g.area.x2 lo) refl e f; left = lt_of g.area.x1 hi h }
+    from (by_x e f h) = record { in_row = e; of_team = f; right = right (int_le g.area.x2 lo) refl e f; left = less_of g.area.x1 hi h }
 
 not_ended : (row team : ℕ) (lo hi : ℤ) (g : Strip) → IsNear row team lo hi g → is_earlier row team (int_le g.area.x2 lo) g ≡ true → ⊥
 not_ended row team lo hi g near t = never (earlier_of row team (int_le g.area.x2 lo) g t)
@@ -172,11 +158,11 @@ not_ended row team lo hi g near t = never (earlier_of row team (int_le g.area.x2
     never : Earlier row team (int_le g.area.x2 lo) g → ⊥
     never (by_row h) = let e = near.in_row in omega (arith, h, e)
     never (by_team e h) = let f = near.of_team in omega (arith, h, f)
-    never (by_x e f h) = let l = le_of g.area.x2 lo h in let r = near.right in omega (arith, ints, l, r)
+    never (by_x e f h) = let l = most_of g.area.x2 lo h in let r = near.right in omega (arith, ints, l, r)
 
 begun : (row team : ℕ) (lo hi : ℤ) (g : Strip) → IsNear row team lo hi g → is_earlier row team (int_lt g.area.x1 hi) g ≡ false → ⊥
 begun row team lo hi g near t =
-    false≢true (sym t ∙ of_earlier row team (int_lt g.area.x1 hi) g (by_x near.in_row near.of_team (of_lt g.area.x1 hi near.left)))
+    false≢true (sym t ∙ of_earlier row team (int_lt g.area.x1 hi) g (by_x near.in_row near.of_team (of_less g.area.x1 hi near.left)))
 
 pub are_near : (xs : List Strip) (row team : ℕ) (lo hi : ℤ) (start end : ℕ) → end ≤ length xs →
     ((k : ℕ) (d : Strip) → k < start → is_earlier row team (int_le (get_or xs k d).area.x2 lo) (get_or xs k d) ≡ true) →

@@ -1,6 +1,6 @@
 -- The strips of a frame's segments.
 use Rattle.std.proofs.Common.{◌≡◌, ℕ, ◌<◌, ℤ, pos, ◌-ℤ◌, ◌+ℤ◌, ◌<ℤ◌, List, [], ◌∷◌, Some}
-use Rattle.std.proofs.Common.{length, get_or, map, slice_get, refl, sym, ap, subst, ◌∙◌, arith}
+use Rattle.std.proofs.Common.{get_or, map, slice_get, refl, sym, ap, subst, ◌∙◌, arith}
 use Rattle.std.specs.Prelude.{All, AllPairs, Any}
 use Rattle.std.specs.Option.{option_map_or}
 use Rattle.std.proofs.lemmas.Int.{ints}
@@ -18,13 +18,10 @@ use Rattle.lf_segments.specs.Segments.{IsCut, IsOpen, IsSegment, LiesInSegment}
 use Rattle.lf_segments.specs.RowStarts.{rows_of}
 use Rattle.lf_frame_index.specs.RowsByY.{IsEntryOf, IsRowsByY}
 use Rattle.lf_frame_index.specs.Strips.{AreStrips, IsPlaced, LiesBefore, row_y, rows_in, strip_of}
+use Rattle.lf_frame_index.proofs.HeightLemmas.{some_row}
 
 no_segment : Segment
 no_segment = record { row = 0; team = 0; span = record { lo = pos 0; hi = pos 0 } }
-
-some_row : (rows : List Row) (k : ℕ) → k < length rows → Row
-some_row [] k within = absurd (omega (arith, within))
-some_row (r ∷ rows) k within = r
 
 strips_in_order : (f : Frame) (segments : List Segment) → IsCut f segments → AllPairs LiesBefore (map (strip_of f) segments)
 strips_in_order f segments cut i j d less within =
