@@ -1,5 +1,6 @@
 -- Where the segments of each row begin.
 use Rattle.std.specs.Prelude.{◌≡◌, ℕ, ◌<◌, ◌≤◌, List, All, AllPairs, length, map, slice_index_or}
+use Rattle.std.specs.List.Sorted.{IsNonDecreasingBy}
 use Rattle.lf_spans.specs.Spans.{IsFilled}
 use Rattle.lf_segments.specs.declared.segment.Segment.{Segment}
 use Rattle.lf_segments.specs.Segments.{ComesBefore}
@@ -18,6 +19,11 @@ pub record IsStartOf (rows : List ℕ) (row n : ℕ) : Type 0 where
 pub record AreRowStarts (rows starts : List ℕ) : Type 0 where
   pub each : (r d : ℕ) → r < length starts → IsStartOf rows r (slice_index_or starts r d)
   pub all : All (λ r. r < length starts) rows
+
+-- Segments in order of rows, each of a row below a number.
+pub record AreOfRows (segments : List Segment) (rows : ℕ) : Type 0 where
+  pub order : IsNonDecreasingBy (λ g. g.row) segments
+  pub known : All (λ g. g.row < rows) segments
 
 -- Filled segments in order, and the starts of their rows.
 pub record HaveRowStarts (segments : List Segment) (starts : List ℕ) : Type 0 where
