@@ -1,6 +1,8 @@
 -- Facts that the private lookups of this crate use. No public clause cites them.
-use Rattle.std.specs.Prelude.{ℤ, pos, ◌≤ℤ◌, ◌<ℤ◌, All, AllPairs, List}
+use Rattle.std.specs.Prelude.{ℕ, ℤ, pos, ◌≤◌, ◌≤ℤ◌, ◌<ℤ◌, All, AllPairs, List}
+use Rattle.lf_units.specs.declared.geometry.Point.{Point}
 use Rattle.lf_units.specs.declared.geometry.Rect.{Rect}
+use Rattle.lf_floorplan.specs.Bounds.{IsDefNumber}
 use Rattle.lf_floorplan.specs.declared.frame.Frame.{Frame}
 use Rattle.lf_floorplan.specs.Standing.{RestsOnRows}
 use Rattle.lf_segments.specs.declared.segment.Segment.{Segment}
@@ -25,6 +27,13 @@ pub record IsBoxOnRows (f : Frame) (box : Rect) : Type 0 where
 pub record AreWideStrips (strips : List Strip) : Type 0 where
   pub order : AllPairs LiesBefore strips
   pub wide : All (λ g. g.area.x1 <ℤ g.area.x2) strips
+
+-- A y within a DEF text, the size of a core site, and a number of rows of at most 8.
+pub record IsLevelAbove (y : ℤ) (pitch : Point) (level : ℕ) : Type 0 where
+  pub from : IsDefNumber y
+  pub high : pos 0 <ℤ pitch.y
+  pub low : pitch.y ≤ℤ pos 20000000000
+  pub few : level ≤ 8
 
 -- A row height above 0, within the largest length of LEF.
 pub record IsRowHeight (height : ℤ) : Type 0 where

@@ -2,12 +2,11 @@
 
 ghost use Rattle.std.specs.Prelude.{◌≡◌, ◌↔◌, ◌≤◌, ◌+ℤ◌, ◌*ℤ◌, ◌≤ℤ◌, ◌<ℤ◌, All, AllPairs, IsTrue, MatchOption, Some, pos, slice_get};
 ghost use Rattle.std.specs.Option.{IsSomeAnd};
-ghost use Rattle.lf_floorplan.specs.Bounds.{IsDefNumber};
 ghost use Rattle.lf_floorplan.specs.Rows.{IsCoreRow, row_area};
 ghost use Rattle.lf_floorplan.specs.Standing.{ExtendsOver, RestsOnRows};
 ghost use Rattle.lf_segments.specs.Boxes.{x_extent};
 ghost use Rattle.lf_frame_index.specs.Laws.{LiesAt, LiesInSegments};
-ghost use Rattle.lf_frame_index.specs.Lookups.{CanLookUp};
+ghost use Rattle.lf_frame_index.specs.Lookups.{CanLookUp, IsLevelAbove};
 ghost use Rattle.lf_frame_index.specs.RowsByY.{IsEntryOf, IsRowsByY};
 ghost use Rattle.lf_segments.specs.Segments.{ComesBefore, LiesInSegment};
 
@@ -92,10 +91,7 @@ fn lies_at(
 
 /// Returns the y that is `level` site heights above y.
 fn level_above(y: &i64, pitch: &Point, level: u32) -> i64
-    requires from { IsDefNumber y.now }
-    requires high { pos 0 <ℤ pitch.now.y }
-    requires low { pitch.now.y ≤ℤ pos 20000000000 }
-    requires few { level ≤ 8 }
+    requires { IsLevelAbove y.now pitch.now level }
     ensures { result ≡ y.now +ℤ (pos level *ℤ pitch.now.y) }
 {
     *y + i64::from(level) * pitch.y

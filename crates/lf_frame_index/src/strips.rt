@@ -1,10 +1,10 @@
 //! The strips of segments, and the search for them.
 
-ghost use Rattle.std.specs.Prelude.{◌≡◌, ◌<◌, ◌≤◌, ◌<ℤ◌, ◌≤ℤ◌, ◌+ℤ◌, ℕ, ℤ, All, AllPairs, IfOk, int_lt, length, map, negsuc, pos, true, false};
+ghost use Rattle.std.specs.Prelude.{◌≡◌, ◌<◌, ◌≤◌, ◌<ℤ◌, ◌≤ℤ◌, ◌+ℤ◌, ℕ, ℤ, All, IfOk, int_lt, length, map, negsuc, pos, true, false};
 ghost use Rattle.lf_frame_index.specs.declared.strip.Strip.{Strip};
 ghost use Rattle.lf_segments.specs.RowStarts.{rows_of};
 ghost use Rattle.lf_frame_index.specs.Lookups.{AreWideStrips, IsRowHeight};
-ghost use Rattle.lf_frame_index.specs.Strips.{AreNear, AreRowsNear, LiesBefore, is_begun, is_earlier, is_ended, row_y, rows_in, strip_of};
+ghost use Rattle.lf_frame_index.specs.Strips.{AreNear, AreRowsNear, is_begun, is_earlier, is_ended, row_y, rows_in, strip_of};
 
 use crate::rows_by_y::{RowEntry, RowsByY};
 use crate::strip::Strip;

@@ -5,8 +5,15 @@ use Rattle.lf_frame_index.specs.Laws.{LiesAt}
 use Rattle.lf_frame_index.proofs.OnRowLemmas.{all_lie, ends_by_level, level_lies, starts_in_def}
 use Rattle.lf_frame_index.proofs.row_lookup.lies_in.Goals as goal
 
-pub level_above-y-requires-clause-from : goal.level_above-y-requires-clause-from
-level_above-y-requires-clause-from c = starts_in_def c.args.frame.now c.args.rect.now c.requires.is_in_place
+pub level_above-y-requires : goal.level_above-y-requires
+level_above-y-requires c =
+    let most : c.loop-level.level ≤ 8 = omega arith in
+    record {
+      from = starts_in_def c.args.frame.now c.args.rect.now c.requires.is_in_place;
+      high = c.args.frame.now.pitch_whole.high;
+      low = c.args.frame.now.pitch_whole.y_small;
+      few = most;
+    }
 
 pub returns-then-rect-y : goal.returns-then-rect-y
 returns-then-rect-y c =
