@@ -22,7 +22,7 @@ shared f y x r s u v =
     }
 
 -- Sharing a point is symmetric.
-turn : {a b : Rect} → SharesPoint a b → SharesPoint b a
+pub turn : {a b : Rect} → SharesPoint a b → SharesPoint b a
 turn m = record { x = m.x; y = m.y; in_first = m.in_second; in_second = m.in_first }
 
 -- Rows at different positions share no point.

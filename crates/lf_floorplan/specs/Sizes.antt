@@ -1,14 +1,20 @@
 -- Sizes in database units, and boxes of a size (LEF SIZE, DEF COMPONENTS).
-use Rattle.std.specs.Prelude.{◌≡◌, ℕ, ℤ, ◌+ℤ◌}
+use Rattle.std.specs.Prelude.{◌≡◌, ℕ, ℤ, pos, ◌+ℤ◌, ◌≤ℤ◌, ◌<ℤ◌}
 use Rattle.lf_units.specs.declared.geometry.Point.{Point}
 use Rattle.lf_units.specs.declared.geometry.Rect.{Rect}
-use Rattle.lf_units.specs.Length.{in_dbu}
+use Rattle.lf_units.specs.Length.{IsLength, in_dbu}
 use Rattle.lf_orient.specs.declared.Orient.{Orient}
 use Rattle.lf_orient.specs.declared.Orient.TheVariants.{W, E, FW, FE}
 
 -- A size in database units.
 abbrev pub size_in_dbu : ℕ → Point → Point
 size_in_dbu units size = record { x = in_dbu units size.x; y = in_dbu units size.y }
+
+-- The length is whole in database units, above 0, and within the largest length of LEF.
+pub record IsWholeLength (units : ℕ) (micros : ℤ) : Type 0 where
+  pub whole : IsLength units micros (in_dbu units micros)
+  pub positive : pos 0 <ℤ in_dbu units micros
+  pub small : in_dbu units micros ≤ℤ pos 20000000000
 
 -- The size in an orientation: width and height are exchanged for E, W, FE and FW.
 abbrev pub turned : Point → Orient → Point

@@ -1,7 +1,7 @@
 //! The macros of a frame's cells.
 
-ghost use Rattle.std.specs.Prelude.{◌≡◌, ◌↔◌, ℤ, pos, ◌<◌, ◌≤◌, ◌<ℤ◌, IsTrue, length};
-ghost use Rattle.lf_floorplan.specs.Bounds.{IsLefLength, IsLefSize};
+ghost use Rattle.std.specs.Prelude.{◌≡◌, ◌↔◌, ℤ, pos, ◌<◌, ◌<ℤ◌, IsTrue, length};
+ghost use Rattle.lf_floorplan.specs.Bounds.{IsLefLength, IsLefSize, IsLimit};
 ghost use Rattle.lf_units.specs.Length.{IsLength, in_dbu};
 ghost use Rattle.lf_floorplan.specs.Boxes.{IsSized, macro_of};
 
@@ -31,8 +31,7 @@ fn is_lef_size(size: &Point) -> bool
 
 /// Returns whether the length is whole in database units and above 0.
 fn is_whole(micros: i64, units: u32) -> bool
-    requires least { 1 ≤ units }
-    requires most { units ≤ 20000 }
+    requires units { IsLimit units 20000 }
     requires in_lef { IsLefLength micros }
     ensures { IsTrue result ↔ (IsLength units micros (in_dbu units micros) × (pos 0 <ℤ in_dbu units micros)) }
 {

@@ -1,10 +1,10 @@
 //! Sizes in database units, and the boxes of macros.
 
-ghost use Rattle.std.specs.Prelude.{◌≡◌, pos, ◌<ℤ◌, ◌≤ℤ◌};
-ghost use Rattle.lf_units.specs.Length.{IsLength, in_dbu};
+ghost use Rattle.std.specs.Prelude.{◌≡◌};
+ghost use Rattle.lf_units.specs.Length.{in_dbu};
 ghost use Rattle.lf_floorplan.specs.Bounds.{IsNearDefRect};
 ghost use Rattle.lf_floorplan.specs.Rows.{IsPitch};
-ghost use Rattle.lf_floorplan.specs.Sizes.{size_in_dbu, turned, box_at};
+ghost use Rattle.lf_floorplan.specs.Sizes.{IsWholeLength, size_in_dbu, turned, box_at};
 
 use crate::place::Place;
 use lf_orient::Orient;
@@ -15,9 +15,7 @@ const MICRON: i64 = 1_000_000;
 
 /// Converts a length of LEF from millionths of a micron to database units.
 fn length_in_units(micros: i64, units: u32) -> i64
-    requires whole { IsLength units micros (in_dbu units micros) }
-    requires positive { pos 0 <ℤ in_dbu units micros }
-    requires small { in_dbu units micros ≤ℤ pos 20000000000 }
+    requires { IsWholeLength units micros }
     ensures { result ≡ in_dbu units micros }
 {
     micros * i64::from(units) / MICRON

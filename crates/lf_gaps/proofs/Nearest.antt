@@ -1,5 +1,5 @@
 -- The nearest number for a list of spans, from those for its parts.
-use Rattle.std.proofs.Common.{◌≡◌, ℕ, ◌+◌, ◌-◌, ◌<◌, ◌≤◌, ℤ, pos, ◌+ℤ◌, ◌-ℤ◌, ◌≤ℤ◌, ◌<ℤ◌, ◌⊎◌, inl, inr, List, [], ◌∷◌, ◌++◌, length, get_or, take, drop, Option, Some, None, Vec, Global, map, sym, ap, ◌∙◌, subst, arith, add-one, drop-cons}
+use Rattle.std.proofs.Common.{◌≡◌, ℕ, ◌+◌, ◌-◌, ◌<◌, ◌≤◌, ℤ, pos, ◌+ℤ◌, ◌-ℤ◌, ◌≤ℤ◌, ◌<ℤ◌, ◌⊎◌, inl, inr, List, [], ◌∷◌, ◌++◌, length, get_or, take, drop, Option, Some, None, Vec, Global, map, sym, ap, ◌∙◌, subst, arith}
 use Rattle.std.specs.Prelude.{All, Any, IsSomeAnd}
 use Rattle.std.proofs.lemmas.Int.{ints}
 use Rattle.std.proofs.lemmas.List.{get_or_default, get_or-take, get_or-drop, length-take, length-drop, take_more, take_all}
@@ -10,6 +10,7 @@ use Rattle.lf_spans.specs.Spans.{IsFilled, LiesIn, LiesInOneOf, IsRising, IsMeet
 use Rattle.lf_spans.specs.Steps.{ContainsSpan}
 use Rattle.lf_spans.proofs.Anys.{any_cases, any_head, any_tail, any_left, any_split, any_weaker, all_at}
 use Rattle.lf_spans.proofs.Edges.{InOne, in_of_lies, in_one_of_lies, rising_drop}
+use Rattle.lf_spans.proofs.Overlaps.{from_place}
 use Rattle.lf_spans.specs.declared.grid.SiteGrid.{SiteGrid}
 use Rattle.lf_gaps.specs.declared.row.Target.{Target}
 use Rattle.lf_spans.specs.Grids.{FindsNearest, FitsSpan, IsBoundedSpan, IsNoFarther, LiesInSpanFrom, distance_to}
@@ -166,9 +167,6 @@ pub found_all : (spans : List Span) (g : SiteGrid) (width t : ℤ) (k : ℕ) (be
 found_all spans g width t k best past p = subst (λ (xs : List Span). FindsNearest (λ x. FitsOne xs g width x) t best) (take_all k spans past) p
 
 -- ---- a list from right to left
-
-from_place : (xs : List Span) (n : ℕ) (d : Span) → n < length xs → drop n xs ≡ get_or xs n d ∷ drop (n + 1) xs
-from_place xs n d within = cc (drop-cons xs n d within, add-one n)
 
 pub found_before : (spans : List Span) (g : SiteGrid) (width t : ℤ) (k : ℕ) (d : Span) (best next found : Option ℤ) → k < length spans →
     FindsNearest (λ x. FitsOne (drop (k + 1) spans) g width x) t best → FindsNearest (λ x. FitsSpan (get_or spans k d) g width x) t next → IsNearerOf best

@@ -1,8 +1,9 @@
 -- Results of the steps of the search for the nearest gap.
-use Rattle.std.specs.Prelude.{◌≡◌, ℤ, pos, ◌+ℤ◌, ◌≤ℤ◌, ◌<ℤ◌, ◌<◌, ◌⊎◌, List, Any, Option, IfSome, IsSomeAnd}
+use Rattle.std.specs.Prelude.{◌≡◌, ℤ, pos, ◌+ℤ◌, ◌≤ℤ◌, ◌<ℤ◌, ◌<◌, ◌⊎◌, List, All, Any, Option, IfSome, IsSomeAnd}
 use Rattle.lf_spans.specs.declared.span.Span.{Span}
 use Rattle.lf_spans.specs.declared.grid.SiteGrid.{SiteGrid}
-use Rattle.lf_spans.specs.Grids.{IsBounded, IsNoFarther, IsOnGrid, LiesInSpanFrom, distance_to}
+use Rattle.lf_spans.specs.Grids.{IsBounded, IsBoundedSpan, IsGrid, IsNoFarther, IsOnGrid, LiesInSpanFrom, distance_to}
+use Rattle.lf_spans.specs.Spans.{IsRising}
 use Rattle.lf_gaps.specs.declared.row.Target.{Target}
 
 -- A width above 0, and a target. The absolute values of both are at most 2^40.
@@ -10,6 +11,13 @@ pub record IsWanted (wanted : Target) : Type 0 where
   pub some : pos 0 <ℤ wanted.width
   pub width : IsBounded wanted.width
   pub target : IsBounded wanted.target
+
+-- Rising spans, a grid, a width and a target, all of them bounded.
+pub record IsGapSearch (spans : List Span) (g : SiteGrid) (sought : Target) : Type 0 where
+  pub grid : IsGrid g
+  pub rising : IsRising spans
+  pub bounded : All IsBoundedSpan spans
+  pub wanted : IsWanted sought
 
 -- The width fits, at this grid number, one span of the list.
 pub record FitsOne (spans : List Span) (g : SiteGrid) (width x : ℤ) : Type 0 where

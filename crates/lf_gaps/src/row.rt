@@ -5,7 +5,7 @@ ghost use Rattle.std.specs.Bool.{OnFalse, OnTrue};
 ghost use Rattle.lf_spans.specs.Grids.{FindsNearest, FitsSpan, IsBounded, IsBoundedSpan, IsGrid, IsNoFarther};
 ghost use Rattle.lf_spans.specs.Spans.{IsMeetAll, IsRising};
 ghost use Rattle.lf_gaps.specs.Gaps.{FitsRows};
-ghost use Rattle.lf_gaps.specs.Steps.{FitsOne, IsNearestSoFar, IsNearerOf, IsPast, IsWanted};
+ghost use Rattle.lf_gaps.specs.Steps.{FitsOne, IsGapSearch, IsNearestSoFar, IsNearerOf, IsPast, IsWanted};
 
 use lf_spans::{SiteGrid, Span, nearest_fit, spans_meet_all};
 use std::alloc::{AllocError, Global};
@@ -97,10 +97,7 @@ fn is_before(span: &Span, best: &Option<i64>, wanted: &Target) -> bool
 /// Returns the nearest number at which the width fits one of the spans. Searches from left to right
 /// until the rest is too far right.
 fn nearest_rightwards(spans: &[Span], grid: &SiteGrid, wanted: &Target) -> Option<i64>
-    requires grid { IsGrid grid.now }
-    requires rising { IsRising spans.now }
-    requires bounded { All IsBoundedSpan spans.now }
-    requires wanted { IsWanted wanted.now }
+    requires { IsGapSearch spans.now grid.now wanted.now }
     ensures { FindsNearest (λ x. FitsOne spans.now grid.now wanted.now.width x) wanted.now.target result }
 {
     let mut best = None;
@@ -116,10 +113,7 @@ fn nearest_rightwards(spans: &[Span], grid: &SiteGrid, wanted: &Target) -> Optio
 /// Returns the nearest number at which the width fits one of the spans. Searches outwards from the
 /// target, first right and then left, until the rest is too far.
 fn nearest_of(spans: &[Span], grid: &SiteGrid, wanted: &Target) -> Option<i64>
-    requires grid { IsGrid grid.now }
-    requires rising { IsRising spans.now }
-    requires bounded { All IsBoundedSpan spans.now }
-    requires wanted { IsWanted wanted.now }
+    requires { IsGapSearch spans.now grid.now wanted.now }
     ensures { FindsNearest (λ x. FitsOne spans.now grid.now wanted.now.width x) wanted.now.target result }
 {
     let middle = spans.partition_point(|span| span.hi <= wanted.target);

@@ -1,6 +1,6 @@
 -- The content of a report: the number of cells, the number of unplaced cells, and the cells that
 -- break a rule at their places.
-use Rattle.std.specs.Prelude.{◌≡◌, ◌↔◌, ℕ, ◌<◌, List, [], ◌∷◌, Option, None, All, is_none, is_some, count_by, map, filter_map, length, set, slice_get, slice_index_or, ◌⊎◌, Some, option_map, option_and_then}
+use Rattle.std.specs.Prelude.{◌≡◌, ◌↔◌, ℕ, ◌<◌, ◌≤◌, List, [], ◌∷◌, Option, None, All, IsPermutation, is_none, is_some, count_by, map, filter_map, length, set, slice_get, slice_index_or, ◌⊎◌, Some, option_map, option_and_then}
 use Rattle.std.specs.List.{range_with_len}
 use Rattle.std.specs.Borrow.{Bor}
 use Rattle.lf_floorplan.specs.declared.frame.Frame.{Frame}
@@ -16,7 +16,7 @@ use Rattle.lf_rules.specs.declared.report_types.Report.{Report}
 use Rattle.lf_rules.specs.Legality.{Candidate, candidate_of}
 use Rattle.lf_rules.specs.Legalizer.{Legalizer}
 use Rattle.lf_rules.specs.Choice.{spot_of}
-use Rattle.lf_rules.specs.Team.{Member, boxes_beside}
+use Rattle.lf_rules.specs.Team.{Member, boxes_beside, boxes_from}
 use Rattle.lf_rules.specs.FullyLegal.{DesignCell, IsFullyLegal}
 use Rattle.lf_rules.specs.Reports.{IsClean}
 
@@ -107,6 +107,23 @@ pub record IsListed (f : Frame) (c : Listed (List ℕ)) : Type 0 where
   pub known : c.mac < length f.macros
   pub sized : IsSized f (macro_of f c.mac)
   pub printed : IsDesignName c.name
+
+-- Listed cells of the frame, at most 4,000,000.
+pub record AreListedCells (f : Frame) (cells : List (Listed (Bor (List ℕ)))) : Type 0 where
+  pub listed : All (λ c. IsListed f (with_byte_name c)) cells
+  pub few : length cells ≤ 4000000
+
+-- Listed cells of the frame, at most 4,000,000, and the boxes of those that are placed.
+pub record AreListedBoxes (f : Frame) (cells : List (Listed (Bor (List ℕ)))) (boxes : List Placed) : Type 0 where
+  pub listed : All (λ c. IsListed f (with_byte_name c)) cells
+  pub few : length cells ≤ 4000000
+  pub tree : IsPermutation (boxes_from f 0 (map listed_member (map with_byte_name cells))) boxes
+
+-- The cell with this number, and it is a listed cell of the frame.
+pub record IsCellAt (f : Frame) (all : List (Listed (Bor (List ℕ)))) (n : ℕ) (c : Listed (Bor (List ℕ))) : Type 0 where
+  pub this : IsListed f (with_byte_name c)
+  pub there : slice_get (map with_byte_name all) n ≡ Some (with_byte_name c)
+  pub within : n < length all
 
 -- A report with no padding is clean if and only if its cells make a fully legal design.
 abbrev pub CleanIsLegal : Type 0

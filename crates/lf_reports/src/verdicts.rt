@@ -9,18 +9,18 @@ ghost use Rattle.lf_rules.specs.Legality.{candidate_of};
 ghost use Rattle.lf_rules.specs.Legalizer.{IsVerdict, Legalizer};
 ghost use Rattle.lf_rules.specs.FullyLegal.{IsFullyLegal, design_cells_at};
 ghost use Rattle.lf_rules.specs.Reports.{IsClean, HasPrintableNames};
-ghost use Rattle.lf_reports.specs.Reports.{IsFaultless, IsListed, broken_among, listed_at, listed_member, name_among, with_byte_name};
+ghost use Rattle.lf_reports.specs.Reports.{AreListedBoxes, AreListedCells, IsCellAt, IsFaultless, IsListed, broken_among, listed_at, listed_member, name_among, with_byte_name};
 ghost use Rattle.lf_reports.specs.Reports.{report_of, candidate_among, AreSomeVerdicts, HaveVerdicts, IsVerdictSet, AreVerdicts};
 ghost use Rattle.lf_reports.specs.Reports.{SetsVerdict, verdict_at, violation_at, violation_of, violations_in};
 ghost use Rattle.lf_rules.specs.Team.{Member, boxes_beside, boxes_from, with_box};
 
 use lf_floorplan::{Frame, FrameQuery, Loaded, LoadedCells, Macro, Place, cell_is_sized};
+use lf_frame_index::{FrameIndex, IndexedFrame};
 use lf_rtree::{Placed, RTree};
 use lf_rules::{
     Broken, Listed, Padding, Report, Violation, box_of, broken_frame_rule, legalizer_exists,
     overlap_of, padded_box, verdict_is_unique,
 };
-use lf_segments::{FrameIndex, IndexedFrame};
 use lf_units::{Name, Sequence};
 use std::alloc::{AllocError, Global};
 
@@ -75,25 +75,29 @@ fn broken_at(
     overlap_of(boxes.least_overlapping(&padded_box(frame, mac, place, padding), own))
 }
 
+/// What a cell is checked against: the boxes of the placed cells, and the padding.
+#[derive(Clone, Copy)]
+struct OtherBoxes<'a> {
+    boxes: &'a RTree,
+    padding: Padding,
+}
+
 /// Returns the first rule that the cell with this number breaks at its place, given the other
 /// placed cells. `None` if it breaks no rule or is unplaced.
 fn broken_in(
     plan: &IndexedFrame<'_>,
-    boxes: &RTree,
+    near: &OtherBoxes<'_>,
     cells: &[Listed<&[u8]>],
     own: usize,
     cell: &Listed<&[u8]>,
-    padding: Padding,
 ) -> Option<Broken>
-    requires few { length cells.now ≤ 4000000 }
-    requires this { IsListed plan.now (with_byte_name cell.now) }
-    requires within { own < length cells.now }
-    requires tree { IsPermutation (boxes_from plan.now 0 (map listed_member (map with_byte_name cells.now))) boxes.now }
-    ensures { (l : Legalizer) → result ≡ broken_among l plan.now padding.sites (map with_byte_name cells.now) own (with_byte_name cell.now) }
+    requires boxes { AreListedBoxes plan.now cells.now near.now.boxes.now }
+    requires cell { IsCellAt plan.now cells.now own cell.now }
+    ensures { (l : Legalizer) → result ≡ broken_among l plan.now near.now.padding.sites (map with_byte_name cells.now) own (with_byte_name cell.now) }
 {
     verdict_is_unique();
     let place = cell.place?;
-    broken_at(plan, boxes, own as u32, cell, &place, padding)
+    broken_at(plan, near.boxes, own as u32, cell, &place, near.padding)
 }
 
 /// Returns a copy of the name of the cell with this number. `None` if there is no such cell. `Err`
@@ -165,24 +169,20 @@ fn put(verdicts: &mut Vec<Option<Broken>>, own: usize, verdict: Option<Broken>)
 /// Sets the verdict of the cell with this number.
 fn put_verdict(
     plan: &IndexedFrame<'_>,
-    boxes: &RTree,
+    near: &OtherBoxes<'_>,
     cells: &[Listed<&[u8]>],
     own: usize,
     cell: &Listed<&[u8]>,
-    padding: Padding,
     verdicts: &mut Vec<Option<Broken>>,
 )
-    requires few { length cells.now ≤ 4000000 }
-    requires this { IsListed plan.now (with_byte_name cell.now) }
-    requires there { slice_get (map with_byte_name cells.now) own ≡ Some (with_byte_name cell.now) }
-    requires within { own < length cells.now }
-    requires tree { IsPermutation (boxes_from plan.now 0 (map listed_member (map with_byte_name cells.now))) boxes.now }
+    requires boxes { AreListedBoxes plan.now cells.now near.now.boxes.now }
+    requires cell { IsCellAt plan.now cells.now own cell.now }
     requires count { length verdicts.old.items ≡ length cells.now }
     ensures count { length verdicts.new.items ≡ length cells.now }
-    ensures put { (l : Legalizer) → AreSomeVerdicts l plan.now padding.sites (map with_byte_name cells.now) verdicts.old.items
-        → SetsVerdict l plan.now padding.sites (map with_byte_name cells.now) own verdicts.old.items verdicts.new.items }
+    ensures put { (l : Legalizer) → AreSomeVerdicts l plan.now near.now.padding.sites (map with_byte_name cells.now) verdicts.old.items
+        → SetsVerdict l plan.now near.now.padding.sites (map with_byte_name cells.now) own verdicts.old.items verdicts.new.items }
 {
-    let verdict = broken_in(plan, boxes, cells, own, cell, padding);
+    let verdict = broken_in(plan, near, cells, own, cell);
     put(verdicts, own, verdict);
 }
 
@@ -207,26 +207,23 @@ fn fetch<'a>(
 fn put_verdicts(
     alloc: Global,
     plan: &IndexedFrame<'_>,
-    tree: &RTree,
+    near: &OtherBoxes<'_>,
     cells: &[Listed<&[u8]>],
     boxes: &[Placed],
-    padding: Padding,
     verdicts: &mut Vec<Option<Broken>>,
 ) -> Result<(), AllocError>
-    requires listed { All (λ c. IsListed plan.now (with_byte_name c)) cells.now }
-    requires few { length cells.now ≤ 4000000 }
-    requires tree { IsPermutation (boxes_from plan.now 0 (map listed_member (map with_byte_name cells.now))) tree.now }
+    requires listed { AreListedBoxes plan.now cells.now near.now.boxes.now }
     requires known { All (λ p. p.own < length cells.now) boxes.now }
     requires count { length verdicts.old.items ≡ length cells.now }
     ensures count { length verdicts.new.items ≡ length cells.now }
-    ensures put { (l : Legalizer) (done : List Placed) → HaveVerdicts l plan.now padding.sites (map with_byte_name cells.now) done verdicts.old.items →
-        OnOk result (HaveVerdicts l plan.now padding.sites (map with_byte_name cells.now) (done ++ boxes.now) verdicts.new.items) }
+    ensures put { (l : Legalizer) (done : List Placed) → HaveVerdicts l plan.now near.now.padding.sites (map with_byte_name cells.now) done verdicts.old.items →
+        OnOk result (HaveVerdicts l plan.now near.now.padding.sites (map with_byte_name cells.now) (done ++ boxes.now) verdicts.new.items) }
 {
     let fetched = fetch(alloc, cells, boxes)?;
     for (number, placed) in boxes.iter().enumerate() {
         let own = placed.own as usize;
         let cell = &fetched[number];
-        put_verdict(plan, tree, cells, own, cell, padding, verdicts);
+        put_verdict(plan, near, cells, own, cell, verdicts);
     }
     Ok(())
 }
@@ -239,21 +236,18 @@ const FETCHED: usize = 4096;
 fn verdicts_in(
     alloc: Global,
     plan: &IndexedFrame<'_>,
-    tree: &RTree,
+    near: &OtherBoxes<'_>,
     cells: &[Listed<&[u8]>],
-    padding: Padding,
 ) -> Result<Vec<Option<Broken>>, AllocError>
-    requires listed { All (λ c. IsListed plan.now (with_byte_name c)) cells.now }
-    requires few { length cells.now ≤ 4000000 }
-    requires tree { IsPermutation (boxes_from plan.now 0 (map listed_member (map with_byte_name cells.now))) tree.now }
+    requires { AreListedBoxes plan.now cells.now near.now.boxes.now }
     ensures count { IfOk result (λ verdicts. length verdicts.items ≡ length cells.now) }
-    ensures each { (l : Legalizer) → IfOk result (λ verdicts. AreVerdicts l plan.now padding.sites (map with_byte_name cells.now) verdicts.items) }
+    ensures each { (l : Legalizer) → IfOk result (λ verdicts. AreVerdicts l plan.now near.now.padding.sites (map with_byte_name cells.now) verdicts.items) }
 {
     let mut verdicts = no_verdicts(alloc, cells.len())?;
-    let mut rest = tree.boxes();
+    let mut rest = near.boxes.boxes();
     while !rest.is_empty() {
         let (boxes, after_it) = rest.split_at(rest.len().min(FETCHED));
-        put_verdicts(alloc, plan, tree, cells, boxes, padding, &mut verdicts)?;
+        put_verdicts(alloc, plan, near, cells, boxes, &mut verdicts)?;
         rest = after_it;
     }
     Ok(verdicts)
@@ -339,8 +333,7 @@ fn boxes_in(
     frame: &Frame,
     cells: &[Listed<&[u8]>],
 ) -> Result<Vec<Placed>, AllocError>
-    requires listed { All (λ c. IsListed frame.now (with_byte_name c)) cells.now }
-    requires few { length cells.now ≤ 4000000 }
+    requires { AreListedCells frame.now cells.now }
     ensures { IfOk result (λ boxes. boxes.items ≡ boxes_from frame.now 0 (map listed_member (map with_byte_name cells.now))) }
 {
     let mut boxes = Vec::with_capacity(alloc, cells.len())?;
@@ -370,7 +363,11 @@ pub fn verdicts_with_plan(
 {
     let boxes = boxes_in(alloc, plan.frame(), cells)?;
     let tree = RTree::build(alloc, boxes)?;
-    verdicts_in(alloc, plan, &tree, cells, padding)
+    let near = OtherBoxes {
+        boxes: &tree,
+        padding,
+    };
+    verdicts_in(alloc, plan, &near, cells)
 }
 
 /// Returns for each cell, with no padding, the first rule that it breaks at its place, or `None`.
@@ -380,8 +377,7 @@ fn verdicts_over(
     frame: &Frame,
     cells: &[Listed<&[u8]>],
 ) -> Result<Vec<Option<Broken>>, AllocError>
-    requires listed { All (λ c. IsListed frame.now (with_byte_name c)) cells.now }
-    requires few { length cells.now ≤ 4000000 }
+    requires { AreListedCells frame.now cells.now }
     ensures count { IfOk result (λ verdicts. length verdicts.items ≡ length cells.now) }
     ensures each { (l : Legalizer) → IfOk result (λ verdicts. AreVerdicts l frame.now 0 (map with_byte_name cells.now) verdicts.items) }
 {

@@ -22,6 +22,11 @@ pub record HasRoomAround (r : Rect) : Type 0 where
   pub low : negsuc 4611686018427387903 ≤ℤ r.x1
   pub high : r.x2 ≤ℤ pos 4611686018427387904
 
+-- The rectangle has room to be widened by this length.
+pub record CanWiden (r : Rect) (length : ℤ) : Type 0 where
+  pub short : IsShort length
+  pub room : HasRoomAround r
+
 -- Widening either of two boxes with points is the same: if one, widened, shares a point with the
 -- other, then the other, widened, shares a point with it.
 abbrev pub PaddingIsSymmetric : Type 0

@@ -1,10 +1,11 @@
 -- Facts about a cell's box and about rows that the private functions of this crate use. No public
 -- clause cites them.
-use Rattle.std.specs.Prelude.{◌≡◌, pos, negsuc, ◌≤ℤ◌, ◌<ℤ◌, Contains, MatchOption, Option}
+use Rattle.std.specs.Prelude.{◌≡◌, ℕ, pos, negsuc, ◌≤◌, ◌≤ℤ◌, ◌<ℤ◌, Contains, MatchOption, Option}
 use Rattle.lf_units.specs.declared.geometry.Point.{Point}
 use Rattle.lf_units.specs.declared.geometry.Rect.{Rect}
 use Rattle.lf_floorplan.specs.declared.frame.Frame.{Frame}
 use Rattle.lf_floorplan.specs.declared.parts.Row.{Row}
+use Rattle.lf_floorplan.specs.Rows.{IsCoreRow}
 use Rattle.lf_floorplan.specs.Standing.{ExtendsOver}
 
 -- The box has points, and lies not far past the coordinates of a DEF text.
@@ -15,6 +16,16 @@ pub record IsSolid (box : Rect) : Type 0 where
   pub y_low : negsuc 2147483647 <ℤ box.y1
   pub x_high : box.x2 ≤ℤ pos 30000000000
   pub y_high : box.y2 ≤ℤ pos 30000000000
+
+-- The box is solid, and the number of site heights above its lower edge is at most 8.
+pub record HasLevel (box : Rect) (sites : ℕ) : Type 0 where
+  pub solid : IsSolid box
+  pub few : sites ≤ 8
+
+-- The row is one of the frame, and so a core row.
+pub record IsFrameRow (f : Frame) (r : Row) : Type 0 where
+  pub known : Contains f.rows r
+  pub core_ones : IsCoreRow f.pitch r
 
 -- The only row of the frame that lies at the point's y and extends over its x; `None` if there is
 -- no such row.

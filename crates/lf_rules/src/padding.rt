@@ -1,7 +1,7 @@
 //! The padding of a team.
 
-ghost use Rattle.std.specs.Prelude.{◌≡◌, ◌≤◌, ◌<◌, ◌+ℤ◌, ◌-ℤ◌, ◌≤ℤ◌, MatchOption, negsuc, pos};
-ghost use Rattle.lf_rules.specs.Padding.{HasRoomAround, IsShort, length_of, wider as widened};
+ghost use Rattle.std.specs.Prelude.{◌≡◌, ◌≤◌, ◌<◌, ◌+ℤ◌, ◌-ℤ◌, MatchOption};
+ghost use Rattle.lf_rules.specs.Padding.{CanWiden, HasRoomAround, IsShort, length_of, wider as widened};
 
 use lf_floorplan::Frame;
 use lf_units::Rect;
@@ -50,22 +50,20 @@ impl Padding {
     }
 }
 
-/// Returns the number minus a length.
-fn minus(x: i64, by: i64) -> i64
-    requires short { IsShort by }
-    requires low { negsuc 4611686018427387903 ≤ℤ x }
-    ensures { result ≡ x -ℤ by }
+/// Returns the left edge of the rectangle, moved left by a length.
+fn left_minus(rect: &Rect, by: i64) -> i64
+    requires { CanWiden rect.now by }
+    ensures { result ≡ rect.now.x1 -ℤ by }
 {
-    x - by
+    rect.x1 - by
 }
 
-/// Returns the number plus a length.
-fn plus(x: i64, by: i64) -> i64
-    requires short { IsShort by }
-    requires high { x ≤ℤ pos 4611686018427387904 }
-    ensures { result ≡ x +ℤ by }
+/// Returns the right edge of the rectangle, moved right by a length.
+fn right_plus(rect: &Rect, by: i64) -> i64
+    requires { CanWiden rect.now by }
+    ensures { result ≡ rect.now.x2 +ℤ by }
 {
-    x + by
+    rect.x2 + by
 }
 
 /// Returns the rectangle, widened by a length on its left and on its right, in database units. The
@@ -76,9 +74,9 @@ pub fn widen(rect: &Rect, by: i64) -> Rect
     ensures { result ≡ widened by rect.now }
 {
     Rect {
-        x1: minus(rect.x1, by),
+        x1: left_minus(rect, by),
         y1: rect.y1,
-        x2: plus(rect.x2, by),
+        x2: right_plus(rect, by),
         y2: rect.y2,
     }
 }

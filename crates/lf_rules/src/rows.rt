@@ -6,7 +6,7 @@ ghost use Rattle.lf_orient.specs.Orientation.{rail_below};
 ghost use Rattle.lf_floorplan.specs.Rows.{IsCoreRow};
 ghost use Rattle.lf_floorplan.specs.declared.parts.Row.{Row};
 ghost use Rattle.lf_floorplan.specs.Standing.{IsSitesHigh, IsRowOfBox, IsBottomRow, Supports, rail_alternated};
-ghost use Rattle.lf_rules.specs.Solid.{IsOnlyRow, IsSolid};
+ghost use Rattle.lf_rules.specs.Solid.{HasLevel, IsFrameRow, IsOnlyRow, IsSolid};
 
 use crate::cover::corner_of;
 use lf_floorplan::{Frame, FrameQuery, Row};
@@ -17,24 +17,20 @@ use lf_units::{Point, Rect};
 fn level(pitch: &Point, rect: &Rect, sites: u32) -> i64
     requires high { pos 0 <ℤ pitch.now.y }
     requires low { pitch.now.y ≤ℤ pos 20000000000 }
-    requires solid { IsSolid rect.now }
-    requires few { sites ≤ 8 }
+    requires level { HasLevel rect.now sites }
     ensures { result ≡ rect.now.y1 +ℤ (pos sites *ℤ pitch.now.y) }
 {
     rect.y1 + i64::from(sites) * pitch.y
 }
 
 /// Returns the point that is `sites` site heights above the box's lower left corner.
-fn foot_of(pitch: &Point, rect: &Rect, sites: u32) -> Point
-    requires high { pos 0 <ℤ pitch.now.y }
-    requires low { pitch.now.y ≤ℤ pos 20000000000 }
-    requires solid { IsSolid rect.now }
-    requires few { sites ≤ 8 }
-    ensures { result ≡ record { x = rect.now.x1; y = rect.now.y1 +ℤ (pos sites *ℤ pitch.now.y) } }
+fn foot_of(frame: &Frame, rect: &Rect, sites: u32) -> Point
+    requires { HasLevel rect.now sites }
+    ensures { result ≡ record { x = rect.now.x1; y = rect.now.y1 +ℤ (pos sites *ℤ frame.now.pitch.y) } }
 {
     Point {
         x: rect.x1,
-        y: level(pitch, rect, sites),
+        y: level(&frame.pitch, rect, sites),
     }
 }
 
@@ -53,21 +49,19 @@ pub fn height_in_sites(frame: &Frame, rect: &Rect) -> Option<u32>
 }
 
 /// Returns whether the box's left edge is a whole number of core sites right of the row's.
-fn is_on_grid(pitch: &Point, rect: &Rect, row: &Row) -> bool
-    requires wide { pos 0 <ℤ pitch.now.x }
+fn is_on_grid(frame: &Frame, rect: &Rect, row: &Row) -> bool
     requires solid { IsSolid rect.now }
     requires left { row.now.x ≤ℤ rect.now.x1 }
-    ensures { IsTrue result ↔ ((site : ℕ) × (rect.now.x1 -ℤ row.now.x ≡ pos site *ℤ pitch.now.x)) }
+    ensures { IsTrue result ↔ ((site : ℕ) × (rect.now.x1 -ℤ row.now.x ≡ pos site *ℤ frame.now.pitch.x)) }
 {
     let offset = rect.x1 - i64::from(row.x);
-    offset % pitch.x == 0
+    offset % frame.pitch.x == 0
 }
 
 /// Returns whether the row lies `sites` site heights above the box's lower edge, under all of its
 /// width.
 fn is_row_of_box(frame: &Frame, rect: &Rect, sites: u32, row: &Row) -> bool
-    requires solid { IsSolid rect.now }
-    requires few { sites ≤ 8 }
+    requires level { HasLevel rect.now sites }
     requires core_ones { IsCoreRow frame.now.pitch row.now }
     ensures { IsTrue result ↔ IsRowOfBox frame.now rect.now sites row.now }
 {
@@ -88,14 +82,13 @@ fn is_row_of_box(frame: &Frame, rect: &Rect, sites: u32, row: &Row) -> bool
 /// frame.
 pub fn is_bottom_row(frame: &Frame, rect: &Rect, row: &Row) -> bool
     requires solid { IsSolid rect.now }
-    requires known { Contains frame.now.rows row.now }
-    requires core_ones { IsCoreRow frame.now.pitch row.now }
+    requires row { IsFrameRow frame.now row.now }
     ensures { IsTrue result ↔ IsBottomRow frame.now rect.now row.now }
 {
     if !is_row_of_box(frame, rect, 0, row) {
         return false;
     }
-    is_on_grid(&frame.pitch, rect, row)
+    is_on_grid(frame, rect, row)
 }
 
 /// Returns the row at this position.
@@ -151,10 +144,8 @@ fn changed_rail(orient: Orient, times: u32) -> Option<Rail>
 /// Rule 3 requires such a row at each height. The box has points, the row is one of the frame, and
 /// `sites` is at most 8.
 pub fn supports(frame: &Frame, rect: &Rect, bottom: &Row, sites: u32, row: &Row) -> bool
-    requires solid { IsSolid rect.now }
-    requires few { sites ≤ 8 }
-    requires known { Contains frame.now.rows row.now }
-    requires core_ones { IsCoreRow frame.now.pitch row.now }
+    requires level { HasLevel rect.now sites }
+    requires row { IsFrameRow frame.now row.now }
     ensures { IsTrue result ↔ Supports frame.now rect.now bottom.now sites row.now }
 {
     if !is_row_of_box(frame, rect, sites, row) {
@@ -165,12 +156,11 @@ pub fn supports(frame: &Frame, rect: &Rect, bottom: &Row, sites: u32, row: &Row)
 
 /// Returns whether a row of the frame carries the box `sites` site heights above its bottom row.
 fn is_carried<N: FrameQuery>(near: &N, rect: &Rect, bottom: &Row, sites: u32) -> bool
-    requires solid { IsSolid rect.now }
-    requires few { sites ≤ 8 }
+    requires { HasLevel rect.now sites }
     ensures { IsTrue result ↔ ((s : Row) × Supports (N.of near.now) rect.now bottom.now sites s) }
 {
     let frame = near.frame();
-    let Some(row) = row_at(near, &foot_of(&frame.pitch, rect, sites)) else {
+    let Some(row) = row_at(near, &foot_of(frame, rect, sites)) else {
         return false;
     };
     supports(frame, rect, bottom, sites, row)
@@ -178,8 +168,7 @@ fn is_carried<N: FrameQuery>(near: &N, rect: &Rect, bottom: &Row, sites: u32) ->
 
 /// Returns whether rows of the frame carry the box over all of its height.
 pub(crate) fn is_standing<N: FrameQuery>(near: &N, rect: &Rect, bottom: &Row, height: u32) -> bool
-    requires solid { IsSolid rect.now }
-    requires few { height ≤ 8 }
+    requires { HasLevel rect.now height }
     ensures { IsTrue result ↔ ((j : ℕ) → j < height → (s : Row) × Supports (N.of near.now) rect.now bottom.now j s) }
 {
     for sites in 0..height {

@@ -3,16 +3,8 @@ use Rattle.std.proofs.Common.{◌≡◌, ◌⊎◌, inl, inr, ℕ, ℤ, ◌<◌,
 use Rattle.std.specs.Prelude.{AllPairs}
 use Rattle.std.specs.List.Sorted.{IsPartitionedBy, IsPartitionPoint}
 use Rattle.std.proofs.lemmas.Int.{ints}
+use Rattle.lf_spans.proofs.Comparisons.{most_of, of_most, not_most_of}
 use Rattle.lf_segments.specs.declared.segment.Segment.{Segment}
-
-most_of : (a b : ℤ) → int_le a b ≡ true → a ≤ℤ b
-most_of a b e = grind (arith, ints)
-
-of_most : (a b : ℤ) → a ≤ℤ b → int_le a b ≡ true
-of_most a b h = grind (arith, ints)
-
-not_most_of : (a b : ℤ) → int_le a b ≡ false → b <ℤ a
-not_most_of a b e = grind (arith, ints)
 
 -- The segments that end at a limit or left of it are the first ones.
 pub parted : (xs : List Segment) (limit : ℤ) → AllPairs (λ g h. g.span.hi ≤ℤ h.span.hi) xs → IsPartitionedBy (λ g. int_le g.span.hi limit) xs

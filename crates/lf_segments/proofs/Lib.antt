@@ -1,17 +1,7 @@
-pub mod LawLemmas
 pub mod CoverLemmas
 pub mod RunLemmas
 pub mod EndLemmas
 pub mod GroupLemmas
 pub mod RowLemmas
 pub mod TreeLemmas
-pub mod OneLemmas
-pub mod HeightLemmas
 pub mod StartLemmas
-pub mod OrderLemmas
-pub mod RangeLemmas
-pub mod StripLemmas
-pub mod ExtentLemmas
-pub mod SoftLemmas
-pub mod LastLemmas
-pub mod OnRowLemmas

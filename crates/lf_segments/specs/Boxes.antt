@@ -10,7 +10,7 @@ use Rattle.lf_rtree.specs.declared.placed.Placed.{Placed}
 use Rattle.lf_floorplan.specs.declared.frame.Frame.{Frame}
 use Rattle.lf_floorplan.specs.declared.parts.Row.{Row}
 use Rattle.lf_floorplan.specs.declared.parts.Team.{Team}
-use Rattle.lf_floorplan.specs.Rows.{row_area}
+use Rattle.lf_floorplan.specs.Rows.{IsCoreRow, row_area}
 use Rattle.lf_floorplan.specs.Ground.{InGround}
 use Rattle.lf_segments.specs.declared.segment.Segment.{Segment}
 use Rattle.lf_segments.specs.Segments.{IsClearAt, IsOpen, LiesInSegment, ComesFirst}
@@ -47,6 +47,12 @@ pub record AreBoxesOf (f : Frame) (obstacles : List Rect) (r : Row) (boxes : Lis
 -- Boxes in order of their numbers.
 abbrev pub AreSorted : List Placed → Type 0
 AreSorted boxes = IsNonDecreasingBy (λ p. p.own) boxes
+
+-- A core row, and the boxes near it in order of their numbers.
+pub record AreRowBoxes (f : Frame) (obstacles : List Rect) (r : Row) (near : List Placed) : Type 0 where
+  pub core_ones : IsCoreRow f.pitch r
+  pub boxes : AreBoxesOf f obstacles r near
+  pub sorted : AreSorted near
 
 -- The boxes of the least number that is not below this one; empty if all are below.
 pub record IsNextGroup (boxes : List Placed) (least : ℕ) (group : List Placed) : Type 0 where

@@ -1,6 +1,9 @@
 -- Where the segments of each row begin.
-use Rattle.std.specs.Prelude.{◌≡◌, ℕ, ◌<◌, ◌≤◌, List, All, length, map, slice_index_or}
+use Rattle.std.specs.Prelude.{◌≡◌, ℕ, ◌<◌, ◌≤◌, List, All, AllPairs, length, map, slice_index_or}
+use Rattle.std.specs.List.Sorted.{IsNonDecreasingBy}
+use Rattle.lf_spans.specs.Spans.{IsFilled}
 use Rattle.lf_segments.specs.declared.segment.Segment.{Segment}
+use Rattle.lf_segments.specs.Segments.{ComesBefore}
 
 -- The rows of segments.
 abbrev pub rows_of : List Segment → List ℕ
@@ -16,6 +19,17 @@ pub record IsStartOf (rows : List ℕ) (row n : ℕ) : Type 0 where
 pub record AreRowStarts (rows starts : List ℕ) : Type 0 where
   pub each : (r d : ℕ) → r < length starts → IsStartOf rows r (slice_index_or starts r d)
   pub all : All (λ r. r < length starts) rows
+
+-- Segments in order of rows, each of a row below a number.
+pub record AreOfRows (segments : List Segment) (rows : ℕ) : Type 0 where
+  pub order : IsNonDecreasingBy (λ g. g.row) segments
+  pub known : All (λ g. g.row < rows) segments
+
+-- Filled segments in order, and the starts of their rows.
+pub record HaveRowStarts (segments : List Segment) (starts : List ℕ) : Type 0 where
+  pub order : AllPairs ComesBefore segments
+  pub filled : All (λ g. IsFilled g.span) segments
+  pub starts_of : AreRowStarts (rows_of segments) starts
 
 -- The positions from start on and below end are exactly those of this row.
 pub record IsRangeOf (rows : List ℕ) (row start end : ℕ) : Type 0 where

@@ -11,7 +11,7 @@ use lf_units::{Rect, Span};
 use std::alloc::{AllocError, Global};
 
 /// Returns the x range of a rectangle.
-pub(crate) fn span_of(rect: &Rect) -> Span
+pub fn span_of(rect: &Rect) -> Span
     ensures { result ≡ x_extent rect.now }
 {
     Span {
@@ -21,7 +21,7 @@ pub(crate) fn span_of(rect: &Rect) -> Span
 }
 
 /// Returns the x ranges of boxes. `Err` if an allocation fails.
-pub(crate) fn spans_of(alloc: Global, boxes: &[Placed]) -> Result<Vec<Span>, AllocError>
+pub fn spans_of(alloc: Global, boxes: &[Placed]) -> Result<Vec<Span>, AllocError>
     ensures { IfOk result (λ spans. spans.items ≡ map (λ p. x_extent p.rect) boxes.now) }
 {
     let mut spans = Vec::new(alloc);

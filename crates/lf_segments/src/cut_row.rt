@@ -4,8 +4,7 @@ ghost use Rattle.std.specs.Prelude.{◌≡◌, ◌+◌, ◌<◌, ◌≤◌, ◌+
 ghost use Rattle.lf_units.specs.declared.geometry.Rect.{Rect};
 ghost use Rattle.lf_rtree.specs.declared.placed.Placed.{Placed};
 ghost use Rattle.lf_floorplan.specs.declared.parts.Row.{Row};
-ghost use Rattle.lf_floorplan.specs.Rows.{IsCoreRow};
-ghost use Rattle.lf_segments.specs.Boxes.{segment_of, AddsRow, AreBoxesOf, AreClear, AreOpen, AreSorted, IsNextGroup};
+ghost use Rattle.lf_segments.specs.Boxes.{segment_of, AddsRow, AreBoxesOf, AreClear, AreOpen, AreRowBoxes, AreSorted, IsNextGroup};
 
 use crate::cover::{covered_over, free_beside};
 use crate::segment::Segment;
@@ -82,9 +81,7 @@ fn clear_spans(
     near: &[Placed],
 ) -> Result<Vec<Span>, AllocError>
     ghost obstacles: { List Rect }
-    requires core_ones { IsCoreRow frame.now.pitch row.now }
-    requires boxes { AreBoxesOf frame.now obstacles row.now near.now }
-    requires sorted { AreSorted near.now }
+    requires { AreRowBoxes frame.now obstacles row.now near.now }
     ensures { IfOk result (λ spans. AreClear frame.now obstacles row.now spans.items) }
 {
     let obstacles = next_group(near, ground_number(frame));
@@ -100,8 +97,7 @@ fn ground_spans(
     near: &[Placed],
 ) -> Result<Vec<Span>, AllocError>
     ghost obstacles: { List Rect }
-    requires core_ones { IsCoreRow frame.now.pitch row.now }
-    requires boxes { AreBoxesOf frame.now obstacles row.now near.now }
+    requires { AreRowBoxes frame.now obstacles row.now near.now }
     ensures { IfOk result (λ spans. AreOpen frame.now obstacles row.now (length frame.now.teams) spans.items) }
 {
     free_beside(alloc, &row.area(&frame.pitch), near)
@@ -118,9 +114,7 @@ fn push_fences(
     segments: &mut Vec<Segment>,
 ) -> Result<(), AllocError>
     ghost obstacles: { List Rect }
-    requires core_ones { IsCoreRow frame.now.pitch row.now }
-    requires boxes { AreBoxesOf frame.now obstacles row.now near.now }
-    requires sorted { AreSorted near.now }
+    requires { AreRowBoxes frame.now obstacles row.now near.now }
     ensures { OnOk result (AddsRow frame.now obstacles number row.now (length frame.now.teams) segments.old.items segments.new.items) }
 {
     let ground = ground_number(frame);
@@ -154,9 +148,7 @@ pub(crate) fn push_row(
     segments: &mut Vec<Segment>,
 ) -> Result<(), AllocError>
     ghost obstacles: { List Rect }
-    requires core_ones { IsCoreRow frame.now.pitch row.now }
-    requires boxes { AreBoxesOf frame.now obstacles row.now near.now }
-    requires sorted { AreSorted near.now }
+    requires { AreRowBoxes frame.now obstacles row.now near.now }
     ensures { OnOk result (AddsRow frame.now obstacles number row.now (length frame.now.teams + 1) segments.old.items segments.new.items) }
 {
     push_fences(alloc, frame, number, row, near, segments)?;
@@ -184,9 +176,7 @@ pub(crate) fn push_land(
     near: &[Placed],
     land: &mut Vec<Segment>,
 ) -> Result<(), AllocError>
-    requires core_ones { IsCoreRow frame.now.pitch row.now }
-    requires boxes { AreBoxesOf frame.now frame.now.obstacles row.now near.now }
-    requires sorted { AreSorted near.now }
+    requires { AreRowBoxes frame.now frame.now.obstacles row.now near.now }
     ensures { OnOk result (AddsRow frame.now [] number row.now (length frame.now.teams + 1) land.old.items land.new.items) }
 {
     let fences = without_obstacles(frame, near);

@@ -10,11 +10,7 @@ use lf_units::Rect;
 use std::alloc::{AllocError, Global};
 
 /// Appends rectangles, each with this number. `Err` if an allocation fails.
-pub(crate) fn push_rects(
-    boxes: &mut Vec<Placed>,
-    own: u32,
-    rects: &[Rect],
-) -> Result<(), AllocError>
+pub fn push_placed(boxes: &mut Vec<Placed>, own: u32, rects: &[Rect]) -> Result<(), AllocError>
     ensures { OnOk result (boxes.new.items ≡ boxes.old.items ++ map (placed_with_number own) rects.now) }
 {
     for rect in rects {
@@ -31,7 +27,7 @@ fn boxes_of_fences(alloc: Global, teams: &[Team]) -> Result<Vec<Placed>, AllocEr
 {
     let mut boxes = Vec::new(alloc);
     for (own, team) in teams.iter().enumerate() {
-        push_rects(&mut boxes, own as u32, team.rects.as_slice())?;
+        push_placed(&mut boxes, own as u32, team.rects.as_slice())?;
     }
     Ok(boxes)
 }
@@ -43,7 +39,7 @@ fn boxes_of_frame(alloc: Global, frame: &Frame) -> Result<Vec<Placed>, AllocErro
 {
     let teams = frame.teams.as_slice();
     let mut boxes = boxes_of_fences(alloc, teams)?;
-    push_rects(&mut boxes, teams.len() as u32, frame.obstacles.as_slice())?;
+    push_placed(&mut boxes, teams.len() as u32, frame.obstacles.as_slice())?;
     Ok(boxes)
 }
 

@@ -1,8 +1,8 @@
 //! Where the segments of each row begin in the list of all segments.
 
-ghost use Rattle.std.specs.Prelude.{◌≡◌, ◌<◌, ℕ, All, IfOk, List, length};
+ghost use Rattle.std.specs.Prelude.{◌≡◌, ℕ, IfOk, List, length};
 ghost use Rattle.std.specs.List.Sorted.{IsNonDecreasingBy};
-ghost use Rattle.lf_segments.specs.RowStarts.{AreRowStarts, IsRangeOf, IsStartOf, rows_of};
+ghost use Rattle.lf_segments.specs.RowStarts.{AreOfRows, AreRowStarts, IsRangeOf, IsStartOf, rows_of};
 
 use crate::segment::Segment;
 use std::alloc::{AllocError, Global};
@@ -42,8 +42,7 @@ fn count_earlier(segments: &[Segment], row: usize) -> usize
 /// Returns for each of `rows` rows the number of segments of an earlier one. `Err` if an allocation
 /// fails.
 fn starts_of(alloc: Global, segments: &[Segment], rows: usize) -> Result<Vec<usize>, AllocError>
-    requires order { IsNonDecreasingBy (λ g. g.row) segments.now }
-    requires known { All (λ g. g.row < rows) segments.now }
+    requires { AreOfRows segments.now rows }
     ensures { IfOk result (λ starts. AreRowStarts (rows_of segments.now) starts.items) }
 {
     let mut starts = Vec::with_capacity(alloc, rows)?;
@@ -57,8 +56,7 @@ impl RowStarts {
     /// Returns the starts for segments of `rows` rows. The segments are in the order of their rows,
     /// and each row is below `rows`. `Err` if an allocation fails.
     pub fn build(alloc: Global, segments: &[Segment], rows: usize) -> Result<Self, AllocError>
-        requires order { IsNonDecreasingBy (λ g. g.row) segments.now }
-        requires known { All (λ g. g.row < rows) segments.now }
+        requires { AreOfRows segments.now rows }
         ensures { IfOk result (AreRowStarts (rows_of segments.now)) }
     {
         let starts = starts_of(alloc, segments, rows)?;

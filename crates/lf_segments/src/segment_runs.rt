@@ -4,10 +4,9 @@
 ghost use Rattle.std.specs.Prelude.{◌≡◌, ◌↔◌, IsTrue, ◌<◌, ◌≤◌, ◌≤ℤ◌, ◌<ℤ◌, ℕ, All, AllPairs, MatchOption, length, slice_index_or};
 ghost use Rattle.std.specs.List.{HoldsAt};
 ghost use Rattle.std.specs.List.Sorted.{IsNonDecreasingBy};
-ghost use Rattle.lf_spans.specs.Spans.{IsFilled};
 ghost use Rattle.lf_segments.specs.declared.segment.Segment.{Segment};
-ghost use Rattle.lf_segments.specs.RowStarts.{AreRowStarts, IsRangeOf, rows_of};
-ghost use Rattle.lf_segments.specs.Segments.{ComesBefore, IsAt, IsOf, IsRunFrom};
+ghost use Rattle.lf_segments.specs.RowStarts.{AreRowStarts, HaveRowStarts, IsRangeOf, rows_of};
+ghost use Rattle.lf_segments.specs.Segments.{IsAt, IsOf, IsRunFrom};
 
 use crate::row_starts::{RowRange, RowStarts};
 use crate::segment::Segment;
@@ -60,8 +59,7 @@ pub(crate) fn run_of<'a>(
     row: usize,
     team: usize,
 ) -> Run<'a>
-    requires order { AllPairs ComesBefore segments.now }
-    requires starts { AreRowStarts (rows_of segments.now) starts.now }
+    requires { HaveRowStarts segments.now starts.now }
     ensures { IsRunFrom (IsOf row team) segments.now result.start result.segments.now }
 {
     let in_row = run_of_row(segments, starts, row);
@@ -99,9 +97,7 @@ pub(crate) fn place_in(
     team: usize,
     x: &i64,
 ) -> Option<usize>
-    requires order { AllPairs ComesBefore segments.now }
-    requires starts { AreRowStarts (rows_of segments.now) starts.now }
-    requires filled { All (λ g. IsFilled g.span) segments.now }
+    requires { HaveRowStarts segments.now starts.now }
     ensures { MatchOption result (All (λ g. IsAt row team x.now g → ⊥) segments.now) (λ n. HoldsAt (IsAt row team x.now) segments.now n) }
 {
     let run = run_of(segments, starts, row, team);

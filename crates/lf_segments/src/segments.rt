@@ -23,17 +23,15 @@ pub struct Segments {
 }
 
 impl Model for Segments {
-    ghost use Rattle.std.specs.Prelude.{List, All, AllPairs};
-    ghost use Rattle.lf_spans.specs.Spans.{IsFilled};
+    ghost use Rattle.std.specs.Prelude.{List};
     ghost use Rattle.lf_segments.specs.declared.segment.Segment.{Segment};
-    ghost use Rattle.lf_segments.specs.RowStarts.{AreRowStarts, rows_of};
-    ghost use Rattle.lf_segments.specs.Segments.{ComesBefore};
+    ghost use Rattle.lf_segments.specs.RowStarts.{HaveRowStarts};
 
     ghost Value = { List Segment };
 
     ghost view = { λ s. s.list.items };
 
-    ghost invariant = { λ s. AllPairs ComesBefore s.list.items × (All (λ g. IsFilled g.span) s.list.items × AreRowStarts (rows_of s.list.items) s.starts) };
+    ghost invariant = { λ s. HaveRowStarts s.list.items s.starts };
 }
 
 /// Returns the segments of all rows. Visits for each row only the boxes near it. `Err` if an
@@ -90,20 +88,20 @@ fn indexed(alloc: Global, frame: &Frame, list: Vec<Segment>) -> Result<Segments,
 
 /// The segments of a frame, and the land.
 #[derive(Drop)]
-pub(crate) struct Cuts {
-    pub(crate) segments: Segments,
-    pub(crate) land: Segments,
+pub struct SegmentsAndLand {
+    pub segments: Segments,
+    pub land: Segments,
 }
 
 /// Returns the segments of the frame, and the land. `Err` if an allocation fails.
-pub(crate) fn cuts_of(alloc: Global, frame: &Frame) -> Result<Cuts, AllocError>
+pub fn segments_and_land(alloc: Global, frame: &Frame) -> Result<SegmentsAndLand, AllocError>
     ensures segments { IfOk result (λ cuts. IsCut frame.now cuts.segments) }
     ensures land { IfOk result (λ cuts. IsCutBeside frame.now [] cuts.land) }
 {
     let lists = cut_both(alloc, frame)?;
     let segments = indexed(alloc, frame, lists.segments)?;
     let land = indexed(alloc, frame, lists.land)?;
-    Ok(Cuts { segments, land })
+    Ok(SegmentsAndLand { segments, land })
 }
 
 impl Segments {
@@ -141,7 +139,7 @@ impl Segments {
 
     /// Returns the positions in the list of the segments of the row; an empty range if there are no
     /// such segments. Takes one lookup.
-    pub(crate) fn range_of(&self, row: usize) -> RowRange
+    pub fn range_of(&self, row: usize) -> RowRange
         ensures { IsRangeOf (rows_of self.now) row result.start result.end }
     {
         range_in(&self.list, &self.starts, row)

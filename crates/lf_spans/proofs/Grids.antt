@@ -1,5 +1,5 @@
 -- Numbers that are whole steps apart.
-use Rattle.std.proofs.Common.{◌≡◌, ◌⊎◌, ℕ, ℤ, pos, negsuc, suc, ◌+◌, ◌*◌, ◌/◌, ◌%◌, ◌<◌, ◌≤◌, ◌+ℤ◌, ◌-ℤ◌, ◌*ℤ◌, ◌≤ℤ◌, ◌<ℤ◌, neg_ℤ, inl, inr, refl, sym, ap, subst, arith, IsTrue, int_lt, int_le, false}
+use Rattle.std.proofs.Common.{◌≡◌, ◌⊎◌, ℕ, ℤ, pos, negsuc, suc, ◌+◌, ◌*◌, ◌/◌, ◌%◌, ◌<◌, ◌≤◌, ◌+ℤ◌, ◌-ℤ◌, ◌*ℤ◌, ◌≤ℤ◌, ◌<ℤ◌, neg_ℤ, inl, inr, refl, sym, ap, subst, arith, IsTrue, int_lt, int_le}
 use Rattle.std.specs.Int.RustNames.{int_rem}
 use Rattle.std.proofs.lemmas.Int.{ints}
 use Rattle.std.proofs.Math.Nat.{lt_of_mul-lt-mul_right, mul-le-mul_right}
@@ -90,14 +90,8 @@ near_back t x y a b c = inl (omega (arith, ints))
 pub less_from : (a b : ℤ) → IsTrue (int_lt a b) → a <ℤ b
 less_from a b t = grind (arith, ints)
 
-pub not_less_from : (a b : ℤ) → int_lt a b ≡ false → b ≤ℤ a
-not_less_from a b t = grind (arith, ints)
-
 pub at_most_from : (a b : ℤ) → IsTrue (int_le a b) → a ≤ℤ b
 at_most_from a b t = grind (arith, ints)
-
-pub not_at_most_from : (a b : ℤ) → int_le a b ≡ false → b <ℤ a
-not_at_most_from a b t = grind (arith, ints)
 
 -- ---- the first and the last grid number at which the width fits
 

@@ -92,7 +92,7 @@ all_overlapped a b overlapping_one left right m none = record {
   );
 }
 
-from_place : (xs : List Span) (n : ℕ) (d : Span) → n < length xs → drop n xs ≡ get_or xs n d ∷ drop (n + 1) xs
+pub from_place : (xs : List Span) (n : ℕ) (d : Span) → n < length xs → drop n xs ≡ get_or xs n d ∷ drop (n + 1) xs
 from_place xs n d within = cc (drop-cons xs n d within, add-one n)
 
 pub past_first_at : (a b overlapping_one new : List Span) (i j : ℕ) (d e : Span) (z : Span) → i < length a → j < length b → Overlaps a b overlapping_one (drop i a) (drop j b) →

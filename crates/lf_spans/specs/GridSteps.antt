@@ -2,12 +2,17 @@
 use Rattle.std.specs.Prelude.{◌≡◌, ◌⊎◌, ℤ, pos, negsuc, ◌+ℤ◌, ◌-ℤ◌, ◌≤ℤ◌, ◌<ℤ◌}
 use Rattle.lf_spans.specs.declared.span.Span.{Span}
 use Rattle.lf_spans.specs.declared.grid.SiteGrid.{SiteGrid}
-use Rattle.lf_spans.specs.Grids.{IsOnGrid}
+use Rattle.lf_spans.specs.Grids.{IsGrid, IsOnGrid}
 
 -- The absolute value is at most 2^42.
 pub record IsSmall (v : ℤ) : Type 0 where
   pub low : negsuc 4398046511103 ≤ℤ v
   pub high : v ≤ℤ pos 4398046511104
+
+-- A grid, and a number small enough to be rounded to it.
+pub record CanBeRounded (g : SiteGrid) (at : ℤ) : Type 0 where
+  pub grid : IsGrid g
+  pub small : IsSmall at
 
 -- The nearer of two numbers around a target; the left one if they are equally near.
 abbrev pub IsNearer : ℤ → ℤ → ℤ → ℤ → Type 0

@@ -2,7 +2,7 @@
 
 ghost use Rattle.std.specs.Prelude.{◌≡◌, ◌-ℤ◌, ◌+ℤ◌, ◌≤ℤ◌, ◌<ℤ◌, neg_ℤ, pos};
 ghost use Rattle.lf_spans.specs.Grids.{FindsNearest, FitsSpan, IsBounded, IsBoundedSpan, IsGrid, IsOnGrid, grid_of};
-ghost use Rattle.lf_spans.specs.GridSteps.{AreEnds, IsNearer, IsSmall};
+ghost use Rattle.lf_spans.specs.GridSteps.{AreEnds, CanBeRounded, IsNearer};
 
 use crate::span::Span;
 
@@ -16,8 +16,7 @@ pub struct SiteGrid {
 
 /// Returns the remainder of the number on the grid. Its absolute value is less than one step.
 fn beyond(grid: &SiteGrid, at: i64) -> i64
-    requires grid { IsGrid grid.now }
-    requires small { IsSmall at }
+    requires { CanBeRounded grid.now at }
     ensures on_grid { IsOnGrid grid.now (at -ℤ result) }
     ensures low { neg_ℤ grid.now.step <ℤ result }
     ensures high { result <ℤ grid.now.step }
@@ -27,8 +26,7 @@ fn beyond(grid: &SiteGrid, at: i64) -> i64
 
 /// Returns the greatest grid number that is not above `at`.
 fn last_to(grid: &SiteGrid, at: i64) -> i64
-    requires grid { IsGrid grid.now }
-    requires small { IsSmall at }
+    requires { CanBeRounded grid.now at }
     ensures on_grid { IsOnGrid grid.now result }
     ensures below { result ≤ℤ at }
     ensures near { at <ℤ (result +ℤ grid.now.step) }
@@ -42,8 +40,7 @@ fn last_to(grid: &SiteGrid, at: i64) -> i64
 
 /// Returns the least grid number that is not below `at`.
 fn first_from(grid: &SiteGrid, at: i64) -> i64
-    requires grid { IsGrid grid.now }
-    requires small { IsSmall at }
+    requires { CanBeRounded grid.now at }
     ensures on_grid { IsOnGrid grid.now result }
     ensures above { at ≤ℤ result }
     ensures near { (result -ℤ grid.now.step) <ℤ at }

@@ -1,5 +1,5 @@
-//! Tests of `lf_frame`, `lf_reports`, `lf_segments`, `lf_cells`, `lf_occupancy` and `lf_placement`,
-//! in what no clause specifies.
+//! Tests of `lf_frame`, `lf_reports`, `lf_segments`, `lf_frame_index`, `lf_cells`, `lf_occupancy` and
+//! `lf_placement`, in what no clause specifies.
 //!
 //! Modules, in reading order:
 //!

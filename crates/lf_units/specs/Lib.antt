@@ -1,3 +1,4 @@
 pub mod Area
 pub mod Length
 pub mod Number
+pub mod Digits

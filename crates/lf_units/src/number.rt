@@ -4,6 +4,7 @@ ghost use Rattle.std.specs.Prelude.{◌≡◌, ◌+◌, ◌*◌, ◌^◌, ◌≤
 ghost use Rattle.std.specs.Char.{is_ascii_digit};
 ghost use Rattle.std.specs.List.{list_all, list_any, before_first, after_first};
 ghost use Rattle.std.specs.Str.Parse.{starts_with_minus, without_leading_sign, digits_value, digits_value_after};
+ghost use Rattle.lf_units.specs.Digits.{AreDigits, IsNumberRange};
 ghost use Rattle.lf_units.specs.Length.{IsLength};
 ghost use Rattle.lf_units.specs.Number.{fixed_of, digits_fixed, up_to, is_point, is_not_zero, with_sign};
 
@@ -118,10 +119,8 @@ fn shifted(value: u64, zeros: usize, max: u64) -> Option<u64>
 /// Returns the value of the digits of both texts, joined and followed by `zeros` zeros. `None` if
 /// it exceeds `max`.
 fn joined_digits(whole: &[u8], kept: &[u8], zeros: usize, max: u64) -> Option<u64>
-    requires whole { list_all is_ascii_digit whole.now ≡ true }
-    requires kept { list_all is_ascii_digit kept.now ≡ true }
-    requires zeros { zeros ≤ 6 }
-    requires max { max ≤ 10 ^ 12 }
+    requires digits { AreDigits whole.now kept.now }
+    requires range { IsNumberRange zeros max }
     ensures { result ≡ up_to max (digits_value 10 (whole.now ++ kept.now) * 10 ^ zeros) }
 {
     let value = digits_after(0, whole, max)?;
@@ -147,10 +146,8 @@ fn value_of(
     decimals: usize,
     max: u64,
 ) -> Result<i64, NumberFault>
-    requires whole { list_all is_ascii_digit whole.now ≡ true }
-    requires fraction { list_all is_ascii_digit fraction.now ≡ true }
-    requires decimals { decimals ≤ 6 }
-    requires max { max ≤ 10 ^ 12 }
+    requires digits { AreDigits whole.now fraction.now }
+    requires range { IsNumberRange decimals max }
     ensures { result ≡ digits_fixed negative whole.now fraction.now decimals max }
 {
     let (kept, finer) = split_decimals(fraction, decimals);

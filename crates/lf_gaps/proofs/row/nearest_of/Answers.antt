@@ -2,11 +2,13 @@ use Rattle.std.proofs.Common.{refl, arith}
 use Rattle.lf_gaps.proofs.Nearest.{place_before, found_before, found_in_back, found_after, found_at_last, rising_after_it, near_after}
 use Rattle.lf_gaps.proofs.row.nearest_of.Goals as goal
 
-pub nearest_rightwards-best-requires-clause-rising : goal.nearest_rightwards-best-requires-clause-rising
-nearest_rightwards-best-requires-clause-rising c = rising_after_it c.args.spans.now c.partition_point-middle.result c.requires.rising
-
-pub nearest_rightwards-best-requires-clause-bounded : goal.nearest_rightwards-best-requires-clause-bounded
-nearest_rightwards-best-requires-clause-bounded c = near_after c.args.spans.now c.partition_point-middle.result c.requires.bounded
+pub nearest_rightwards-best-requires : goal.nearest_rightwards-best-requires
+nearest_rightwards-best-requires c = record {
+  grid = c.requires.grid;
+  rising = rising_after_it c.args.spans.now c.partition_point-middle.result c.requires.rising;
+  bounded = near_after c.args.spans.now c.partition_point-middle.result c.requires.bounded;
+  wanted = c.requires.wanted;
+}
 
 pub loop-i-init : goal.loop-i-init
 loop-i-init c = record {

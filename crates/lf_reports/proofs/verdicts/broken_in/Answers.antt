@@ -10,6 +10,6 @@ returns c = λ l.
     let f = c.args.plan.now in
     let cells = map with_byte_name c.args.cells.now in
     let cell = with_byte_name c.args.cell.now in
-    broken_is l f c.args.padding.sites cells c.args.own cell c.in_ok-place.place c.broken_at.result c.verdict_is_unique.ensures c.requires.this
-    (c.broken_at.ensures (map listed_member cells) c.requires.tree)
-    ∙ ap (λ (o : Option Place). option_and_then (λ p. l.first_broken (candidate_among f c.args.padding.sites cells c.args.own cell p)) o) (sym c.in_ok-place.was)
+    broken_is l f c.args.near.now.padding.sites cells c.args.own cell c.in_ok-place.place c.broken_at.result c.verdict_is_unique.ensures c.requires.cell.this
+    (c.broken_at.ensures (map listed_member cells) c.requires.boxes.tree)
+    ∙ ap (λ (o : Option Place). option_and_then (λ p. l.first_broken (candidate_among f c.args.near.now.padding.sites cells c.args.own cell p)) o) (sym c.in_ok-place.was)

@@ -11,9 +11,6 @@ use Rattle.lf_reports.proofs.verdicts.put_verdicts.Goals as goal
 abbrev nowhere : Placed
 nowhere = record { own = 0; rect = record { x1 = pos 0; y1 = pos 0; x2 = pos 0; y2 = pos 0 } }
 
-pub put_verdict-requires-clause-within : goal.put_verdict-requires-clause-within
-put_verdict-requires-clause-within c = c.requires.known c.loop-number.number nowhere c.loop-number-test.true
-
 -- The cell at the loop's number is the one of its box.
 there : (c : goal.After-put_verdict-arg-1) →
     slice_get (map with_byte_name c.args.cells.now) (get_or c.args.boxes.now c.loop-number.number nowhere).own ≡ Some (with_byte_name c.index-cell.result.now)
@@ -29,17 +26,18 @@ there c =
     let read : slice_get items number ≡ Some c.index-cell.result.now = slice_get_read items _ number c.index-cell.result.now refl within c.index-cell.ensures in
     fetched_at cells (map with_byte_name items) c.args.boxes.now number nowhere (with_byte_name c.index-cell.result.now) same below (slice_get-map with_byte_name items number ∙ ap (option_map with_byte_name) read)
 
-pub put_verdict-requires-clause-there : goal.put_verdict-requires-clause-there
-put_verdict-requires-clause-there c = there c
-
-pub put_verdict-requires-clause-this : goal.put_verdict-requires-clause-this
-put_verdict-requires-clause-this c =
-    listed_there c.args.plan.now c.args.cells.now (get_or c.args.boxes.now c.loop-number.number nowhere).own (with_byte_name c.index-cell.result.now) c.requires.listed (there c)
+pub put_verdict-requires-clause-cell : goal.put_verdict-requires-clause-cell
+put_verdict-requires-clause-cell c = record {
+  this = listed_there c.args.plan.now c.args.cells.now (get_or c.args.boxes.now c.loop-number.number nowhere).own (with_byte_name c.index-cell.result.now)
+      c.requires.listed.listed (there c);
+  there = there c;
+  within = c.requires.known c.loop-number.number nowhere c.loop-number-test.true;
+}
 
 pub loop-number-init : goal.loop-number-init
 loop-number-init c = (
   c.requires.count,
-  λ l done have. subst (λ (xs : List Placed). HaveVerdicts l c.args.plan.now c.args.padding.sites (map with_byte_name c.args.cells.now) xs c.args.verdicts.now.items) (sym (append-nil done)) have,
+  λ l done have. subst (λ (xs : List Placed). HaveVerdicts l c.args.plan.now c.args.near.now.padding.sites (map with_byte_name c.args.cells.now) xs c.args.verdicts.now.items) (sym (append-nil done)) have,
 )
 
 pub loop-number-preserved : goal.loop-number-preserved
@@ -47,11 +45,11 @@ loop-number-preserved c = (
   c.put_verdict.ensures.count,
   λ l done have.
       let before = c.loop-number.invariant.1 l done have in
-      next_done l c.args.plan.now c.args.padding.sites (map with_byte_name c.args.cells.now) done c.args.boxes.now c.loop-number.number nowhere c.loop-number.verdicts.items _
+      next_done l c.args.plan.now c.args.near.now.padding.sites (map with_byte_name c.args.cells.now) done c.args.boxes.now c.loop-number.number nowhere c.loop-number.verdicts.items _
       c.loop-number-test.true before (c.put_verdict.ensures.put l before.some),
 )
 
 pub returns-clause-put : goal.returns-clause-put
 returns-clause-put c = λ l done have.
     let all : take c.loop-number.number c.args.boxes.now ≡ c.args.boxes.now = take_all c.loop-number.number c.args.boxes.now c.loop-number-test.false in
-    subst (λ (xs : List Placed). HaveVerdicts l c.args.plan.now c.args.padding.sites (map with_byte_name c.args.cells.now) (done ++ xs) c.loop-number.verdicts.items) all (c.loop-number.invariant.1 l done have)
+    subst (λ (xs : List Placed). HaveVerdicts l c.args.plan.now c.args.near.now.padding.sites (map with_byte_name c.args.cells.now) (done ++ xs) c.loop-number.verdicts.items) all (c.loop-number.invariant.1 l done have)

@@ -17,15 +17,15 @@ loop-rest-init c =
     let cells = map with_byte_name c.args.cells.now in
     let named_long : length cells ≡ length c.args.cells.now = length-map c.args.cells.now with_byte_name in
     let long : length (map listed_member cells) ≡ length c.args.cells.now = length-map cells listed_member ∙ named_long in
-    let known : All (λ p. p.own < length c.args.cells.now) c.args.tree.now =
-    subst (λ (n : ℕ). All (λ p. p.own < n) c.args.tree.now) long (numbers_known f (map listed_member cells) c.args.tree.now c.requires.tree) in
+    let known : All (λ p. p.own < length c.args.cells.now) c.args.near.now.boxes.now =
+    subst (λ (n : ℕ). All (λ p. p.own < n) c.args.near.now.boxes.now) long (numbers_known f (map listed_member cells) c.args.near.now.boxes.now c.requires.tree) in
     record {
       count = c.in_ok-verdicts.ensures.count;
       known = subst (λ (boxes : List Placed). All (λ p. p.own < length c.args.cells.now) boxes) (sym c.boxes-rest.ensures) known;
       have = λ l. record {
         passed = [];
         parts = c.boxes-rest.ensures;
-        have = none_yet l f c.args.padding.sites cells c.in_ok-verdicts.verdicts.items (c.in_ok-verdicts.ensures.count ∙ sym named_long) c.in_ok-verdicts.ensures.none;
+        have = none_yet l f c.args.near.now.padding.sites cells c.in_ok-verdicts.verdicts.items (c.in_ok-verdicts.ensures.count ∙ sym named_long) c.in_ok-verdicts.ensures.none;
       };
     }
 
@@ -36,11 +36,11 @@ loop-rest-preserved c =
       count = c.put_verdicts.ensures.count;
       known = subst (All Known) (sym c.split_at.ensures.back) (All-drop Known _ c.loop-rest.rest.now c.loop-rest.invariant.known);
       have = λ l.
-          pass_some l c.args.plan.now c.args.padding.sites (map with_byte_name c.args.cells.now) c.args.tree.now c.loop-rest.rest.now _ _ _ c.loop-rest.verdicts.items _
+          pass_some l c.args.plan.now c.args.near.now.padding.sites (map with_byte_name c.args.cells.now) c.args.near.now.boxes.now c.loop-rest.rest.now _ _ _ c.loop-rest.verdicts.items _
           c.split_at.ensures.front c.split_at.ensures.back (λ done have. c.in_ok-put_verdicts.ensures.put l done have) (c.loop-rest.invariant.have l);
     }
 
 pub returns-clause-each : goal.returns-clause-each
 returns-clause-each c = λ l.
-    all_passed l c.args.plan.now c.args.padding.sites (map with_byte_name c.args.cells.now) c.args.tree.now c.loop-rest.rest.now c.loop-rest.verdicts.items
+    all_passed l c.args.plan.now c.args.near.now.padding.sites (map with_byte_name c.args.cells.now) c.args.near.now.boxes.now c.loop-rest.rest.now c.loop-rest.verdicts.items
     c.requires.tree (search rules) (c.loop-rest.invariant.have l)

@@ -8,20 +8,18 @@ use Rattle.lf_reports.proofs.CleanLemmas.{all_listed, each_named, joined, length
 use Rattle.lf_reports.proofs.LegalVerdicts.{legal_by_verdicts}
 use Rattle.lf_reports.proofs.verdicts.verdicts_of_all.Goals as goal
 
-pub verdicts_over-requires-clause-listed : goal.verdicts_over-requires-clause-listed
-verdicts_over-requires-clause-listed c =
+pub verdicts_over-requires : goal.verdicts_over-requires
+verdicts_over-requires c =
     let f = c.args.loaded.now.frame in
-    let are = joined c.args.loaded.now.cells c.args.places.now c.deref.result.now c.in_ok-cells.cells.items c.deref.ensures.value (c.in_ok-cells.ensures {u = tt}) in
-    each_named f c.deref.result.now
-    (subst (All (IsListed f)) (sym are) (all_listed f c.cell_is_sized.ensures c.args.loaded.now.cells c.args.places.now c.args.loaded.now.cells_known))
-
-pub verdicts_over-requires-clause-few : goal.verdicts_over-requires-clause-few
-verdicts_over-requires-clause-few c =
     let are = joined c.args.loaded.now.cells c.args.places.now c.deref.result.now c.in_ok-cells.cells.items c.deref.ensures.value (c.in_ok-cells.ensures {u = tt}) in
     let count : length c.deref.result.now ≡ length c.args.loaded.now.cells =
     sym (length-map c.deref.result.now with_byte_name) ∙ ap (λ (cs : List (Listed (List ℕ))). length cs) are ∙ length_listed c.args.loaded.now.cells c.args.places.now in
-    let few = c.args.loaded.now.few_cells in
-    omega (arith, count, few)
+    let below = c.args.loaded.now.few_cells in
+    record {
+      listed = each_named f c.deref.result.now
+          (subst (All (IsListed f)) (sym are) (all_listed f c.cell_is_sized.ensures c.args.loaded.now.cells c.args.places.now c.args.loaded.now.cells_known));
+      few = omega (arith, count, below);
+    }
 
 pub returns-clause-count : goal.returns-clause-count
 returns-clause-count c =

@@ -10,11 +10,11 @@ pub returns-in_default : goal.returns-in_default
 returns-in_default g c =
     no_bottom (g.N.FrameQuery.of c.args.near.now) c.args.rect.now c.corner_of.result c.corner_of.ensures c.requires.wide c.in_default.ensures.only
 
-pub is_bottom_row-requires-clause-known : goal.is_bottom_row-requires-clause-known
-is_bottom_row-requires-clause-known g c = subst (λ (h : Frame). Contains h.rows c.in-Some.row.now) (sym c.frame.ensures) c.in-Some.ensures.only.0
-
-pub is_bottom_row-requires-clause-core_ones : goal.is_bottom_row-requires-clause-core_ones
-is_bottom_row-requires-clause-core_ones g c = subst (λ (h : Frame). IsCoreRow h.pitch c.in-Some.row.now) (sym c.frame.ensures) c.in-Some.ensures.core_ones
+pub is_bottom_row-requires-clause-row : goal.is_bottom_row-requires-clause-row
+is_bottom_row-requires-clause-row g c = record {
+  known = subst (λ (h : Frame). Contains h.rows c.in-Some.row.now) (sym c.frame.ensures) c.in-Some.ensures.only.0;
+  core_ones = subst (λ (h : Frame). IsCoreRow h.pitch c.in-Some.row.now) (sym c.frame.ensures) c.in-Some.ensures.core_ones;
+}
 
 pub returns : goal.returns
 returns g c =

@@ -13,10 +13,15 @@ divides (pos v) (pos s) l p = (
 divides (pos v) (negsuc s) l p = absurd (omega (arith, ints))
 divides (negsuc v) s l p = absurd (omega (arith, ints))
 
+pub nonzero_rem-result : goal.nonzero_rem-result
+nonzero_rem-result c =
+    let wide = c.args.frame.now.pitch_whole.wide in
+    search (rules, wide)
+
 pub returns : goal.returns
 returns c =
     let offset : to_z w64 (of_z w64 (to_z w64 (of_z w64 c.args.rect.now.x1) -ℤ to_z w64 (of_z w64 c.from.result))) ≡ c.args.rect.now.x1 -ℤ c.args.row.now.x = omega (arith, ints) in
-    let step : FitsSigned w64 c.args.pitch.now.x = search rules in
+    let step : FitsSigned w64 c.args.frame.now.pitch.x = search rules in
     let least : pos 0 ≤ℤ (c.args.rect.now.x1 -ℤ c.args.row.now.x) = omega (arith, ints) in
-    let positive : pos 0 <ℤ c.args.pitch.now.x = c.requires.wide in
-    rw (offset, to_z-of_z w64 c.args.pitch.now.x step) (divides (c.args.rect.now.x1 -ℤ c.args.row.now.x) c.args.pitch.now.x least positive)
+    let positive : pos 0 <ℤ c.args.frame.now.pitch.x = c.args.frame.now.pitch_whole.wide in
+    rw (offset, to_z-of_z w64 c.args.frame.now.pitch.x step) (divides (c.args.rect.now.x1 -ℤ c.args.row.now.x) c.args.frame.now.pitch.x least positive)

@@ -12,7 +12,7 @@ returns g c =
     IfOk-weaker c.free_beside.result (λ free. IsFree (x_extent c.area.result) (map (λ p. x_extent p.rect) group) free.items)
     (λ free. AreClear c.args.frame.now g.obstacles c.args.row.now free.items)
     (λ free f.
-    clear_spans_of c.args.frame.now g.obstacles c.args.row.now c.args.near.now group free.items c.requires.1.0
+    clear_spans_of c.args.frame.now g.obstacles c.args.row.now c.args.near.now group free.items c.requires.boxes
     (subst (λ (n : ℕ). IsNextGroup c.args.near.now n group) c.ground_number.ensures c.next_group-obstacles.ensures)
     (subst (λ (a : Rect). IsFree (x_extent a) (map (λ p. x_extent p.rect) group) free.items) c.area.ensures f))
     c.free_beside.ensures

@@ -12,6 +12,6 @@ returns g c =
     IfOk-weaker c.free_beside.result (λ free. IsFree (x_extent c.area.result) (map (λ p. x_extent p.rect) near) free.items)
     (λ free. AreOpen c.args.frame.now g.obstacles c.args.row.now (length c.args.frame.now.teams) free.items)
     (λ free f.
-    ground_spans_of c.args.frame.now g.obstacles c.args.row.now near free.items c.requires.1
+    ground_spans_of c.args.frame.now g.obstacles c.args.row.now near free.items c.requires.boxes
     (subst (λ (a : Rect). IsFree (x_extent a) (map (λ p. x_extent p.rect) near) free.items) c.area.ensures f))
     c.free_beside.ensures

@@ -14,7 +14,7 @@ returns-then-is_empty g c =
     let none : length group ≡ 0 = search rules in
     row_skip c.args.frame.now g.obstacles c.args.number c.args.row.now c.loop-team.team (length c.args.frame.now.teams) c.args.segments.now.items c.loop-team.segments.items
     c.loop-team.invariant.1 c.loop-team.invariant.0
-    (λ u from low x. not_open c.args.frame.now g.obstacles c.args.row.now c.args.near.now group c.loop-team.team u c.requires.1.0 c.next_group-group.ensures
+    (λ u from low x. not_open c.args.frame.now g.obstacles c.args.row.now c.args.near.now group c.loop-team.team u c.requires.boxes c.next_group-group.ensures
     (λ k d within. absurd (omega (arith, none, within))) from low x)
 
 pub returns-then-ground-own : goal.returns-then-ground-own
@@ -25,7 +25,7 @@ returns-then-ground-own g c =
     let high : length c.args.frame.now.teams ≤ (get_or group 0 no_box).own = omega arith in
     row_skip c.args.frame.now g.obstacles c.args.number c.args.row.now c.loop-team.team (length c.args.frame.now.teams) c.args.segments.now.items c.loop-team.segments.items
     c.loop-team.invariant.1 c.loop-team.invariant.0
-    (λ u from low x. not_open c.args.frame.now g.obstacles c.args.row.now c.args.near.now group c.loop-team.team u c.requires.1.0 c.next_group-group.ensures
+    (λ u from low x. not_open c.args.frame.now g.obstacles c.args.row.now c.args.near.now group c.loop-team.team u c.requires.boxes c.next_group-group.ensures
     (above_all group (get_or group 0 no_box).own u number (omega (arith, low, high))) from low x)
 
 pub covered_over-requires-clause-high : goal.covered_over-requires-clause-high
@@ -33,7 +33,7 @@ covered_over-requires-clause-high g c = area_high c.args.frame.now c.args.row.no
 
 pub covered_over-requires-clause-near : goal.covered_over-requires-clause-near
 covered_over-requires-clause-near g c =
-    touch_group c.args.frame.now g.obstacles c.args.row.now c.args.near.now c.next_group-group.result.now c.loop-team.team c.area-area.result c.requires.1.0
+    touch_group c.args.frame.now g.obstacles c.args.row.now c.args.near.now c.next_group-group.result.now c.loop-team.team c.area-area.result c.requires.boxes
     c.next_group-group.ensures c.area-area.ensures
 
 pub loop-team-preserved : goal.loop-team-preserved
@@ -49,11 +49,11 @@ loop-team-preserved g c =
     let fence : own < length f.teams = omega arith in
     let up_to =
     row_skip f g.obstacles c.args.number r c.loop-team.team own c.args.segments.now.items c.loop-team.segments.items c.loop-team.invariant.1 from
-    (λ u least low x. not_open f g.obstacles r near group c.loop-team.team u c.requires.1.0 c.next_group-group.ensures (above_all group own u number low) least
+    (λ u least low x. not_open f g.obstacles r near group c.loop-team.team u c.requires.boxes c.next_group-group.ensures (above_all group own u number low) least
     (omega (arith, low, fence)) x) in
     let spans =
     fence_spans_of f g.obstacles r near group c.loop-team.team own c.area-area.result c.in_ok-clear.clear.items c.as_slice.result.now c.in_ok-spans.spans.items
-    c.requires.1.0
+    c.requires.boxes
     c.next_group-group.ensures number from fence c.in_ok-clear.ensures c.area-area.ensures c.as_slice.ensures.value c.in_ok-spans.ensures in (
       omega (arith, fence),
       row_more f g.obstacles c.args.number r own c.args.segments.now.items c.loop-team.segments.items c.push_spans.new.segments.items c.in_ok-spans.spans.items up_to spans

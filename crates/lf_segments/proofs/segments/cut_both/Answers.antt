@@ -10,16 +10,22 @@ use Rattle.lf_segments.proofs.segments.cut_both.Goals as goal
 pub push_row-requires : goal.push_row-requires
 push_row-requires c =
     let f = c.args.frame.now in
-    let core_ones : IsCoreRow f.pitch c.row-item.result = search rules in (
-      core_ones,
-      (
-        subst (AreBoxesOf f f.obstacles c.row-item.result) (sym c.as_slice-near.ensures.value) c.in_ok-boxes_near.ensures.boxes,
-        subst AreSorted (sym c.as_slice-near.ensures.value) c.in_ok-boxes_near.ensures.sorted,
-      ),
-    )
+    let core_ones : IsCoreRow f.pitch c.row-item.result = search rules in
+    record {
+      core_ones = core_ones;
+      boxes = subst (AreBoxesOf f f.obstacles c.row-item.result) (sym c.as_slice-near.ensures.value) c.in_ok-boxes_near.ensures.boxes;
+      sorted = subst AreSorted (sym c.as_slice-near.ensures.value) c.in_ok-boxes_near.ensures.sorted;
+    }
 
-pub push_land-requires-clause-sorted : goal.push_land-requires-clause-sorted
-push_land-requires-clause-sorted c = subst AreSorted (sym c.as_slice-near.ensures.value) c.in_ok-boxes_near.ensures.sorted
+pub push_land-requires : goal.push_land-requires
+push_land-requires c =
+    let f = c.args.frame.now in
+    let core_ones : IsCoreRow f.pitch c.row-item.result = search rules in
+    record {
+      core_ones = core_ones;
+      boxes = subst (AreBoxesOf f f.obstacles c.row-item.result) (sym c.as_slice-near.ensures.value) c.in_ok-boxes_near.ensures.boxes;
+      sorted = subst AreSorted (sym c.as_slice-near.ensures.value) c.in_ok-boxes_near.ensures.sorted;
+    }
 
 pub loop-number-preserved : goal.loop-number-preserved
 loop-number-preserved c =

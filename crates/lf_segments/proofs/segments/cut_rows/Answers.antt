@@ -10,13 +10,12 @@ use Rattle.lf_segments.proofs.segments.cut_rows.Goals as goal
 pub push_row-requires : goal.push_row-requires
 push_row-requires c =
     let f = c.args.frame.now in
-    let core_ones : IsCoreRow f.pitch c.row-item.result = search rules in (
-      core_ones,
-      (
-        subst (AreBoxesOf f f.obstacles c.row-item.result) (sym c.as_slice.ensures.value) c.in_ok-boxes_near.ensures.boxes,
-        subst AreSorted (sym c.as_slice.ensures.value) c.in_ok-boxes_near.ensures.sorted,
-      ),
-    )
+    let core_ones : IsCoreRow f.pitch c.row-item.result = search rules in
+    record {
+      core_ones = core_ones;
+      boxes = subst (AreBoxesOf f f.obstacles c.row-item.result) (sym c.as_slice.ensures.value) c.in_ok-boxes_near.ensures.boxes;
+      sorted = subst AreSorted (sym c.as_slice.ensures.value) c.in_ok-boxes_near.ensures.sorted;
+    }
 
 pub loop-number-preserved : goal.loop-number-preserved
 loop-number-preserved c =

@@ -3,7 +3,8 @@ use Rattle.std.proofs.lemmas.Int.{ints, to_z-of_z}
 use Rattle.lf_spans.specs.declared.span.Span.{Span}
 use Rattle.lf_spans.specs.declared.grid.SiteGrid.{SiteGrid}
 use Rattle.lf_spans.specs.GridSteps.{AreEnds, IsNearer}
-use Rattle.lf_spans.proofs.Grids.{none_fits, first_nearest, last_nearest, between_nearest, less_from, not_less_from, at_most_from, not_at_most_from}
+use Rattle.lf_spans.proofs.Grids.{none_fits, first_nearest, last_nearest, between_nearest, less_from, at_most_from}
+use Rattle.lf_spans.proofs.Comparisons.{not_less_of, not_most_of}
 use Rattle.lf_spans.proofs.grid.nearest_fit.Goals as goal
 
 all_ends : (span : Span) (g : SiteGrid) (width first last : ℤ) → FitsSigned w64 width → AreEnds span g (to_z w64 (of_z w64 width)) first last →
@@ -31,7 +32,7 @@ returns-then-target-first c =
     let last = c.ends_of-first.result.last in
     let target = c.args.target in
     let ends = all_ends c.args.span.now c.args.grid.now c.args.width first last c.ranges.width c.ends_of-first.ensures in
-    let some = not_less_from (to_z w64 (of_z w64 last)) (to_z w64 (of_z w64 first)) c.if-last-first.false in
+    let some = not_less_of (to_z w64 (of_z w64 last)) (to_z w64 (of_z w64 first)) c.if-last-first.false in
     let before = at_most_from (to_z w64 (of_z w64 target)) (to_z w64 (of_z w64 first)) c.if-target-first.true in
     let first_fits : FitsSigned w64 c.ends_of-first.result.first = search rules in
     let last_fits : FitsSigned w64 c.ends_of-first.result.last = search rules in
@@ -44,7 +45,7 @@ returns-then-last-target c =
     let last = c.ends_of-first.result.last in
     let target = c.args.target in
     let ends = all_ends c.args.span.now c.args.grid.now c.args.width first last c.ranges.width c.ends_of-first.ensures in
-    let some = not_less_from (to_z w64 (of_z w64 last)) (to_z w64 (of_z w64 first)) c.if-last-first.false in
+    let some = not_less_of (to_z w64 (of_z w64 last)) (to_z w64 (of_z w64 first)) c.if-last-first.false in
     let after = at_most_from (to_z w64 (of_z w64 last)) (to_z w64 (of_z w64 target)) c.if-last-target.true in
     let first_fits : FitsSigned w64 c.ends_of-first.result.first = search rules in
     let last_fits : FitsSigned w64 c.ends_of-first.result.last = search rules in
@@ -57,8 +58,8 @@ returns c =
     let last = c.ends_of-first.result.last in
     let target = c.args.target in
     let ends = all_ends c.args.span.now c.args.grid.now c.args.width first last c.ranges.width c.ends_of-first.ensures in
-    let after = not_at_most_from (to_z w64 (of_z w64 target)) (to_z w64 (of_z w64 first)) c.if-target-first.false in
-    let before = not_at_most_from (to_z w64 (of_z w64 last)) (to_z w64 (of_z w64 target)) c.if-last-target.false in
+    let after = not_most_of (to_z w64 (of_z w64 target)) (to_z w64 (of_z w64 first)) c.if-target-first.false in
+    let before = not_most_of (to_z w64 (of_z w64 last)) (to_z w64 (of_z w64 target)) c.if-last-target.false in
     let left_fits : FitsSigned w64 c.last_to-left.result = search rules in
     let found_fits : FitsSigned w64 c.nearer.result = search rules in
     let left = c.last_to-left.result in

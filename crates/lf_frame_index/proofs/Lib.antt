@@ -1,0 +1,10 @@
+pub mod LawLemmas
+pub mod OneLemmas
+pub mod HeightLemmas
+pub mod OrderLemmas
+pub mod RangeLemmas
+pub mod StripLemmas
+pub mod ExtentLemmas
+pub mod SoftLemmas
+pub mod LastLemmas
+pub mod OnRowLemmas
