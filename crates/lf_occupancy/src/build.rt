@@ -11,6 +11,7 @@ ghost use Rattle.lf_occupancy.specs.Strips.{ShowAllBoxes, HasNoBox, boxes_set, w
 use crate::boxes::box_at_work;
 use crate::marking::reserve_and_mark;
 use crate::strip_marks::StripMarks;
+use crate::widened::WidenedStrips;
 use lf_cells::{CellId, CellTable};
 use lf_floorplan::Frame;
 use lf_segments::FrameIndex;
@@ -128,7 +129,11 @@ fn mark_cell(
     let Some(rect) = box_at_work(frame, cells, id) else {
         return Ok(());
     };
-    reserve_and_mark(mark_lists, index, &frame.pitch.x, id, &rect)
+    let strips = WidenedStrips {
+        index,
+        site: &frame.pitch.x,
+    };
+    reserve_and_mark(mark_lists, &strips, id, &rect)
 }
 
 /// The ids of one batch, which begins at position `from`. The last batch may be shorter.

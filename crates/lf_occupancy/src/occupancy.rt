@@ -15,6 +15,7 @@ use crate::marking::{reserve_moves, take_in, take_out};
 use crate::occupancy_view::OccupancyView;
 use crate::strip_counts::{StripCounts, lower, marks_of, near_shift, raise, shift_rows};
 use crate::strip_marks::StripMarks;
+use crate::widened::WidenedStrips;
 use lf_cells::{CellId, CellTable};
 use lf_floorplan::Frame;
 use lf_segments::FrameIndex;
@@ -144,7 +145,11 @@ impl Occupancy {
         ensures site { self.new.site ≡ self.old.site }
         ensures rooms { capacities_in self.new.mark_lists ≡ capacities_in self.old.mark_lists }
     {
-        take_out(&mut self.mark_lists, &self.index, &self.site, &id, rect);
+        let strips = WidenedStrips {
+            index: &self.index,
+            site: &self.site,
+        };
+        take_out(&mut self.mark_lists, &strips, &id, rect);
     }
 
     /// Marks this box for a cell that has no box. Whatever boxes the strips held, they then hold
@@ -160,7 +165,11 @@ impl Occupancy {
         ensures site { self.new.site ≡ self.old.site }
         ensures rooms { capacities_in self.new.mark_lists ≡ capacities_in self.old.mark_lists }
     {
-        take_in(&mut self.mark_lists, &self.index, &self.site, &id, rect);
+        let strips = WidenedStrips {
+            index: &self.index,
+            site: &self.site,
+        };
+        take_in(&mut self.mark_lists, &strips, &id, rect);
     }
 
     /// Makes the room that `insert` needs if the moves are made in their order.
@@ -179,7 +188,11 @@ impl Occupancy {
         ensures site { self.new.site ≡ self.old.site }
         ensures rooms { KeepsCapacities (capacities_in self.old.mark_lists) (capacities_in self.new.mark_lists) }
     {
-        reserve_moves(&mut self.mark_lists, &self.index, &self.site, moves)
+        let strips = WidenedStrips {
+            index: &self.index,
+            site: &self.site,
+        };
+        reserve_moves(&mut self.mark_lists, &strips, moves)
     }
 
     /// The number of boxes that each strip holds. `reserve_counted` then changes these counts for
@@ -220,25 +233,21 @@ impl Occupancy {
         ensures site { self.new.site ≡ self.old.site }
         ensures rooms { KeepsCapacities (capacities_in self.old.mark_lists) (capacities_in self.new.mark_lists) }
     {
+        let strips = WidenedStrips {
+            index: &self.index,
+            site: &self.site,
+        };
         if let Some(shift) = near_shift(from, to) {
             return shift_rows(
                 &mut self.mark_lists,
                 &mut tally.counts,
-                &self.index,
-                &self.site,
+                &strips,
                 team,
                 &shift,
             );
         }
-        lower(&mut tally.counts, &self.index, &self.site, team, from);
-        raise(
-            &mut self.mark_lists,
-            &mut tally.counts,
-            &self.index,
-            &self.site,
-            team,
-            to,
-        )
+        lower(&mut tally.counts, &strips, team, from);
+        raise(&mut self.mark_lists, &mut tally.counts, &strips, team, to)
     }
 
     /// A law: the boxes that the strips hold fit. Each strip, widened by 16 core sites, has room

@@ -7,6 +7,7 @@ ghost use Rattle.lf_occupancy.specs.Strips.{MarksBoxes, with_boxes};
 use crate::boxes::Boxes;
 use crate::occupancy::Occupancy;
 use crate::queries::{free_in_one, free_in_strips, least_overlapped};
+use crate::widened::WidenedStrips;
 use lf_cells::CellId;
 use lf_segments::FrameIndex;
 use lf_units::{Rect, Span};
@@ -83,10 +84,13 @@ impl<'a> OccupancyView<'a> {
     {
         let occupancy = self.occupancy;
         occupancy.index.strips_are_placed();
+        let strips = WidenedStrips {
+            index: &occupancy.index,
+            site: &occupancy.site,
+        };
         free_in_strips(
             alloc,
-            &occupancy.index,
-            &occupancy.site,
+            &strips,
             &occupancy.mark_lists,
             &self.boxes,
             row,
@@ -119,10 +123,13 @@ impl<'a> OccupancyView<'a> {
     {
         let occupancy = self.occupancy;
         occupancy.index.strips_are_placed();
+        let strips = WidenedStrips {
+            index: &occupancy.index,
+            site: &occupancy.site,
+        };
         free_in_one(
             alloc,
-            &occupancy.index,
-            &occupancy.site,
+            &strips,
             &occupancy.mark_lists,
             &self.boxes,
             segment,
@@ -138,13 +145,10 @@ impl<'a> OccupancyView<'a> {
         ensures { IsFirstOverlappingCell self.now id rect.now result }
     {
         let occupancy = self.occupancy;
-        least_overlapped(
-            &occupancy.index,
-            &occupancy.site,
-            &occupancy.mark_lists,
-            &self.boxes,
-            &id,
-            rect,
-        )
+        let strips = WidenedStrips {
+            index: &occupancy.index,
+            site: &occupancy.site,
+        };
+        least_overlapped(&strips, &occupancy.mark_lists, &self.boxes, &id, rect)
     }
 }

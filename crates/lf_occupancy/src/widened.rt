@@ -14,41 +14,45 @@ use lf_units::Rect;
 /// A bound: no widened strip lies farther from 0 along x.
 const FAR: i64 = 1_099_511_627_776;
 
-/// The greatest padding as a length, in database units: 16 core sites of this width.
-pub(crate) fn reach_of(site: &i64) -> i64
-    requires { IsSiteWidth site.now }
-    ensures is { result ≡ pos 16 *ℤ site.now }
+/// The widened strips: the frame's index, and the width of a core site in database units.
+#[derive(Clone, Copy)]
+pub(crate) struct WidenedStrips<'a> {
+    pub(crate) index: &'a FrameIndex,
+    pub(crate) site: &'a i64,
+    pub(crate) ghost site_width: { IsSiteWidth site.now },
+}
+
+/// The greatest padding as a length, in database units: 16 core sites.
+pub(crate) fn reach_of(strips: &WidenedStrips<'_>) -> i64
+    ensures is { result ≡ pos 16 *ℤ strips.now.site.now }
     ensures short { IsShort result }
 {
-    16 * *site
+    16 * *strips.site
 }
 
 /// The team's strips in this row which, widened by the greatest padding, overlap the rectangle in
 /// x.
 pub(crate) fn widened_strips(
-    index: &FrameIndex,
-    site: &i64,
+    strips: &WidenedStrips<'_>,
     row: usize,
     team: usize,
     rect: &Rect,
 ) -> StripRange
-    requires { IsSiteWidth site.now }
-    ensures { AreNear (widened_strips site.now index.now.strips) row team rect.now.x1 rect.now.x2 result.start result.end }
+    ensures { AreNear (widened_strips strips.now.site.now strips.now.index.now.strips) row team rect.now.x1 rect.now.x2 result.start result.end }
 {
-    index.strips_are_placed();
-    let reach = reach_of(site);
+    strips.index.strips_are_placed();
+    let reach = reach_of(strips);
     let lo = rect.x1.max(-FAR) - reach;
     let hi = rect.x2.min(FAR) + reach;
-    index.strips_overlapping(row, team, &lo, &hi)
+    strips.index.strips_overlapping(row, team, &lo, &hi)
 }
 
 /// The area of the strip with this number, widened.
-pub(crate) fn widened_area(index: &FrameIndex, site: &i64, number: usize) -> Rect
-    requires site { IsSiteWidth site.now }
-    requires within { number < length (widened_strips site.now index.now.strips) }
-    ensures is { (d : Strip) → result ≡ (slice_index_or (widened_strips site.now index.now.strips) number d).area }
+pub(crate) fn widened_area(strips: &WidenedStrips<'_>, number: usize) -> Rect
+    requires { number < length (widened_strips strips.now.site.now strips.now.index.now.strips) }
+    ensures is { (d : Strip) → result ≡ (slice_index_or (widened_strips strips.now.site.now strips.now.index.now.strips) number d).area }
     ensures near { IsNearZero result }
 {
-    index.strips_are_placed();
-    widen(&index.strips()[number].area, reach_of(site))
+    strips.index.strips_are_placed();
+    widen(&strips.index.strips()[number].area, reach_of(strips))
 }

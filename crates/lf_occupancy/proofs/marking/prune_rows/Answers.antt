@@ -4,9 +4,10 @@ use Rattle.std.proofs.lemmas.List.{get_or_default, take_all}
 use Rattle.lf_spans.proofs.Anys.{any_nil}
 use Rattle.lf_segments.specs.declared.rows_by_y.RowEntry.{RowEntry}
 use Rattle.lf_occupancy.specs.MarkLists.{HasAtMostOne, IsUnmarked}
-use Rattle.lf_occupancy.specs.Strips.{IsReached, widened_strips}
+use Rattle.lf_occupancy.specs.Strips.{IsReached}
 use Rattle.lf_occupancy.specs.Strips.{AreChanged}
 use Rattle.lf_occupancy.proofs.Changes.{none_changed, other_row, rows_further}
+use Rattle.lf_occupancy.specs.Widened.{all_widened}
 use Rattle.lf_occupancy.proofs.marking.prune_rows.Goals as goal
 
 pub loop-entry-init : goal.loop-entry-init
@@ -14,7 +15,7 @@ loop-entry-init c = none_changed _ _ _ (λ n r. any_nil _ r.1)
 
 pub prune_row-requires-clause-one : goal.prune_row-requires-clause-one
 prune_row-requires-clause-one c = λ n d e reached.
-    let xs = widened_strips c.args.site.now c.args.index.now.strips in
+    let xs = all_widened c.args.strips.now in
     let rows = c.args.rows.now in
     let team = c.args.id.now.team in
     let rect = c.args.rect.now in
@@ -30,7 +31,7 @@ prune_row-requires-clause-one c = λ n d e reached.
 
 pub loop-entry-preserved : goal.loop-entry-preserved
 loop-entry-preserved c =
-    rows_further (λ n. IsUnmarked c.args.id.now.own) (widened_strips c.args.site.now c.args.index.now.strips) c.args.rows.now c.loop-entry.entry-index _ c.args.id.now.team c.args.rect.now
+    rows_further (λ n. IsUnmarked c.args.id.now.own) (all_widened c.args.strips.now) c.args.rows.now c.loop-entry.entry-index _ c.args.id.now.team c.args.rect.now
     c.args.mark_lists.now.items c.loop-entry.mark_lists.items c.prune_row.new.mark_lists.items c.requires.once (omega arith)
     (get_or_default c.args.rows.now c.loop-entry.entry-index _ _ (omega arith)) c.loop-entry.invariant c.prune_row.ensures
 
@@ -38,6 +39,6 @@ pub returns : goal.returns
 returns c =
     subst
     (λ (es : List RowEntry).
-    AreChanged (IsReached (widened_strips c.args.site.now c.args.index.now.strips) es c.args.id.now.team c.args.rect.now) (λ n. IsUnmarked c.args.id.now.own)
+    AreChanged (IsReached (all_widened c.args.strips.now) es c.args.id.now.team c.args.rect.now) (λ n. IsUnmarked c.args.id.now.own)
     c.args.mark_lists.now.items c.loop-entry.mark_lists.items)
     (take_all c.loop-entry.entry-index c.args.rows.now (omega arith)) c.loop-entry.invariant

@@ -1,7 +1,8 @@
 use Rattle.std.proofs.Common.{arith, ◌∙◌}
-use Rattle.lf_occupancy.specs.Strips.{IsReached, widened_strips}
+use Rattle.lf_occupancy.specs.Strips.{IsReached}
 use Rattle.lf_occupancy.proofs.Settling.{takes_room}
 use Rattle.lf_occupancy.proofs.Reaching.{rising_kept}
+use Rattle.lf_occupancy.specs.Widened.{all_widened}
 use Rattle.lf_occupancy.proofs.marking.settle_in_rows.Goals as goal
 
 pub put_in_rows-requires-clause-many : goal.put_in_rows-requires-clause-many
@@ -9,7 +10,7 @@ put_in_rows-requires-clause-many c = c.in_ok-make_room_in_rows.ensures.kept.many
 
 pub put_in_rows-requires-clause-room : goal.put_in_rows-requires-clause-room
 put_in_rows-requires-clause-room c =
-    let xs = widened_strips c.args.site.now c.args.index.now.strips in
+    let xs = all_widened c.args.strips.now in
     let many = c.requires.many in
     let same = c.in_ok-make_room_in_rows.ensures.kept.many in
     takes_room xs c.args.rect.now (IsReached xs c.args.rows.now c.args.id.now.team c.args.rect.now) c.make_room_in_rows.new.mark_lists.items

@@ -14,8 +14,8 @@ use Rattle.lf_occupancy.proofs.queries.free_in_one.Goals as goal
 
 pub free_in_mark_list-requires-clause-marked : goal.free_in_mark_list-requires-clause-marked
 free_in_mark_list-requires-clause-marked c =
-    let xs = c.args.index.now.strips in
-    let site = c.args.site.now in
+    let xs = c.args.strips.now.index.now.strips in
+    let site = c.args.strips.now.site.now in
     let boxes = c.args.boxes.now in
     let n = c.args.number in
     let list = c.strips-list.ensures in
@@ -31,8 +31,8 @@ free_in_mark_list-requires-clause-marked c =
 
 pub returns-then-team-without : goal.returns-then-team-without
 returns-then-team-without c =
-    let xs = c.args.index.now.strips in
-    let site = c.args.site.now in
+    let xs = c.args.strips.now.index.now.strips in
+    let site = c.args.strips.now.site.now in
     let boxes = c.args.boxes.now in
     let n = c.args.number in
     let list = c.strips-list.ensures in
@@ -59,8 +59,8 @@ returns-then-team-without c =
 
 pub free_of_all-requires-clause-marked : goal.free_of_all-requires-clause-marked
 free_of_all-requires-clause-marked c =
-    let xs = c.args.index.now.strips in
-    let site = c.args.site.now in
+    let xs = c.args.strips.now.index.now.strips in
+    let site = c.args.strips.now.site.now in
     let boxes = c.args.boxes.now in
     let n = c.args.number in
     let list = c.strips-list.ensures in
@@ -77,8 +77,8 @@ free_of_all-requires-clause-marked c =
 
 pub returns : goal.returns
 returns c =
-    let xs = c.args.index.now.strips in
-    let site = c.args.site.now in
+    let xs = c.args.strips.now.index.now.strips in
+    let site = c.args.strips.now.site.now in
     let boxes = c.args.boxes.now in
     let n = c.args.number in
     let list = c.strips-list.ensures in

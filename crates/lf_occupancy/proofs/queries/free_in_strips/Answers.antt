@@ -15,32 +15,32 @@ pub loop-n-init : goal.loop-n-init
 loop-n-init c =
     let start = c.strips_overlapping-near.result.start in
     let end = c.strips_overlapping-near.result.end in
-    let xs = c.args.index.now.strips in
-    let mark_lists = strip_views (widened_strips c.args.site.now xs) c.args.boxes.now c.args.mark_lists.now in
+    let xs = c.args.strips.now.index.now.strips in
+    let mark_lists = strip_views (widened_strips c.args.strips.now.site.now xs) c.args.boxes.now c.args.mark_lists.now in
     let own = c.args.id.now.own in
     let padding = c.args.padding.now in
     subst (λ (free : List Span). AreFreeBetween xs mark_lists own padding start start end c.args.window.now free) (sym c.new-free.ensures.items)
     (none_free xs mark_lists own padding start end c.args.window.now)
 
-pub widened_area-area-requires-clause-within : goal.widened_area-area-requires-clause-within
-widened_area-area-requires-clause-within c =
+pub widened_area-area-requires : goal.widened_area-area-requires
+widened_area-area-requires c =
     let bound = c.strips_overlapping-near.ensures.within in
     let test = c.loop-n-test.true in
-    let long = widened_many c.args.site.now c.args.index.now.strips in
+    let long = widened_many c.args.strips.now.site.now c.args.strips.now.index.now.strips in
     omega (arith, bound, test, long)
 
 pub free_in_mark_list-requires-clause-marked : goal.free_in_mark_list-requires-clause-marked
 free_in_mark_list-requires-clause-marked c =
-    let xs = c.args.index.now.strips in
+    let xs = c.args.strips.now.index.now.strips in
     let n = c.loop-n.n in
     let near = c.strips_overlapping-near.ensures in
     let bound = near.within in
     let test = c.loop-n-test.true in
-    let long = widened_many c.args.site.now xs in
+    let long = widened_many c.args.strips.now.site.now xs in
     let within : n < length xs = omega (arith, bound, test) in
-    one_marked (widened_strips c.args.site.now xs) c.args.boxes.now c.args.mark_lists.now n c.args.id.now.team c.widened_area-area.result c.index-mark_lists-n.result
+    one_marked (widened_strips c.args.strips.now.site.now xs) c.args.boxes.now c.args.mark_lists.now n c.args.id.now.team c.widened_area-area.result c.index-mark_lists-n.result
     c.requires.mark_lists (omega (arith, within, long))
-    (widened_team c.args.site.now xs n c.args.id.now.team within (λ d. ((near.exact n d within).0 (c.loop-n.auto.n, test)).of_team))
+    (widened_team c.args.strips.now.site.now xs n c.args.id.now.team within (λ d. ((near.exact n d within).0 (c.loop-n.auto.n, test)).of_team))
     (c.widened_area-area.ensures.is no_strip) c.index-mark_lists-n.is
 
 pub loop-n-preserved : goal.loop-n-preserved
@@ -48,9 +48,9 @@ loop-n-preserved c =
     let start = c.strips_overlapping-near.result.start in
     let end = c.strips_overlapping-near.result.end in
     let n = c.loop-n.n in
-    let site = c.args.site.now in
+    let site = c.args.strips.now.site.now in
     let boxes = c.args.boxes.now in
-    let xs = c.args.index.now.strips in
+    let xs = c.args.strips.now.index.now.strips in
     let mark_lists = strip_views (widened_strips site xs) boxes c.args.mark_lists.now in
     let row = c.args.row in
     let team = c.args.id.now.team in
@@ -84,8 +84,8 @@ pub returns : goal.returns
 returns c =
     let start = c.strips_overlapping-near.result.start in
     let end = c.strips_overlapping-near.result.end in
-    let xs = c.args.index.now.strips in
-    let mark_lists = strip_views (widened_strips c.args.site.now xs) c.args.boxes.now c.args.mark_lists.now in
+    let xs = c.args.strips.now.index.now.strips in
+    let mark_lists = strip_views (widened_strips c.args.strips.now.site.now xs) c.args.boxes.now c.args.mark_lists.now in
     let row = c.args.row in
     let team = c.args.id.now.team in
     let window = c.args.window.now in

@@ -2,10 +2,11 @@ use Rattle.std.proofs.Common.{List, arith, subst, ◌∙◌}
 use Rattle.std.proofs.lemmas.List.{get_or_default, take_all}
 use Rattle.lf_spans.proofs.Anys.{any_nil}
 use Rattle.lf_segments.specs.declared.rows_by_y.RowEntry.{RowEntry}
-use Rattle.lf_occupancy.specs.Strips.{AreChanged, IsReached, widened_strips}
+use Rattle.lf_occupancy.specs.Strips.{AreChanged, IsReached}
 use Rattle.lf_occupancy.specs.StripCounting.{IsLessAt}
 use Rattle.lf_occupancy.proofs.Changes.{none_changed, rows_further}
 use Rattle.lf_occupancy.proofs.Settling.{changed_in_row}
+use Rattle.lf_occupancy.specs.Widened.{all_widened}
 use Rattle.lf_occupancy.proofs.strip_counts.lower_rows.Goals as goal
 
 pub loop-entry-init : goal.loop-entry-init
@@ -19,7 +20,7 @@ lower_run-requires-clause-within c = c.widened_strips-near.ensures.within
 
 pub loop-entry-preserved : goal.loop-entry-preserved
 loop-entry-preserved c =
-    let xs = widened_strips c.args.site.now c.args.index.now.strips in
+    let xs = all_widened c.args.strips.now in
     let team = c.args.team in
     let rect = c.args.rect.now in
     let rows = c.args.rows.now in
@@ -31,7 +32,7 @@ loop-entry-preserved c =
 
 pub returns : goal.returns
 returns c =
-    let xs = widened_strips c.args.site.now c.args.index.now.strips in
+    let xs = all_widened c.args.strips.now in
     subst
     (λ (es : List RowEntry).
     AreChanged (IsReached xs es c.args.team c.args.rect.now) (IsLessAt xs c.args.rect.now) c.args.counts.now.items c.loop-entry.counts.items)

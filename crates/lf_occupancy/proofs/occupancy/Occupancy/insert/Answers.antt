@@ -4,8 +4,8 @@ use Rattle.lf_occupancy.proofs.Reaching.{mark_lists_rise, many_still}
 use Rattle.lf_occupancy.proofs.Views.{seen_is_room}
 use Rattle.lf_occupancy.proofs.occupancy.Occupancy.insert.Goals as goal
 
-pub take_in-requires-clause-site : goal.take_in-requires-clause-site
-take_in-requires-clause-site c = c.self.invariant.site
+pub invariant_of-strips : goal.invariant_of-strips
+invariant_of-strips c = record { site_width = c.self.invariant.site }
 
 pub take_in-requires-clause-many : goal.take_in-requires-clause-many
 take_in-requires-clause-many c = c.self.invariant.many

@@ -10,8 +10,8 @@ use Rattle.lf_occupancy.proofs.Showing.{mark_lists_shown}
 use Rattle.lf_occupancy.proofs.Views.{spans_of_strip}
 use Rattle.lf_occupancy.proofs.occupancy_view.OccupancyView.free_spans.Goals as goal
 
-pub free_in_one-requires-clause-site : goal.free_in_one-requires-clause-site
-free_in_one-requires-clause-site c = c.occupancy.invariant.site
+pub invariant_of-strips : goal.invariant_of-strips
+invariant_of-strips c = record { site_width = c.occupancy.invariant.site }
 
 pub free_in_one-requires-clause-mark_lists : goal.free_in_one-requires-clause-mark_lists
 free_in_one-requires-clause-mark_lists c =
