@@ -12,6 +12,14 @@ use lf_rules::box_with_points;
 use lf_units::Rect;
 use std::marker::Model;
 
+/// A cell and its box, which begins at a possible x of a place.
+#[derive(Clone, Copy)]
+pub(crate) struct CellBox<'a> {
+    pub(crate) id: &'a CellId,
+    pub(crate) rect: &'a Rect,
+    pub(crate) ghost edge: { IsPlaceX rect.now.x1 },
+}
+
 /// The boxes of a table's cells at their working places, in database units. An unplaced cell has no
 /// box. A contract sees the list of boxes of each team.
 #[derive(Drop)]

@@ -4,11 +4,10 @@ ghost use Rattle.std.specs.Prelude.{◌≡◌, ◌+◌, ◌%◌, ◌<◌, ◌≤
 ghost use Rattle.lf_occupancy.specs.Building.{HaveNoMarks, AreFilledIn, PrecedesCell, id_at};
 ghost use Rattle.lf_occupancy.specs.Floorplans.{HaveSize, boxes_in};
 ghost use Rattle.lf_units.specs.declared.geometry.Rect.{Rect};
-ghost use Rattle.lf_occupancy.specs.MarkLists.{AreRising};
 ghost use Rattle.lf_occupancy.specs.Views.{cell_box};
-ghost use Rattle.lf_occupancy.specs.Strips.{ShowAllBoxes, HasNoBox, boxes_set, widened_strips};
+ghost use Rattle.lf_occupancy.specs.Strips.{ShowAllBoxes, HasNoBox, HasRisingMarks, boxes_set, widened_strips};
 
-use crate::boxes::box_at_work;
+use crate::boxes::{CellBox, box_at_work};
 use crate::marking::reserve_and_mark;
 use crate::strip_marks::StripMarks;
 use crate::widened::WidenedStrips;
@@ -120,8 +119,7 @@ fn mark_cell(
     id: &CellId,
 ) -> Result<(), AllocError>
     requires sized { HaveSize frame.now cells.now }
-    requires many { length mark_lists.old.items ≡ length (widened_strips frame.now.pitch.x index.now.strips) }
-    requires rising { All (λ l. AreRising l.marks.items) mark_lists.old.items }
+    requires marks { HasRisingMarks (widened_strips frame.now.pitch.x index.now.strips) mark_lists.old.items }
     ensures { (boxes : List (List (Option Rect))) → HasNoBox boxes id.now → ShowAllBoxes (widened_strips frame.now.pitch.x index.now.strips) boxes mark_lists.old.items
         → OnOk result (ShowAllBoxes (widened_strips frame.now.pitch.x index.now.strips)
         (boxes_set boxes id.now (cell_box (slice_index_or (boxes_in frame.now cells.now) id.now.team []) id.now.own)) mark_lists.new.items) }
@@ -133,7 +131,8 @@ fn mark_cell(
         index,
         site: &frame.pitch.x,
     };
-    reserve_and_mark(mark_lists, &strips, id, &rect)
+    let cell = CellBox { id, rect: &rect };
+    reserve_and_mark(mark_lists, &strips, &cell)
 }
 
 /// The ids of one batch, which begins at position `from`. The last batch may be shorter.

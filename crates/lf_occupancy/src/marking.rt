@@ -1,17 +1,17 @@
 //! Changes the marks of strips. All strips here are widened.
 
-ghost use Rattle.std.specs.Prelude.{All, AllPairs, IfSome, List, Option, ◌≡◌, ◌≢◌, ◌≤◌, None, OnErr, OnOk, Some, length};
+ghost use Rattle.std.specs.Prelude.{IfSome, List, Option, ◌≡◌, ◌≤◌, None, OnErr, OnOk, Some, length};
 ghost use Rattle.lf_units.specs.declared.geometry.Rect.{Rect};
-ghost use Rattle.lf_occupancy.specs.MarkLists.{AreRising, IsPlaceX};
-ghost use Rattle.lf_occupancy.specs.Reserving.{AreReservedAndMarked, IsOneOf};
-ghost use Rattle.lf_occupancy.specs.Strips.{AreChanged, KeepMarksOf, ShowAllBoxes, CanTake, CanTakeInRow, CanTakeInRows, HaveRoom, HaveRoomForAll};
-ghost use Rattle.lf_occupancy.specs.Strips.{HasBoxOrNone, HasNoBox, IsReached, PutsIn};
+ghost use Rattle.lf_occupancy.specs.Reserving.{AreReservedAndMarked, CanTakeInRun, IsOneOf};
+ghost use Rattle.lf_occupancy.specs.Strips.{AreChanged, KeepMarksOf, ShowAllBoxes, CanTakeInRow, CanTakeInRows, HaveRoom, HaveRoomForAll};
+ghost use Rattle.lf_occupancy.specs.Strips.{HasBoxOrNone, HasNoBox, HasRisingMarks, IsReached, PutsIn};
 ghost use Rattle.lf_occupancy.specs.Strips.{IsReachedIn, OverlapsStrip, PruneInRow, PruneInRows, PutInRow, PutInRows, HasOneMark, HasOneMarkInRow};
 ghost use Rattle.lf_occupancy.specs.Strips.{HasOneMarkInRows, boxes_set, capacities_in};
 ghost use Rattle.lf_occupancy.specs.Widened.{all_widened};
 
+use crate::boxes::CellBox;
 use crate::strip_marks::{StripMarks, make_room, put_in, unmark};
-use crate::widened::{WidenedStrips, widened_area, widened_strips};
+use crate::widened::{DistinctRows, WidenedStrips, distinct_rows, widened_area, widened_strips};
 use lf_cells::CellId;
 use lf_segments::{RowEntry, StripRange};
 use lf_units::Rect;
@@ -68,8 +68,7 @@ fn prune_row(
     id: &CellId,
     rect: &Rect,
 )
-    requires many { length mark_lists.old.items ≡ length (all_widened strips.now) }
-    requires one { HasOneMarkInRow (all_widened strips.now) row id.now rect.now mark_lists.old.items }
+    requires { HasOneMarkInRow (all_widened strips.now) row id.now rect.now mark_lists.old.items }
     ensures { PruneInRow (all_widened strips.now) row id.now rect.now mark_lists.old.items mark_lists.new.items }
 {
     let near = widened_strips(strips, row, id.team as usize, rect);
@@ -86,16 +85,14 @@ fn prune_row(
 fn prune_rows(
     mark_lists: &mut Vec<StripMarks>,
     strips: &WidenedStrips<'_>,
-    rows: &[RowEntry],
+    rows: &DistinctRows<'_>,
     id: &CellId,
     rect: &Rect,
 )
-    requires many { length mark_lists.old.items ≡ length (all_widened strips.now) }
-    requires once { AllPairs (λ a b. a.row ≢ b.row) rows.now }
-    requires one { HasOneMarkInRows (all_widened strips.now) rows.now id.now rect.now mark_lists.old.items }
-    ensures { PruneInRows (all_widened strips.now) rows.now id.now rect.now mark_lists.old.items mark_lists.new.items }
+    requires { HasOneMarkInRows (all_widened strips.now) rows.now.rows.now id.now rect.now mark_lists.old.items }
+    ensures { PruneInRows (all_widened strips.now) rows.now.rows.now id.now rect.now mark_lists.old.items mark_lists.new.items }
 {
-    for entry in rows {
+    for entry in rows.rows {
         prune_row(mark_lists, strips, entry.row, id, rect);
     }
 }
@@ -105,17 +102,13 @@ fn put_in_run(
     mark_lists: &mut Vec<StripMarks>,
     strips: &WidenedStrips<'_>,
     near: &StripRange,
-    own: u32,
-    rect: &Rect,
+    cell: &CellBox<'_>,
 )
-    requires many { length mark_lists.old.items ≡ length (all_widened strips.now) }
-    requires within { near.now.end ≤ length (all_widened strips.now) }
-    requires edge { IsPlaceX rect.now.x1 }
-    requires room { CanTake (all_widened strips.now) rect.now (IsOneOf near.now) mark_lists.old.items }
-    ensures { AreChanged (IsOneOf near.now) (PutsIn (all_widened strips.now) own rect.now) mark_lists.old.items mark_lists.new.items }
+    requires { CanTakeInRun (all_widened strips.now) near.now cell.now.rect.now mark_lists.old.items }
+    ensures { AreChanged (IsOneOf near.now) (PutsIn (all_widened strips.now) cell.now.id.now.own cell.now.rect.now) mark_lists.old.items mark_lists.new.items }
 {
     for n in near.start..near.end {
-        put_in(&mut mark_lists[n], &widened_area(strips, n), own, rect);
+        put_in(&mut mark_lists[n], &widened_area(strips, n), cell);
     }
 }
 
@@ -124,34 +117,27 @@ fn put_in_row(
     mark_lists: &mut Vec<StripMarks>,
     strips: &WidenedStrips<'_>,
     row: usize,
-    id: &CellId,
-    rect: &Rect,
+    cell: &CellBox<'_>,
 )
-    requires many { length mark_lists.old.items ≡ length (all_widened strips.now) }
-    requires edge { IsPlaceX rect.now.x1 }
-    requires room { CanTakeInRow (all_widened strips.now) row id.now rect.now mark_lists.old.items }
-    ensures { PutInRow (all_widened strips.now) row id.now rect.now mark_lists.old.items mark_lists.new.items }
+    requires { CanTakeInRow (all_widened strips.now) row cell.now.id.now cell.now.rect.now mark_lists.old.items }
+    ensures { PutInRow (all_widened strips.now) row cell.now.id.now cell.now.rect.now mark_lists.old.items mark_lists.new.items }
 {
-    let near = widened_strips(strips, row, id.team as usize, rect);
-    put_in_run(mark_lists, strips, &near, id.own, rect);
+    let near = widened_strips(strips, row, cell.id.team as usize, cell.rect);
+    put_in_run(mark_lists, strips, &near, cell);
 }
 
 /// Marks the parts of the cell's box in the strips of all these rows.
 fn put_in_rows(
     mark_lists: &mut Vec<StripMarks>,
     strips: &WidenedStrips<'_>,
-    rows: &[RowEntry],
-    id: &CellId,
-    rect: &Rect,
+    rows: &DistinctRows<'_>,
+    cell: &CellBox<'_>,
 )
-    requires many { length mark_lists.old.items ≡ length (all_widened strips.now) }
-    requires once { AllPairs (λ a b. a.row ≢ b.row) rows.now }
-    requires edge { IsPlaceX rect.now.x1 }
-    requires room { CanTakeInRows (all_widened strips.now) rows.now id.now rect.now mark_lists.old.items }
-    ensures { PutInRows (all_widened strips.now) rows.now id.now rect.now mark_lists.old.items mark_lists.new.items }
+    requires { CanTakeInRows (all_widened strips.now) rows.now.rows.now cell.now.id.now cell.now.rect.now mark_lists.old.items }
+    ensures { PutInRows (all_widened strips.now) rows.now.rows.now cell.now.id.now cell.now.rect.now mark_lists.old.items mark_lists.new.items }
 {
-    for entry in rows {
-        put_in_row(mark_lists, strips, entry.row, id, rect);
+    for entry in rows.rows {
+        put_in_row(mark_lists, strips, entry.row, cell);
     }
 }
 
@@ -163,33 +149,31 @@ pub(crate) fn take_out(
     id: &CellId,
     rect: &Rect,
 )
-    requires many { length mark_lists.old.items ≡ length (all_widened strips.now) }
-    requires one { HasOneMark (all_widened strips.now) id.now rect.now mark_lists.old.items }
+    requires { HasOneMark (all_widened strips.now) id.now rect.now mark_lists.old.items }
     ensures mark_lists { (boxes : List (List (Option Rect))) → HasBoxOrNone boxes id.now rect.now → ShowAllBoxes (all_widened strips.now) boxes mark_lists.old.items
         → ShowAllBoxes (all_widened strips.now) (boxes_set boxes id.now None) mark_lists.new.items }
     ensures rooms { capacities_in mark_lists.new.items ≡ capacities_in mark_lists.old.items }
 {
     strips.index.strips_are_placed();
-    prune_rows(mark_lists, strips, strips.index.rows_near(rect), id, rect);
+    let rows = distinct_rows(strips, rect);
+    prune_rows(mark_lists, strips, &rows, id, rect);
 }
 
 /// Marks this box for a cell that has no box. Does not allocate.
 pub(crate) fn take_in(
     mark_lists: &mut Vec<StripMarks>,
     strips: &WidenedStrips<'_>,
-    id: &CellId,
-    rect: &Rect,
+    cell: &CellBox<'_>,
 )
-    requires many { length mark_lists.old.items ≡ length (all_widened strips.now) }
-    requires edge { IsPlaceX rect.now.x1 }
-    requires rising { All (λ l. AreRising l.marks.items) mark_lists.old.items }
-    requires room { HaveRoom (OverlapsStrip (all_widened strips.now) id.now.team rect.now) 1 mark_lists.old.items }
-    ensures mark_lists { (boxes : List (List (Option Rect))) → HasNoBox boxes id.now → ShowAllBoxes (all_widened strips.now) boxes mark_lists.old.items
-        → ShowAllBoxes (all_widened strips.now) (boxes_set boxes id.now (Some rect.now)) mark_lists.new.items }
+    requires marks { HasRisingMarks (all_widened strips.now) mark_lists.old.items }
+    requires room { HaveRoom (OverlapsStrip (all_widened strips.now) cell.now.id.now.team cell.now.rect.now) 1 mark_lists.old.items }
+    ensures mark_lists { (boxes : List (List (Option Rect))) → HasNoBox boxes cell.now.id.now → ShowAllBoxes (all_widened strips.now) boxes mark_lists.old.items
+        → ShowAllBoxes (all_widened strips.now) (boxes_set boxes cell.now.id.now (Some cell.now.rect.now)) mark_lists.new.items }
     ensures rooms { capacities_in mark_lists.new.items ≡ capacities_in mark_lists.old.items }
 {
     strips.index.strips_are_placed();
-    put_in_rows(mark_lists, strips, strips.index.rows_near(rect), id, rect);
+    let rows = distinct_rows(strips, cell.rect);
+    put_in_rows(mark_lists, strips, &rows, cell);
 }
 
 /// Makes room for `more` marks in each strip of the cell's team that shares a point with its box,
@@ -255,26 +239,30 @@ fn make_room_in_run(mark_lists: &mut Vec<StripMarks>, near: &StripRange) -> Resu
 fn settle_in_few(
     mark_lists: &mut Vec<StripMarks>,
     strips: &WidenedStrips<'_>,
-    rows: &[RowEntry],
-    id: &CellId,
-    rect: &Rect,
+    rows: &DistinctRows<'_>,
+    cell: &CellBox<'_>,
 ) -> Result<(), AllocError>
-    requires many { length mark_lists.old.items ≡ length (all_widened strips.now) }
-    requires once { AllPairs (λ a b. a.row ≢ b.row) rows.now }
-    requires edge { IsPlaceX rect.now.x1 }
-    requires rising { All (λ l. AreRising l.marks.items) mark_lists.old.items }
-    ensures ok { OnOk result (AreReservedAndMarked (all_widened strips.now) id.now.own rect.now
-        (IsReached (all_widened strips.now) rows.now id.now.team rect.now) mark_lists.old.items mark_lists.new.items) }
+    requires { HasRisingMarks (all_widened strips.now) mark_lists.old.items }
+    ensures ok { OnOk result (AreReservedAndMarked (all_widened strips.now) cell.now.id.now.own cell.now.rect.now
+        (IsReached (all_widened strips.now) rows.now.rows.now cell.now.id.now.team cell.now.rect.now) mark_lists.old.items mark_lists.new.items) }
     ensures err { OnErr result (KeepMarksOf mark_lists.old.items mark_lists.new.items) }
 {
-    if rows.len() == 0 {
+    if rows.rows.len() == 0 {
         return Ok(());
     }
-    let last = rows.len() - 1;
-    let near = widened_strips(strips, rows[last].row, id.team as usize, rect);
+    let last = rows.rows.len() - 1;
+    let near = widened_strips(
+        strips,
+        rows.rows[last].row,
+        cell.id.team as usize,
+        cell.rect,
+    );
     make_room_in_run(mark_lists, &near)?;
-    settle_in_few(mark_lists, strips, &rows[..last], id, rect)?;
-    put_in_run(mark_lists, strips, &near, id.own, rect);
+    let others = DistinctRows {
+        rows: &rows.rows[..last],
+    };
+    settle_in_few(mark_lists, strips, &others, cell)?;
+    put_in_run(mark_lists, strips, &near, cell);
     Ok(())
 }
 
@@ -282,23 +270,19 @@ fn settle_in_few(
 fn settle_in_rows(
     mark_lists: &mut Vec<StripMarks>,
     strips: &WidenedStrips<'_>,
-    rows: &[RowEntry],
-    id: &CellId,
-    rect: &Rect,
+    rows: &DistinctRows<'_>,
+    cell: &CellBox<'_>,
 ) -> Result<(), AllocError>
-    requires many { length mark_lists.old.items ≡ length (all_widened strips.now) }
-    requires once { AllPairs (λ a b. a.row ≢ b.row) rows.now }
-    requires edge { IsPlaceX rect.now.x1 }
-    requires rising { All (λ l. AreRising l.marks.items) mark_lists.old.items }
-    ensures ok { OnOk result (AreReservedAndMarked (all_widened strips.now) id.now.own rect.now
-        (IsReached (all_widened strips.now) rows.now id.now.team rect.now) mark_lists.old.items mark_lists.new.items) }
+    requires { HasRisingMarks (all_widened strips.now) mark_lists.old.items }
+    ensures ok { OnOk result (AreReservedAndMarked (all_widened strips.now) cell.now.id.now.own cell.now.rect.now
+        (IsReached (all_widened strips.now) rows.now.rows.now cell.now.id.now.team cell.now.rect.now) mark_lists.old.items mark_lists.new.items) }
     ensures err { OnErr result (KeepMarksOf mark_lists.old.items mark_lists.new.items) }
 {
-    if rows.len() <= FEW {
-        return settle_in_few(mark_lists, strips, rows, id, rect);
+    if rows.rows.len() <= FEW {
+        return settle_in_few(mark_lists, strips, rows, cell);
     }
-    make_room_in_rows(mark_lists, strips, rows, id, rect, 1)?;
-    put_in_rows(mark_lists, strips, rows, id, rect);
+    make_room_in_rows(mark_lists, strips, rows.rows, cell.id, cell.rect, 1)?;
+    put_in_rows(mark_lists, strips, rows, cell);
     Ok(())
 }
 
@@ -307,16 +291,14 @@ fn settle_in_rows(
 pub(crate) fn reserve_and_mark(
     mark_lists: &mut Vec<StripMarks>,
     strips: &WidenedStrips<'_>,
-    id: &CellId,
-    rect: &Rect,
+    cell: &CellBox<'_>,
 ) -> Result<(), AllocError>
-    requires many { length mark_lists.old.items ≡ length (all_widened strips.now) }
-    requires edge { IsPlaceX rect.now.x1 }
-    requires rising { All (λ l. AreRising l.marks.items) mark_lists.old.items }
-    ensures ok { (boxes : List (List (Option Rect))) → HasNoBox boxes id.now → ShowAllBoxes (all_widened strips.now) boxes mark_lists.old.items
-        → OnOk result (ShowAllBoxes (all_widened strips.now) (boxes_set boxes id.now (Some rect.now)) mark_lists.new.items) }
+    requires { HasRisingMarks (all_widened strips.now) mark_lists.old.items }
+    ensures ok { (boxes : List (List (Option Rect))) → HasNoBox boxes cell.now.id.now → ShowAllBoxes (all_widened strips.now) boxes mark_lists.old.items
+        → OnOk result (ShowAllBoxes (all_widened strips.now) (boxes_set boxes cell.now.id.now (Some cell.now.rect.now)) mark_lists.new.items) }
     ensures err { OnErr result (KeepMarksOf mark_lists.old.items mark_lists.new.items) }
 {
     strips.index.strips_are_placed();
-    settle_in_rows(mark_lists, strips, strips.index.rows_near(rect), id, rect)
+    let rows = distinct_rows(strips, cell.rect);
+    settle_in_rows(mark_lists, strips, &rows, cell)
 }

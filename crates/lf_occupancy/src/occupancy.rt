@@ -9,7 +9,7 @@ ghost use Rattle.lf_occupancy.specs.MarkLists.{IsPlaceX};
 ghost use Rattle.lf_occupancy.specs.Views.{AreFreeSpans, Bounds, FitIn, HasRoomFor, IsPaddingOf, KeepsCapacities, cell_box};
 ghost use Rattle.lf_occupancy.specs.Strips.{CanEnter, CanLeave, MarksBoxes, HasBoxOrNone, HasNoBox, boxes_set, with_boxes, capacities_in};
 
-use crate::boxes::Boxes;
+use crate::boxes::{Boxes, CellBox};
 use crate::build::marks_of_strips;
 use crate::marking::{reserve_moves, take_in, take_out};
 use crate::occupancy_view::OccupancyView;
@@ -169,7 +169,8 @@ impl Occupancy {
             index: &self.index,
             site: &self.site,
         };
-        take_in(&mut self.mark_lists, &strips, &id, rect);
+        let cell = CellBox { id: &id, rect };
+        take_in(&mut self.mark_lists, &strips, &cell);
     }
 
     /// Makes the room that `insert` needs if the moves are made in their order.

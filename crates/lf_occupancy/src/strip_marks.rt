@@ -9,9 +9,9 @@ ghost use Rattle.lf_occupancy.specs.declared.strip_marks.Mark.{Mark};
 ghost use Rattle.lf_occupancy.specs.MarkLists.{AreRising, MarksAreOf, HasAtMostOne, HasRoom, HasRoomOf, IsJoined, KeepsMarksOf, IsKeptAs, IsLeast, IsMarked};
 ghost use Rattle.lf_occupancy.specs.MarkLists.{IsNearRun, IsNearZero, IsPlaceX, IsUnmarked, IsPutIn, HasPoints, LiesBeside, OverlapsEntry, OverlapsOne, IsMarkOfCell};
 ghost use Rattle.lf_occupancy.specs.MarkLists.{HasNoMarkFrom, MarkIsOf, all_padded, marked_entries, marked_entry, entry_of_box, others_in, part_in, some_box, spans_in};
-ghost use Rattle.lf_occupancy.specs.MarkLists.{wider_range, x_range};
+ghost use Rattle.lf_occupancy.specs.MarkLists.{TakesPart, wider_range, x_range};
 
-use crate::boxes::Boxes;
+use crate::boxes::{Boxes, CellBox};
 use crate::free_spans::{common_range, part_after, part_before, push_filled};
 use lf_cells::CellId;
 use lf_spans::{Span, free_in};
@@ -503,15 +503,13 @@ fn mark_of(own: u32, part: &Rect) -> Mark
 
 /// Marks the part of the cell's box that lies in the strip's area, if there is one. Does not
 /// allocate.
-pub(crate) fn put_in(mark_list: &mut StripMarks, area: &Rect, own: u32, rect: &Rect)
-    requires order { AreRising mark_list.old.marks.items }
+pub(crate) fn put_in(mark_list: &mut StripMarks, area: &Rect, cell: &CellBox<'_>)
     requires within { IsNearZero area.now }
-    requires edge { IsPlaceX rect.now.x1 }
-    requires room { HasPoints (part_in area.now rect.now) → HasRoom mark_list.old }
-    ensures { IsPutIn own rect.now area.now mark_list.old mark_list.new }
+    requires takes { TakesPart area.now cell.now.rect.now mark_list.old }
+    ensures { IsPutIn cell.now.id.now.own cell.now.rect.now area.now mark_list.old mark_list.new }
 {
-    let part = part_of(area, rect);
+    let part = part_of(area, cell.rect);
     if has_points(&part) {
-        join(mark_list, &mark_of(own, &part), &part);
+        join(mark_list, &mark_of(cell.id.own, &part), &part);
     }
 }

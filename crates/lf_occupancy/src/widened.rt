@@ -1,14 +1,14 @@
 //! The strips of a frame, widened by 16 core sites, the greatest padding.
 
-ghost use Rattle.std.specs.Prelude.{◌≡◌, ◌<◌, ◌*ℤ◌, length, pos, slice_index_or};
+ghost use Rattle.std.specs.Prelude.{◌≡◌, ◌≢◌, ◌<◌, ◌*ℤ◌, AllPairs, length, pos, slice_index_or};
 ghost use Rattle.lf_segments.specs.declared.strip.Strip.{Strip};
-ghost use Rattle.lf_segments.specs.Strips.{AreNear};
+ghost use Rattle.lf_segments.specs.Strips.{AreNear, AreRowsNear};
 ghost use Rattle.lf_rules.specs.Padding.{IsShort};
 ghost use Rattle.lf_occupancy.specs.MarkLists.{IsNearZero};
 ghost use Rattle.lf_occupancy.specs.Strips.{IsSiteWidth, widened_strips};
 
 use lf_rules::widen;
-use lf_segments::{FrameIndex, StripRange};
+use lf_segments::{FrameIndex, RowEntry, StripRange};
 use lf_units::Rect;
 
 /// A bound: no widened strip lies farther from 0 along x.
@@ -22,12 +22,29 @@ pub(crate) struct WidenedStrips<'a> {
     pub(crate) ghost site_width: { IsSiteWidth site.now },
 }
 
+/// Rows, each of them once.
+#[derive(Clone, Copy)]
+pub(crate) struct DistinctRows<'a> {
+    pub(crate) rows: &'a [RowEntry],
+    pub(crate) ghost once: { AllPairs (λ a b. a.row ≢ b.row) rows.now },
+}
+
 /// The greatest padding as a length, in database units: 16 core sites.
 pub(crate) fn reach_of(strips: &WidenedStrips<'_>) -> i64
     ensures is { result ≡ pos 16 *ℤ strips.now.site.now }
     ensures short { IsShort result }
 {
     16 * *strips.site
+}
+
+/// Returns the rows whose strips may share a point with the rectangle.
+pub(crate) fn distinct_rows<'a>(strips: &WidenedStrips<'a>, rect: &Rect) -> DistinctRows<'a>
+    ensures { AreRowsNear strips.now.index.now.rows strips.now.index.now.height rect.now result.rows.now }
+{
+    strips.index.strips_are_placed();
+    DistinctRows {
+        rows: strips.index.rows_near(rect),
+    }
 }
 
 /// The team's strips in this row which, widened by the greatest padding, overlap the rectangle in

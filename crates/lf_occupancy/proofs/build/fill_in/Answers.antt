@@ -17,12 +17,12 @@ loop-waiting-init c =
     filled_same c.args.frame.now c.args.cells.now (widened_strips c.args.frame.now.pitch.x c.args.index.now.strips) (PrecedesCell team from) (IsPassed team from os 0)
     c.args.mark_lists.now.items (λ id cell there. none_passed team from os id) c.requires.before
 
-pub mark_cell-requires-clause-many : goal.mark_cell-requires-clause-many
-mark_cell-requires-clause-many c = c.loop-waiting.invariant.marked.many
-
-pub mark_cell-requires-clause-rising : goal.mark_cell-requires-clause-rising
-mark_cell-requires-clause-rising c =
-    mark_lists_rise (widened_strips c.args.frame.now.pitch.x c.args.index.now.strips) c.loop-waiting.invariant.boxes c.loop-waiting.mark_lists.items c.loop-waiting.invariant.marked
+pub mark_cell-requires-clause-marks : goal.mark_cell-requires-clause-marks
+mark_cell-requires-clause-marks c = record {
+  many = c.loop-waiting.invariant.marked.many;
+  rising = mark_lists_rise (widened_strips c.args.frame.now.pitch.x c.args.index.now.strips) c.loop-waiting.invariant.boxes c.loop-waiting.mark_lists.items
+      c.loop-waiting.invariant.marked;
+}
 
 pub loop-waiting-preserved : goal.loop-waiting-preserved
 loop-waiting-preserved c =

@@ -9,8 +9,8 @@ pub mark_of-requires-clause-left : goal.mark_of-requires-clause-left
 mark_of-requires-clause-left c =
     let left = ap (λ (r : Rect). r.x1) c.part_of-part.ensures in
     let begins = c.requires.within.begins in
-    let low = c.requires.edge.low in
-    let high = c.requires.edge.high in
+    let low = c.args.cell.now.edge.low in
+    let high = c.args.cell.now.edge.high in
     record { low = omega (arith, ints, clamps, left, low); high = omega (arith, ints, clamps, left, begins, high) }
 
 pub mark_of-requires-clause-right : goal.mark_of-requires-clause-right
@@ -29,16 +29,16 @@ join-requires c =
     let low = c.requires.within.low in
     let high = c.requires.within.high in
     record {
-      order = c.requires.order;
+      order = c.requires.takes.order;
       left = omega (arith, ints, clamps, left, low);
       right = omega (arith, ints, clamps, right, high);
       whole = c.if-has_points.ensures.0 refl;
-      room = c.requires.room (subst HasPoints c.part_of-part.ensures (c.if-has_points.ensures.0 refl));
+      room = c.requires.takes.room (subst HasPoints c.part_of-part.ensures (c.if-has_points.ensures.0 refl));
     }
 
 pub returns-then-has_points : goal.returns-then-has_points
 returns-then-has_points c =
-    let own = c.args.own in
+    let own = c.args.cell.now.id.now.own in
     let part = c.part_of-part.result in
     let added : IsAdded own part c.args.mark_list.now c.join.new.mark_list = record {
       mark = c.mark_of.result;
@@ -49,5 +49,5 @@ returns-then-has_points c =
 
 pub returns-else-has_points : goal.returns-else-has_points
 returns-else-has_points c =
-    subst (λ (r : Rect). IsPutPart c.args.own r c.args.mark_list.now c.args.mark_list.now) c.part_of-part.ensures
+    subst (λ (r : Rect). IsPutPart c.args.cell.now.id.now.own r c.args.mark_list.now c.args.mark_list.now) c.part_of-part.ensures
     (inr (λ whole. false≢true (c.if-has_points.ensures.1 whole), refl))
