@@ -1,17 +1,17 @@
 //! Counts boxes for each strip, as if some cells were at other places. All strips here are widened.
 
-ghost use Rattle.std.specs.Prelude.{◌≡◌, ◌+◌, ◌≢◌, ◌≤◌, AllPairs, IfOk, IfSome, OnOk, Some, length, map};
+ghost use Rattle.std.specs.Prelude.{◌≡◌, ◌+◌, ◌≤◌, IfOk, IfSome, OnOk, Some, length, map};
 ghost use Rattle.std.specs.Vec.{vec_capacity, vec_len};
 ghost use Rattle.lf_occupancy.specs.Views.{KeepsCapacities};
 ghost use Rattle.lf_occupancy.specs.Reserving.{IsOneOf};
 ghost use Rattle.lf_occupancy.specs.Strips.{AreChanged, KeepMarksOf, IsReached, capacities_in};
 ghost use Rattle.lf_occupancy.specs.MarkLists.{KeepsMarksOf};
 ghost use Rattle.lf_occupancy.specs.Widened.{all_widened};
-ghost use Rattle.lf_occupancy.specs.StripCounting.{AreShifted, IsHigher, IsLess, IsLessAt, IsLower, IsMore, IsShiftOf, IsShifted, IsShiftedAt, hull_in};
+ghost use Rattle.lf_occupancy.specs.StripCounting.{AreShifted, HaveRoomForCounts, IsHigher, IsLess, IsLessAt, IsLower, IsMore, IsShiftOf, IsShifted, IsShiftedAt, hull_in};
 
 use crate::strip_marks::{StripMarks, has_points, make_room, part_of};
-use crate::widened::{WidenedStrips, widened_area, widened_strips};
-use lf_segments::{RowEntry, StripRange};
+use crate::widened::{DistinctRows, WidenedStrips, distinct_rows, widened_area, widened_strips};
+use lf_segments::StripRange;
 use lf_units::Rect;
 use std::alloc::{AllocError, Global};
 use std::marker::Model;
@@ -66,16 +66,15 @@ fn lower_run(counts: &mut Vec<usize>, strips: &WidenedStrips<'_>, near: &StripRa
 fn lower_rows(
     counts: &mut Vec<usize>,
     strips: &WidenedStrips<'_>,
-    rows: &[RowEntry],
+    rows: &DistinctRows<'_>,
     team: usize,
     rect: &Rect,
 )
-    requires many { length counts.old.items ≡ length (all_widened strips.now) }
-    requires once { AllPairs (λ a b. a.row ≢ b.row) rows.now }
-    ensures { AreChanged (IsReached (all_widened strips.now) rows.now team rect.now) (IsLessAt (all_widened strips.now) rect.now)
+    requires { length counts.old.items ≡ length (all_widened strips.now) }
+    ensures { AreChanged (IsReached (all_widened strips.now) rows.now.rows.now team rect.now) (IsLessAt (all_widened strips.now) rect.now)
         counts.old.items counts.new.items }
 {
-    for entry in rows {
+    for entry in rows.rows {
         let near = widened_strips(strips, entry.row, team, rect);
         lower_run(counts, strips, &near, rect);
     }
@@ -92,9 +91,9 @@ pub(crate) fn lower(
     requires { length counts.old.items ≡ length (all_widened strips.now) }
     ensures { IsLower (all_widened strips.now) team from.now counts.old.items counts.new.items }
 {
-    strips.index.strips_are_placed();
     if let Some(rect) = from {
-        lower_rows(counts, strips, strips.index.rows_near(rect), team, rect);
+        let rows = distinct_rows(strips, rect);
+        lower_rows(counts, strips, &rows, team, rect);
     }
 }
 
@@ -141,15 +140,14 @@ fn raise_rows(
     team: usize,
     rect: &Rect,
 ) -> Result<(), AllocError>
-    requires many { length mark_lists.old.items ≡ length (all_widened strips.now) }
-    requires room { KeepsCapacities counts.old.items (capacities_in mark_lists.old.items) }
+    requires { HaveRoomForCounts (all_widened strips.now) mark_lists.old.items counts.old.items }
     ensures kept { KeepMarksOf mark_lists.old.items mark_lists.new.items }
     ensures more { OnOk result (IsHigher (all_widened strips.now) team (Some rect.now) counts.old.items counts.new.items) }
     ensures room { OnOk result (KeepsCapacities counts.new.items (capacities_in mark_lists.new.items)) }
 {
     strips.index.strips_are_placed();
-    let rows = strips.index.rows_near(rect);
-    for entry in rows {
+    let rows = distinct_rows(strips, rect);
+    for entry in rows.rows {
         let near = widened_strips(strips, entry.row, team, rect);
         raise_run(mark_lists, counts, &near)?;
     }
@@ -164,8 +162,7 @@ pub(crate) fn raise(
     team: usize,
     to: &Option<Rect>,
 ) -> Result<(), AllocError>
-    requires many { length mark_lists.old.items ≡ length (all_widened strips.now) }
-    requires room { KeepsCapacities counts.old.items (capacities_in mark_lists.old.items) }
+    requires { HaveRoomForCounts (all_widened strips.now) mark_lists.old.items counts.old.items }
     ensures kept { KeepMarksOf mark_lists.old.items mark_lists.new.items }
     ensures more { OnOk result (IsHigher (all_widened strips.now) team to.now counts.old.items counts.new.items) }
     ensures room { OnOk result (KeepsCapacities counts.new.items (capacities_in mark_lists.new.items)) }
@@ -241,8 +238,7 @@ fn shift_run(
     near: &StripRange,
     shift: &BoxChange,
 ) -> Result<(), AllocError>
-    requires many { length mark_lists.old.items ≡ length (all_widened strips.now) }
-    requires room { KeepsCapacities counts.old.items (capacities_in mark_lists.old.items) }
+    requires counted { HaveRoomForCounts (all_widened strips.now) mark_lists.old.items counts.old.items }
     requires within { near.now.end ≤ length mark_lists.old.items }
     ensures kept { KeepMarksOf mark_lists.old.items mark_lists.new.items }
     ensures shifted { OnOk result (AreChanged (IsOneOf near.now) (IsShiftedAt (all_widened strips.now) shift.now)
@@ -265,16 +261,15 @@ pub(crate) fn shift_rows(
     team: usize,
     shift: &BoxChange,
 ) -> Result<(), AllocError>
-    requires many { length mark_lists.old.items ≡ length (all_widened strips.now) }
-    requires room { KeepsCapacities counts.old.items (capacities_in mark_lists.old.items) }
+    requires { HaveRoomForCounts (all_widened strips.now) mark_lists.old.items counts.old.items }
     ensures kept { KeepMarksOf mark_lists.old.items mark_lists.new.items }
     ensures shifted { OnOk result (AreShifted (all_widened strips.now) team shift.now counts.old.items counts.new.items) }
     ensures room { OnOk result (KeepsCapacities counts.new.items (capacities_in mark_lists.new.items)) }
 {
     strips.index.strips_are_placed();
     let hull = hull_of(shift);
-    let rows = strips.index.rows_near(&hull);
-    for entry in rows {
+    let rows = distinct_rows(strips, &hull);
+    for entry in rows.rows {
         let near = widened_strips(strips, entry.row, team, &hull);
         shift_run(mark_lists, counts, strips, &near, shift)?;
     }

@@ -13,7 +13,7 @@ pub loop-entry-init : goal.loop-entry-init
 loop-entry-init c = none_changed _ _ _ (λ n r. any_nil _ r.1)
 
 pub lower_run-requires-clause-many : goal.lower_run-requires-clause-many
-lower_run-requires-clause-many c = c.loop-entry.invariant.many ∙ c.requires.many
+lower_run-requires-clause-many c = c.loop-entry.invariant.many ∙ c.requires
 
 pub lower_run-requires-clause-within : goal.lower_run-requires-clause-within
 lower_run-requires-clause-within c = c.widened_strips-near.ensures.within
@@ -23,9 +23,9 @@ loop-entry-preserved c =
     let xs = all_widened c.args.strips.now in
     let team = c.args.team in
     let rect = c.args.rect.now in
-    let rows = c.args.rows.now in
+    let rows = c.args.rows.now.rows.now in
     let i = c.loop-entry.entry-index in
-    rows_further (IsLessAt xs rect) xs rows i _ team rect c.args.counts.now.items c.loop-entry.counts.items c.lower_run.new.counts.items c.requires.once
+    rows_further (IsLessAt xs rect) xs rows i _ team rect c.args.counts.now.items c.loop-entry.counts.items c.lower_run.new.counts.items c.args.rows.now.once
     (omega arith) (get_or_default rows i _ _ (omega arith)) c.loop-entry.invariant
     (changed_in_row xs _ team rect c.widened_strips-near.result (IsLessAt xs rect) c.loop-entry.counts.items c.lower_run.new.counts.items
     c.widened_strips-near.ensures c.lower_run.ensures)
@@ -36,4 +36,4 @@ returns c =
     subst
     (λ (es : List RowEntry).
     AreChanged (IsReached xs es c.args.team c.args.rect.now) (IsLessAt xs c.args.rect.now) c.args.counts.now.items c.loop-entry.counts.items)
-    (take_all c.loop-entry.entry-index c.args.rows.now (omega arith)) c.loop-entry.invariant
+    (take_all c.loop-entry.entry-index c.args.rows.now.rows.now (omega arith)) c.loop-entry.invariant

@@ -7,5 +7,5 @@ use Rattle.lf_occupancy.proofs.strip_counts.lower_rows.Given as goal
 -- the strips of the rows visited count less
 abbrev pub invariant-loop-entry : goal.invariant-loop-entry
 invariant-loop-entry l =
-    AreChanged (IsReached (all_widened l.strips) (take l.entry-index l.rows) l.team l.rect) (IsLessAt (all_widened l.strips) l.rect)
+    AreChanged (IsReached (all_widened l.strips) (take l.entry-index l.rows.rows.now) l.team l.rect) (IsLessAt (all_widened l.strips) l.rect)
     l.initial.counts.items l.counts.items

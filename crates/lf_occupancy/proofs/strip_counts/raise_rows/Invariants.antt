@@ -9,6 +9,6 @@ use Rattle.lf_occupancy.proofs.strip_counts.raise_rows.Given as goal
 abbrev pub invariant-loop-entry : goal.invariant-loop-entry
 invariant-loop-entry l = record {
   kept : KeepMarksOf l.initial.mark_lists.items l.mark_lists.items;
-  more : AreChanged (IsReached (all_widened l.strips) (take l.entry-index l.rows) l.team l.rect) IsMore l.initial.counts.items l.counts.items;
+  more : AreChanged (IsReached (all_widened l.strips) (take l.entry-index l.entry-items) l.team l.rect) IsMore l.initial.counts.items l.counts.items;
   room : KeepsCapacities l.counts.items (capacities_in l.mark_lists.items);
 }

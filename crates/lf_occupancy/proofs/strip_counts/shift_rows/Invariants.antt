@@ -10,7 +10,7 @@ use Rattle.lf_occupancy.proofs.strip_counts.shift_rows.Given as goal
 abbrev pub invariant-loop-entry : goal.invariant-loop-entry
 invariant-loop-entry l = record {
   kept : KeepMarksOf l.initial.mark_lists.items l.mark_lists.items;
-  shifted : AreChanged (IsReached (all_widened l.strips) (take l.entry-index l.rows) l.team l.hull)
+  shifted : AreChanged (IsReached (all_widened l.strips) (take l.entry-index l.entry-items) l.team l.hull)
       (IsShiftedAt (all_widened l.strips) l.shift) l.initial.counts.items l.counts.items;
   room : KeepsCapacities l.counts.items (capacities_in l.mark_lists.items);
 }
