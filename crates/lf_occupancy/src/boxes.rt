@@ -72,13 +72,6 @@ impl<'a> Boxes<'a> {
         Boxes { frame, cells }
     }
 
-    /// The box of the cell. `None` if the cell is unplaced or not in the table.
-    pub(crate) fn get(&self, id: &CellId) -> Option<Rect>
-        ensures { result ≡ cell_box (slice_index_or self.now id.now.team []) id.now.own }
-    {
-        box_at_work(self.frame, self.cells, id)
-    }
-
     /// The box of the team's cell at position `own`. `None` if the cell is unplaced or not in the
     /// table.
     pub(crate) fn get_in(&self, team: usize, own: u32) -> Option<Rect>

@@ -5,6 +5,7 @@ ghost use Rattle.lf_occupancy.specs.Views.{reach, AreFreeSpans, IsFirstOverlappi
 ghost use Rattle.lf_occupancy.specs.Strips.{MarksBoxes, with_boxes};
 
 use crate::boxes::Boxes;
+use crate::marked_strips::{CellPadding, MarkedStrips};
 use crate::occupancy::Occupancy;
 use crate::queries::{free_in_one, free_in_strips, least_overlapped};
 use crate::widened::WidenedStrips;
@@ -88,16 +89,13 @@ impl<'a> OccupancyView<'a> {
             index: &occupancy.index,
             site: &occupancy.site,
         };
-        free_in_strips(
-            alloc,
-            &strips,
-            &occupancy.mark_lists,
-            &self.boxes,
-            row,
-            &id,
-            window,
-            &padding,
-        )
+        let marked = MarkedStrips {
+            strips: &strips,
+            mark_lists: &occupancy.mark_lists,
+            boxes: &self.boxes,
+        };
+        let length = CellPadding { length: padding };
+        free_in_strips(alloc, &marked, row, &id, window, &length)
     }
 
     /// The free spans of the strip of segment number `segment`, in database units.
@@ -127,15 +125,13 @@ impl<'a> OccupancyView<'a> {
             index: &occupancy.index,
             site: &occupancy.site,
         };
-        free_in_one(
-            alloc,
-            &strips,
-            &occupancy.mark_lists,
-            &self.boxes,
-            segment,
-            &without,
-            &padding,
-        )
+        let marked = MarkedStrips {
+            strips: &strips,
+            mark_lists: &occupancy.mark_lists,
+            boxes: &self.boxes,
+        };
+        let length = CellPadding { length: padding };
+        free_in_one(alloc, &marked, segment, &without, &length)
     }
 
     /// The least position of another cell of the cell's team whose box overlaps the rectangle in
@@ -149,6 +145,11 @@ impl<'a> OccupancyView<'a> {
             index: &occupancy.index,
             site: &occupancy.site,
         };
-        least_overlapped(&strips, &occupancy.mark_lists, &self.boxes, &id, rect)
+        let marked = MarkedStrips {
+            strips: &strips,
+            mark_lists: &occupancy.mark_lists,
+            boxes: &self.boxes,
+        };
+        least_overlapped(&marked, &id, rect)
     }
 }

@@ -5,4 +5,4 @@ use Rattle.lf_occupancy.proofs.queries.free_in_strips.Given as goal
 
 -- the free spans of the strips visited
 abbrev pub invariant-loop-n : goal.invariant-loop-n
-invariant-loop-n l = AreFreeBetween l.strips.index.now.strips (strip_views (all_widened l.strips) l.boxes l.mark_lists) l.id.own l.padding l.initial.n l.n l.n-end l.window l.free.items
+invariant-loop-n l = AreFreeBetween l.marked.strips.now.index.now.strips (strip_views (all_widened l.marked.strips.now) l.marked.boxes.now l.marked.mark_lists.now) l.id.own l.padding.length l.initial.n l.n l.n-end l.window l.free.items

@@ -18,16 +18,16 @@ loop-entry-init c = least_of_none _ None (λ own m. any_nil _ m)
 
 pub loop-entry-preserved : goal.loop-entry-preserved
 loop-entry-preserved c =
-    least_more (λ own e. OverlapsInRow (all_widened c.args.strips.now)
-    (strip_views (all_widened c.args.strips.now) c.args.boxes.now c.args.mark_lists.now) e.row c.args.id.now.team c.args.rect.now c.args.id.now.own own)
+    least_more (λ own e. OverlapsInRow (all_widened c.args.marked.now.strips.now)
+    (strip_views (all_widened c.args.marked.now.strips.now) c.args.marked.now.boxes.now c.args.marked.now.mark_lists.now) e.row c.args.id.now.team c.args.rect.now c.args.id.now.own own)
     c.rows_near-entry-items.result.now c.loop-entry.entry-index _ None c.loop-entry.least c.least_in_row-least.result (omega arith)
     (get_or_default c.rows_near-entry-items.result.now c.loop-entry.entry-index _ _ (omega arith)) c.loop-entry.invariant c.least_in_row-least.ensures
 
 pub returns : goal.returns
 returns c =
-    let s = around c.args.strips.now.site.now c.args.strips.now.index.now in
-    let mark_lists = strip_views s.strips c.args.boxes.now c.args.mark_lists.now in
-    let orderly = mark_lists_orderly s.strips c.args.boxes.now mark_lists (mark_lists_shown s.strips c.args.boxes.now c.args.mark_lists.now c.requires) in
+    let s = around c.args.marked.now.strips.now.site.now c.args.marked.now.strips.now.index.now in
+    let mark_lists = strip_views s.strips c.args.marked.now.boxes.now c.args.marked.now.mark_lists.now in
+    let orderly = mark_lists_orderly s.strips c.args.marked.now.boxes.now mark_lists (mark_lists_shown s.strips c.args.marked.now.boxes.now c.args.marked.now.mark_lists.now c.requires) in
     let team = c.args.id.now.team in
     let rect = c.args.rect.now in
     let but = c.args.id.now.own in
@@ -36,4 +36,4 @@ returns c =
     subst (λ (es : List RowEntry). IsLeast (λ own. Any (λ e. OverlapsInRow s.strips mark_lists e.row team rect but own) es) None c.loop-entry.least)
     (take_all c.loop-entry.entry-index run (omega arith)) c.loop-entry.invariant in
     least_alike _ _ None c.loop-entry.least (λ own m. near_row_is_one s.strips mark_lists team rect but own run m)
-    (λ own m. row_is_near s mark_lists team rect but own m.0 run (strips_widened c.args.strips.now.site.now c.args.strips.now.index.now c.args.strips.now.site_width c.strips_are_placed.ensures) orderly c.rows_near-entry-items.ensures m.1) all
+    (λ own m. row_is_near s mark_lists team rect but own m.0 run (strips_widened c.args.marked.now.strips.now.site.now c.args.marked.now.strips.now.index.now c.args.marked.now.strips.now.site_width c.strips_are_placed.ensures) orderly c.rows_near-entry-items.ensures m.1) all

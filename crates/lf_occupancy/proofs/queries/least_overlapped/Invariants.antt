@@ -8,4 +8,4 @@ use Rattle.lf_occupancy.proofs.queries.least_overlapped.Given as goal
 -- the least of the overlaps in the rows visited
 abbrev pub invariant-loop-entry : goal.invariant-loop-entry
 invariant-loop-entry l =
-    IsLeast (λ own. Any (λ e. OverlapsInRow (all_widened l.strips) (strip_views (all_widened l.strips) l.boxes l.mark_lists) e.row l.id.team l.rect l.id.own own) (take l.entry-index l.entry-items)) None l.least
+    IsLeast (λ own. Any (λ e. OverlapsInRow (all_widened l.marked.strips.now) (strip_views (all_widened l.marked.strips.now) l.marked.boxes.now l.marked.mark_lists.now) e.row l.id.team l.rect l.id.own own) (take l.entry-index l.entry-items)) None l.least
