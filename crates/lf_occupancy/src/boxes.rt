@@ -9,6 +9,7 @@ ghost use Rattle.lf_occupancy.specs.Views.{cell_box};
 use lf_cells::{CellId, CellTable};
 use lf_floorplan::Frame;
 use lf_rules::box_with_points;
+use lf_segments::FrameIndex;
 use lf_units::Rect;
 use std::marker::Model;
 
@@ -18,6 +19,16 @@ pub(crate) struct CellBox<'a> {
     pub(crate) id: &'a CellId,
     pub(crate) rect: &'a Rect,
     pub(crate) ghost edge: { IsPlaceX rect.now.x1 },
+}
+
+/// The cells whose boxes are marked: the frame, its index, and the table of the cells. Their macros
+/// are the frame's, of whole size.
+#[derive(Clone, Copy)]
+pub(crate) struct PlacedCells<'a> {
+    pub(crate) index: &'a FrameIndex,
+    pub(crate) frame: &'a Frame,
+    pub(crate) cells: &'a CellTable,
+    pub(crate) ghost sized: { HaveSize frame.now cells.now },
 }
 
 /// The boxes of a table's cells at their working places, in database units. An unplaced cell has no

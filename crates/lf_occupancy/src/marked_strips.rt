@@ -1,7 +1,8 @@
 //! Widened strips together with their marks and the boxes that they mark.
 
+ghost use Rattle.std.specs.Prelude.{◌≤ℤ◌, pos};
 ghost use Rattle.lf_rules.specs.Padding.{IsShort};
-ghost use Rattle.lf_occupancy.specs.MarkLists.{IsNearZero};
+ghost use Rattle.lf_occupancy.specs.MarkLists.{HasPoints, IsNearZero, IsPlaceX};
 
 use crate::boxes::Boxes;
 use crate::strip_marks::StripMarks;
@@ -13,6 +14,15 @@ use lf_units::Rect;
 pub(crate) struct CellPadding {
     pub(crate) length: i64,
     pub(crate) ghost short: { IsShort length },
+}
+
+/// The part of a widened strip that a cell's box covers.
+#[derive(Clone, Copy)]
+pub(crate) struct CoveredPart<'a> {
+    pub(crate) rect: &'a Rect,
+    pub(crate) ghost left: { IsPlaceX rect.now.x1 },
+    pub(crate) ghost right: { rect.now.x2 ≤ℤ pos 549755813888 },
+    pub(crate) ghost whole: { HasPoints rect.now },
 }
 
 /// A widened strip of a team: its area and its marks, with the boxes of all teams' cells.

@@ -9,7 +9,7 @@ ghost use Rattle.lf_occupancy.specs.MarkLists.{IsPlaceX};
 ghost use Rattle.lf_occupancy.specs.Views.{AreFreeSpans, Bounds, FitIn, HasRoomFor, IsPaddingOf, KeepsCapacities, cell_box};
 ghost use Rattle.lf_occupancy.specs.Strips.{CanEnter, CanLeave, MarksBoxes, HasBoxOrNone, HasNoBox, boxes_set, with_boxes, capacities_in};
 
-use crate::boxes::{Boxes, CellBox};
+use crate::boxes::{Boxes, CellBox, PlacedCells};
 use crate::build::marks_of_strips;
 use crate::marking::{reserve_moves, take_in, take_out};
 use crate::occupancy_view::OccupancyView;
@@ -73,7 +73,12 @@ impl Occupancy {
         requires sized { HaveSize frame.now cells.now }
         ensures { IfOk result (λ occupancy. IsMarkedBy frame.now cells.now occupancy) }
     {
-        let mark_lists = marks_of_strips(alloc, &index, frame, cells)?;
+        let placed = PlacedCells {
+            index: &index,
+            frame,
+            cells,
+        };
+        let mark_lists = marks_of_strips(alloc, &placed)?;
         Ok(Occupancy {
             index,
             site: frame.pitch.x,

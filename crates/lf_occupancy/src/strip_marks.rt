@@ -14,7 +14,7 @@ ghost use Rattle.lf_occupancy.specs.MarkLists.{TakesPart, wider_range, x_range};
 
 use crate::boxes::CellBox;
 use crate::free_spans::{common_range, part_after, part_before, push_filled};
-use crate::marked_strips::{CellPadding, MarkedStrip};
+use crate::marked_strips::{CellPadding, CoveredPart, MarkedStrip};
 use lf_spans::{Span, free_in};
 use lf_units::Rect;
 use std::alloc::{AllocError, Global};
@@ -418,45 +418,36 @@ fn insert_at(marks: &mut Vec<Mark>, at: usize, mark: &Mark)
     }
 }
 
-/// Inserts the mark of an entry with this area at its place in the order. Does not allocate.
-fn join(mark_list: &mut StripMarks, mark: &Mark, area: &Rect)
+/// Inserts the mark of an entry with this part at its place in the order. Does not allocate.
+fn join(mark_list: &mut StripMarks, mark: &Mark, part: &CoveredPart<'_>)
     requires order { AreRising mark_list.old.marks.items }
-    requires left { negsuc 549755813887 ≤ℤ area.now.x1 }
-    requires right { area.now.x2 ≤ℤ pos 549755813888 }
-    requires whole { HasPoints area.now }
     requires room { HasRoom mark_list.old }
-    ensures { IsJoined mark.now (area.now.x2 -ℤ area.now.x1) mark_list.old mark_list.new }
+    ensures { IsJoined mark.now (part.now.rect.now.x2 -ℤ part.now.rect.now.x1) mark_list.old mark_list.new }
 {
     let at = count_before(mark_list.marks.as_slice(), &i64::from(mark.left));
-    mark_list.widest = mark_list.widest.max(area.x2 - area.x1);
+    mark_list.widest = mark_list.widest.max(part.rect.x2 - part.rect.x1);
     insert_at(&mut mark_list.marks, at, mark);
 }
 
 /// The width of the part as a mark keeps it. A width of 2^32 - 1 or more is kept as 2^32 - 1.
-fn kept_width(part: &Rect) -> u32
-    requires left { IsPlaceX part.now.x1 }
-    requires right { part.now.x2 ≤ℤ pos 549755813888 }
-    requires whole { HasPoints part.now }
-    ensures { IsKeptAs (part.now.x2 -ℤ part.now.x1) result }
+fn kept_width(part: &CoveredPart<'_>) -> u32
+    ensures { IsKeptAs (part.now.rect.now.x2 -ℤ part.now.rect.now.x1) result }
 {
-    match u32::try_from(part.x2 - part.x1) {
+    match u32::try_from(part.rect.x2 - part.rect.x1) {
         Ok(kept) => kept,
         Err(_) => u32::MAX,
     }
 }
 
 /// The mark of a cell for a part of its strip.
-fn mark_of(own: u32, part: &Rect) -> Mark
-    requires left { IsPlaceX part.now.x1 }
-    requires right { part.now.x2 ≤ℤ pos 549755813888 }
-    requires whole { HasPoints part.now }
+fn mark_of(own: u32, part: &CoveredPart<'_>) -> Mark
     ensures is { result.own ≡ own }
-    ensures left { result.left ≡ part.now.x1 }
-    ensures width { IsKeptAs (part.now.x2 -ℤ part.now.x1) result.width }
+    ensures left { result.left ≡ part.now.rect.now.x1 }
+    ensures width { IsKeptAs (part.now.rect.now.x2 -ℤ part.now.rect.now.x1) result.width }
 {
     Mark {
         own,
-        left: part.x1 as i32,
+        left: part.rect.x1 as i32,
         width: kept_width(part),
     }
 }
@@ -470,6 +461,7 @@ pub(crate) fn put_in(mark_list: &mut StripMarks, area: &Rect, cell: &CellBox<'_>
 {
     let part = part_of(area, cell.rect);
     if has_points(&part) {
-        join(mark_list, &mark_of(cell.id.own, &part), &part);
+        let covered = CoveredPart { rect: &part };
+        join(mark_list, &mark_of(cell.id.own, &covered), &covered);
     }
 }

@@ -5,36 +5,25 @@ use Rattle.lf_units.specs.declared.geometry.Rect.{Rect}
 use Rattle.lf_occupancy.specs.MarkLists.{IsAdded, IsPutPart, HasPoints}
 use Rattle.lf_occupancy.proofs.strip_marks.put_in.Goals as goal
 
-pub mark_of-requires-clause-left : goal.mark_of-requires-clause-left
-mark_of-requires-clause-left c =
+pub invariant_of-covered : goal.invariant_of-covered
+invariant_of-covered c =
     let left = ap (λ (r : Rect). r.x1) c.part_of-part.ensures in
+    let right = ap (λ (r : Rect). r.x2) c.part_of-part.ensures in
     let begins = c.requires.within.begins in
+    let most = c.requires.within.high in
     let low = c.args.cell.now.edge.low in
     let high = c.args.cell.now.edge.high in
-    record { low = omega (arith, ints, clamps, left, low); high = omega (arith, ints, clamps, left, begins, high) }
-
-pub mark_of-requires-clause-right : goal.mark_of-requires-clause-right
-mark_of-requires-clause-right c =
-    let right = ap (λ (r : Rect). r.x2) c.part_of-part.ensures in
-    let high = c.requires.within.high in
-    omega (arith, ints, clamps, right, high)
-
-pub mark_of-requires-clause-whole : goal.mark_of-requires-clause-whole
-mark_of-requires-clause-whole c = c.if-has_points.ensures.0 refl
+    record {
+      left = record { low = omega (arith, ints, clamps, left, low); high = omega (arith, ints, clamps, left, begins, high) };
+      right = omega (arith, ints, clamps, right, most);
+      whole = c.if-has_points.ensures.0 refl;
+    }
 
 pub join-requires : goal.join-requires
-join-requires c =
-    let left = ap (λ (r : Rect). r.x1) c.part_of-part.ensures in
-    let right = ap (λ (r : Rect). r.x2) c.part_of-part.ensures in
-    let low = c.requires.within.low in
-    let high = c.requires.within.high in
-    record {
-      order = c.requires.takes.order;
-      left = omega (arith, ints, clamps, left, low);
-      right = omega (arith, ints, clamps, right, high);
-      whole = c.if-has_points.ensures.0 refl;
-      room = c.requires.takes.room (subst HasPoints c.part_of-part.ensures (c.if-has_points.ensures.0 refl));
-    }
+join-requires c = record {
+  order = c.requires.takes.order;
+  room = c.requires.takes.room (subst HasPoints c.part_of-part.ensures (c.if-has_points.ensures.0 refl));
+}
 
 pub returns-then-has_points : goal.returns-then-has_points
 returns-then-has_points c =
