@@ -15,7 +15,7 @@ use Rattle.lf_occupancy.specs.declared.strip_marks.Mark.{Mark}
 use Rattle.lf_frame_index.specs.declared.strip.Strip.{Strip}
 use Rattle.lf_occupancy.specs.Views.{cell_box}
 use Rattle.lf_occupancy.specs.MarkLists.{AreRising, HasAtMostOne, IsMarked, IsMarkOfCell, HasNoMarkFrom, marked_entries, marked_entry, marks_but, some_box}
-use Rattle.lf_occupancy.specs.Strips.{ShowAllBoxes, HaveAtMostOne, HasBoxOrNone, IsReached, HasOneMark}
+use Rattle.lf_occupancy.specs.Strips.{ShowAllBoxes, HaveAtMostOne, HasBoxOrNone, IsOfTeam, IsReached, HasOneMark}
 use Rattle.lf_occupancy.proofs.Laning.{entries_many, entry_there, marks_rise, none_is_not_some, none_marked}
 
 kept_one : (e : Mark) (es : List Mark) (own : ℕ) → e.own ≢ own → marks_but (e ∷ es) own ≡ e ∷ marks_but es own
@@ -109,12 +109,15 @@ marked_has_one cells own rect area l at marked = record { order = marks_rise cel
 
 pub mark_lists_have_one : (xs : List Strip) (boxes : List (List (Option Rect))) (mark_lists : List StripMarks) (id : CellId) (rect : Rect) → ShowAllBoxes xs boxes mark_lists →
     HasBoxOrNone boxes id rect → HasOneMark xs id rect mark_lists
-mark_lists_have_one xs boxes mark_lists id rect are is = λ n d e of.
-    let At : ℕ → Type 0 = λ t. IsMarked (get_or boxes t []) (get_or xs n d).area (get_or mark_lists n e) in
-    marked_has_one (get_or boxes id.team []) id.own rect (get_or xs n d).area (get_or mark_lists n e) is.at (subst At (of.of_team d) (are.each n d e of.within))
+mark_lists_have_one xs boxes mark_lists id rect are is = record {
+  many = are.many;
+  one = λ n d e of.
+      let At : ℕ → Type 0 = λ t. IsMarked (get_or boxes t []) (get_or xs n d).area (get_or mark_lists n e) in
+      marked_has_one (get_or boxes id.team []) id.own rect (get_or xs n d).area (get_or mark_lists n e) is.at (subst At (of.of_team d) (are.each n d e of.within));
+}
 
 -- a strip that the cell's box reaches is of the cell's team
 pub reached_has_one : (xs : List Strip) (id : CellId) (rect : Rect) (run : List RowEntry) (mark_lists : List StripMarks) →
-    HasOneMark xs id rect mark_lists → HaveAtMostOne xs id.own rect (IsReached xs run id.team rect) mark_lists
+    HaveAtMostOne xs id.own rect (IsOfTeam xs id.team) mark_lists → HaveAtMostOne xs id.own rect (IsReached xs run id.team rect) mark_lists
 reached_has_one xs id rect run mark_lists one n d e (within, (k, r, below, at, near)) =
     one n d e record { within = within; of_team = λ g. (near g).of_team }

@@ -1,6 +1,8 @@
 pub mod Views
 pub mod MarkLists
 pub mod Strips
+pub mod Widened
+pub mod MarkedStrips
 pub mod Reserving
 pub mod StripCounting
 pub mod Floorplans

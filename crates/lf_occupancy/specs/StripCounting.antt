@@ -5,7 +5,14 @@ use Rattle.lf_units.specs.declared.geometry.Rect.{Rect}
 use Rattle.lf_frame_index.specs.declared.strip.Strip.{Strip}
 use Rattle.lf_occupancy.specs.MarkLists.{HasPoints, part_in}
 use Rattle.lf_occupancy.specs.declared.strip_counts.BoxChange.{BoxChange}
-use Rattle.lf_occupancy.specs.Views.{count_in}
+use Rattle.lf_occupancy.specs.declared.strip_marks.StripMarks.{StripMarks}
+use Rattle.lf_occupancy.specs.Strips.{capacities_in}
+use Rattle.lf_occupancy.specs.Views.{KeepsCapacities, count_in}
+
+-- there is a list of marks for each strip, with room for as many marks as are counted
+pub record HaveRoomForCounts (strips : List Strip) (mark_lists : List StripMarks) (counts : List ℕ) : Type 0 where
+  pub many : length mark_lists ≡ length strips
+  pub room : KeepsCapacities counts (capacities_in mark_lists)
 
 -- one less, unless it is 0 already, if the rectangle shares a point with the area; otherwise
 -- unchanged

@@ -13,7 +13,7 @@ use Rattle.lf_frame_index.specs.declared.strip.Strip.{Strip}
 use Rattle.lf_frame_index.specs.Strips.{IsNear}
 use Rattle.lf_occupancy.specs.declared.strip_marks.StripMarks.{StripMarks}
 use Rattle.lf_frame_index.specs.Indexes.{FrameIndexView}
-use Rattle.lf_occupancy.specs.MarkLists.{HasAtMostOne, HasRoomOf, EntryIsInside, KeepsMarksOf, ShowsBoxes, IsMarked, IsOrderly, IsUnmarked, IsPutIn, OverlapsOne, StripView}
+use Rattle.lf_occupancy.specs.MarkLists.{AreRising, HasAtMostOne, HasRoomOf, EntryIsInside, KeepsMarksOf, ShowsBoxes, IsMarked, IsOrderly, IsUnmarked, IsPutIn, OverlapsOne, StripView}
 use Rattle.lf_occupancy.specs.MarkLists.{TakesPart, all_padded, others_in, strip_view, spans_in}
 use Rattle.lf_occupancy.specs.Views.{HasRoomFor, Occupied, strip_extent, cell_box, widened}
 
@@ -151,17 +151,27 @@ pub record IsOfTeam (strips : List Strip) (team n : ℕ) : Type 0 where
   pub within : n < length strips
   pub of_team : (d : Strip) → (slice_index_or strips n d).team ≡ team
 
--- in each strip of its team a cell with this box has at most one mark
-abbrev pub HasOneMark : List Strip → CellId → Rect → List StripMarks → Type 0
-HasOneMark strips id rect mark_lists = HaveAtMostOne strips id.own rect (IsOfTeam strips id.team) mark_lists
+-- there is a list of marks for each strip, and each is in order
+pub record HasRisingMarks (strips : List Strip) (mark_lists : List StripMarks) : Type 0 where
+  pub many : length mark_lists ≡ length strips
+  pub rising : All (λ l. AreRising l.marks.items) mark_lists
 
--- in each strip of a row that the cell's box reaches, the cell has at most one mark
-abbrev pub HasOneMarkInRow : List Strip → ℕ → CellId → Rect → List StripMarks → Type 0
-HasOneMarkInRow strips row id rect mark_lists = HaveAtMostOne strips id.own rect (IsReachedIn strips row id.team rect) mark_lists
+-- there is a list of marks for each strip, and in each strip of its team a cell with this box has at most one mark
+pub record HasOneMark (strips : List Strip) (id : CellId) (rect : Rect) (mark_lists : List StripMarks) : Type 0 where
+  pub many : length mark_lists ≡ length strips
+  pub one : HaveAtMostOne strips id.own rect (IsOfTeam strips id.team) mark_lists
 
--- in each strip of the given rows that the cell's box reaches, the cell has at most one mark
-abbrev pub HasOneMarkInRows : List Strip → List RowEntry → CellId → Rect → List StripMarks → Type 0
-HasOneMarkInRows strips rows id rect mark_lists = HaveAtMostOne strips id.own rect (IsReached strips rows id.team rect) mark_lists
+-- there is a list of marks for each strip, and in each strip of a row that the cell's box reaches,
+-- the cell has at most one mark
+pub record HasOneMarkInRow (strips : List Strip) (row : ℕ) (id : CellId) (rect : Rect) (mark_lists : List StripMarks) : Type 0 where
+  pub many : length mark_lists ≡ length strips
+  pub one : HaveAtMostOne strips id.own rect (IsReachedIn strips row id.team rect) mark_lists
+
+-- there is a list of marks for each strip, and in each strip of the given rows that the cell's box
+-- reaches, the cell has at most one mark
+pub record HasOneMarkInRows (strips : List Strip) (rows : List RowEntry) (id : CellId) (rect : Rect) (mark_lists : List StripMarks) : Type 0 where
+  pub many : length mark_lists ≡ length strips
+  pub one : HaveAtMostOne strips id.own rect (IsReached strips rows id.team rect) mark_lists
 
 -- the cell's marks are removed from the strips of a row that its box reaches
 abbrev pub PruneInRow : List Strip → ℕ → CellId → Rect → List StripMarks → List StripMarks → Type 0
@@ -171,13 +181,17 @@ PruneInRow strips row id rect old new = AreChanged (IsReachedIn strips row id.te
 abbrev pub PruneInRows : List Strip → List RowEntry → CellId → Rect → List StripMarks → List StripMarks → Type 0
 PruneInRows strips rows id rect old new = AreChanged (IsReached strips rows id.team rect) (λ n. IsUnmarked id.own) old new
 
--- the strips of a row that the cell's box reaches have room for its parts
-abbrev pub CanTakeInRow : List Strip → ℕ → CellId → Rect → List StripMarks → Type 0
-CanTakeInRow strips row id rect mark_lists = CanTake strips rect (IsReachedIn strips row id.team rect) mark_lists
+-- there is a list of marks for each strip, and the strips of a row that the cell's box reaches have
+-- room for its parts
+pub record CanTakeInRow (strips : List Strip) (row : ℕ) (id : CellId) (rect : Rect) (mark_lists : List StripMarks) : Type 0 where
+  pub many : length mark_lists ≡ length strips
+  pub room : CanTake strips rect (IsReachedIn strips row id.team rect) mark_lists
 
--- the strips of the given rows that the cell's box reaches have room for its parts
-abbrev pub CanTakeInRows : List Strip → List RowEntry → CellId → Rect → List StripMarks → Type 0
-CanTakeInRows strips rows id rect mark_lists = CanTake strips rect (IsReached strips rows id.team rect) mark_lists
+-- there is a list of marks for each strip, and the strips of the given rows that the cell's box
+-- reaches have room for its parts
+pub record CanTakeInRows (strips : List Strip) (rows : List RowEntry) (id : CellId) (rect : Rect) (mark_lists : List StripMarks) : Type 0 where
+  pub many : length mark_lists ≡ length strips
+  pub room : CanTake strips rect (IsReached strips rows id.team rect) mark_lists
 
 -- the cell's parts are marked in the strips of a row that its box reaches
 abbrev pub PutInRow : List Strip → ℕ → CellId → Rect → List StripMarks → List StripMarks → Type 0

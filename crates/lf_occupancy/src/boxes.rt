@@ -8,9 +8,28 @@ ghost use Rattle.lf_occupancy.specs.Views.{cell_box};
 
 use lf_cells::{CellId, CellTable};
 use lf_floorplan::Frame;
+use lf_frame_index::FrameIndex;
 use lf_rules::box_with_points;
 use lf_units::Rect;
 use std::marker::Model;
+
+/// A cell and its box, which begins at a possible x of a place.
+#[derive(Clone, Copy)]
+pub(crate) struct CellBox<'a> {
+    pub(crate) id: &'a CellId,
+    pub(crate) rect: &'a Rect,
+    pub(crate) ghost edge: { IsPlaceX rect.now.x1 },
+}
+
+/// The cells whose boxes are marked: the frame, its index, and the table of the cells. Their macros
+/// are the frame's, of whole size.
+#[derive(Clone, Copy)]
+pub(crate) struct PlacedCells<'a> {
+    pub(crate) index: &'a FrameIndex,
+    pub(crate) frame: &'a Frame,
+    pub(crate) cells: &'a CellTable,
+    pub(crate) ghost sized: { HaveSize frame.now cells.now },
+}
 
 /// The boxes of a table's cells at their working places, in database units. An unplaced cell has no
 /// box. A contract sees the list of boxes of each team.
@@ -62,13 +81,6 @@ impl<'a> Boxes<'a> {
         ensures { result ≡ boxes_in frame.now cells.now }
     {
         Boxes { frame, cells }
-    }
-
-    /// The box of the cell. `None` if the cell is unplaced or not in the table.
-    pub(crate) fn get(&self, id: &CellId) -> Option<Rect>
-        ensures { result ≡ cell_box (slice_index_or self.now id.now.team []) id.now.own }
-    {
-        box_at_work(self.frame, self.cells, id)
     }
 
     /// The box of the team's cell at position `own`. `None` if the cell is unplaced or not in the

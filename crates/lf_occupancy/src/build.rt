@@ -1,19 +1,17 @@
 //! Builds the marks of all strips.
 
 ghost use Rattle.std.specs.Prelude.{◌≡◌, ◌+◌, ◌%◌, ◌<◌, ◌≤◌, [], All, IfOk, IsPermutation, List, OnOk, Option, drop, length, map, slice_index_or, take};
-ghost use Rattle.lf_occupancy.specs.Building.{HaveNoMarks, AreFilledIn, PrecedesCell, id_at};
-ghost use Rattle.lf_occupancy.specs.Floorplans.{HaveSize, boxes_in};
+ghost use Rattle.lf_occupancy.specs.Building.{HaveNoMarks, AreFilledIn, PrecedesCell, id_at, strips_to_mark};
+ghost use Rattle.lf_occupancy.specs.Floorplans.{boxes_in};
 ghost use Rattle.lf_units.specs.declared.geometry.Rect.{Rect};
-ghost use Rattle.lf_occupancy.specs.MarkLists.{AreRising};
 ghost use Rattle.lf_occupancy.specs.Views.{cell_box};
-ghost use Rattle.lf_occupancy.specs.Strips.{ShowAllBoxes, HasNoBox, boxes_set, widened_strips};
+ghost use Rattle.lf_occupancy.specs.Strips.{ShowAllBoxes, HasNoBox, HasRisingMarks, boxes_set};
 
-use crate::boxes::box_at_work;
+use crate::boxes::{CellBox, PlacedCells, box_at_work};
 use crate::marking::reserve_and_mark;
 use crate::strip_marks::StripMarks;
+use crate::widened::WidenedStrips;
 use lf_cells::{CellId, CellTable};
-use lf_floorplan::Frame;
-use lf_frame_index::FrameIndex;
 use lf_units::Rect;
 use std::alloc::{AllocError, Global};
 
@@ -113,22 +111,23 @@ fn id_waiting(ids: &[CellId], waiting: u64) -> CellId
 /// Marks a cell that has no marks yet at its working place. An unplaced cell is skipped.
 fn mark_cell(
     mark_lists: &mut Vec<StripMarks>,
-    index: &FrameIndex,
-    frame: &Frame,
-    cells: &CellTable,
+    placed: &PlacedCells<'_>,
     id: &CellId,
 ) -> Result<(), AllocError>
-    requires sized { HaveSize frame.now cells.now }
-    requires many { length mark_lists.old.items ≡ length (widened_strips frame.now.pitch.x index.now.strips) }
-    requires rising { All (λ l. AreRising l.marks.items) mark_lists.old.items }
-    ensures { (boxes : List (List (Option Rect))) → HasNoBox boxes id.now → ShowAllBoxes (widened_strips frame.now.pitch.x index.now.strips) boxes mark_lists.old.items
-        → OnOk result (ShowAllBoxes (widened_strips frame.now.pitch.x index.now.strips)
-        (boxes_set boxes id.now (cell_box (slice_index_or (boxes_in frame.now cells.now) id.now.team []) id.now.own)) mark_lists.new.items) }
+    requires { HasRisingMarks (strips_to_mark placed.now) mark_lists.old.items }
+    ensures { (boxes : List (List (Option Rect))) → HasNoBox boxes id.now → ShowAllBoxes (strips_to_mark placed.now) boxes mark_lists.old.items
+        → OnOk result (ShowAllBoxes (strips_to_mark placed.now)
+        (boxes_set boxes id.now (cell_box (slice_index_or (boxes_in placed.now.frame.now placed.now.cells.now) id.now.team []) id.now.own)) mark_lists.new.items) }
 {
-    let Some(rect) = box_at_work(frame, cells, id) else {
+    let Some(rect) = box_at_work(placed.frame, placed.cells, id) else {
         return Ok(());
     };
-    reserve_and_mark(mark_lists, index, &frame.pitch.x, id, &rect)
+    let strips = WidenedStrips {
+        index: placed.index,
+        site: &placed.frame.pitch.x,
+    };
+    let cell = CellBox { id, rect: &rect };
+    reserve_and_mark(mark_lists, &strips, &cell)
 }
 
 /// The ids of one batch, which begins at position `from`. The last batch may be shorter.
@@ -145,20 +144,17 @@ fn part_of(ids: &[CellId], from: usize) -> &[CellId]
 fn fill_in(
     alloc: Global,
     mark_lists: &mut Vec<StripMarks>,
-    index: &FrameIndex,
-    frame: &Frame,
-    cells: &CellTable,
+    placed: &PlacedCells<'_>,
     team: usize,
     from: usize,
 ) -> Result<(), AllocError>
-    requires sized { HaveSize frame.now cells.now }
-    requires before { AreFilledIn frame.now cells.now (widened_strips frame.now.pitch.x index.now.strips) (PrecedesCell team from) mark_lists.old.items }
-    ensures { OnOk result (AreFilledIn frame.now cells.now (widened_strips frame.now.pitch.x index.now.strips) (PrecedesCell team (from + 65536)) mark_lists.new.items) }
+    requires { AreFilledIn placed.now.frame.now placed.now.cells.now (strips_to_mark placed.now) (PrecedesCell team from) mark_lists.old.items }
+    ensures { OnOk result (AreFilledIn placed.now.frame.now placed.now.cells.now (strips_to_mark placed.now) (PrecedesCell team (from + 65536)) mark_lists.new.items) }
 {
-    let ids = part_of(cells.cells_of(team), from);
-    let order = by_place(alloc, cells, ids)?;
+    let ids = part_of(placed.cells.cells_of(team), from);
+    let order = by_place(alloc, placed.cells, ids)?;
     for waiting in &order {
-        mark_cell(mark_lists, index, frame, cells, &id_waiting(ids, *waiting))?;
+        mark_cell(mark_lists, placed, &id_waiting(ids, *waiting))?;
     }
     Ok(())
 }
@@ -167,17 +163,14 @@ fn fill_in(
 fn fill_team(
     alloc: Global,
     mark_lists: &mut Vec<StripMarks>,
-    index: &FrameIndex,
-    frame: &Frame,
-    cells: &CellTable,
+    placed: &PlacedCells<'_>,
     team: usize,
 ) -> Result<(), AllocError>
-    requires sized { HaveSize frame.now cells.now }
-    requires before { AreFilledIn frame.now cells.now (widened_strips frame.now.pitch.x index.now.strips) (PrecedesCell team 0) mark_lists.old.items }
-    ensures { OnOk result (AreFilledIn frame.now cells.now (widened_strips frame.now.pitch.x index.now.strips) (PrecedesCell (team + 1) 0) mark_lists.new.items) }
+    requires { AreFilledIn placed.now.frame.now placed.now.cells.now (strips_to_mark placed.now) (PrecedesCell team 0) mark_lists.old.items }
+    ensures { OnOk result (AreFilledIn placed.now.frame.now placed.now.cells.now (strips_to_mark placed.now) (PrecedesCell (team + 1) 0) mark_lists.new.items) }
 {
-    for part in 0..cells.cells_of(team).len() / PART + 1 {
-        fill_in(alloc, mark_lists, index, frame, cells, team, part * PART)?;
+    for part in 0..placed.cells.cells_of(team).len() / PART + 1 {
+        fill_in(alloc, mark_lists, placed, team, part * PART)?;
     }
     Ok(())
 }
@@ -197,16 +190,13 @@ pub fn team_count(ids: &[CellId]) -> usize
 /// The marks of the widened strips, for the cells at their working places.
 pub(crate) fn marks_of_strips(
     alloc: Global,
-    index: &FrameIndex,
-    frame: &Frame,
-    cells: &CellTable,
+    placed: &PlacedCells<'_>,
 ) -> Result<Vec<StripMarks>, AllocError>
-    requires { HaveSize frame.now cells.now }
-    ensures { IfOk result (λ mark_lists. ShowAllBoxes (widened_strips frame.now.pitch.x index.now.strips) (boxes_in frame.now cells.now) mark_lists.items) }
+    ensures { IfOk result (λ mark_lists. ShowAllBoxes (strips_to_mark placed.now) (boxes_in placed.now.frame.now placed.now.cells.now) mark_lists.items) }
 {
-    let mut mark_lists = empty_marks(alloc, index.strips().len())?;
-    for team in 0..team_count(cells.cell_ids()) {
-        fill_team(alloc, &mut mark_lists, index, frame, cells, team)?;
+    let mut mark_lists = empty_marks(alloc, placed.index.strips().len())?;
+    for team in 0..team_count(placed.cells.cell_ids()) {
+        fill_team(alloc, &mut mark_lists, placed, team)?;
     }
     Ok(mark_lists)
 }

@@ -26,6 +26,7 @@
 //! - `widened`: the widened strips near a rectangle
 //! - `boxes`: the boxes of a table's cells
 //! - `strip_marks`: the marks of one strip, and what they leave free
+//! - `marked_strips`: strips together with their marks and the boxes that they mark
 //! - `marking`: marks of a cell added to and removed from all strips that its box reaches
 //! - `queries`: overlaps and free spans in several strips
 //! - `build`: the marks of all strips, made from a table of cells
@@ -47,6 +48,7 @@ mod boxes;
 mod build;
 mod free_spans;
 mod laws;
+mod marked_strips;
 mod marking;
 mod occupancy;
 mod occupancy_view;

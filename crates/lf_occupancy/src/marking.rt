@@ -1,18 +1,19 @@
 //! Changes the marks of strips. All strips here are widened.
 
-ghost use Rattle.std.specs.Prelude.{All, AllPairs, IfSome, List, Option, ◌≡◌, ◌≢◌, ◌≤◌, None, OnErr, OnOk, Some, length};
+ghost use Rattle.std.specs.Prelude.{IfSome, List, Option, ◌≡◌, ◌≤◌, None, OnErr, OnOk, Some, length};
 ghost use Rattle.lf_units.specs.declared.geometry.Rect.{Rect};
-ghost use Rattle.lf_occupancy.specs.MarkLists.{AreRising, IsPlaceX};
-ghost use Rattle.lf_occupancy.specs.Reserving.{AreReservedAndMarked, IsOneOf};
-ghost use Rattle.lf_occupancy.specs.Strips.{AreChanged, KeepMarksOf, ShowAllBoxes, CanTake, CanTakeInRow, CanTakeInRows, HaveRoom, HaveRoomForAll};
-ghost use Rattle.lf_occupancy.specs.Strips.{HasBoxOrNone, HasNoBox, IsReached, PutsIn};
-ghost use Rattle.lf_occupancy.specs.Strips.{IsReachedIn, IsSiteWidth, OverlapsStrip, PruneInRow, PruneInRows, PutInRow, PutInRows, HasOneMark, HasOneMarkInRow};
-ghost use Rattle.lf_occupancy.specs.Strips.{HasOneMarkInRows, boxes_set, widened_strips, capacities_in};
+ghost use Rattle.lf_occupancy.specs.Reserving.{AreReservedAndMarked, CanTakeInRun, IsOneOf};
+ghost use Rattle.lf_occupancy.specs.Strips.{AreChanged, KeepMarksOf, ShowAllBoxes, CanTakeInRow, CanTakeInRows, HaveRoom, HaveRoomForAll};
+ghost use Rattle.lf_occupancy.specs.Strips.{HasBoxOrNone, HasNoBox, HasRisingMarks, IsReached, PutsIn};
+ghost use Rattle.lf_occupancy.specs.Strips.{IsReachedIn, OverlapsStrip, PruneInRow, PruneInRows, PutInRow, PutInRows, HasOneMark, HasOneMarkInRow};
+ghost use Rattle.lf_occupancy.specs.Strips.{HasOneMarkInRows, boxes_set, capacities_in};
+ghost use Rattle.lf_occupancy.specs.Widened.{all_widened};
 
+use crate::boxes::CellBox;
 use crate::strip_marks::{StripMarks, make_room, put_in, unmark};
-use crate::widened::{widened_area, widened_strips};
+use crate::widened::{DistinctRows, WidenedStrips, distinct_rows, widened_area, widened_strips};
 use lf_cells::CellId;
-use lf_frame_index::{FrameIndex, RowEntry, StripRange};
+use lf_frame_index::{RowEntry, StripRange};
 use lf_units::Rect;
 use std::alloc::AllocError;
 
@@ -23,19 +24,17 @@ const FEW: usize = 16;
 /// reaches. Also on `Err`, each strip keeps its marks.
 fn make_room_in_row(
     mark_lists: &mut Vec<StripMarks>,
-    index: &FrameIndex,
-    site: &i64,
+    strips: &WidenedStrips<'_>,
     row: usize,
     id: &CellId,
     rect: &Rect,
     more: usize,
 ) -> Result<(), AllocError>
-    requires site { IsSiteWidth site.now }
-    requires many { length mark_lists.old.items ≡ length (widened_strips site.now index.now.strips) }
+    requires { length mark_lists.old.items ≡ length (all_widened strips.now) }
     ensures kept { KeepMarksOf mark_lists.old.items mark_lists.new.items }
-    ensures ok { OnOk result (HaveRoom (IsReachedIn (widened_strips site.now index.now.strips) row id.now.team rect.now) more mark_lists.new.items) }
+    ensures ok { OnOk result (HaveRoom (IsReachedIn (all_widened strips.now) row id.now.team rect.now) more mark_lists.new.items) }
 {
-    let near = widened_strips(index, site, row, id.team as usize, rect);
+    let near = widened_strips(strips, row, id.team as usize, rect);
     for n in near.start..near.end {
         make_room(&mut mark_lists[n], more)?;
     }
@@ -45,20 +44,18 @@ fn make_room_in_row(
 /// Makes room as `make_room_in_row` does, in all these rows.
 fn make_room_in_rows(
     mark_lists: &mut Vec<StripMarks>,
-    index: &FrameIndex,
-    site: &i64,
+    strips: &WidenedStrips<'_>,
     rows: &[RowEntry],
     id: &CellId,
     rect: &Rect,
     more: usize,
 ) -> Result<(), AllocError>
-    requires site { IsSiteWidth site.now }
-    requires many { length mark_lists.old.items ≡ length (widened_strips site.now index.now.strips) }
+    requires { length mark_lists.old.items ≡ length (all_widened strips.now) }
     ensures kept { KeepMarksOf mark_lists.old.items mark_lists.new.items }
-    ensures ok { OnOk result (HaveRoom (IsReached (widened_strips site.now index.now.strips) rows.now id.now.team rect.now) more mark_lists.new.items) }
+    ensures ok { OnOk result (HaveRoom (IsReached (all_widened strips.now) rows.now id.now.team rect.now) more mark_lists.new.items) }
 {
     for entry in rows {
-        make_room_in_row(mark_lists, index, site, entry.row, id, rect, more)?;
+        make_room_in_row(mark_lists, strips, entry.row, id, rect, more)?;
     }
     Ok(())
 }
@@ -66,23 +63,20 @@ fn make_room_in_rows(
 /// Removes the cell's marks from the strips of the row and the cell's team that its box reaches.
 fn prune_row(
     mark_lists: &mut Vec<StripMarks>,
-    index: &FrameIndex,
-    site: &i64,
+    strips: &WidenedStrips<'_>,
     row: usize,
     id: &CellId,
     rect: &Rect,
 )
-    requires site { IsSiteWidth site.now }
-    requires many { length mark_lists.old.items ≡ length (widened_strips site.now index.now.strips) }
-    requires one { HasOneMarkInRow (widened_strips site.now index.now.strips) row id.now rect.now mark_lists.old.items }
-    ensures { PruneInRow (widened_strips site.now index.now.strips) row id.now rect.now mark_lists.old.items mark_lists.new.items }
+    requires { HasOneMarkInRow (all_widened strips.now) row id.now rect.now mark_lists.old.items }
+    ensures { PruneInRow (all_widened strips.now) row id.now rect.now mark_lists.old.items mark_lists.new.items }
 {
-    let near = widened_strips(index, site, row, id.team as usize, rect);
+    let near = widened_strips(strips, row, id.team as usize, rect);
     for n in near.start..near.end {
         unmark(
             &mut mark_lists[n],
             id.own,
-            &widened_area(index, site, n).x1.max(rect.x1),
+            &widened_area(strips, n).x1.max(rect.x1),
         );
     }
 }
@@ -90,81 +84,60 @@ fn prune_row(
 /// Removes the cell's marks as `prune_row` does, in all these rows.
 fn prune_rows(
     mark_lists: &mut Vec<StripMarks>,
-    index: &FrameIndex,
-    site: &i64,
-    rows: &[RowEntry],
+    strips: &WidenedStrips<'_>,
+    rows: &DistinctRows<'_>,
     id: &CellId,
     rect: &Rect,
 )
-    requires site { IsSiteWidth site.now }
-    requires many { length mark_lists.old.items ≡ length (widened_strips site.now index.now.strips) }
-    requires once { AllPairs (λ a b. a.row ≢ b.row) rows.now }
-    requires one { HasOneMarkInRows (widened_strips site.now index.now.strips) rows.now id.now rect.now mark_lists.old.items }
-    ensures { PruneInRows (widened_strips site.now index.now.strips) rows.now id.now rect.now mark_lists.old.items mark_lists.new.items }
+    requires { HasOneMarkInRows (all_widened strips.now) rows.now.rows.now id.now rect.now mark_lists.old.items }
+    ensures { PruneInRows (all_widened strips.now) rows.now.rows.now id.now rect.now mark_lists.old.items mark_lists.new.items }
 {
-    for entry in rows {
-        prune_row(mark_lists, index, site, entry.row, id, rect);
+    for entry in rows.rows {
+        prune_row(mark_lists, strips, entry.row, id, rect);
     }
 }
 
 /// Marks the parts of the cell's box in each strip of the range.
 fn put_in_run(
     mark_lists: &mut Vec<StripMarks>,
-    index: &FrameIndex,
-    site: &i64,
+    strips: &WidenedStrips<'_>,
     near: &StripRange,
-    own: u32,
-    rect: &Rect,
+    cell: &CellBox<'_>,
 )
-    requires site { IsSiteWidth site.now }
-    requires many { length mark_lists.old.items ≡ length (widened_strips site.now index.now.strips) }
-    requires within { near.now.end ≤ length (widened_strips site.now index.now.strips) }
-    requires edge { IsPlaceX rect.now.x1 }
-    requires room { CanTake (widened_strips site.now index.now.strips) rect.now (IsOneOf near.now) mark_lists.old.items }
-    ensures { AreChanged (IsOneOf near.now) (PutsIn (widened_strips site.now index.now.strips) own rect.now) mark_lists.old.items mark_lists.new.items }
+    requires { CanTakeInRun (all_widened strips.now) near.now cell.now.rect.now mark_lists.old.items }
+    ensures { AreChanged (IsOneOf near.now) (PutsIn (all_widened strips.now) cell.now.id.now.own cell.now.rect.now) mark_lists.old.items mark_lists.new.items }
 {
     for n in near.start..near.end {
-        put_in(&mut mark_lists[n], &widened_area(index, site, n), own, rect);
+        put_in(&mut mark_lists[n], &widened_area(strips, n), cell);
     }
 }
 
 /// Marks the parts of the cell's box in the strips of a row and the cell's team that it reaches.
 fn put_in_row(
     mark_lists: &mut Vec<StripMarks>,
-    index: &FrameIndex,
-    site: &i64,
+    strips: &WidenedStrips<'_>,
     row: usize,
-    id: &CellId,
-    rect: &Rect,
+    cell: &CellBox<'_>,
 )
-    requires site { IsSiteWidth site.now }
-    requires many { length mark_lists.old.items ≡ length (widened_strips site.now index.now.strips) }
-    requires edge { IsPlaceX rect.now.x1 }
-    requires room { CanTakeInRow (widened_strips site.now index.now.strips) row id.now rect.now mark_lists.old.items }
-    ensures { PutInRow (widened_strips site.now index.now.strips) row id.now rect.now mark_lists.old.items mark_lists.new.items }
+    requires { CanTakeInRow (all_widened strips.now) row cell.now.id.now cell.now.rect.now mark_lists.old.items }
+    ensures { PutInRow (all_widened strips.now) row cell.now.id.now cell.now.rect.now mark_lists.old.items mark_lists.new.items }
 {
-    let near = widened_strips(index, site, row, id.team as usize, rect);
-    put_in_run(mark_lists, index, site, &near, id.own, rect);
+    let near = widened_strips(strips, row, cell.id.team as usize, cell.rect);
+    put_in_run(mark_lists, strips, &near, cell);
 }
 
 /// Marks the parts of the cell's box in the strips of all these rows.
 fn put_in_rows(
     mark_lists: &mut Vec<StripMarks>,
-    index: &FrameIndex,
-    site: &i64,
-    rows: &[RowEntry],
-    id: &CellId,
-    rect: &Rect,
+    strips: &WidenedStrips<'_>,
+    rows: &DistinctRows<'_>,
+    cell: &CellBox<'_>,
 )
-    requires site { IsSiteWidth site.now }
-    requires many { length mark_lists.old.items ≡ length (widened_strips site.now index.now.strips) }
-    requires once { AllPairs (λ a b. a.row ≢ b.row) rows.now }
-    requires edge { IsPlaceX rect.now.x1 }
-    requires room { CanTakeInRows (widened_strips site.now index.now.strips) rows.now id.now rect.now mark_lists.old.items }
-    ensures { PutInRows (widened_strips site.now index.now.strips) rows.now id.now rect.now mark_lists.old.items mark_lists.new.items }
+    requires { CanTakeInRows (all_widened strips.now) rows.now.rows.now cell.now.id.now cell.now.rect.now mark_lists.old.items }
+    ensures { PutInRows (all_widened strips.now) rows.now.rows.now cell.now.id.now cell.now.rect.now mark_lists.old.items mark_lists.new.items }
 {
-    for entry in rows {
-        put_in_row(mark_lists, index, site, entry.row, id, rect);
+    for entry in rows.rows {
+        put_in_row(mark_lists, strips, entry.row, cell);
     }
 }
 
@@ -172,65 +145,56 @@ fn put_in_rows(
 /// box has no marks to remove. Each strip keeps its capacity.
 pub(crate) fn take_out(
     mark_lists: &mut Vec<StripMarks>,
-    index: &FrameIndex,
-    site: &i64,
+    strips: &WidenedStrips<'_>,
     id: &CellId,
     rect: &Rect,
 )
-    requires site { IsSiteWidth site.now }
-    requires many { length mark_lists.old.items ≡ length (widened_strips site.now index.now.strips) }
-    requires one { HasOneMark (widened_strips site.now index.now.strips) id.now rect.now mark_lists.old.items }
-    ensures mark_lists { (boxes : List (List (Option Rect))) → HasBoxOrNone boxes id.now rect.now → ShowAllBoxes (widened_strips site.now index.now.strips) boxes mark_lists.old.items
-        → ShowAllBoxes (widened_strips site.now index.now.strips) (boxes_set boxes id.now None) mark_lists.new.items }
+    requires { HasOneMark (all_widened strips.now) id.now rect.now mark_lists.old.items }
+    ensures mark_lists { (boxes : List (List (Option Rect))) → HasBoxOrNone boxes id.now rect.now → ShowAllBoxes (all_widened strips.now) boxes mark_lists.old.items
+        → ShowAllBoxes (all_widened strips.now) (boxes_set boxes id.now None) mark_lists.new.items }
     ensures rooms { capacities_in mark_lists.new.items ≡ capacities_in mark_lists.old.items }
 {
-    index.strips_are_placed();
-    prune_rows(mark_lists, index, site, index.rows_near(rect), id, rect);
+    strips.index.strips_are_placed();
+    let rows = distinct_rows(strips, rect);
+    prune_rows(mark_lists, strips, &rows, id, rect);
 }
 
 /// Marks this box for a cell that has no box. Does not allocate.
 pub(crate) fn take_in(
     mark_lists: &mut Vec<StripMarks>,
-    index: &FrameIndex,
-    site: &i64,
-    id: &CellId,
-    rect: &Rect,
+    strips: &WidenedStrips<'_>,
+    cell: &CellBox<'_>,
 )
-    requires site { IsSiteWidth site.now }
-    requires many { length mark_lists.old.items ≡ length (widened_strips site.now index.now.strips) }
-    requires edge { IsPlaceX rect.now.x1 }
-    requires rising { All (λ l. AreRising l.marks.items) mark_lists.old.items }
-    requires room { HaveRoom (OverlapsStrip (widened_strips site.now index.now.strips) id.now.team rect.now) 1 mark_lists.old.items }
-    ensures mark_lists { (boxes : List (List (Option Rect))) → HasNoBox boxes id.now → ShowAllBoxes (widened_strips site.now index.now.strips) boxes mark_lists.old.items
-        → ShowAllBoxes (widened_strips site.now index.now.strips) (boxes_set boxes id.now (Some rect.now)) mark_lists.new.items }
+    requires marks { HasRisingMarks (all_widened strips.now) mark_lists.old.items }
+    requires room { HaveRoom (OverlapsStrip (all_widened strips.now) cell.now.id.now.team cell.now.rect.now) 1 mark_lists.old.items }
+    ensures mark_lists { (boxes : List (List (Option Rect))) → HasNoBox boxes cell.now.id.now → ShowAllBoxes (all_widened strips.now) boxes mark_lists.old.items
+        → ShowAllBoxes (all_widened strips.now) (boxes_set boxes cell.now.id.now (Some cell.now.rect.now)) mark_lists.new.items }
     ensures rooms { capacities_in mark_lists.new.items ≡ capacities_in mark_lists.old.items }
 {
-    index.strips_are_placed();
-    put_in_rows(mark_lists, index, site, index.rows_near(rect), id, rect);
+    strips.index.strips_are_placed();
+    let rows = distinct_rows(strips, cell.rect);
+    put_in_rows(mark_lists, strips, &rows, cell);
 }
 
 /// Makes room for `more` marks in each strip of the cell's team that shares a point with its box,
 /// if it has one. Also on `Err`, each strip keeps its marks.
 fn reserve_box(
     mark_lists: &mut Vec<StripMarks>,
-    index: &FrameIndex,
-    site: &i64,
+    strips: &WidenedStrips<'_>,
     id: &CellId,
     to: &Option<Rect>,
     more: usize,
 ) -> Result<(), AllocError>
-    requires site { IsSiteWidth site.now }
-    requires many { length mark_lists.old.items ≡ length (widened_strips site.now index.now.strips) }
+    requires { length mark_lists.old.items ≡ length (all_widened strips.now) }
     ensures kept { KeepMarksOf mark_lists.old.items mark_lists.new.items }
-    ensures ok { OnOk result (IfSome to.now (λ rect. HaveRoom (OverlapsStrip (widened_strips site.now index.now.strips) id.now.team rect) more mark_lists.new.items)) }
+    ensures ok { OnOk result (IfSome to.now (λ rect. HaveRoom (OverlapsStrip (all_widened strips.now) id.now.team rect) more mark_lists.new.items)) }
 {
-    index.strips_are_placed();
+    strips.index.strips_are_placed();
     if let Some(rect) = to {
         make_room_in_rows(
             mark_lists,
-            index,
-            site,
-            index.rows_near(rect),
+            strips,
+            strips.index.rows_near(rect),
             id,
             rect,
             more,
@@ -243,17 +207,15 @@ fn reserve_box(
 /// strip keeps its marks.
 pub(crate) fn reserve_moves(
     mark_lists: &mut Vec<StripMarks>,
-    index: &FrameIndex,
-    site: &i64,
+    strips: &WidenedStrips<'_>,
     moves: &[(CellId, Option<Rect>)],
 ) -> Result<(), AllocError>
-    requires site { IsSiteWidth site.now }
-    requires many { length mark_lists.old.items ≡ length (widened_strips site.now index.now.strips) }
+    requires { length mark_lists.old.items ≡ length (all_widened strips.now) }
     ensures kept { KeepMarksOf mark_lists.old.items mark_lists.new.items }
-    ensures ok { OnOk result (HaveRoomForAll (widened_strips site.now index.now.strips) moves.now (length moves.now) mark_lists.new.items) }
+    ensures ok { OnOk result (HaveRoomForAll (all_widened strips.now) moves.now (length moves.now) mark_lists.new.items) }
 {
     for (id, to) in moves {
-        reserve_box(mark_lists, index, site, id, to, moves.len())?;
+        reserve_box(mark_lists, strips, id, to, moves.len())?;
     }
     Ok(())
 }
@@ -276,55 +238,51 @@ fn make_room_in_run(mark_lists: &mut Vec<StripMarks>, near: &StripRange) -> Resu
 /// marks are added from the first to the last. On `Err` each strip keeps its marks.
 fn settle_in_few(
     mark_lists: &mut Vec<StripMarks>,
-    index: &FrameIndex,
-    site: &i64,
-    rows: &[RowEntry],
-    id: &CellId,
-    rect: &Rect,
+    strips: &WidenedStrips<'_>,
+    rows: &DistinctRows<'_>,
+    cell: &CellBox<'_>,
 ) -> Result<(), AllocError>
-    requires site { IsSiteWidth site.now }
-    requires many { length mark_lists.old.items ≡ length (widened_strips site.now index.now.strips) }
-    requires once { AllPairs (λ a b. a.row ≢ b.row) rows.now }
-    requires edge { IsPlaceX rect.now.x1 }
-    requires rising { All (λ l. AreRising l.marks.items) mark_lists.old.items }
-    ensures ok { OnOk result (AreReservedAndMarked (widened_strips site.now index.now.strips) id.now.own rect.now
-        (IsReached (widened_strips site.now index.now.strips) rows.now id.now.team rect.now) mark_lists.old.items mark_lists.new.items) }
+    requires { HasRisingMarks (all_widened strips.now) mark_lists.old.items }
+    ensures ok { OnOk result (AreReservedAndMarked (all_widened strips.now) cell.now.id.now.own cell.now.rect.now
+        (IsReached (all_widened strips.now) rows.now.rows.now cell.now.id.now.team cell.now.rect.now) mark_lists.old.items mark_lists.new.items) }
     ensures err { OnErr result (KeepMarksOf mark_lists.old.items mark_lists.new.items) }
 {
-    if rows.len() == 0 {
+    if rows.rows.len() == 0 {
         return Ok(());
     }
-    let last = rows.len() - 1;
-    let near = widened_strips(index, site, rows[last].row, id.team as usize, rect);
+    let last = rows.rows.len() - 1;
+    let near = widened_strips(
+        strips,
+        rows.rows[last].row,
+        cell.id.team as usize,
+        cell.rect,
+    );
     make_room_in_run(mark_lists, &near)?;
-    settle_in_few(mark_lists, index, site, &rows[..last], id, rect)?;
-    put_in_run(mark_lists, index, site, &near, id.own, rect);
+    let others = DistinctRows {
+        rows: &rows.rows[..last],
+    };
+    settle_in_few(mark_lists, strips, &others, cell)?;
+    put_in_run(mark_lists, strips, &near, cell);
     Ok(())
 }
 
 /// Makes room and marks the cell's box as `settle_in_few` does, in any number of rows.
 fn settle_in_rows(
     mark_lists: &mut Vec<StripMarks>,
-    index: &FrameIndex,
-    site: &i64,
-    rows: &[RowEntry],
-    id: &CellId,
-    rect: &Rect,
+    strips: &WidenedStrips<'_>,
+    rows: &DistinctRows<'_>,
+    cell: &CellBox<'_>,
 ) -> Result<(), AllocError>
-    requires site { IsSiteWidth site.now }
-    requires many { length mark_lists.old.items ≡ length (widened_strips site.now index.now.strips) }
-    requires once { AllPairs (λ a b. a.row ≢ b.row) rows.now }
-    requires edge { IsPlaceX rect.now.x1 }
-    requires rising { All (λ l. AreRising l.marks.items) mark_lists.old.items }
-    ensures ok { OnOk result (AreReservedAndMarked (widened_strips site.now index.now.strips) id.now.own rect.now
-        (IsReached (widened_strips site.now index.now.strips) rows.now id.now.team rect.now) mark_lists.old.items mark_lists.new.items) }
+    requires { HasRisingMarks (all_widened strips.now) mark_lists.old.items }
+    ensures ok { OnOk result (AreReservedAndMarked (all_widened strips.now) cell.now.id.now.own cell.now.rect.now
+        (IsReached (all_widened strips.now) rows.now.rows.now cell.now.id.now.team cell.now.rect.now) mark_lists.old.items mark_lists.new.items) }
     ensures err { OnErr result (KeepMarksOf mark_lists.old.items mark_lists.new.items) }
 {
-    if rows.len() <= FEW {
-        return settle_in_few(mark_lists, index, site, rows, id, rect);
+    if rows.rows.len() <= FEW {
+        return settle_in_few(mark_lists, strips, rows, cell);
     }
-    make_room_in_rows(mark_lists, index, site, rows, id, rect, 1)?;
-    put_in_rows(mark_lists, index, site, rows, id, rect);
+    make_room_in_rows(mark_lists, strips, rows.rows, cell.id, cell.rect, 1)?;
+    put_in_rows(mark_lists, strips, rows, cell);
     Ok(())
 }
 
@@ -332,19 +290,15 @@ fn settle_in_rows(
 /// marks.
 pub(crate) fn reserve_and_mark(
     mark_lists: &mut Vec<StripMarks>,
-    index: &FrameIndex,
-    site: &i64,
-    id: &CellId,
-    rect: &Rect,
+    strips: &WidenedStrips<'_>,
+    cell: &CellBox<'_>,
 ) -> Result<(), AllocError>
-    requires site { IsSiteWidth site.now }
-    requires many { length mark_lists.old.items ≡ length (widened_strips site.now index.now.strips) }
-    requires edge { IsPlaceX rect.now.x1 }
-    requires rising { All (λ l. AreRising l.marks.items) mark_lists.old.items }
-    ensures ok { (boxes : List (List (Option Rect))) → HasNoBox boxes id.now → ShowAllBoxes (widened_strips site.now index.now.strips) boxes mark_lists.old.items
-        → OnOk result (ShowAllBoxes (widened_strips site.now index.now.strips) (boxes_set boxes id.now (Some rect.now)) mark_lists.new.items) }
+    requires { HasRisingMarks (all_widened strips.now) mark_lists.old.items }
+    ensures ok { (boxes : List (List (Option Rect))) → HasNoBox boxes cell.now.id.now → ShowAllBoxes (all_widened strips.now) boxes mark_lists.old.items
+        → OnOk result (ShowAllBoxes (all_widened strips.now) (boxes_set boxes cell.now.id.now (Some cell.now.rect.now)) mark_lists.new.items) }
     ensures err { OnErr result (KeepMarksOf mark_lists.old.items mark_lists.new.items) }
 {
-    index.strips_are_placed();
-    settle_in_rows(mark_lists, index, site, index.rows_near(rect), id, rect)
+    strips.index.strips_are_placed();
+    let rows = distinct_rows(strips, cell.rect);
+    settle_in_rows(mark_lists, strips, &rows, cell)
 }

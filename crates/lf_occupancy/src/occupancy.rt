@@ -9,12 +9,13 @@ ghost use Rattle.lf_occupancy.specs.MarkLists.{IsPlaceX};
 ghost use Rattle.lf_occupancy.specs.Views.{AreFreeSpans, Bounds, FitIn, HasRoomFor, IsPaddingOf, KeepsCapacities, cell_box};
 ghost use Rattle.lf_occupancy.specs.Strips.{CanEnter, CanLeave, MarksBoxes, HasBoxOrNone, HasNoBox, boxes_set, with_boxes, capacities_in};
 
-use crate::boxes::Boxes;
+use crate::boxes::{Boxes, CellBox, PlacedCells};
 use crate::build::marks_of_strips;
 use crate::marking::{reserve_moves, take_in, take_out};
 use crate::occupancy_view::OccupancyView;
 use crate::strip_counts::{StripCounts, lower, marks_of, near_shift, raise, shift_rows};
 use crate::strip_marks::StripMarks;
+use crate::widened::WidenedStrips;
 use lf_cells::{CellId, CellTable};
 use lf_floorplan::Frame;
 use lf_frame_index::FrameIndex;
@@ -72,7 +73,12 @@ impl Occupancy {
         requires sized { HaveSize frame.now cells.now }
         ensures { IfOk result (λ occupancy. IsMarkedBy frame.now cells.now occupancy) }
     {
-        let mark_lists = marks_of_strips(alloc, &index, frame, cells)?;
+        let placed = PlacedCells {
+            index: &index,
+            frame,
+            cells,
+        };
+        let mark_lists = marks_of_strips(alloc, &placed)?;
         Ok(Occupancy {
             index,
             site: frame.pitch.x,
@@ -144,7 +150,11 @@ impl Occupancy {
         ensures site { self.new.site ≡ self.old.site }
         ensures rooms { capacities_in self.new.mark_lists ≡ capacities_in self.old.mark_lists }
     {
-        take_out(&mut self.mark_lists, &self.index, &self.site, &id, rect);
+        let strips = WidenedStrips {
+            index: &self.index,
+            site: &self.site,
+        };
+        take_out(&mut self.mark_lists, &strips, &id, rect);
     }
 
     /// Marks this box for a cell that has no box. Whatever boxes the strips held, they then hold
@@ -160,7 +170,12 @@ impl Occupancy {
         ensures site { self.new.site ≡ self.old.site }
         ensures rooms { capacities_in self.new.mark_lists ≡ capacities_in self.old.mark_lists }
     {
-        take_in(&mut self.mark_lists, &self.index, &self.site, &id, rect);
+        let strips = WidenedStrips {
+            index: &self.index,
+            site: &self.site,
+        };
+        let cell = CellBox { id: &id, rect };
+        take_in(&mut self.mark_lists, &strips, &cell);
     }
 
     /// Makes the room that `insert` needs if the moves are made in their order.
@@ -179,7 +194,11 @@ impl Occupancy {
         ensures site { self.new.site ≡ self.old.site }
         ensures rooms { KeepsCapacities (capacities_in self.old.mark_lists) (capacities_in self.new.mark_lists) }
     {
-        reserve_moves(&mut self.mark_lists, &self.index, &self.site, moves)
+        let strips = WidenedStrips {
+            index: &self.index,
+            site: &self.site,
+        };
+        reserve_moves(&mut self.mark_lists, &strips, moves)
     }
 
     /// The number of boxes that each strip holds. `reserve_counted` then changes these counts for
@@ -220,25 +239,21 @@ impl Occupancy {
         ensures site { self.new.site ≡ self.old.site }
         ensures rooms { KeepsCapacities (capacities_in self.old.mark_lists) (capacities_in self.new.mark_lists) }
     {
+        let strips = WidenedStrips {
+            index: &self.index,
+            site: &self.site,
+        };
         if let Some(shift) = near_shift(from, to) {
             return shift_rows(
                 &mut self.mark_lists,
                 &mut tally.counts,
-                &self.index,
-                &self.site,
+                &strips,
                 team,
                 &shift,
             );
         }
-        lower(&mut tally.counts, &self.index, &self.site, team, from);
-        raise(
-            &mut self.mark_lists,
-            &mut tally.counts,
-            &self.index,
-            &self.site,
-            team,
-            to,
-        )
+        lower(&mut tally.counts, &strips, team, from);
+        raise(&mut self.mark_lists, &mut tally.counts, &strips, team, to)
     }
 
     /// A law: the boxes that the strips hold fit. Each strip, widened by 16 core sites, has room

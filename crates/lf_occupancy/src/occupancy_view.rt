@@ -5,8 +5,10 @@ ghost use Rattle.lf_occupancy.specs.Views.{reach, AreFreeSpans, IsFirstOverlappi
 ghost use Rattle.lf_occupancy.specs.Strips.{MarksBoxes, with_boxes};
 
 use crate::boxes::Boxes;
+use crate::marked_strips::{CellPadding, MarkedStrips};
 use crate::occupancy::Occupancy;
 use crate::queries::{free_in_one, free_in_strips, least_overlapped};
+use crate::widened::WidenedStrips;
 use lf_cells::CellId;
 use lf_frame_index::FrameIndex;
 use lf_units::{Rect, Span};
@@ -83,17 +85,17 @@ impl<'a> OccupancyView<'a> {
     {
         let occupancy = self.occupancy;
         occupancy.index.strips_are_placed();
-        free_in_strips(
-            alloc,
-            &occupancy.index,
-            &occupancy.site,
-            &occupancy.mark_lists,
-            &self.boxes,
-            row,
-            &id,
-            window,
-            &padding,
-        )
+        let strips = WidenedStrips {
+            index: &occupancy.index,
+            site: &occupancy.site,
+        };
+        let marked = MarkedStrips {
+            strips: &strips,
+            mark_lists: &occupancy.mark_lists,
+            boxes: &self.boxes,
+        };
+        let length = CellPadding { length: padding };
+        free_in_strips(alloc, &marked, row, &id, window, &length)
     }
 
     /// The free spans of the strip of segment number `segment`, in database units.
@@ -119,16 +121,17 @@ impl<'a> OccupancyView<'a> {
     {
         let occupancy = self.occupancy;
         occupancy.index.strips_are_placed();
-        free_in_one(
-            alloc,
-            &occupancy.index,
-            &occupancy.site,
-            &occupancy.mark_lists,
-            &self.boxes,
-            segment,
-            &without,
-            &padding,
-        )
+        let strips = WidenedStrips {
+            index: &occupancy.index,
+            site: &occupancy.site,
+        };
+        let marked = MarkedStrips {
+            strips: &strips,
+            mark_lists: &occupancy.mark_lists,
+            boxes: &self.boxes,
+        };
+        let length = CellPadding { length: padding };
+        free_in_one(alloc, &marked, segment, &without, &length)
     }
 
     /// The least position of another cell of the cell's team whose box overlaps the rectangle in
@@ -138,13 +141,15 @@ impl<'a> OccupancyView<'a> {
         ensures { IsFirstOverlappingCell self.now id rect.now result }
     {
         let occupancy = self.occupancy;
-        least_overlapped(
-            &occupancy.index,
-            &occupancy.site,
-            &occupancy.mark_lists,
-            &self.boxes,
-            &id,
-            rect,
-        )
+        let strips = WidenedStrips {
+            index: &occupancy.index,
+            site: &occupancy.site,
+        };
+        let marked = MarkedStrips {
+            strips: &strips,
+            mark_lists: &occupancy.mark_lists,
+            boxes: &self.boxes,
+        };
+        least_overlapped(&marked, &id, rect)
     }
 }

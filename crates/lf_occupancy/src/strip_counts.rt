@@ -1,16 +1,17 @@
 //! Counts boxes for each strip, as if some cells were at other places. All strips here are widened.
 
-ghost use Rattle.std.specs.Prelude.{◌≡◌, ◌+◌, ◌≢◌, ◌≤◌, AllPairs, IfOk, IfSome, OnOk, Some, length, map};
+ghost use Rattle.std.specs.Prelude.{◌≡◌, ◌+◌, ◌≤◌, IfOk, IfSome, OnOk, Some, length, map};
 ghost use Rattle.std.specs.Vec.{vec_capacity, vec_len};
 ghost use Rattle.lf_occupancy.specs.Views.{KeepsCapacities};
 ghost use Rattle.lf_occupancy.specs.Reserving.{IsOneOf};
-ghost use Rattle.lf_occupancy.specs.Strips.{AreChanged, KeepMarksOf, IsReached, IsSiteWidth, widened_strips, capacities_in};
+ghost use Rattle.lf_occupancy.specs.Strips.{AreChanged, KeepMarksOf, IsReached, capacities_in};
 ghost use Rattle.lf_occupancy.specs.MarkLists.{KeepsMarksOf};
-ghost use Rattle.lf_occupancy.specs.StripCounting.{AreShifted, IsHigher, IsLess, IsLessAt, IsLower, IsMore, IsShiftOf, IsShifted, IsShiftedAt, hull_in};
+ghost use Rattle.lf_occupancy.specs.Widened.{all_widened};
+ghost use Rattle.lf_occupancy.specs.StripCounting.{AreShifted, HaveRoomForCounts, IsHigher, IsLess, IsLessAt, IsLower, IsMore, IsShiftOf, IsShifted, IsShiftedAt, hull_in};
 
 use crate::strip_marks::{StripMarks, has_points, make_room, part_of};
-use crate::widened::{widened_area, widened_strips};
-use lf_frame_index::{FrameIndex, RowEntry, StripRange};
+use crate::widened::{DistinctRows, WidenedStrips, distinct_rows, widened_area, widened_strips};
+use lf_frame_index::StripRange;
 use lf_units::Rect;
 use std::alloc::{AllocError, Global};
 use std::marker::Model;
@@ -51,41 +52,31 @@ fn count_less(count: &mut usize, area: &Rect, rect: &Rect)
 }
 
 /// Decreases by one the count of each strip of the range that shares a point with the rectangle.
-fn lower_run(
-    counts: &mut Vec<usize>,
-    index: &FrameIndex,
-    site: &i64,
-    near: &StripRange,
-    rect: &Rect,
-)
-    requires site { IsSiteWidth site.now }
-    requires many { length counts.old.items ≡ length (widened_strips site.now index.now.strips) }
-    requires within { near.now.end ≤ length (widened_strips site.now index.now.strips) }
-    ensures { AreChanged (IsOneOf near.now) (IsLessAt (widened_strips site.now index.now.strips) rect.now) counts.old.items counts.new.items }
+fn lower_run(counts: &mut Vec<usize>, strips: &WidenedStrips<'_>, near: &StripRange, rect: &Rect)
+    requires many { length counts.old.items ≡ length (all_widened strips.now) }
+    requires within { near.now.end ≤ length (all_widened strips.now) }
+    ensures { AreChanged (IsOneOf near.now) (IsLessAt (all_widened strips.now) rect.now) counts.old.items counts.new.items }
 {
     for n in near.start..near.end {
-        count_less(&mut counts[n], &widened_area(index, site, n), rect);
+        count_less(&mut counts[n], &widened_area(strips, n), rect);
     }
 }
 
 /// Decreases counts as `lower_run` does, in the strips of the team in all these rows.
 fn lower_rows(
     counts: &mut Vec<usize>,
-    index: &FrameIndex,
-    site: &i64,
-    rows: &[RowEntry],
+    strips: &WidenedStrips<'_>,
+    rows: &DistinctRows<'_>,
     team: usize,
     rect: &Rect,
 )
-    requires site { IsSiteWidth site.now }
-    requires many { length counts.old.items ≡ length (widened_strips site.now index.now.strips) }
-    requires once { AllPairs (λ a b. a.row ≢ b.row) rows.now }
-    ensures { AreChanged (IsReached (widened_strips site.now index.now.strips) rows.now team rect.now) (IsLessAt (widened_strips site.now index.now.strips) rect.now)
+    requires { length counts.old.items ≡ length (all_widened strips.now) }
+    ensures { AreChanged (IsReached (all_widened strips.now) rows.now.rows.now team rect.now) (IsLessAt (all_widened strips.now) rect.now)
         counts.old.items counts.new.items }
 {
-    for entry in rows {
-        let near = widened_strips(index, site, entry.row, team, rect);
-        lower_run(counts, index, site, &near, rect);
+    for entry in rows.rows {
+        let near = widened_strips(strips, entry.row, team, rect);
+        lower_run(counts, strips, &near, rect);
     }
 }
 
@@ -93,18 +84,16 @@ fn lower_rows(
 /// is one.
 pub(crate) fn lower(
     counts: &mut Vec<usize>,
-    index: &FrameIndex,
-    site: &i64,
+    strips: &WidenedStrips<'_>,
     team: usize,
     from: &Option<Rect>,
 )
-    requires site { IsSiteWidth site.now }
-    requires many { length counts.old.items ≡ length (widened_strips site.now index.now.strips) }
-    ensures { IsLower (widened_strips site.now index.now.strips) team from.now counts.old.items counts.new.items }
+    requires { length counts.old.items ≡ length (all_widened strips.now) }
+    ensures { IsLower (all_widened strips.now) team from.now counts.old.items counts.new.items }
 {
-    index.strips_are_placed();
     if let Some(rect) = from {
-        lower_rows(counts, index, site, index.rows_near(rect), team, rect);
+        let rows = distinct_rows(strips, rect);
+        lower_rows(counts, strips, &rows, team, rect);
     }
 }
 
@@ -147,22 +136,19 @@ fn raise_run(
 fn raise_rows(
     mark_lists: &mut Vec<StripMarks>,
     counts: &mut Vec<usize>,
-    index: &FrameIndex,
-    site: &i64,
+    strips: &WidenedStrips<'_>,
     team: usize,
     rect: &Rect,
 ) -> Result<(), AllocError>
-    requires site { IsSiteWidth site.now }
-    requires many { length mark_lists.old.items ≡ length (widened_strips site.now index.now.strips) }
-    requires room { KeepsCapacities counts.old.items (capacities_in mark_lists.old.items) }
+    requires { HaveRoomForCounts (all_widened strips.now) mark_lists.old.items counts.old.items }
     ensures kept { KeepMarksOf mark_lists.old.items mark_lists.new.items }
-    ensures more { OnOk result (IsHigher (widened_strips site.now index.now.strips) team (Some rect.now) counts.old.items counts.new.items) }
+    ensures more { OnOk result (IsHigher (all_widened strips.now) team (Some rect.now) counts.old.items counts.new.items) }
     ensures room { OnOk result (KeepsCapacities counts.new.items (capacities_in mark_lists.new.items)) }
 {
-    index.strips_are_placed();
-    let rows = index.rows_near(rect);
-    for entry in rows {
-        let near = widened_strips(index, site, entry.row, team, rect);
+    strips.index.strips_are_placed();
+    let rows = distinct_rows(strips, rect);
+    for entry in rows.rows {
+        let near = widened_strips(strips, entry.row, team, rect);
         raise_run(mark_lists, counts, &near)?;
     }
     Ok(())
@@ -172,20 +158,17 @@ fn raise_rows(
 pub(crate) fn raise(
     mark_lists: &mut Vec<StripMarks>,
     counts: &mut Vec<usize>,
-    index: &FrameIndex,
-    site: &i64,
+    strips: &WidenedStrips<'_>,
     team: usize,
     to: &Option<Rect>,
 ) -> Result<(), AllocError>
-    requires site { IsSiteWidth site.now }
-    requires many { length mark_lists.old.items ≡ length (widened_strips site.now index.now.strips) }
-    requires room { KeepsCapacities counts.old.items (capacities_in mark_lists.old.items) }
+    requires { HaveRoomForCounts (all_widened strips.now) mark_lists.old.items counts.old.items }
     ensures kept { KeepMarksOf mark_lists.old.items mark_lists.new.items }
-    ensures more { OnOk result (IsHigher (widened_strips site.now index.now.strips) team to.now counts.old.items counts.new.items) }
+    ensures more { OnOk result (IsHigher (all_widened strips.now) team to.now counts.old.items counts.new.items) }
     ensures room { OnOk result (KeepsCapacities counts.new.items (capacities_in mark_lists.new.items)) }
 {
     match to {
-        Some(rect) => raise_rows(mark_lists, counts, index, site, team, rect),
+        Some(rect) => raise_rows(mark_lists, counts, strips, team, rect),
         None => Ok(()),
     }
 }
@@ -251,22 +234,19 @@ fn count_shift(
 fn shift_run(
     mark_lists: &mut Vec<StripMarks>,
     counts: &mut Vec<usize>,
-    index: &FrameIndex,
-    site: &i64,
+    strips: &WidenedStrips<'_>,
     near: &StripRange,
     shift: &BoxChange,
 ) -> Result<(), AllocError>
-    requires site { IsSiteWidth site.now }
-    requires many { length mark_lists.old.items ≡ length (widened_strips site.now index.now.strips) }
-    requires room { KeepsCapacities counts.old.items (capacities_in mark_lists.old.items) }
+    requires counted { HaveRoomForCounts (all_widened strips.now) mark_lists.old.items counts.old.items }
     requires within { near.now.end ≤ length mark_lists.old.items }
     ensures kept { KeepMarksOf mark_lists.old.items mark_lists.new.items }
-    ensures shifted { OnOk result (AreChanged (IsOneOf near.now) (IsShiftedAt (widened_strips site.now index.now.strips) shift.now)
+    ensures shifted { OnOk result (AreChanged (IsOneOf near.now) (IsShiftedAt (all_widened strips.now) shift.now)
         counts.old.items counts.new.items) }
     ensures room { OnOk result (KeepsCapacities counts.new.items (capacities_in mark_lists.new.items)) }
 {
     for n in near.start..near.end {
-        let area = widened_area(index, site, n);
+        let area = widened_area(strips, n);
         count_shift(&mut mark_lists[n], &mut counts[n], &area, shift)?;
     }
     Ok(())
@@ -277,24 +257,21 @@ fn shift_run(
 pub(crate) fn shift_rows(
     mark_lists: &mut Vec<StripMarks>,
     counts: &mut Vec<usize>,
-    index: &FrameIndex,
-    site: &i64,
+    strips: &WidenedStrips<'_>,
     team: usize,
     shift: &BoxChange,
 ) -> Result<(), AllocError>
-    requires site { IsSiteWidth site.now }
-    requires many { length mark_lists.old.items ≡ length (widened_strips site.now index.now.strips) }
-    requires room { KeepsCapacities counts.old.items (capacities_in mark_lists.old.items) }
+    requires { HaveRoomForCounts (all_widened strips.now) mark_lists.old.items counts.old.items }
     ensures kept { KeepMarksOf mark_lists.old.items mark_lists.new.items }
-    ensures shifted { OnOk result (AreShifted (widened_strips site.now index.now.strips) team shift.now counts.old.items counts.new.items) }
+    ensures shifted { OnOk result (AreShifted (all_widened strips.now) team shift.now counts.old.items counts.new.items) }
     ensures room { OnOk result (KeepsCapacities counts.new.items (capacities_in mark_lists.new.items)) }
 {
-    index.strips_are_placed();
+    strips.index.strips_are_placed();
     let hull = hull_of(shift);
-    let rows = index.rows_near(&hull);
-    for entry in rows {
-        let near = widened_strips(index, site, entry.row, team, &hull);
-        shift_run(mark_lists, counts, index, site, &near, shift)?;
+    let rows = distinct_rows(strips, &hull);
+    for entry in rows.rows {
+        let near = widened_strips(strips, entry.row, team, &hull);
+        shift_run(mark_lists, counts, strips, &near, shift)?;
     }
     Ok(())
 }

@@ -6,14 +6,15 @@ ghost use Rattle.lf_spans.specs.Spans.{IsFree, IsFreeIn, IsInOrder};
 ghost use Rattle.lf_rules.specs.Padding.{HasRoomAround, IsShort};
 ghost use Rattle.lf_units.specs.declared.geometry.Rect.{Rect};
 ghost use Rattle.lf_occupancy.specs.declared.strip_marks.Mark.{Mark};
+ghost use Rattle.lf_occupancy.specs.MarkedStrips.{AreMarksIn, MarksItsBoxes, strip_entries, entries_in, entry_in};
 ghost use Rattle.lf_occupancy.specs.MarkLists.{AreRising, MarksAreOf, HasAtMostOne, HasRoom, HasRoomOf, IsJoined, KeepsMarksOf, IsKeptAs, IsLeast, IsMarked};
 ghost use Rattle.lf_occupancy.specs.MarkLists.{IsNearRun, IsNearZero, IsPlaceX, IsUnmarked, IsPutIn, HasPoints, LiesBeside, OverlapsEntry, OverlapsOne, IsMarkOfCell};
 ghost use Rattle.lf_occupancy.specs.MarkLists.{HasNoMarkFrom, MarkIsOf, all_padded, marked_entries, marked_entry, entry_of_box, others_in, part_in, some_box, spans_in};
-ghost use Rattle.lf_occupancy.specs.MarkLists.{wider_range, x_range};
+ghost use Rattle.lf_occupancy.specs.MarkLists.{TakesPart, wider_range, x_range};
 
-use crate::boxes::Boxes;
+use crate::boxes::CellBox;
 use crate::free_spans::{common_range, part_after, part_before, push_filled};
-use lf_cells::CellId;
+use crate::marked_strips::{CellPadding, CoveredPart, MarkedStrip};
 use lf_spans::{Span, free_in};
 use lf_units::Rect;
 use std::alloc::{AllocError, Global};
@@ -102,32 +103,25 @@ fn entry_of(area: &Rect, found: &Option<Rect>, own: u32) -> Entry
     }
 }
 
-/// The entry of a mark, in a strip of the team with this area.
-fn entry_at(boxes: &Boxes<'_>, team: u32, area: &Rect, mark: &Mark) -> Entry
-    ensures { result ≡ marked_entry (slice_index_or boxes.now team []) area.now mark.now }
+/// The entry of a mark in the strip.
+fn entry_at(strip: &MarkedStrip<'_>, mark: &Mark) -> Entry
+    ensures { result ≡ entry_in strip.now mark.now }
 {
-    let id = CellId {
-        team,
-        own: mark.own,
-    };
-    entry_of(area, &boxes.get(&id), mark.own)
+    entry_of(
+        &strip.area,
+        &strip.boxes.get_in(strip.team, mark.own),
+        mark.own,
+    )
 }
 
-/// The entry of a mark, in a strip of the team of this number.
-fn entry_of_team(boxes: &Boxes<'_>, team: usize, area: &Rect, mark: &Mark) -> Entry
-    ensures { result ≡ marked_entry (slice_index_or boxes.now team []) area.now mark.now }
-{
-    entry_of(area, &boxes.get_in(team, mark.own), mark.own)
-}
-
-/// The x range of the entry of a mark, in a strip of the team with this area. It computes the
-/// cell's box only if the mark does not contain the width.
-fn range_at(boxes: &Boxes<'_>, team: usize, area: &Rect, mark: &Mark) -> Span
-    requires { MarkIsOf (marked_entry (slice_index_or boxes.now team []) area.now mark.now) mark.now }
-    ensures { result ≡ x_range (marked_entry (slice_index_or boxes.now team []) area.now mark.now).area }
+/// The x range of the entry of a mark in the strip. It computes the cell's box only if the mark does
+/// not contain the width.
+fn range_at(strip: &MarkedStrip<'_>, mark: &Mark) -> Span
+    requires { MarkIsOf (entry_in strip.now mark.now) mark.now }
+    ensures { result ≡ x_range (entry_in strip.now mark.now).area }
 {
     if mark.width == u32::MAX {
-        return x_range_of(&entry_of_team(boxes, team, area, mark).area);
+        return x_range_of(&entry_at(strip, mark).area);
     }
     let lo = i64::from(mark.left);
     Span {
@@ -184,16 +178,14 @@ fn lies_beside(range: &Span, rect: &Rect) -> bool
 /// The cell's position if it is less than `so_far`, is not `but`, and its entry shares a point with
 /// the rectangle. Otherwise `so_far`.
 fn lesser(
-    boxes: &Boxes<'_>,
-    team: u32,
-    area: &Rect,
+    strip: &MarkedStrip<'_>,
     mark: &Mark,
     rect: &Rect,
     but: u32,
     so_far: Option<u32>,
 ) -> Option<u32>
-    requires { MarkIsOf (marked_entry (slice_index_or boxes.now team []) area.now mark.now) mark.now }
-    ensures { IsLeast (λ own. OverlapsEntry rect.now but own (marked_entry (slice_index_or boxes.now team []) area.now mark.now)) so_far result }
+    requires { MarkIsOf (entry_in strip.now mark.now) mark.now }
+    ensures { IsLeast (λ own. OverlapsEntry rect.now but own (entry_in strip.now mark.now)) so_far result }
 {
     if mark.own == but {
         return so_far;
@@ -203,9 +195,7 @@ fn lesser(
     {
         return so_far;
     }
-    if !lies_beside(&range_at(boxes, team as usize, area, mark), rect)
-        && rect.overlaps(&entry_at(boxes, team, area, mark).area)
-    {
+    if !lies_beside(&range_at(strip, mark), rect) && rect.overlaps(&entry_at(strip, mark).area) {
         Some(mark.own)
     } else {
         so_far
@@ -214,107 +204,94 @@ fn lesser(
 
 /// The least such position over all these marks.
 fn least_in(
-    boxes: &Boxes<'_>,
-    team: u32,
-    area: &Rect,
+    strip: &MarkedStrip<'_>,
     marks: &[Mark],
     rect: &Rect,
     but: u32,
     so_far: Option<u32>,
 ) -> Option<u32>
-    requires { MarksAreOf (slice_index_or boxes.now team []) area.now marks.now }
-    ensures { IsLeast (OverlapsOne (marked_entries (slice_index_or boxes.now team []) area.now marks.now) rect.now but) so_far result }
+    requires { AreMarksIn strip.now marks.now }
+    ensures { IsLeast (OverlapsOne (entries_in strip.now marks.now) rect.now but) so_far result }
 {
     let mut least = so_far;
     for mark in marks {
-        least = lesser(boxes, team, area, mark, rect, but, least);
+        least = lesser(strip, mark, rect, but, least);
     }
     least
 }
 
-/// The least such position over the marks of a strip with this area. Only the marks near the
-/// rectangle are visited.
+/// The least such position over the marks of the strip. Only the marks near the rectangle are
+/// visited.
 pub(crate) fn least_in_mark_list(
-    boxes: &Boxes<'_>,
-    team: u32,
-    mark_list: &StripMarks,
-    area: &Rect,
+    strip: &MarkedStrip<'_>,
     rect: &Rect,
     but: u32,
     so_far: Option<u32>,
 ) -> Option<u32>
-    requires marked { IsMarked (slice_index_or boxes.now team []) area.now mark_list.now }
-    requires near { IsNearZero area.now }
-    ensures { IsLeast (OverlapsOne (marked_entries (slice_index_or boxes.now team []) area.now mark_list.now.marks.items) rect.now but) so_far result }
+    requires { MarksItsBoxes strip.now }
+    ensures { IsLeast (OverlapsOne (strip_entries strip.now) rect.now but) so_far result }
 {
-    let lo = rect.x1.max(area.x1);
-    let near = near_marks(mark_list, &lo, &rect.x2);
-    least_in(boxes, team, area, near, rect, but, so_far)
+    let lo = rect.x1.max(strip.area.x1);
+    let near = near_marks(strip.mark_list, &lo, &rect.x2);
+    least_in(strip, near, rect, but, so_far)
 }
 
 /// The range widened by the padding on its left and on its right.
-fn padded_range(range: &Span, padding: &i64) -> Span
-    requires short { IsShort padding.now }
+fn padded_range(range: &Span, padding: &CellPadding) -> Span
     requires low { negsuc 4611686018427387903 ≤ℤ range.now.lo }
     requires high { range.now.hi ≤ℤ pos 4611686018427387904 }
-    ensures { result ≡ wider_range padding.now range.now }
+    ensures { result ≡ wider_range padding.now.length range.now }
 {
     Span {
-        lo: range.lo - *padding,
-        hi: range.hi + *padding,
+        lo: range.lo - padding.length,
+        hi: range.hi + padding.length,
     }
 }
 
-/// The x ranges of the entries of the marks, each widened by the padding. The marks are in a strip
-/// of the team with this area.
+/// The x ranges of the entries of the marks in the strip, each widened by the padding.
 fn padded_of(
     alloc: Global,
-    boxes: &Boxes<'_>,
-    team: usize,
-    area: &Rect,
+    strip: &MarkedStrip<'_>,
     marks: &[Mark],
-    padding: &i64,
+    padding: &CellPadding,
 ) -> Result<Vec<Span>, AllocError>
-    requires short { IsShort padding.now }
-    requires reported { MarksAreOf (slice_index_or boxes.now team []) area.now marks.now }
-    requires around { All (λ e. HasRoomAround e.area) (marked_entries (slice_index_or boxes.now team []) area.now marks.now) }
-    ensures { IfOk result (λ list. list.items ≡ spans_in (all_padded padding.now (marked_entries (slice_index_or boxes.now team []) area.now marks.now))) }
+    requires reported { AreMarksIn strip.now marks.now }
+    requires around { All (λ e. HasRoomAround e.area) (entries_in strip.now marks.now) }
+    ensures { IfOk result (λ list. list.items ≡ spans_in (all_padded padding.now.length (entries_in strip.now marks.now))) }
 {
     let mut list = Vec::with_capacity(alloc, marks.len())?;
     for mark in marks {
-        let range = range_at(boxes, team, area, mark);
+        let range = range_at(strip, mark);
         list.push(padded_range(&range, padding))?;
     }
     Ok(list)
 }
 
 /// The spans of a range that the entries of all cells except this one leave free, with the padding
-/// around each. The marks are in a strip with this area, from left to right.
+/// around each. The marks are in the strip, from left to right.
 fn free_beside(
     alloc: Global,
-    boxes: &Boxes<'_>,
-    id: &CellId,
-    area: &Rect,
+    strip: &MarkedStrip<'_>,
+    own: u32,
     marks: &[Mark],
-    padding: &i64,
+    padding: &CellPadding,
     range: &Span,
 ) -> Result<Vec<Span>, AllocError>
-    requires short { IsShort padding.now }
-    requires reported { MarksAreOf (slice_index_or boxes.now id.now.team []) area.now marks.now }
-    requires around { All (λ e. HasRoomAround e.area) (marked_entries (slice_index_or boxes.now id.now.team []) area.now marks.now) }
-    requires whole { All (λ e. HasPoints e.area) (marked_entries (slice_index_or boxes.now id.now.team []) area.now marks.now) }
+    requires reported { AreMarksIn strip.now marks.now }
+    requires around { All (λ e. HasRoomAround e.area) (entries_in strip.now marks.now) }
+    requires whole { All (λ e. HasPoints e.area) (entries_in strip.now marks.now) }
     requires order { IsInOrder
-        (spans_in (others_in (all_padded padding.now (marked_entries (slice_index_or boxes.now id.now.team []) area.now marks.now)) id.now.own)) }
+        (spans_in (others_in (all_padded padding.now.length (entries_in strip.now marks.now)) own)) }
     ensures { IfOk result (λ free. IsFree range.now
-        (spans_in (others_in (all_padded padding.now (marked_entries (slice_index_or boxes.now id.now.team []) area.now marks.now)) id.now.own)) free.items) }
+        (spans_in (others_in (all_padded padding.now.length (entries_in strip.now marks.now)) own)) free.items) }
 {
     let mut free = Vec::with_capacity(alloc, marks.len().saturating_add(1))?;
     let mut rest = *range;
     for mark in marks {
-        if mark.own == id.own {
+        if mark.own == own {
             continue;
         }
-        let reach = range_at(boxes, id.team as usize, area, mark);
+        let reach = range_at(strip, mark);
         let span = padded_range(&reach, padding);
         push_filled(&part_before(&rest, &span), &mut free)?;
         rest = part_after(&rest, &span);
@@ -324,13 +301,12 @@ fn free_beside(
 }
 
 /// A bound on the width of the strip's entries, each widened by the padding.
-fn widest_padded(mark_list: &StripMarks, padding: &i64) -> i64
+fn widest_padded(mark_list: &StripMarks, padding: &CellPadding) -> i64
     requires some { pos 0 ≤ℤ mark_list.now.widest }
     requires most { mark_list.now.widest ≤ℤ pos 1099511627776 }
-    requires short { IsShort padding.now }
-    ensures { result ≡ mark_list.now.widest +ℤ (pos 2 *ℤ padding.now) }
+    ensures { result ≡ mark_list.now.widest +ℤ (pos 2 *ℤ padding.now.length) }
 {
-    mark_list.widest + 2 * *padding
+    mark_list.widest + 2 * padding.length
 }
 
 /// The spans of a strip, within a window, that the team's cells other than this one leave free,
@@ -338,63 +314,47 @@ fn widest_padded(mark_list: &StripMarks, padding: &i64) -> i64
 /// are visited.
 pub(crate) fn free_in_mark_list(
     alloc: Global,
-    boxes: &Boxes<'_>,
-    id: &CellId,
-    mark_list: &StripMarks,
-    area: &Rect,
-    strip: &Span,
+    strip: &MarkedStrip<'_>,
+    own: u32,
+    extent: &Span,
     window: &Span,
-    padding: &i64,
+    padding: &CellPadding,
 ) -> Result<Vec<Span>, AllocError>
-    requires marked { IsMarked (slice_index_or boxes.now id.now.team []) area.now mark_list.now }
-    requires near { IsNearZero area.now }
-    requires short { IsShort padding.now }
-    requires left { negsuc 2147483647 ≤ℤ strip.now.lo }
-    requires right { strip.now.hi ≤ℤ pos 2147483647 }
+    requires marked { MarksItsBoxes strip.now }
+    requires left { negsuc 2147483647 ≤ℤ extent.now.lo }
+    requires right { extent.now.hi ≤ℤ pos 2147483647 }
     requires low { negsuc 4611686018427387903 ≤ℤ window.now.lo }
-    ensures { IfOk result (λ free. IsFreeIn strip.now
-        (spans_in (others_in (all_padded padding.now (marked_entries (slice_index_or boxes.now id.now.team []) area.now mark_list.now.marks.items)) id.now.own))
+    ensures { IfOk result (λ free. IsFreeIn extent.now
+        (spans_in (others_in (all_padded padding.now.length (strip_entries strip.now)) own))
         window.now free.items) }
 {
-    let range = common_range(window, strip);
-    let lo = range.lo - *padding;
-    let hi = range.hi + *padding;
-    let near = near_marks(mark_list, &lo, &hi);
-    free_beside(alloc, boxes, id, area, near, padding, &range)
+    let range = common_range(window, extent);
+    let lo = range.lo - padding.length;
+    let hi = range.hi + padding.length;
+    let near = near_marks(strip.mark_list, &lo, &hi);
+    free_beside(alloc, strip, own, near, padding, &range)
 }
 
 /// The spans of a strip that its team's cells leave free, with the padding around each. The widened
 /// strip has this area.
 pub(crate) fn free_of_all(
     alloc: Global,
-    boxes: &Boxes<'_>,
-    team: usize,
-    mark_list: &StripMarks,
-    area: &Rect,
-    strip: &Span,
-    padding: &i64,
+    strip: &MarkedStrip<'_>,
+    extent: &Span,
+    padding: &CellPadding,
 ) -> Result<Vec<Span>, AllocError>
-    requires marked { IsMarked (slice_index_or boxes.now team []) area.now mark_list.now }
-    requires near { IsNearZero area.now }
-    requires short { IsShort padding.now }
-    requires low { negsuc 4611686018427387903 ≤ℤ strip.now.lo }
-    ensures { IfOk result (λ free. IsFreeIn strip.now
-        (spans_in (all_padded padding.now (marked_entries (slice_index_or boxes.now team []) area.now mark_list.now.marks.items))) strip.now free.items) }
+    requires marked { MarksItsBoxes strip.now }
+    requires low { negsuc 4611686018427387903 ≤ℤ extent.now.lo }
+    ensures { IfOk result (λ free. IsFreeIn extent.now
+        (spans_in (all_padded padding.now.length (strip_entries strip.now))) extent.now free.items) }
 {
-    let all = padded_of(
-        alloc,
-        boxes,
-        team,
-        area,
-        mark_list.marks.as_slice(),
-        padding,
-    )?;
+    let all = padded_of(alloc, strip, strip.mark_list.marks.as_slice(), padding)?;
     free_in(
         alloc,
-        strip,
+        extent,
         all.as_slice(),
-        widest_padded(mark_list, padding),
-        strip,
+        widest_padded(strip.mark_list, padding),
+        extent,
     )
 }
 
@@ -458,60 +418,50 @@ fn insert_at(marks: &mut Vec<Mark>, at: usize, mark: &Mark)
     }
 }
 
-/// Inserts the mark of an entry with this area at its place in the order. Does not allocate.
-fn join(mark_list: &mut StripMarks, mark: &Mark, area: &Rect)
+/// Inserts the mark of an entry with this part at its place in the order. Does not allocate.
+fn join(mark_list: &mut StripMarks, mark: &Mark, part: &CoveredPart<'_>)
     requires order { AreRising mark_list.old.marks.items }
-    requires left { negsuc 549755813887 ≤ℤ area.now.x1 }
-    requires right { area.now.x2 ≤ℤ pos 549755813888 }
-    requires whole { HasPoints area.now }
     requires room { HasRoom mark_list.old }
-    ensures { IsJoined mark.now (area.now.x2 -ℤ area.now.x1) mark_list.old mark_list.new }
+    ensures { IsJoined mark.now (part.now.rect.now.x2 -ℤ part.now.rect.now.x1) mark_list.old mark_list.new }
 {
     let at = count_before(mark_list.marks.as_slice(), &i64::from(mark.left));
-    mark_list.widest = mark_list.widest.max(area.x2 - area.x1);
+    mark_list.widest = mark_list.widest.max(part.rect.x2 - part.rect.x1);
     insert_at(&mut mark_list.marks, at, mark);
 }
 
 /// The width of the part as a mark keeps it. A width of 2^32 - 1 or more is kept as 2^32 - 1.
-fn kept_width(part: &Rect) -> u32
-    requires left { IsPlaceX part.now.x1 }
-    requires right { part.now.x2 ≤ℤ pos 549755813888 }
-    requires whole { HasPoints part.now }
-    ensures { IsKeptAs (part.now.x2 -ℤ part.now.x1) result }
+fn kept_width(part: &CoveredPart<'_>) -> u32
+    ensures { IsKeptAs (part.now.rect.now.x2 -ℤ part.now.rect.now.x1) result }
 {
-    match u32::try_from(part.x2 - part.x1) {
+    match u32::try_from(part.rect.x2 - part.rect.x1) {
         Ok(kept) => kept,
         Err(_) => u32::MAX,
     }
 }
 
 /// The mark of a cell for a part of its strip.
-fn mark_of(own: u32, part: &Rect) -> Mark
-    requires left { IsPlaceX part.now.x1 }
-    requires right { part.now.x2 ≤ℤ pos 549755813888 }
-    requires whole { HasPoints part.now }
+fn mark_of(own: u32, part: &CoveredPart<'_>) -> Mark
     ensures is { result.own ≡ own }
-    ensures left { result.left ≡ part.now.x1 }
-    ensures width { IsKeptAs (part.now.x2 -ℤ part.now.x1) result.width }
+    ensures left { result.left ≡ part.now.rect.now.x1 }
+    ensures width { IsKeptAs (part.now.rect.now.x2 -ℤ part.now.rect.now.x1) result.width }
 {
     Mark {
         own,
-        left: part.x1 as i32,
+        left: part.rect.x1 as i32,
         width: kept_width(part),
     }
 }
 
 /// Marks the part of the cell's box that lies in the strip's area, if there is one. Does not
 /// allocate.
-pub(crate) fn put_in(mark_list: &mut StripMarks, area: &Rect, own: u32, rect: &Rect)
-    requires order { AreRising mark_list.old.marks.items }
+pub(crate) fn put_in(mark_list: &mut StripMarks, area: &Rect, cell: &CellBox<'_>)
     requires within { IsNearZero area.now }
-    requires edge { IsPlaceX rect.now.x1 }
-    requires room { HasPoints (part_in area.now rect.now) → HasRoom mark_list.old }
-    ensures { IsPutIn own rect.now area.now mark_list.old mark_list.new }
+    requires takes { TakesPart area.now cell.now.rect.now mark_list.old }
+    ensures { IsPutIn cell.now.id.now.own cell.now.rect.now area.now mark_list.old mark_list.new }
 {
-    let part = part_of(area, rect);
+    let part = part_of(area, cell.rect);
     if has_points(&part) {
-        join(mark_list, &mark_of(own, &part), &part);
+        let covered = CoveredPart { rect: &part };
+        join(mark_list, &mark_of(cell.id.own, &covered), &covered);
     }
 }

@@ -2,7 +2,7 @@ use Rattle.std.proofs.Common.{◌≡◌, ◌∙◌, ◌+◌, ◌<◌, arith, get
 use Rattle.std.proofs.lemmas.List.{get_or-map, length-map}
 use Rattle.lf_cells.specs.declared.cell.CellId.{CellId}
 use Rattle.lf_cells.specs.Cells.{cells_of}
-use Rattle.lf_occupancy.specs.Building.{PrecedesCell, id_at}
+use Rattle.lf_occupancy.specs.Building.{PrecedesCell, id_at, strips_to_mark}
 use Rattle.lf_occupancy.specs.Strips.{widened_strips}
 use Rattle.lf_occupancy.proofs.Building.{filled_same, one_filled, one_passed}
 use Rattle.lf_occupancy.proofs.Parting.{IsPart, IsPassed, none_passed, part_cell, part_fresh, part_passed, part_put}
@@ -14,26 +14,26 @@ loop-waiting-init c =
     let team = c.args.team in
     let from = c.args.from in
     let os = map (id_at c.part_of-ids.result.now) c.deref-waiting-items.result.now in
-    filled_same c.args.frame.now c.args.cells.now (widened_strips c.args.frame.now.pitch.x c.args.index.now.strips) (PrecedesCell team from) (IsPassed team from os 0)
-    c.args.mark_lists.now.items (λ id cell there. none_passed team from os id) c.requires.before
+    filled_same c.args.placed.now.frame.now c.args.placed.now.cells.now (strips_to_mark c.args.placed.now) (PrecedesCell team from) (IsPassed team from os 0)
+    c.args.mark_lists.now.items (λ id cell there. none_passed team from os id) c.requires
 
-pub mark_cell-requires-clause-many : goal.mark_cell-requires-clause-many
-mark_cell-requires-clause-many c = c.loop-waiting.invariant.marked.many
-
-pub mark_cell-requires-clause-rising : goal.mark_cell-requires-clause-rising
-mark_cell-requires-clause-rising c =
-    mark_lists_rise (widened_strips c.args.frame.now.pitch.x c.args.index.now.strips) c.loop-waiting.invariant.boxes c.loop-waiting.mark_lists.items c.loop-waiting.invariant.marked
+pub mark_cell-requires : goal.mark_cell-requires
+mark_cell-requires c = record {
+  many = c.loop-waiting.invariant.marked.many;
+  rising = mark_lists_rise (strips_to_mark c.args.placed.now) c.loop-waiting.invariant.boxes c.loop-waiting.mark_lists.items
+      c.loop-waiting.invariant.marked;
+}
 
 pub loop-waiting-preserved : goal.loop-waiting-preserved
 loop-waiting-preserved c =
-    let f = c.args.frame.now in
-    let cells = c.args.cells.now in
+    let f = c.args.placed.now.frame.now in
+    let cells = c.args.placed.now.cells.now in
     let team = c.args.team in
     let from = c.args.from in
     let ids = c.part_of-ids.result.now in
     let order = c.deref-waiting-items.result.now in
     let os = map (id_at ids) order in
-    let xs = widened_strips f.pitch.x c.args.index.now.strips in
+    let xs = widened_strips f.pitch.x c.args.placed.now.index.now.strips in
     let i = c.loop-waiting.waiting-index in
     let are : IsPart 65536 from team (cells_of cells team) os =
     part_put 65536 from team (cells_of cells team) c.cells_of.result.now ids c.in_ok-order.order.items order c.cells_of.ensures c.part_of-ids.ensures.is
@@ -49,8 +49,8 @@ loop-waiting-preserved c =
 
 pub returns : goal.returns
 returns c =
-    let f = c.args.frame.now in
-    let cells = c.args.cells.now in
+    let f = c.args.placed.now.frame.now in
+    let cells = c.args.placed.now.cells.now in
     let team = c.args.team in
     let from = c.args.from in
     let ids = c.part_of-ids.result.now in
@@ -61,5 +61,5 @@ returns c =
     part_put 65536 from team (cells_of cells team) c.cells_of.result.now ids c.in_ok-order.order.items order c.cells_of.ensures c.part_of-ids.ensures.is
     c.in_ok-order.ensures c.deref-waiting-items.ensures.value in
     let many = length-map order (id_at ids) in
-    filled_same f cells (widened_strips f.pitch.x c.args.index.now.strips) (IsPassed team from os i) (PrecedesCell team (from + 65536)) c.loop-waiting.mark_lists.items
+    filled_same f cells (widened_strips f.pitch.x c.args.placed.now.index.now.strips) (IsPassed team from os i) (PrecedesCell team (from + 65536)) c.loop-waiting.mark_lists.items
     (part_passed 65536 from team cells os i are (omega (arith, many))) c.loop-waiting.invariant

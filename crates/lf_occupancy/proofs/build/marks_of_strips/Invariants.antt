@@ -1,7 +1,6 @@
-use Rattle.lf_occupancy.specs.Building.{AreFilledIn, PrecedesCell}
-use Rattle.lf_occupancy.specs.Strips.{widened_strips}
+use Rattle.lf_occupancy.specs.Building.{AreFilledIn, PrecedesCell, strips_to_mark}
 use Rattle.lf_occupancy.proofs.build.marks_of_strips.Given as goal
 
 -- the cells of the teams so far are marked
 abbrev pub invariant-loop-team : goal.invariant-loop-team
-invariant-loop-team l = AreFilledIn l.frame l.cells (widened_strips l.frame.pitch.x l.index.strips) (PrecedesCell l.team 0) l.mark_lists.items
+invariant-loop-team l = AreFilledIn l.placed.frame.now l.placed.cells.now (strips_to_mark l.placed) (PrecedesCell l.team 0) l.mark_lists.items

@@ -1,7 +1,7 @@
 use Rattle.std.proofs.Common.{◌<◌, arith, length}
 use Rattle.std.proofs.lemmas.Result.{IfOk-from_err}
-use Rattle.lf_occupancy.specs.Strips.{widened_strips}
 use Rattle.lf_occupancy.proofs.Changes.{kept_same, kept_along, kept_set, room_further, room_of_row}
+use Rattle.lf_occupancy.specs.Widened.{all_widened}
 use Rattle.lf_occupancy.proofs.marking.make_room_in_row.Goals as goal
 
 pub loop-n-init : goal.loop-n-init
@@ -11,7 +11,7 @@ pub loop-n-preserved : goal.loop-n-preserved
 loop-n-preserved c =
     let bound = c.widened_strips-near.ensures.within in
     let test = c.loop-n-test.true in
-    let many = c.requires.many in
+    let many = c.requires in
     let same = c.loop-n.invariant.kept.many in
     let within : c.loop-n.n < length c.loop-n.mark_lists.items = omega (arith, bound, test, many, same) in
     record {
@@ -26,7 +26,7 @@ pub returns-in_err-make_room : goal.returns-in_err-make_room
 returns-in_err-make_room c =
     let bound = c.widened_strips-near.ensures.within in
     let test = c.loop-n-test.true in
-    let many = c.requires.many in
+    let many = c.requires in
     let same = c.loop-n.invariant.kept.many in
     let within : c.loop-n.n < length c.loop-n.mark_lists.items = omega (arith, bound, test, many, same) in
     record {
@@ -38,7 +38,7 @@ returns-in_err-make_room c =
 
 pub returns : goal.returns
 returns c =
-    let xs = widened_strips c.args.site.now c.args.index.now.strips in
+    let xs = all_widened c.args.strips.now in
     let row = c.args.row in
     let team = c.args.id.now.team in
     let rect = c.args.rect.now in

@@ -4,8 +4,9 @@ use Rattle.lf_spans.proofs.Anys.{any_nil}
 use Rattle.lf_frame_index.specs.declared.rows_by_y.RowEntry.{RowEntry}
 use Rattle.lf_occupancy.specs.declared.strip_marks.StripMarks.{StripMarks}
 use Rattle.lf_occupancy.specs.MarkLists.{HasRoomOf}
-use Rattle.lf_occupancy.specs.Strips.{IsReached, widened_strips}
+use Rattle.lf_occupancy.specs.Strips.{IsReached}
 use Rattle.lf_occupancy.proofs.Changes.{kept_same, kept_along, rooms_further}
+use Rattle.lf_occupancy.specs.Widened.{all_widened}
 use Rattle.lf_occupancy.proofs.marking.make_room_in_rows.Goals as goal
 
 pub loop-entry-init : goal.loop-entry-init
@@ -16,9 +17,9 @@ loop-entry-preserved c =
     let kept = c.in_ok-make_room_in_row.ensures.kept in
     record {
       kept = kept_along c.args.mark_lists.now.items c.loop-entry.mark_lists.items c.make_room_in_row.new.mark_lists.items c.loop-entry.invariant.kept kept;
-      room = rooms_further c.args.more (widened_strips c.args.site.now c.args.index.now.strips) c.args.rows.now c.loop-entry.entry-index _ c.args.id.now.team c.args.rect.now
+      room = rooms_further c.args.more (all_widened c.args.strips.now) c.args.rows.now c.loop-entry.entry-index _ c.args.id.now.team c.args.rect.now
           c.loop-entry.mark_lists.items c.make_room_in_row.new.mark_lists.items (omega arith)
-          (get_or_default c.args.rows.now c.loop-entry.entry-index _ _ (omega arith)) (c.loop-entry.invariant.kept.many ∙ c.requires.many) kept
+          (get_or_default c.args.rows.now c.loop-entry.entry-index _ _ (omega arith)) (c.loop-entry.invariant.kept.many ∙ c.requires) kept
           c.loop-entry.invariant.room c.in_ok-make_room_in_row.ensures.ok;
     }
 
@@ -27,7 +28,7 @@ returns c = record {
   kept = c.loop-entry.invariant.kept;
   ok = subst
       (λ (es : List RowEntry).
-      (n : ℕ) (e : StripMarks) → IsReached (widened_strips c.args.site.now c.args.index.now.strips) es c.args.id.now.team c.args.rect.now n →
+      (n : ℕ) (e : StripMarks) → IsReached (all_widened c.args.strips.now) es c.args.id.now.team c.args.rect.now n →
       HasRoomOf c.args.more (get_or c.loop-entry.mark_lists.items n e))
       (take_all c.loop-entry.entry-index c.args.rows.now (omega arith)) c.loop-entry.invariant.room;
 }

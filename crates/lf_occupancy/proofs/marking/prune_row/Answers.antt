@@ -2,10 +2,10 @@ use Rattle.std.proofs.Common.{◌≡◌, ◌<◌, ℤ, arith, ap, get_or, length
 use Rattle.std.specs.Int.{int_max}
 use Rattle.std.proofs.lemmas.Int.{ints, clamps}
 use Rattle.lf_units.specs.declared.geometry.Rect.{Rect}
-use Rattle.lf_occupancy.specs.Strips.{widened_strips}
 use Rattle.lf_occupancy.specs.MarkLists.{HasAtMostOne, IsUnmarked}
 use Rattle.lf_occupancy.proofs.Finds.{no_strip}
 use Rattle.lf_occupancy.proofs.Changes.{none_changed, changed_further, between_is_reached}
+use Rattle.lf_occupancy.specs.Widened.{all_widened}
 use Rattle.lf_occupancy.proofs.marking.prune_row.Goals as goal
 
 pub loop-n-init : goal.loop-n-init
@@ -13,7 +13,7 @@ loop-n-init c = none_changed _ _ _ (λ n b. let f = b.from in let h = b.below in
 
 pub unmark-requires : goal.unmark-requires
 unmark-requires c =
-    let xs = widened_strips c.args.site.now c.args.index.now.strips in
+    let xs = all_widened c.args.strips.now in
     let rect = c.args.rect.now in
     let own = c.args.id.now.own in
     let n = c.loop-n.n in
@@ -44,7 +44,7 @@ loop-n-preserved c =
 
 pub returns : goal.returns
 returns c =
-    let xs = widened_strips c.args.site.now c.args.index.now.strips in
+    let xs = all_widened c.args.strips.now in
     let row = c.args.row in
     let team = c.args.id.now.team in
     let rect = c.args.rect.now in

@@ -15,49 +15,49 @@ pub loop-n-init : goal.loop-n-init
 loop-n-init c =
     let start = c.strips_overlapping-near.result.start in
     let end = c.strips_overlapping-near.result.end in
-    let xs = c.args.index.now.strips in
-    let mark_lists = strip_views (widened_strips c.args.site.now xs) c.args.boxes.now c.args.mark_lists.now in
+    let xs = c.args.marked.now.strips.now.index.now.strips in
+    let mark_lists = strip_views (widened_strips c.args.marked.now.strips.now.site.now xs) c.args.marked.now.boxes.now c.args.marked.now.mark_lists.now in
     let own = c.args.id.now.own in
-    let padding = c.args.padding.now in
+    let padding = c.args.padding.now.length in
     subst (λ (free : List Span). AreFreeBetween xs mark_lists own padding start start end c.args.window.now free) (sym c.new-free.ensures.items)
     (none_free xs mark_lists own padding start end c.args.window.now)
 
-pub widened_area-area-requires-clause-within : goal.widened_area-area-requires-clause-within
-widened_area-area-requires-clause-within c =
+pub widened_area-requires : goal.widened_area-requires
+widened_area-requires c =
     let bound = c.strips_overlapping-near.ensures.within in
     let test = c.loop-n-test.true in
-    let long = widened_many c.args.site.now c.args.index.now.strips in
+    let long = widened_many c.args.marked.now.strips.now.site.now c.args.marked.now.strips.now.index.now.strips in
     omega (arith, bound, test, long)
 
 pub free_in_mark_list-requires-clause-marked : goal.free_in_mark_list-requires-clause-marked
 free_in_mark_list-requires-clause-marked c =
-    let xs = c.args.index.now.strips in
+    let xs = c.args.marked.now.strips.now.index.now.strips in
     let n = c.loop-n.n in
     let near = c.strips_overlapping-near.ensures in
     let bound = near.within in
     let test = c.loop-n-test.true in
-    let long = widened_many c.args.site.now xs in
+    let long = widened_many c.args.marked.now.strips.now.site.now xs in
     let within : n < length xs = omega (arith, bound, test) in
-    one_marked (widened_strips c.args.site.now xs) c.args.boxes.now c.args.mark_lists.now n c.args.id.now.team c.widened_area-area.result c.index-mark_lists-n.result
+    one_marked (widened_strips c.args.marked.now.strips.now.site.now xs) c.args.marked.now.boxes.now c.args.marked.now.mark_lists.now n c.args.id.now.team c.widened_area.result c.index-mark_lists-n.result
     c.requires.mark_lists (omega (arith, within, long))
-    (widened_team c.args.site.now xs n c.args.id.now.team within (λ d. ((near.exact n d within).0 (c.loop-n.auto.n, test)).of_team))
-    (c.widened_area-area.ensures.is no_strip) c.index-mark_lists-n.is
+    (widened_team c.args.marked.now.strips.now.site.now xs n c.args.id.now.team within (λ d. ((near.exact n d within).0 (c.loop-n.auto.n, test)).of_team))
+    (c.widened_area.ensures.is no_strip) c.index-mark_lists-n.is
 
 pub loop-n-preserved : goal.loop-n-preserved
 loop-n-preserved c =
     let start = c.strips_overlapping-near.result.start in
     let end = c.strips_overlapping-near.result.end in
     let n = c.loop-n.n in
-    let site = c.args.site.now in
-    let boxes = c.args.boxes.now in
-    let xs = c.args.index.now.strips in
-    let mark_lists = strip_views (widened_strips site xs) boxes c.args.mark_lists.now in
+    let site = c.args.marked.now.strips.now.site.now in
+    let boxes = c.args.marked.now.boxes.now in
+    let xs = c.args.marked.now.strips.now.index.now.strips in
+    let mark_lists = strip_views (widened_strips site xs) boxes c.args.marked.now.mark_lists.now in
     let row = c.args.row in
     let team = c.args.id.now.team in
     let own = c.args.id.now.own in
-    let padding = c.args.padding.now in
+    let padding = c.args.padding.now.length in
     let window = c.args.window.now in
-    let area = c.widened_area-area.result in
+    let area = c.widened_area.result in
     let mark_list = strip_view (get_or boxes team []) area c.index-mark_lists-n.result in
     let list = c.strips-list.ensures in
     let part = c.in_ok-part.part.items in
@@ -67,13 +67,13 @@ loop-n-preserved c =
     let test = c.loop-n-test.true in
     let long = widened_many site xs in
     let within : n < length xs = omega (arith, bound, test) in
-    let many = shown_many (widened_strips site xs) boxes c.args.mark_lists.now c.requires.mark_lists.many in
+    let many = shown_many (widened_strips site xs) boxes c.args.marked.now.mark_lists.now c.requires.mark_lists.many in
     let g : Strip = get_or xs n no_strip in
     let is : c.x_range_of-span.result ≡ x_range g.area = c.x_range_of-span.ensures ∙ ap (λ (zs : List Strip). x_range (get_or zs n no_strip).area) list in
     let new = subst (λ (s : Span). IsFreeIn s (spans_in (others_in (all_padded padding mark_list.entries) own)) window part) is c.in_ok-part.ensures in
-    let shows = one_shown (widened_strips site xs) boxes c.args.mark_lists.now n team area c.index-mark_lists-n.result c.requires.mark_lists (omega (arith, within, long))
+    let shows = one_shown (widened_strips site xs) boxes c.args.marked.now.mark_lists.now n team area c.index-mark_lists-n.result c.requires.mark_lists (omega (arith, within, long))
     (widened_team site xs n team within (λ d. ((near.exact n d within).0 (c.loop-n.auto.n, test)).of_team))
-    (c.widened_area-area.ensures.is no_strip) c.index-mark_lists-n.is mark_list in
+    (c.widened_area.ensures.is no_strip) c.index-mark_lists-n.is mark_list in
     subst (λ (zs : List Span). AreFreeBetween xs mark_lists own padding start (n + 1) end window zs)
     (sym c.in_ok-free.ensures)
     (free_further xs mark_lists row team own padding start n end window mark_list g free part c.strips_are_placed.ensures.in_order near c.loop-n.auto.n test
@@ -84,10 +84,10 @@ pub returns : goal.returns
 returns c =
     let start = c.strips_overlapping-near.result.start in
     let end = c.strips_overlapping-near.result.end in
-    let xs = c.args.index.now.strips in
-    let mark_lists = strip_views (widened_strips c.args.site.now xs) c.args.boxes.now c.args.mark_lists.now in
+    let xs = c.args.marked.now.strips.now.index.now.strips in
+    let mark_lists = strip_views (widened_strips c.args.marked.now.strips.now.site.now xs) c.args.marked.now.boxes.now c.args.marked.now.mark_lists.now in
     let row = c.args.row in
     let team = c.args.id.now.team in
     let window = c.args.window.now in
     let near = c.strips_overlapping-near.ensures in
-    free_of_row xs mark_lists row team c.args.id.now.own c.args.padding.now start c.loop-n.n end window c.loop-n.free.items near c.loop-n-test.false c.loop-n.invariant
+    free_of_row xs mark_lists row team c.args.id.now.own c.args.padding.now.length start c.loop-n.n end window c.loop-n.free.items near c.loop-n-test.false c.loop-n.invariant

@@ -1,7 +1,8 @@
-use Rattle.lf_occupancy.specs.Strips.{widened_strips, strip_views}
+use Rattle.lf_occupancy.specs.Strips.{strip_views}
 use Rattle.lf_occupancy.proofs.Frees.{AreFreeBetween}
+use Rattle.lf_occupancy.specs.Widened.{all_widened}
 use Rattle.lf_occupancy.proofs.queries.free_in_strips.Given as goal
 
 -- the free spans of the strips visited
 abbrev pub invariant-loop-n : goal.invariant-loop-n
-invariant-loop-n l = AreFreeBetween l.index.strips (strip_views (widened_strips l.site l.index.strips) l.boxes l.mark_lists) l.id.own l.padding l.initial.n l.n l.n-end l.window l.free.items
+invariant-loop-n l = AreFreeBetween l.marked.strips.now.index.now.strips (strip_views (all_widened l.marked.strips.now) l.marked.boxes.now l.marked.mark_lists.now) l.id.own l.padding.length l.initial.n l.n l.n-end l.window l.free.items

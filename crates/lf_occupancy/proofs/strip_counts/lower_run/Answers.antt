@@ -1,23 +1,23 @@
 use Rattle.std.proofs.Common.{◌<◌, arith, length, subst}
 use Rattle.lf_units.specs.declared.geometry.Rect.{Rect}
-use Rattle.lf_occupancy.specs.Strips.{widened_strips}
 use Rattle.lf_occupancy.specs.StripCounting.{IsLess, IsLessAt}
 use Rattle.lf_occupancy.proofs.Changes.{none_changed, changed_further}
 use Rattle.lf_occupancy.proofs.Settling.{changed_in_run}
+use Rattle.lf_occupancy.specs.Widened.{all_widened}
 use Rattle.lf_occupancy.proofs.strip_counts.lower_run.Goals as goal
 
 pub loop-n-init : goal.loop-n-init
 loop-n-init c = none_changed _ _ _ (λ n b. let f = b.from in let h = b.below in omega (arith, f, h))
 
-pub widened_area-requires-clause-within : goal.widened_area-requires-clause-within
-widened_area-requires-clause-within c =
+pub widened_area-requires : goal.widened_area-requires
+widened_area-requires c =
     let bound = c.requires.within in
     let test = c.loop-n-test.true in
     omega (arith, bound, test)
 
 pub loop-n-preserved : goal.loop-n-preserved
 loop-n-preserved c =
-    let xs = widened_strips c.args.site.now c.args.index.now.strips in
+    let xs = all_widened c.args.strips.now in
     let rect = c.args.rect.now in
     let n = c.loop-n.n in
     let bound = c.requires.within in
@@ -32,5 +32,5 @@ loop-n-preserved c =
 
 pub returns : goal.returns
 returns c =
-    changed_in_run c.args.near.now c.loop-n.n (IsLessAt (widened_strips c.args.site.now c.args.index.now.strips) c.args.rect.now)
+    changed_in_run c.args.near.now c.loop-n.n (IsLessAt (all_widened c.args.strips.now) c.args.rect.now)
     c.args.counts.now.items c.loop-n.counts.items c.loop-n-test.false c.loop-n.invariant

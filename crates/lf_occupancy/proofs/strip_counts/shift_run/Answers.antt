@@ -3,16 +3,16 @@ use Rattle.std.specs.Vec.{vec_capacity}
 use Rattle.std.proofs.lemmas.List.{length-map}
 use Rattle.lf_units.specs.declared.geometry.Rect.{Rect}
 use Rattle.lf_occupancy.specs.declared.strip_marks.StripMarks.{StripMarks}
-use Rattle.lf_occupancy.specs.Strips.{widened_strips}
 use Rattle.lf_occupancy.specs.StripCounting.{IsShifted, IsShiftedAt}
 use Rattle.lf_occupancy.proofs.Changes.{changed_further, kept_along, kept_set}
 use Rattle.lf_occupancy.proofs.Settling.{changed_in_run}
 use Rattle.lf_occupancy.proofs.Tallying.{room_for_more}
+use Rattle.lf_occupancy.specs.Widened.{all_widened}
 use Rattle.lf_occupancy.proofs.strip_counts.shift_run.Goals as goal
 
 pub loop-n-preserved : goal.loop-n-preserved
 loop-n-preserved c =
-    let xs = widened_strips c.args.site.now c.args.index.now.strips in
+    let xs = all_widened c.args.strips.now in
     let shift = c.args.shift.now in
     let n = c.loop-n.n in
     let mark_lists = c.loop-n.mark_lists.items in
@@ -38,5 +38,5 @@ loop-n-preserved c =
 
 pub returns-clause-shifted : goal.returns-clause-shifted
 returns-clause-shifted c =
-    changed_in_run c.args.near.now c.loop-n.n (IsShiftedAt (widened_strips c.args.site.now c.args.index.now.strips) c.args.shift.now)
+    changed_in_run c.args.near.now c.loop-n.n (IsShiftedAt (all_widened c.args.strips.now) c.args.shift.now)
     c.args.counts.now.items c.loop-n.counts.items c.loop-n-test.false c.loop-n.invariant.shifted

@@ -17,8 +17,8 @@ range_at-reach-requires c = c.requires.reported c.loop-mark.mark-index _ (omega 
 
 pub padded_range-span-requires-clause-low : goal.padded_range-span-requires-clause-low
 padded_range-span-requires-clause-low c =
-    let cells = get_or c.args.boxes.now c.args.id.now.team [] in
-    let area = c.args.area.now in
+    let cells = get_or c.args.strip.now.boxes.now c.args.strip.now.team [] in
+    let area = c.args.strip.now.area in
     let ms = c.args.marks.now in
     let i = c.loop-mark.mark-index in
     let many = entries_many cells area ms in
@@ -29,8 +29,8 @@ padded_range-span-requires-clause-low c =
 
 pub padded_range-span-requires-clause-high : goal.padded_range-span-requires-clause-high
 padded_range-span-requires-clause-high c =
-    let cells = get_or c.args.boxes.now c.args.id.now.team [] in
-    let area = c.args.area.now in
+    let cells = get_or c.args.strip.now.boxes.now c.args.strip.now.team [] in
+    let area = c.args.strip.now.area in
     let ms = c.args.marks.now in
     let i = c.loop-mark.mark-index in
     let many = entries_many cells area ms in
@@ -39,28 +39,28 @@ padded_range-span-requires-clause-high c =
     let room = (c.requires.around i no_entry (omega (arith, many))).high in
     omega (arith, ints, at, room)
 
-pub loop-mark-preserved-then-mark-id : goal.loop-mark-preserved-then-mark-id
-loop-mark-preserved-then-mark-id c =
-    let cells = get_or c.args.boxes.now c.args.id.now.team [] in
-    let area = c.args.area.now in
+pub loop-mark-preserved-then-mark-own : goal.loop-mark-preserved-then-mark-own
+loop-mark-preserved-then-mark-own c =
+    let cells = get_or c.args.strip.now.boxes.now c.args.strip.now.team [] in
+    let area = c.args.strip.now.area in
     let ms = c.args.marks.now in
     let es = marked_entries cells area ms in
     let i = c.loop-mark.mark-index in
     let many = entries_many cells area ms in
     let e : Entry = get_or es i no_entry in
     let own = ap (λ (z : Entry). z.own) (entry_there cells area ms i no_entry _ (omega arith)) in
-    walk_skips c.args.padding.now es i e c.args.id.now.own c.args.range.now c.loop-mark.free.items c.loop-mark.rest (omega (arith, many))
-    (same_entry es i (omega (arith, many))) (own ∙ c.if-mark-id.true) c.loop-mark.invariant
+    walk_skips c.args.padding.now.length es i e c.args.own c.args.range.now c.loop-mark.free.items c.loop-mark.rest (omega (arith, many))
+    (same_entry es i (omega (arith, many))) (own ∙ c.if-mark-own.true) c.loop-mark.invariant
 
 pub loop-mark-preserved : goal.loop-mark-preserved
 loop-mark-preserved c =
-    let cells = get_or c.args.boxes.now c.args.id.now.team [] in
-    let area = c.args.area.now in
+    let cells = get_or c.args.strip.now.boxes.now c.args.strip.now.team [] in
+    let area = c.args.strip.now.area in
     let ms = c.args.marks.now in
     let es = marked_entries cells area ms in
     let i = c.loop-mark.mark-index in
     let many = entries_many cells area ms in
-    let by = c.args.padding.now in
+    let by = c.args.padding.now.length in
     let e : Entry = get_or es i no_entry in
     let at : e ≡ get_or es i e = same_entry es i (omega (arith, many)) in
     let is = range_there cells area ms i _ c.range_at-reach.result (omega arith) c.range_at-reach.ensures in
@@ -68,17 +68,17 @@ loop-mark-preserved c =
     let lo = ap (λ (z : Span). z.lo) span in
     let hi = ap (λ (z : Span). z.hi) span in
     let wide = (c.requires.whole i no_entry (omega (arith, many))).wide in
-    let least = c.requires.short.least in
+    let least = c.args.padding.now.short.least in
     let filled : IsFilled c.padded_range-span.result = omega (arith, ints, lo, hi, wide, least) in
     let own = ap (λ (z : Entry). z.own) (entry_there cells area ms i no_entry _ (omega arith)) in
-    walk_goes_on by es i e c.args.id.now.own c.args.range.now c.loop-mark.free.items c.push_filled.new.spans.items c.loop-mark.rest c.part_after-rest.result _
-    c.padded_range-span.result (omega (arith, many)) at (λ same. c.if-mark-id.false (sym own ∙ same)) span filled c.requires.order c.part_before.ensures
+    walk_goes_on by es i e c.args.own c.args.range.now c.loop-mark.free.items c.push_filled.new.spans.items c.loop-mark.rest c.part_after-rest.result _
+    c.padded_range-span.result (omega (arith, many)) at (λ same. c.if-mark-own.false (sym own ∙ same)) span filled c.requires.order c.part_before.ensures
     c.part_after-rest.ensures c.in_ok-push_filled.ensures c.loop-mark.invariant
 
 pub returns : goal.returns
 returns c =
-    let cells = get_or c.args.boxes.now c.args.id.now.team [] in
-    let es = marked_entries cells c.args.area.now c.args.marks.now in
-    let many = entries_many cells c.args.area.now c.args.marks.now in
-    walk_ends c.args.padding.now es c.loop-mark.mark-index c.args.id.now.own c.args.range.now c.loop-mark.free.items c.push_filled-2.new.spans.items
+    let cells = get_or c.args.strip.now.boxes.now c.args.strip.now.team [] in
+    let es = marked_entries cells c.args.strip.now.area c.args.marks.now in
+    let many = entries_many cells c.args.strip.now.area c.args.marks.now in
+    walk_ends c.args.padding.now.length es c.loop-mark.mark-index c.args.own c.args.range.now c.loop-mark.free.items c.push_filled-2.new.spans.items
     c.loop-mark.rest (omega (arith, many)) c.loop-mark.invariant c.in_ok-push_filled-2.ensures

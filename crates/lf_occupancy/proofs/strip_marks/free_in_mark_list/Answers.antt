@@ -13,7 +13,7 @@ use Rattle.lf_occupancy.proofs.Walking.{free_in_both}
 use Rattle.lf_occupancy.proofs.strip_marks.free_in_mark_list.Goals as goal
 
 pub near_marks-near-requires-clause-rising : goal.near_marks-near-requires-clause-rising
-near_marks-near-requires-clause-rising c = marks_rise _ _ c.args.mark_list.now c.requires.marked
+near_marks-near-requires-clause-rising c = marks_rise _ _ c.args.strip.now.mark_list.now c.requires.marked
 
 pub near_marks-near-requires-clause-some : goal.near_marks-near-requires-clause-some
 near_marks-near-requires-clause-some c = c.requires.marked.mark_list.orderly.some
@@ -23,56 +23,56 @@ near_marks-near-requires-clause-most c = c.requires.marked.mark_list.orderly.mos
 
 pub free_beside-requires-clause-around : goal.free_beside-requires-clause-around
 free_beside-requires-clause-around c =
-    let cells = get_or c.args.boxes.now c.args.id.now.team [] in
-    let area = c.args.area.now in
-    near_each (λ e. HasRoomAround e.area) (marked_entries cells area c.args.mark_list.now.marks.items) (marked_entries cells area c.near_marks-near.result.now) _ _
+    let cells = get_or c.args.strip.now.boxes.now c.args.strip.now.team [] in
+    let area = c.args.strip.now.area in
+    near_each (λ e. HasRoomAround e.area) (marked_entries cells area c.args.strip.now.mark_list.now.marks.items) (marked_entries cells area c.near_marks-near.result.now) _ _
     (c.near_marks-near.ensures.near cells area c.requires.marked)
-    (roomy_mark_list cells area (strip_view cells area c.args.mark_list.now) c.requires.marked.mark_list c.requires.near)
+    (roomy_mark_list cells area (strip_view cells area c.args.strip.now.mark_list.now) c.requires.marked.mark_list c.args.strip.now.near)
 
 pub free_beside-requires-clause-whole : goal.free_beside-requires-clause-whole
 free_beside-requires-clause-whole c =
-    let cells = get_or c.args.boxes.now c.args.id.now.team [] in
-    let area = c.args.area.now in
-    near_each (λ e. HasPoints e.area) (marked_entries cells area c.args.mark_list.now.marks.items) (marked_entries cells area c.near_marks-near.result.now) _ _
+    let cells = get_or c.args.strip.now.boxes.now c.args.strip.now.team [] in
+    let area = c.args.strip.now.area in
+    near_each (λ e. HasPoints e.area) (marked_entries cells area c.args.strip.now.mark_list.now.marks.items) (marked_entries cells area c.near_marks-near.result.now) _ _
     (c.near_marks-near.ensures.near cells area c.requires.marked) c.requires.marked.mark_list.whole
 
 pub free_beside-requires-clause-reported : goal.free_beside-requires-clause-reported
 free_beside-requires-clause-reported c =
-    c.near_marks-near.ensures.reported (get_or c.args.boxes.now c.args.id.now.team []) c.args.area.now c.requires.marked
+    c.near_marks-near.ensures.reported (get_or c.args.strip.now.boxes.now c.args.strip.now.team []) c.args.strip.now.area c.requires.marked
 
 pub free_beside-requires-clause-order : goal.free_beside-requires-clause-order
 free_beside-requires-clause-order c =
-    let es = marked_entries (get_or c.args.boxes.now c.args.id.now.team []) c.args.area.now c.args.mark_list.now.marks.items in
-    let strip = c.args.strip.now in
+    let es = marked_entries (get_or c.args.strip.now.boxes.now c.args.strip.now.team []) c.args.strip.now.area c.args.strip.now.mark_list.now.marks.items in
+    let strip = c.args.extent.now in
     let window = c.args.window.now in
-    let padding = c.args.padding.now in
-    let near = marked_entries (get_or c.args.boxes.now c.args.id.now.team []) c.args.area.now c.near_marks-near.result.now in
+    let padding = c.args.padding.now.length in
+    let near = marked_entries (get_or c.args.strip.now.boxes.now c.args.strip.now.team []) c.args.strip.now.area c.near_marks-near.result.now in
     let lo : ℤ = int_max window.lo strip.lo in
     let hi : ℤ = int_min window.hi strip.hi in
     let a = c.common_range-range.ensures.low in
     let b = c.common_range-range.ensures.high in
-    let p = c.requires.short.least in
-    let q = c.requires.short.most in
+    let p = c.args.padding.now.short.least in
+    let q = c.args.padding.now.short.most in
     let run = padded_near padding es near lo hi _ _ (omega (arith, ints, clamps, a, p, q)) (omega (arith, ints, clamps, b, p, q))
-    (c.near_marks-near.ensures.near (get_or c.args.boxes.now c.args.id.now.team []) c.args.area.now c.requires.marked) in
-    others_in_order (all_padded padding es) (all_padded padding near) lo hi c.args.id.now.own run (padded_in_order padding es c.requires.marked.mark_list.orderly.order)
+    (c.near_marks-near.ensures.near (get_or c.args.strip.now.boxes.now c.args.strip.now.team []) c.args.strip.now.area c.requires.marked) in
+    others_in_order (all_padded padding es) (all_padded padding near) lo hi c.args.own run (padded_in_order padding es c.requires.marked.mark_list.orderly.order)
 
 pub returns : goal.returns
 returns c =
-    let es = marked_entries (get_or c.args.boxes.now c.args.id.now.team []) c.args.area.now c.args.mark_list.now.marks.items in
-    let strip = c.args.strip.now in
+    let es = marked_entries (get_or c.args.strip.now.boxes.now c.args.strip.now.team []) c.args.strip.now.area c.args.strip.now.mark_list.now.marks.items in
+    let strip = c.args.extent.now in
     let window = c.args.window.now in
-    let padding = c.args.padding.now in
-    let near = marked_entries (get_or c.args.boxes.now c.args.id.now.team []) c.args.area.now c.near_marks-near.result.now in
+    let padding = c.args.padding.now.length in
+    let near = marked_entries (get_or c.args.strip.now.boxes.now c.args.strip.now.team []) c.args.strip.now.area c.near_marks-near.result.now in
     let lo : ℤ = int_max window.lo strip.lo in
     let hi : ℤ = int_min window.hi strip.hi in
     let a = c.common_range-range.ensures.low in
     let b = c.common_range-range.ensures.high in
-    let p = c.requires.short.least in
-    let q = c.requires.short.most in
+    let p = c.args.padding.now.short.least in
+    let q = c.args.padding.now.short.most in
     let run = padded_near padding es near lo hi _ _ (omega (arith, ints, clamps, a, p, q)) (omega (arith, ints, clamps, b, p, q))
-    (c.near_marks-near.ensures.near (get_or c.args.boxes.now c.args.id.now.team []) c.args.area.now c.requires.marked) in
-    let own = c.args.id.now.own in
+    (c.near_marks-near.ensures.near (get_or c.args.strip.now.boxes.now c.args.strip.now.team []) c.args.strip.now.area c.requires.marked) in
+    let own = c.args.own in
     let range = c.common_range-range.result in
     IfOk-weaker c.free_beside.result (λ free. IsFree range (spans_in (others_in (all_padded padding near) own)) free.items)
     (λ free. IsFreeIn strip (spans_in (others_in (all_padded padding es) own)) window free.items)

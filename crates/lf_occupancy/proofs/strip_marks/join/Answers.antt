@@ -3,11 +3,11 @@ use Rattle.std.proofs.lemmas.Int.{ints, clamps}
 use Rattle.lf_occupancy.specs.declared.strip_marks.Mark.{Mark}
 use Rattle.lf_occupancy.proofs.strip_marks.join.Goals as goal
 
-pub overflow_sub-area : goal.overflow_sub-area
-overflow_sub-area c =
-    let low = c.requires.left in
-    let high = c.requires.right in
-    let wide = c.requires.whole.wide in
+pub overflow_sub-part : goal.overflow_sub-part
+overflow_sub-part c =
+    let low = c.args.part.now.left.low in
+    let high = c.args.part.now.right in
+    let wide = c.args.part.now.whole.wide in
     omega (arith, ints, low, high, wide)
 
 pub returns : goal.returns
@@ -31,9 +31,9 @@ returns c =
           let left = c.from.ensures in
           omega (arith, ints, h, there, left);
       widest = let h = c.max-mark_list.ensures.value in
-          let low = c.requires.left in
-          let high = c.requires.right in
-          let wide = c.requires.whole.wide in
+          let low = c.args.part.now.left.low in
+          let high = c.args.part.now.right in
+          let wide = c.args.part.now.whole.wide in
           omega (arith, ints, clamps, h, low, high, wide);
       more = search rules;
       room = search rules;

@@ -4,7 +4,7 @@ use Rattle.lf_occupancy.proofs.strip_marks.kept_width.Goals as goal
 
 pub overflow_sub-part : goal.overflow_sub-part
 overflow_sub-part c =
-    let left = c.requires.left.low in
-    let right = c.requires.right in
-    let wide = c.requires.whole.wide in
+    let left = c.args.part.now.left.low in
+    let right = c.args.part.now.right in
+    let wide = c.args.part.now.whole.wide in
     omega (arith, ints, left, right, wide)

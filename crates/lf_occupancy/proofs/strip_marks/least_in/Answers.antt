@@ -16,15 +16,15 @@ loop-mark-init c = least_of_none _ c.args.so_far (λ own m. any_nil _ m)
 
 pub loop-mark-preserved : goal.loop-mark-preserved
 loop-mark-preserved c =
-    let cells = get_or c.args.boxes.now c.args.team [] in
-    least_more (λ own m. OverlapsEntry c.args.rect.now c.args.but own (marked_entry cells c.args.area.now m)) c.args.marks.now c.loop-mark.mark-index _ c.args.so_far
+    let cells = get_or c.args.strip.now.boxes.now c.args.strip.now.team [] in
+    least_more (λ own m. OverlapsEntry c.args.rect.now c.args.but own (marked_entry cells c.args.strip.now.area m)) c.args.marks.now c.loop-mark.mark-index _ c.args.so_far
     c.loop-mark.least c.lesser-least.result (omega arith) (get_or_default c.args.marks.now c.loop-mark.mark-index _ _ (omega arith)) c.loop-mark.invariant
     c.lesser-least.ensures
 
 pub returns : goal.returns
 returns c =
-    let cells = get_or c.args.boxes.now c.args.team [] in
-    let area = c.args.area.now in
+    let cells = get_or c.args.strip.now.boxes.now c.args.strip.now.team [] in
+    let area = c.args.strip.now.area in
     let rect = c.args.rect.now in
     let but = c.args.but in
     let ms = c.args.marks.now in

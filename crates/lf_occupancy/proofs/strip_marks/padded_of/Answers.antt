@@ -12,8 +12,8 @@ range_at-range-requires c = c.requires.reported c.loop-mark.mark-index _ (omega 
 
 pub padded_range-requires-clause-low : goal.padded_range-requires-clause-low
 padded_range-requires-clause-low c =
-    let cells = get_or c.args.boxes.now c.args.team [] in
-    let area = c.args.area.now in
+    let cells = get_or c.args.strip.now.boxes.now c.args.strip.now.team [] in
+    let area = c.args.strip.now.area in
     let ms = c.args.marks.now in
     let i = c.loop-mark.mark-index in
     let many = entries_many cells area ms in
@@ -24,8 +24,8 @@ padded_range-requires-clause-low c =
 
 pub padded_range-requires-clause-high : goal.padded_range-requires-clause-high
 padded_range-requires-clause-high c =
-    let cells = get_or c.args.boxes.now c.args.team [] in
-    let area = c.args.area.now in
+    let cells = get_or c.args.strip.now.boxes.now c.args.strip.now.team [] in
+    let area = c.args.strip.now.area in
     let ms = c.args.marks.now in
     let i = c.loop-mark.mark-index in
     let many = entries_many cells area ms in
@@ -36,13 +36,13 @@ padded_range-requires-clause-high c =
 
 pub loop-mark-preserved : goal.loop-mark-preserved
 loop-mark-preserved c =
-    let cells = get_or c.args.boxes.now c.args.team [] in
-    let area = c.args.area.now in
+    let cells = get_or c.args.strip.now.boxes.now c.args.strip.now.team [] in
+    let area = c.args.strip.now.area in
     let ms = c.args.marks.now in
     let es = marked_entries cells area ms in
     let i = c.loop-mark.mark-index in
     let many = entries_many cells area ms in
-    let by = c.args.padding.now in
+    let by = c.args.padding.now.length in
     let e : Entry = get_or es i no_entry in
     let at : e ≡ get_or es i e = same_entry es i (omega (arith, many)) in
     let is = range_there cells area ms i _ c.range_at-range.result (omega arith) c.range_at-range.ensures in

@@ -9,12 +9,12 @@ use Rattle.lf_occupancy.proofs.widened.widened_area.Goals as goal
 
 pub returns-clause-is : goal.returns-clause-is
 returns-clause-is c = λ d.
-    let site = c.args.site.now in
-    let xs = c.args.index.now.strips in
+    let site = c.args.strips.now.site.now in
+    let xs = c.args.strips.now.index.now.strips in
     let n = c.args.number in
     let is : to_z w64 (of_z w64 c.reach_of.result) ≡ c.reach_of.result = search rules in
     let many = widened_many site xs in
-    let within = c.requires.within in
+    let within = c.requires in
     let inner : n < length xs = omega (arith, many, within) in
     c.widen.ensures ∙ ap (λ (by : ℤ). wider by (get_or c.strips.result.now n no_strip).area) (is ∙ c.reach_of.ensures.is)
     ∙ ap (λ (zs : List Strip). wider (pos 16 *ℤ site) (get_or zs n no_strip).area) c.strips.ensures
@@ -22,15 +22,15 @@ returns-clause-is c = λ d.
 
 pub returns-clause-near : goal.returns-clause-near
 returns-clause-near c =
-    let site = c.args.site.now in
-    let xs = c.args.index.now.strips in
+    let site = c.args.strips.now.site.now in
+    let xs = c.args.strips.now.index.now.strips in
     let n = c.args.number in
     let is : to_z w64 (of_z w64 c.reach_of.result) ≡ c.reach_of.result = search rules in
     let many = widened_many site xs in
-    let within = c.requires.within in
+    let within = c.requires in
     let inner : n < length xs = omega (arith, many, within) in
     let same : c.widen.result ≡ (get_or (widened_strips site xs) n no_strip).area =
     c.widen.ensures ∙ ap (λ (by : ℤ). wider by (get_or c.strips.result.now n no_strip).area) (is ∙ c.reach_of.ensures.is)
     ∙ ap (λ (zs : List Strip). wider (pos 16 *ℤ site) (get_or zs n no_strip).area) c.strips.ensures
     ∙ sym (ap (λ (g : Strip). g.area) (widened_at site xs n no_strip no_strip inner)) in
-    subst IsNearZero (sym same) ((strips_widened site c.args.index.now c.requires.site c.strips_are_placed.ensures n no_strip within).near)
+    subst IsNearZero (sym same) ((strips_widened site c.args.strips.now.index.now c.args.strips.now.site_width c.strips_are_placed.ensures n no_strip within).near)

@@ -11,5 +11,5 @@ returns c =
     let s = c.reach_of-reach.ensures.short in
     let p = s.least in
     let q = s.most in
-    near_is_widened c.args.site.now c.args.index.now c.args.row c.args.team c.args.rect.now.x1 c.args.rect.now.x2 _ _ _ _ c.requires
+    near_is_widened c.args.strips.now.site.now c.args.strips.now.index.now c.args.row c.args.team c.args.rect.now.x1 c.args.rect.now.x2 _ _ _ _ c.args.strips.now.site_width
     c.strips_are_placed.ensures (omega (arith, ints, clamps, a, r, p, q)) (omega (arith, ints, clamps, b, r, p, q)) c.strips_overlapping.ensures

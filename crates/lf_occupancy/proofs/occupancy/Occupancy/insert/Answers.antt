@@ -4,11 +4,8 @@ use Rattle.lf_occupancy.proofs.Reaching.{mark_lists_rise, many_still}
 use Rattle.lf_occupancy.proofs.Views.{seen_is_room}
 use Rattle.lf_occupancy.proofs.occupancy.Occupancy.insert.Goals as goal
 
-pub take_in-requires-clause-site : goal.take_in-requires-clause-site
-take_in-requires-clause-site c = c.self.invariant.site
-
-pub take_in-requires-clause-many : goal.take_in-requires-clause-many
-take_in-requires-clause-many c = c.self.invariant.many
+pub invariant_of-strips : goal.invariant_of-strips
+invariant_of-strips c = record { site_width = c.self.invariant.site }
 
 pub invariant_of-self : goal.invariant_of-self
 invariant_of-self c = record {
@@ -16,11 +13,11 @@ invariant_of-self c = record {
   many = many_still c.self.inside.mark_lists.items c.take_in.new.mark_lists.items c.take_in.ensures.rooms ∙ c.self.invariant.many;
 }
 
-pub take_in-requires-clause-rising : goal.take_in-requires-clause-rising
-take_in-requires-clause-rising c =
+pub take_in-requires-clause-marks : goal.take_in-requires-clause-marks
+take_in-requires-clause-marks c =
     let o = c.self.inside in
     let enter = subst (λ (m : Marked). CanEnter m c.args.id c.args.rect.now) (sym c.self.view_is) c.requires.enter in
-    mark_lists_rise (widened_strips o.site o.index.strips) enter.boxes o.mark_lists.items enter.holds
+    record { many = c.self.invariant.many; rising = mark_lists_rise (widened_strips o.site o.index.strips) enter.boxes o.mark_lists.items enter.holds }
 
 pub take_in-requires-clause-room : goal.take_in-requires-clause-room
 take_in-requires-clause-room c =

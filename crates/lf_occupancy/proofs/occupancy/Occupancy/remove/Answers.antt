@@ -4,17 +4,14 @@ use Rattle.lf_occupancy.proofs.Reaching.{many_still}
 use Rattle.lf_occupancy.proofs.Ones.{mark_lists_have_one}
 use Rattle.lf_occupancy.proofs.occupancy.Occupancy.remove.Goals as goal
 
-pub take_out-requires-clause-one : goal.take_out-requires-clause-one
-take_out-requires-clause-one c =
+pub take_out-requires : goal.take_out-requires
+take_out-requires c =
     let o = c.self.inside in
     let leave = subst (λ (m : Marked). CanLeave m c.args.id c.args.rect.now) (sym c.self.view_is) c.requires in
     mark_lists_have_one (widened_strips o.site o.index.strips) leave.boxes o.mark_lists.items c.args.id c.args.rect.now leave.holds leave.is
 
-pub take_out-requires-clause-site : goal.take_out-requires-clause-site
-take_out-requires-clause-site c = c.self.invariant.site
-
-pub take_out-requires-clause-many : goal.take_out-requires-clause-many
-take_out-requires-clause-many c = c.self.invariant.many
+pub invariant_of-strips : goal.invariant_of-strips
+invariant_of-strips c = record { site_width = c.self.invariant.site }
 
 pub invariant_of-self : goal.invariant_of-self
 invariant_of-self c = record {

@@ -10,11 +10,11 @@ use Rattle.lf_occupancy.proofs.Reaching.{mark_lists_kept, rooms_kept}
 use Rattle.lf_occupancy.proofs.Views.{move_is_seen}
 use Rattle.lf_occupancy.proofs.occupancy.Occupancy.reserve_for.Goals as goal
 
-pub reserve_moves-requires-clause-site : goal.reserve_moves-requires-clause-site
-reserve_moves-requires-clause-site c = c.self.invariant.site
+pub invariant_of-strips : goal.invariant_of-strips
+invariant_of-strips c = record { site_width = c.self.invariant.site }
 
-pub reserve_moves-requires-clause-many : goal.reserve_moves-requires-clause-many
-reserve_moves-requires-clause-many c = c.self.invariant.many
+pub reserve_moves-requires : goal.reserve_moves-requires
+reserve_moves-requires c = c.self.invariant.many
 
 pub invariant_of-self : goal.invariant_of-self
 invariant_of-self c = record { site = c.self.invariant.site; many = c.reserve_moves.ensures.kept.many ∙ c.self.invariant.many }

@@ -7,11 +7,11 @@ use Rattle.lf_occupancy.proofs.Showing.{mark_lists_shown}
 use Rattle.lf_occupancy.proofs.Views.{first_of_least}
 use Rattle.lf_occupancy.proofs.occupancy_view.OccupancyView.first_overlapping.Goals as goal
 
-pub least_overlapped-requires-clause-site : goal.least_overlapped-requires-clause-site
-least_overlapped-requires-clause-site c = c.occupancy.invariant.site
+pub invariant_of-strips : goal.invariant_of-strips
+invariant_of-strips c = record { site_width = c.occupancy.invariant.site }
 
-pub least_overlapped-requires-clause-mark_lists : goal.least_overlapped-requires-clause-mark_lists
-least_overlapped-requires-clause-mark_lists c =
+pub least_overlapped-requires : goal.least_overlapped-requires
+least_overlapped-requires c =
     let h = c.self.inside in
     let o = c.occupancy.inside in
     subst (λ (ls : List StripMarks). ShowAllBoxes (widened_strips o.site o.index.strips) h.boxes ls) (sym c.deref.ensures.value)

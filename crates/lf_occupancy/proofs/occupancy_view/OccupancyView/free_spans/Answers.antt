@@ -10,18 +10,18 @@ use Rattle.lf_occupancy.proofs.Showing.{mark_lists_shown}
 use Rattle.lf_occupancy.proofs.Views.{spans_of_strip}
 use Rattle.lf_occupancy.proofs.occupancy_view.OccupancyView.free_spans.Goals as goal
 
-pub free_in_one-requires-clause-site : goal.free_in_one-requires-clause-site
-free_in_one-requires-clause-site c = c.occupancy.invariant.site
+pub invariant_of-strips : goal.invariant_of-strips
+invariant_of-strips c = record { site_width = c.occupancy.invariant.site }
 
-pub free_in_one-requires-clause-mark_lists : goal.free_in_one-requires-clause-mark_lists
-free_in_one-requires-clause-mark_lists c =
+pub free_in_one-requires : goal.free_in_one-requires
+free_in_one-requires c =
     let h = c.self.inside in
     let o = c.occupancy.inside in
     subst (λ (ls : List StripMarks). ShowAllBoxes (widened_strips o.site o.index.strips) h.boxes ls) (sym c.deref.ensures.value)
     (subst (λ (m : Marked). MarksBoxes m h.boxes) (sym c.occupancy.view_is) c.self.invariant)
 
-pub free_in_one-requires-clause-short : goal.free_in_one-requires-clause-short
-free_in_one-requires-clause-short c =
+pub invariant_of-length : goal.invariant_of-length
+invariant_of-length c =
     let o = c.occupancy.inside in
     let at = ap (λ (m : Marked). with_boxes m c.self.inside.boxes) c.occupancy.view_is ∙ c.self.view_is in
     let padding = subst (λ (v : Occupied). IsPaddingOf v c.args.padding) (sym at) c.requires in
@@ -29,7 +29,7 @@ free_in_one-requires-clause-short c =
     let a = padding.least in
     let b = padding.most in
     let h = (site_short o.site c.occupancy.invariant.site).most in
-    subst IsShort (sym is) record { least = a; most = omega (arith, ints, b, h) }
+    record { short = subst IsShort (sym is) record { least = a; most = omega (arith, ints, b, h) } }
 
 pub returns : goal.returns
 returns c =
