@@ -87,7 +87,8 @@ fn place_at(at: &RowSite<'_>, orient: Orient) -> Place
 
 /// The best place so far, compared with those on this site of the row.
 fn with_site(at: &RowSite<'_>, best: Option<Place>) -> Option<Place>
-    ensures { SearchScansPlaces (IsAtSite at.now.search.now.frame.now.pitch at.now.row.now at.now.site) at.now.search.now best result }
+    ensures { SearchScansPlaces (IsAtSite at.now.search.now.frame.now.pitch at.now.row.now at.now.site)
+        at.now.search.now best result }
 {
     let search = at.search;
     let north = with_place(search, best, place_at(at, Orient::N));
