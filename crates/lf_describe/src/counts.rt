@@ -8,9 +8,9 @@ ghost use Rattle.lf_reports.specs.Reports.{AreVerdicts, IsListed, listed_at, wit
 ghost use Rattle.lf_describe.specs.Description.{places_in_text};
 
 use lf_floorplan::{Frame, LoadedCells};
+use lf_frame_index::{FrameIndex, IndexedFrame};
 use lf_reports::verdicts_with_plan;
 use lf_rules::{Broken, Listed, Padding};
-use lf_segments::{FrameIndex, IndexedFrame};
 use std::alloc::{AllocError, Global};
 
 /// The number of cells, and how many of them are illegal or unplaced.

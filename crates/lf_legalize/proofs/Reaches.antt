@@ -16,8 +16,8 @@ use Rattle.lf_rules.specs.Choice.{SpotPlace, PlacementQuery, IsAllowedPlace, Pre
 use Rattle.lf_rules.specs.Scanning.{ScansPlaces, IsAsGood}
 use Rattle.lf_rules.proofs.Looking.{taken_first, taken, left}
 use Rattle.lf_rules.proofs.Order.{through}
-use Rattle.lf_segments.specs.declared.rows_by_y.RowEntry.{RowEntry}
-use Rattle.lf_segments.specs.RowsByY.{IsEntryOf}
+use Rattle.lf_frame_index.specs.declared.rows_by_y.RowEntry.{RowEntry}
+use Rattle.lf_frame_index.specs.RowsByY.{IsEntryOf}
 use Rattle.lf_legalize.specs.Extents.{IsWithin, IsOnRow, IsBetter, ScansPlacesWithin, search_limit}
 use Rattle.lf_legalize.specs.RowSearches.{IsOnRowIn, IsBestAmong, IsChoiceAmong}
 use Rattle.lf_legalize.specs.declared.row_search.RowSearch.{RowSearch}

@@ -13,8 +13,8 @@ use Rattle.lf_floorplan.specs.declared.parts.Row.{Row}
 use Rattle.lf_floorplan.specs.Bounds.{IsDefNumber}
 use Rattle.lf_floorplan.specs.Boxes.{macro_of}
 use Rattle.lf_floorplan.specs.Standing.{rail_alternated}
-use Rattle.lf_segments.specs.declared.strip.Strip.{Strip}
-use Rattle.lf_segments.specs.Strips.{IsNear}
+use Rattle.lf_frame_index.specs.declared.strip.Strip.{Strip}
+use Rattle.lf_frame_index.specs.Strips.{IsNear}
 use Rattle.lf_rules.specs.Choice.{rank}
 use Rattle.lf_cells.specs.declared.cell.CellId.{CellId}
 use Rattle.lf_occupancy.specs.Views.{Occupied, IsFreeOver, IsStripOf}

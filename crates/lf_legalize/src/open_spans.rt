@@ -7,7 +7,7 @@ ghost use Rattle.lf_legalize.specs.Levels.{AreWithoutSoft, AreOpenInRow};
 ghost use Rattle.lf_legalize.specs.RowSearches.{padding_in};
 
 use crate::row_search::{RowSearch, SearchWindow, search_is_occupied};
-use lf_segments::{FrameIndex, StripRange};
+use lf_frame_index::{FrameIndex, StripRange};
 use lf_spans::spans_minus;
 use lf_units::Span;
 use std::alloc::{AllocError, Global};

@@ -13,7 +13,7 @@ use crate::marking::reserve_and_mark;
 use crate::strip_marks::StripMarks;
 use lf_cells::{CellId, CellTable};
 use lf_floorplan::Frame;
-use lf_segments::FrameIndex;
+use lf_frame_index::FrameIndex;
 use lf_units::Rect;
 use std::alloc::{AllocError, Global};
 

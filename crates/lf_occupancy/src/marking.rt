@@ -12,7 +12,7 @@ ghost use Rattle.lf_occupancy.specs.Strips.{HasOneMarkInRows, boxes_set, widened
 use crate::strip_marks::{StripMarks, make_room, put_in, unmark};
 use crate::widened::{widened_area, widened_strips};
 use lf_cells::CellId;
-use lf_segments::{FrameIndex, RowEntry, StripRange};
+use lf_frame_index::{FrameIndex, RowEntry, StripRange};
 use lf_units::Rect;
 use std::alloc::AllocError;
 

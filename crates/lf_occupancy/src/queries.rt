@@ -11,7 +11,7 @@ use crate::strip_marks::{
 };
 use crate::widened::{widened_area, widened_strips};
 use lf_cells::CellId;
-use lf_segments::FrameIndex;
+use lf_frame_index::FrameIndex;
 use lf_units::{Rect, Span};
 use std::alloc::{AllocError, Global};
 

@@ -10,7 +10,7 @@ ghost use Rattle.lf_occupancy.specs.StripCounting.{AreShifted, IsHigher, IsLess,
 
 use crate::strip_marks::{StripMarks, has_points, make_room, part_of};
 use crate::widened::{widened_area, widened_strips};
-use lf_segments::{FrameIndex, RowEntry, StripRange};
+use lf_frame_index::{FrameIndex, RowEntry, StripRange};
 use lf_units::Rect;
 use std::alloc::{AllocError, Global};
 use std::marker::Model;

@@ -11,10 +11,10 @@ ghost use Rattle.lf_task_files.specs.CommittedLegality.{committed_listed};
 
 use lf_cells::{CellId, CellTable};
 use lf_floor::Floor;
+use lf_frame_index::IndexedFrame;
 use lf_legalize::IndexSeeker;
 use lf_reports::{Listed, verdicts_with_plan};
 use lf_rules::{Padding, legalizer_exists};
-use lf_segments::IndexedFrame;
 use lf_task_designs::illegal_in;
 use std::alloc::{AllocError, Global};
 
