@@ -56,7 +56,7 @@ bounded_row s n r t there some left right =
     }
 
 pub level_bounded : (s : RowSearch) (own : ℕ) (bottom : Row) (window : Span) (j : ℕ) (spans : List Span) →
-    IsOccupancyOf s.frame.now s.cells.now s.occupancy.now → IsLevel s own bottom window j spans → All IsBoundedSpan spans
+    IsOccupancyOf s.frame.now s.occupied.now.cells s.occupancy.now → IsLevel s own bottom window j spans → All IsBoundedSpan spans
 level_bounded s own bottom window j spans occupied level k d within =
     let t = get_or spans k d in
     let some = level.rising.filled k d within in
@@ -84,7 +84,7 @@ width_is s =
     record { low = omega (arith, ints, some); high = omega (arith, ints, small, same) }
 
 pub fit_in_def : (s : RowSearch) (own : ℕ) (bottom : Row) (window : Span) (lists : List (List Span)) (x : ℤ) → slice_get s.frame.now.rows own ≡ Some bottom →
-    IsOccupancyOf s.frame.now s.cells.now s.occupancy.now → AreLevels s own bottom window s.height lists → IsFit s bottom lists x → IsDefNumber x
+    IsOccupancyOf s.frame.now s.occupied.now.cells s.occupancy.now → AreLevels s own bottom window s.height lists → IsFit s bottom lists x → IsDefNumber x
 fit_in_def s own bottom window lists x there occupied levels fits =
     let free = free_place s own bottom window lists x there occupied levels fits in
     let h = core_at s.frame.now own bottom there in
@@ -118,7 +118,7 @@ on_grid_of (negsuc n) x o site rising is = absurd (omega (arith, ints, rising))
 
 -- an allowed place is among those that are considered
 pub may_go_fits : (s : RowSearch) (own : ℕ) (bottom : Row) (window : Span) (lists : List (List Span)) (p : SpotPlace) → slice_get s.frame.now.rows own ≡ Some bottom →
-    IsOccupancyOf s.frame.now s.cells.now s.occupancy.now → AreLevels s own bottom window s.height lists → IsOnRowIn s.frame.now s.size bottom window p →
+    IsOccupancyOf s.frame.now s.occupied.now.cells s.occupancy.now → AreLevels s own bottom window s.height lists → IsOnRowIn s.frame.now s.size bottom window p →
     IsAllowedPlace (query_of_search s) p → IsFit s bottom lists p.x
 may_go_fits s own bottom window lists p there occupied levels on may = record {
   on_grid = record {
@@ -139,7 +139,7 @@ of_none P Q None is h = h
 of_none P Q (Some x) is h = absurd cc
 
 pub none_bare : (s : RowSearch) (own : ℕ) (bottom : Row) (window : Span) (p : SpotPlace) → slice_get s.frame.now.rows own ≡ Some bottom →
-    IsOccupancyOf s.frame.now s.cells.now s.occupancy.now → HasBareLevel s own bottom window → IsOnRowIn s.frame.now s.size bottom window p →
+    IsOccupancyOf s.frame.now s.occupied.now.cells s.occupancy.now → HasBareLevel s own bottom window → IsOnRowIn s.frame.now s.size bottom window p →
     IsAllowedPlace (query_of_search s) p → ⊥
 none_bare s own bottom window p there occupied bare on may =
     any_nil (λ t. LiesIn (reach s p.x) t) (may_go_is_free s own bottom window p bare.level [] there occupied on may bare.within bare.bare)
@@ -172,7 +172,7 @@ first_of target a b level (inr (as_near, left)) decides less = elim order [
     ranks = grind (arith, less)
 
 pub best_there : (s : RowSearch) (own : ℕ) (bottom : Row) (window : Span) (lists : List (List Span)) (o : Orient) (x : ℤ) →
-    slice_get s.frame.now.rows own ≡ Some bottom → IsOccupancyOf s.frame.now s.cells.now s.occupancy.now → AreLevels s own bottom window s.height lists →
+    slice_get s.frame.now.rows own ≡ Some bottom → IsOccupancyOf s.frame.now s.occupied.now.cells s.occupancy.now → AreLevels s own bottom window s.height lists →
     IsFirstOrient s bottom o → IsNearest (IsFit s bottom lists) s.target.now.x x →
     IsBestAmong (IsOnRowIn s.frame.now s.size bottom window) (query_of_search s) s.target.now (spot_on bottom x o)
 best_there s own bottom window lists o x there occupied levels first nearest =

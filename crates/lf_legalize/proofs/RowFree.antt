@@ -99,19 +99,19 @@ held_at s own bottom window lists x there levels fits j less =
     held_one s own bottom window x j there (((levels.each j less).exact (reach s x) (filled s x)).0 lies)
 
 -- the team may use the row of the level over the reach
-pub open_at : (s : RowSearch) (own : ℕ) (bottom : Row) (window : Span) (x : ℤ) (j : ℕ) → IsOccupancyOf s.frame.now s.cells.now s.occupancy.now →
+pub open_at : (s : RowSearch) (own : ℕ) (bottom : Row) (window : Span) (x : ℤ) (j : ℕ) → IsOccupancyOf s.frame.now s.occupied.now.cells s.occupancy.now →
     (h : IsHeldAt s own bottom window x j) → (v : ℤ) → HoldsNumber (reach s x) v → IsOpen s.frame.now s.frame.now.obstacles h.row s.id.team v
 open_at s own bottom window x j held h v holds =
     let o = open_over s.frame.now s.occupancy.now s.id window (padding_in s) h.number (reach s x) held.index (filled s x) h.free in
     subst (λ (r : Row). IsOpen s.frame.now s.frame.now.obstacles r s.id.team v) (same_row s.frame.now h.number o.row h.row o.is_in_place h.is_in_place) (o.is_open v holds)
 
-pub left_at : (s : RowSearch) (own : ℕ) (bottom : Row) (window : Span) (x : ℤ) (j : ℕ) → IsOccupancyOf s.frame.now s.cells.now s.occupancy.now →
+pub left_at : (s : RowSearch) (own : ℕ) (bottom : Row) (window : Span) (x : ℤ) (j : ℕ) → IsOccupancyOf s.frame.now s.occupied.now.cells s.occupancy.now →
     (h : IsHeldAt s own bottom window x j) → h.row.x ≤ℤ x
 left_at s own bottom window x j held h =
     let w = wide s in
     (open_at s own bottom window x j held h x record { low = omega (arith, ints); high = omega (arith, ints, w) }).clear.left
 
-pub right_at : (s : RowSearch) (own : ℕ) (bottom : Row) (window : Span) (x : ℤ) (j : ℕ) → IsOccupancyOf s.frame.now s.cells.now s.occupancy.now →
+pub right_at : (s : RowSearch) (own : ℕ) (bottom : Row) (window : Span) (x : ℤ) (j : ℕ) → IsOccupancyOf s.frame.now s.occupied.now.cells s.occupancy.now →
     (h : IsHeldAt s own bottom window x j) → (x +ℤ s.size.x) ≤ℤ (row_area s.frame.now.pitch h.row).x2
 right_at s own bottom window x j held h =
     let w = wide s in
@@ -149,7 +149,7 @@ spot_on bottom x o = record { x = x; y = bottom.y; orient = o }
 -- what is known of a place whose box is free at each level
 pub record IsFreePlace (s : RowSearch) (own : ℕ) (bottom : Row) (window : Span) (x : ℤ) : Type 0 where
   pub there : slice_get s.frame.now.rows own ≡ Some bottom
-  pub occupied : IsOccupancyOf s.frame.now s.cells.now s.occupancy.now
+  pub occupied : IsOccupancyOf s.frame.now s.occupied.now.cells s.occupancy.now
   pub on_grid : IsOnGrid (grid_of bottom.x s.frame.now.pitch.x) x
   pub held : (j : ℕ) → j < s.height → IsHeldAt s own bottom window x j
 
@@ -183,9 +183,9 @@ bottom_row s own bottom window x o free =
       on_grid = at.1;
     }
 
-on_row_in : (s : RowSearch) (own : ℕ) (bottom : Row) (window : Span) (x : ℤ) (o : Orient) → IsFreePlace s own bottom window x →
+pub free_is_on_row : (s : RowSearch) (own : ℕ) (bottom : Row) (window : Span) (x : ℤ) (o : Orient) → IsFreePlace s own bottom window x →
     IsOnRowIn s.frame.now s.size bottom window (spot_on bottom x o)
-on_row_in s own bottom window x o free =
+free_is_on_row s own bottom window x o free =
     let h = bottom_held s own bottom window x free in
     let w = wide s in
     let first = h.free.within x record { low = omega (arith, ints); high = omega (arith, ints, w) } in
@@ -245,7 +245,7 @@ point_of : (s : RowSearch) (own : ℕ) (bottom : Row) (window : Span) (x : ℤ) 
     Covers (upright_box s (spot_on bottom x o)) px py → IsPointOf s own bottom window x px py
 point_of s own bottom window x o px py free covers = point_at s own bottom window x px py free covers.bottom covers.top
 
-open_point : (s : RowSearch) (own : ℕ) (bottom : Row) (window : Span) (x : ℤ) (px py : ℤ) → IsOccupancyOf s.frame.now s.cells.now s.occupancy.now →
+open_point : (s : RowSearch) (own : ℕ) (bottom : Row) (window : Span) (x : ℤ) (px py : ℤ) → IsOccupancyOf s.frame.now s.occupied.now.cells s.occupancy.now →
     (p : IsPointOf s own bottom window x px py) → HoldsNumber (reach s x) px →
     IsOpen s.frame.now s.frame.now.obstacles p.held.row s.id.team px × Covers (row_area s.frame.now.pitch p.held.row) px py
 open_point s own bottom window x px py occupied p holds =
@@ -267,7 +267,7 @@ is_clear s own bottom window x o free m d within shares =
     at.0.clear.clear shares.y at.1 m d within shares.in_second
 
 -- the rectangle of another cell is at no level nearer to the box than the padding
-overlapped_at : (s : RowSearch) (own : ℕ) (bottom : Row) (window : Span) (x px py : ℤ) (k : ℕ) (rect : Rect) → IsOccupancyOf s.frame.now s.cells.now s.occupancy.now →
+overlapped_at : (s : RowSearch) (own : ℕ) (bottom : Row) (window : Span) (x px py : ℤ) (k : ℕ) (rect : Rect) → IsOccupancyOf s.frame.now s.occupied.now.cells s.occupancy.now →
     (p : IsPointOf s own bottom window x px py) → (x -ℤ padding_in s) ≤ℤ px → px <ℤ ((x +ℤ s.size.x) +ℤ padding_in s) →
     IsOther s.occupancy.now s.id k rect → Covers rect px py → ⊥
 overlapped_at s own bottom window x px py k rect occupied p left right other covers =
@@ -294,17 +294,17 @@ overlapped_at s own bottom window x px py k rect occupied p left right other cov
 
 is_apart : (s : RowSearch) (own : ℕ) (bottom : Row) (window : Span) (x : ℤ) (o : Orient) → IsFreePlace s own bottom window x →
     All (λ b. SharesPoint (wider (padding_in s) (upright_box s (spot_on bottom x o))) b.rect → ⊥)
-    (boxes_beside s.frame.now (map member_of (cells_of s.cells.now s.id.team)) s.id.own)
+    (boxes_beside s.frame.now (map member_of (cells_of s.occupied.now.cells s.id.team)) s.id.own)
 is_apart s own bottom window x o free =
     beside_hold (λ rect. SharesPoint (wider (padding_in s) (upright_box s (spot_on bottom x o))) rect → ⊥)
-    s.frame.now (map member_of (cells_of s.cells.now s.id.team)) s.id.own
+    s.frame.now (map member_of (cells_of s.occupied.now.cells s.id.team)) s.id.own
     (λ k m q differ there placed shares.
     overlapped_at s own bottom window x shares.x shares.y k (box_in s.frame.now m.mac q) free.occupied
     (point_at s own bottom window x shares.x shares.y free shares.in_first.bottom shares.in_first.top) shares.in_first.left shares.in_first.right
-    (is_other s.frame.now s.cells.now s.occupancy.now s.id k m q free.occupied.boxes differ there placed) shares.in_second)
+    (is_other s.frame.now s.occupied.now.cells s.occupancy.now s.id k m q free.occupied.boxes differ there placed) shares.in_second)
 
 -- no soft blockage is over the box
-soft_at : (s : RowSearch) (own : ℕ) (bottom : Row) (window : Span) (x px py : ℤ) → IsOccupancyOf s.frame.now s.cells.now s.occupancy.now →
+soft_at : (s : RowSearch) (own : ℕ) (bottom : Row) (window : Span) (x px py : ℤ) → IsOccupancyOf s.frame.now s.occupied.now.cells s.occupancy.now →
     (p : IsPointOf s own bottom window x px py) → HoldsNumber (reach s x) px → Any (λ r. Covers r px py) s.frame.now.soft → ⊥
 soft_at s own bottom window x px py occupied p holds soft = by p.held.free.in_strip
   where
@@ -350,7 +350,7 @@ record KeepsAll (s : RowSearch) (o : Orient) (box : Rect) : Type 0 where
       rail_below r.orient ≡ Some (macro_of s.frame.now s.mac).rail
   ground : StaysInGround s.frame.now s.id.team box
   clear : IsClear s.frame.now box
-  apart : All (λ b. SharesPoint (wider (padding_in s) box) b.rect → ⊥) (boxes_beside s.frame.now (map member_of (cells_of s.cells.now s.id.team)) s.id.own)
+  apart : All (λ b. SharesPoint (wider (padding_in s) box) b.rect → ⊥) (boxes_beside s.frame.now (map member_of (cells_of s.occupied.now.cells s.id.team)) s.id.own)
 
 keeps_all : (s : RowSearch) (own : ℕ) (bottom : Row) (window : Span) (x : ℤ) (o : Orient) → FitsRow s bottom o → IsFreePlace s own bottom window x →
     KeepsAll s o (upright_box s (spot_on bottom x o))
@@ -393,7 +393,7 @@ legal_of s p allowed keeps =
     )
 
 pub free_place : (s : RowSearch) (own : ℕ) (bottom : Row) (window : Span) (lists : List (List Span)) (x : ℤ) → slice_get s.frame.now.rows own ≡ Some bottom →
-    IsOccupancyOf s.frame.now s.cells.now s.occupancy.now → AreLevels s own bottom window s.height lists →
+    IsOccupancyOf s.frame.now s.occupied.now.cells s.occupancy.now → AreLevels s own bottom window s.height lists →
     FitsRows lists (grid_of bottom.x s.frame.now.pitch.x) s.size.x x → IsFreePlace s own bottom window x
 free_place s own bottom window lists x there occupied levels fits = record {
   there = there;
@@ -401,10 +401,6 @@ free_place s own bottom window lists x there occupied levels fits = record {
   on_grid = fits.on_grid;
   held = held_at s own bottom window lists x there levels fits;
 }
-
-pub free_is_on_row : (s : RowSearch) (own : ℕ) (bottom : Row) (window : Span) (x : ℤ) (o : Orient) → IsFreePlace s own bottom window x →
-    IsOnRowIn s.frame.now s.size bottom window (spot_on bottom x o)
-free_is_on_row s own bottom window x o free = on_row_in s own bottom window x o free
 
 free_is_legal : (s : RowSearch) (own : ℕ) (bottom : Row) (window : Span) (x : ℤ) (o : Orient) → FitsRow s bottom o → IsFreePlace s own bottom window x →
     IsLegalAt (query_of_search s) (spot_on bottom x o)

@@ -191,7 +191,7 @@ record IsGoodBox (s : RowSearch) (box : Rect) : Type 0 where
   is_in_place : RestsOnRows s.frame.now box
   ground : StaysInGround s.frame.now s.id.team box
   clear : IsClear s.frame.now box
-  apart : All (λ b. SharesPoint (wider (padding_in s) box) b.rect → ⊥) (boxes_beside s.frame.now (map member_of (cells_of s.cells.now s.id.team)) s.id.own)
+  apart : All (λ b. SharesPoint (wider (padding_in s) box) b.rect → ⊥) (boxes_beside s.frame.now (map member_of (cells_of s.occupied.now.cells s.id.team)) s.id.own)
   off_soft : OverlapsSoft s.frame.now box → ⊥
 
 good_box : (s : RowSearch) (p : SpotPlace) → IsAllowedPlace (query_of_search s) p → IsGoodBox s (upright_box s p)
@@ -205,7 +205,7 @@ pub row_y_is : (f : Frame) (n : ℕ) (r : Row) → slice_get f.rows n ≡ Some r
 row_y_is f n r there = rw there refl
 
 -- a row under the box is free over its reach
-free_on_carrier : (s : RowSearch) (bottom : Row) (window : Span) (p : SpotPlace) (j n : ℕ) (r : Row) → IsOccupancyOf s.frame.now s.cells.now s.occupancy.now →
+free_on_carrier : (s : RowSearch) (bottom : Row) (window : Span) (p : SpotPlace) (j n : ℕ) (r : Row) → IsOccupancyOf s.frame.now s.occupied.now.cells s.occupancy.now →
     IsOnRowIn s.frame.now s.size bottom window p → IsGoodBox s (upright_box s p) → j < s.height → slice_get s.frame.now.rows n ≡ Some r →
     Supports s.frame.now (upright_box s p) bottom j r → IsFreeOnRow s.occupancy.now s.id window (padding_in s) n (reach s p.x)
 free_on_carrier s bottom window p j n r held on legal less there carries = record {
@@ -281,8 +281,8 @@ free_on_carrier s bottom window p j n r held on legal less there carries = recor
         within = both.1;
         clear = λ own box other shares.
             let by : ℤ = padding_in s in
-            let cell = other_placed f s.cells.now s.occupancy.now s.id own box held.boxes other in
-            let cells = cells_of s.cells.now s.id.team in
+            let cell = other_placed f s.occupied.now.cells s.occupancy.now s.id own box held.boxes other in
+            let cells = cells_of s.occupied.now.cells s.id.team in
             let apart = beside_each (λ rect. SharesPoint (wider by (upright_box s p)) rect → ⊥) f (map member_of cells) s.id.own legal.apart own
             (member_of cell.cell) (spot_of cell.place) other.other
             (slice_get-map member_of cells own ∙ ap (option_map member_of) cell.there) (ap (option_map spot_of) cell.is_in_place) in
@@ -300,7 +300,7 @@ row_at f r (n, within, is) = (n, slice_get-get_or f.rows n r within ∙ ap (λ (
 
 -- at each level some row is free over the reach of an allowed place
 free_at_level : (s : RowSearch) (own : ℕ) (bottom : Row) (window : Span) (p : SpotPlace) (j : ℕ) (free : List Span) → slice_get s.frame.now.rows own ≡ Some bottom →
-    IsOccupancyOf s.frame.now s.cells.now s.occupancy.now → IsOnRowIn s.frame.now s.size bottom window p → IsGoodBox s (upright_box s p) → j < s.height →
+    IsOccupancyOf s.frame.now s.occupied.now.cells s.occupancy.now → IsOnRowIn s.frame.now s.size bottom window p → IsGoodBox s (upright_box s p) → j < s.height →
     IsLevel s own bottom window j free → LiesInOneOf free (reach s p.x)
 free_at_level s own bottom window p zero free there held on legal less level =
     (level.exact (reach s p.x) (filled s p.x)).1 record {
@@ -325,7 +325,7 @@ free_at_level s own bottom window p (suc j) free there held on legal less level 
     }
 
 pub may_go_is_free : (s : RowSearch) (own : ℕ) (bottom : Row) (window : Span) (p : SpotPlace) (j : ℕ) (free : List Span) →
-    slice_get s.frame.now.rows own ≡ Some bottom → IsOccupancyOf s.frame.now s.cells.now s.occupancy.now → IsOnRowIn s.frame.now s.size bottom window p →
+    slice_get s.frame.now.rows own ≡ Some bottom → IsOccupancyOf s.frame.now s.occupied.now.cells s.occupancy.now → IsOnRowIn s.frame.now s.size bottom window p →
     IsAllowedPlace (query_of_search s) p → j < s.height → IsLevel s own bottom window j free → LiesInOneOf free (reach s p.x)
 may_go_is_free s own bottom window p j free there held on may less level =
     free_at_level s own bottom window p j free there held on (good_box s p may) less level

@@ -2,6 +2,7 @@ pub mod Queries
 pub mod Members
 pub mod Others
 pub mod Searches
+pub mod OccupiedFrames
 pub mod RowSearches
 pub mod Levels
 pub mod Extents

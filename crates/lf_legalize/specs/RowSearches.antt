@@ -16,7 +16,7 @@ use Rattle.lf_legalize.specs.declared.row_search.RowSearch.{RowSearch}
 -- the cell whose best place is searched for, regarded as unplaced among its team's cells, under the
 -- team's padding
 abbrev pub query_of_search : RowSearch → PlacementQuery
-query_of_search s = query_from s.frame.now s.id.team s.padding.sites (map member_of (cells_of s.cells.now s.id.team)) s.id.own s.mac
+query_of_search s = query_from s.frame.now s.id.team s.padding.sites (map member_of (cells_of s.occupied.now.cells s.id.team)) s.id.own s.mac
 
 -- the padding of the search as a length
 abbrev pub padding_in : RowSearch → ℤ

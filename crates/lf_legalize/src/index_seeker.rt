@@ -6,12 +6,12 @@ ghost use Rattle.lf_rules.specs.Choice.{IsChoice, spot_of};
 ghost use Rattle.lf_rules.specs.Legalizer.{Legalizer};
 ghost use Rattle.lf_rules.specs.Team.{query_from};
 ghost use Rattle.lf_cells.specs.Cells.{cells_of};
-ghost use Rattle.lf_occupancy.specs.Floorplans.{IsOccupancyOf};
 ghost use Rattle.lf_legalize.specs.Members.{member_of};
 ghost use Rattle.lf_legalize.specs.Indexes.{IsHeightOf};
 
 use crate::extent::{farthest_in, nearest_point};
 use crate::nearest::nearest;
+use crate::occupied_frame::OccupiedFrame;
 use crate::row_search::RowSearch;
 use crate::seeker::Seeker;
 use lf_cells::{CellId, CellTable};
@@ -58,20 +58,21 @@ fn height_of(frame: &Frame, mac: &Macro) -> Option<u32>
 /// The best place of a cell of this macro, under its team's padding.
 fn best_for(
     alloc: Global,
-    frame: &Frame,
-    cells: &CellTable,
-    occupancy: &OccupancyView<'_>,
+    occupied: &OccupiedFrame<'_>,
     id: CellId,
     mac: usize,
     target: &Point,
     padding: Padding,
 ) -> Result<Option<Place>, AllocError>
-    requires held { IsOccupancyOf frame.now cells.now occupancy.now }
-    requires known { mac < length frame.now.macros }
-    requires sized { IsSized frame.now (macro_of frame.now mac) }
+    requires known { mac < length occupied.now.frame.macros }
+    requires sized { IsSized occupied.now.frame (macro_of occupied.now.frame mac) }
     ensures { IfOk result (λ found.
-        IsChoice (query_from frame.now id.team padding.sites (map member_of (cells_of cells.now id.team)) id.own mac) target.now (option_map spot_of found)) }
+        IsChoice (query_from occupied.now.frame id.team padding.sites (map member_of (cells_of occupied.now.cells id.team)) id.own mac) target.now
+        (option_map spot_of found)) }
 {
+    occupied.occupancy_holds_cells();
+    let frame = occupied.frame();
+    let occupancy = occupied.occupancy();
     let of_cell = mac_at(frame, mac);
     let Some(height) = height_of(frame, of_cell) else {
         return Ok(None);
@@ -79,13 +80,13 @@ fn best_for(
     let extent = occupancy.index().extent();
     let near = nearest_point(extent, target);
     let search = RowSearch {
+        occupied,
         frame,
-        cells,
         occupancy,
         id,
         mac,
         size: size_of(frame, of_cell),
-        height,
+        height: height as u8,
         target: &near,
         padding,
     };
@@ -106,7 +107,7 @@ impl Seeker for IndexSeeker {
         let Some(standing) = cells.placement_of(cell) else {
             return Ok(None);
         };
-        let mac = standing.mac;
-        best_for(alloc, frame, cells, occupancy, cell, mac, target, padding)
+        let occupied = OccupiedFrame::new(frame, cells, occupancy);
+        best_for(alloc, &occupied, cell, standing.mac, target, padding)
     }
 }

@@ -1,17 +1,15 @@
 //! The spans that are free for a cell over a bottom row, off soft blockages, level by level.
 
-ghost use Rattle.std.specs.Prelude.{◌≡◌, ◌↔◌, ◌<◌, ◌≤◌, ◌+ℤ◌, ◌*ℤ◌, ◌≤ℤ◌, ◌<ℤ◌, IfOk, IsTrue, MatchOption, OnOk, Some, length, map, negsuc, pos, slice_get};
+ghost use Rattle.std.specs.Prelude.{◌≡◌, ◌↔◌, ◌<◌, ◌+ℤ◌, ◌*ℤ◌, ◌≤ℤ◌, ◌<ℤ◌, IfOk, IsTrue, MatchOption, OnOk, Some, length, map, pos};
 ghost use Rattle.std.specs.Option.{option_map};
 ghost use Rattle.lf_orient.specs.Orientation.{rail_below};
-ghost use Rattle.lf_floorplan.specs.Rows.{IsCoreRow};
 ghost use Rattle.lf_floorplan.specs.Standing.{rail_alternated};
 ghost use Rattle.lf_frame_index.specs.RowsByY.{IsRunAt};
-ghost use Rattle.lf_occupancy.specs.Floorplans.{IsOccupancyOf};
 ghost use Rattle.lf_legalize.specs.Levels.{AddsLevel, AreFreeOn, AreLevels, HasBareLevel, IsLevel, IsLevelRow};
 ghost use Rattle.lf_legalize.specs.RowSearches.{padding_in};
 
 use crate::open_spans::open_in_row;
-use crate::row_search::{RowSearch, rows_of};
+use crate::row_search::{RowSearch, SearchWindow, rows_of, search_is_occupied};
 use lf_floorplan::Row;
 use lf_frame_index::RowEntry;
 use lf_orient::{Rail, opposite, row_rail};
@@ -25,11 +23,11 @@ pub(crate) struct BottomRow<'a> {
     /// The position of the row in the frame.
     pub number: usize,
     /// The x range that must contain the cell's box, in database units.
-    pub window: &'a Span,
+    pub window: &'a SearchWindow,
 }
 
 /// The rail of a row `level` levels above the bottom row.
-fn rail_at(bottom: &Row, level: u32) -> Option<Rail>
+fn rail_at(bottom: &Row, level: u8) -> Option<Rail>
     ensures { result ≡ option_map (rail_alternated level) (rail_below bottom.now.orient) }
 {
     let mut rail = row_rail(bottom.orient);
@@ -40,25 +38,23 @@ fn rail_at(bottom: &Row, level: u32) -> Option<Rail>
 }
 
 /// The y of the rows `level` levels above the bottom row.
-fn y_at(bottom: &Row, pitch: &Point, level: u32) -> i64
+fn y_at(bottom: &Row, pitch: &Point, level: u8) -> i64
     requires high { pos 0 <ℤ pitch.now.y }
     requires low { pitch.now.y ≤ℤ pos 20000000000 }
-    requires few { level ≤ 8 }
     ensures { result ≡ bottom.now.y +ℤ (pos level *ℤ pitch.now.y) }
 {
     i64::from(bottom.y) + i64::from(level) * pitch.y
 }
 
 /// The rows `level` levels above the bottom row, in the order of their x.
-fn rows_above<'a>(search: &RowSearch<'a>, bottom: &Row, level: u32) -> &'a [RowEntry]
-    requires { level ≤ 8 }
+fn rows_above<'a>(search: &RowSearch<'a>, bottom: &Row, level: u8) -> &'a [RowEntry]
     ensures { IsRunAt search.now.occupancy.now.index.rows (bottom.now.y +ℤ (pos level *ℤ search.now.frame.now.pitch.y)) result.now }
 {
     rows_of(search).at(y_at(bottom, &search.frame.pitch, level))
 }
 
 /// Whether the row has the rail of a row `level` levels above the bottom row.
-fn is_railed(bottom: &Row, level: u32, row: &Row) -> bool
+fn is_railed(bottom: &Row, level: u8, row: &Row) -> bool
     ensures { IsTrue result ↔ (rail_below row.now.orient ≡ option_map (rail_alternated level) (rail_below bottom.now.orient)) }
 {
     row_rail(row.orient) == rail_at(bottom, level)
@@ -70,14 +66,12 @@ fn push_row(
     alloc: Global,
     search: &RowSearch<'_>,
     bottom: &BottomRow<'_>,
-    level: u32,
+    level: u8,
     number: usize,
     spans: &mut Vec<Span>,
 ) -> Result<(), AllocError>
-    requires held { IsOccupancyOf search.now.frame.now search.now.cells.now search.now.occupancy.now }
-    requires within { number < length search.now.frame.now.rows }
-    requires low { negsuc 4611686018427387903 ≤ℤ bottom.now.window.now.lo }
-    ensures { OnOk result (AddsLevel search.now bottom.now.row.now level number bottom.now.window.now spans.old.items spans.new.items) }
+    requires { number < length search.now.frame.now.rows }
+    ensures { OnOk result (AddsLevel search.now bottom.now.row.now level number bottom.now.window.now.span spans.old.items spans.new.items) }
 {
     let row = &search.frame.rows.as_slice()[number];
     if !is_railed(bottom.row, level, row) {
@@ -94,14 +88,12 @@ fn free_above(
     alloc: Global,
     search: &RowSearch<'_>,
     bottom: &BottomRow<'_>,
-    level: u32,
+    level: u8,
 ) -> Result<Vec<Span>, AllocError>
-    requires held { IsOccupancyOf search.now.frame.now search.now.cells.now search.now.occupancy.now }
-    requires few { level ≤ 8 }
-    requires low { negsuc 4611686018427387903 ≤ℤ bottom.now.window.now.lo }
     ensures { IfOk result (λ free.
-        AreFreeOn (IsLevelRow search.now.frame.now bottom.now.row.now level) search.now.occupancy.now search.now.id bottom.now.window.now (padding_in search.now) free.items) }
+        AreFreeOn (IsLevelRow search.now.frame.now bottom.now.row.now level) search.now.occupancy.now search.now.id bottom.now.window.now.span (padding_in search.now) free.items) }
 {
+    search_is_occupied(search);
     let mut spans = Vec::new(alloc);
     for entry in rows_above(search, bottom.row, level) {
         push_row(alloc, search, bottom, level, entry.row, &mut spans)?;
@@ -114,12 +106,9 @@ fn free_at(
     alloc: Global,
     search: &RowSearch<'_>,
     bottom: &BottomRow<'_>,
-    level: u32,
+    level: u8,
 ) -> Result<Vec<Span>, AllocError>
-    requires held { IsOccupancyOf search.now.frame.now search.now.cells.now search.now.occupancy.now }
-    requires few { level ≤ 8 }
-    requires low { negsuc 4611686018427387903 ≤ℤ bottom.now.window.now.lo }
-    ensures { IfOk result (λ free. IsLevel search.now bottom.now.number bottom.now.row.now bottom.now.window.now level free.items) }
+    ensures { IfOk result (λ free. IsLevel search.now bottom.now.number bottom.now.row.now bottom.now.window.now.span level free.items) }
 {
     if level == 0 {
         return open_in_row(alloc, search, bottom.number, bottom.window);
@@ -134,10 +123,8 @@ pub(crate) fn free_by_level(
     search: &RowSearch<'_>,
     bottom: &BottomRow<'_>,
 ) -> Result<Option<Vec<Vec<Span>>>, AllocError>
-    requires held { IsOccupancyOf search.now.frame.now search.now.cells.now search.now.occupancy.now }
-    requires low { negsuc 4611686018427387903 ≤ℤ bottom.now.window.now.lo }
-    ensures { IfOk result (λ found. MatchOption found (HasBareLevel search.now bottom.now.number bottom.now.row.now bottom.now.window.now)
-        (λ lists. AreLevels search.now bottom.now.number bottom.now.row.now bottom.now.window.now search.now.height (map (λ list. list.items) lists.items))) }
+    ensures { IfOk result (λ found. MatchOption found (HasBareLevel search.now bottom.now.number bottom.now.row.now bottom.now.window.now.span)
+        (λ lists. AreLevels search.now bottom.now.number bottom.now.row.now bottom.now.window.now.span search.now.height (map (λ list. list.items) lists.items))) }
 {
     let mut lists = Vec::new(alloc);
     for level in 0..search.height {

@@ -22,6 +22,7 @@
 //! - `plain_search`: the search over every site of every row
 //! - `extent`: the point of a rectangle that is nearest to a target
 //! - `limits`: how far from the target a better place can be
+//! - `occupied_frame`: a frame, cells, and the occupancy with these cells
 //! - `row_search`: the arguments of the search by rows
 //! - `open_spans`: free spans of a row off soft blockages
 //! - `levels`: free spans on the rows that a cell covers
@@ -46,6 +47,7 @@ mod levels;
 mod limits;
 mod nearest;
 mod neighbours;
+mod occupied_frame;
 mod on_row;
 mod open_spans;
 mod plain_search;

@@ -2,10 +2,10 @@
 
 ghost use Rattle.std.specs.Prelude.{◌≡◌, ◌≤◌, ◌<◌, ◌+ℤ◌, ◌-ℤ◌, pos, min, option_map, ◌⊎◌};
 ghost use Rattle.lf_rules.specs.Choice.{spot_of};
-ghost use Rattle.lf_legalize.specs.Extents.{IsNearDefPoint, search_limit as limit_of, IsBetter};
+ghost use Rattle.lf_legalize.specs.Extents.{search_limit as limit_of, IsBetter};
 
 use crate::key::{distance, has_lesser_key};
-use crate::row_search::RowSearch;
+use crate::row_search::{RowSearch, SearchWindow};
 use lf_floorplan::Place;
 use lf_units::{Point, Span};
 
@@ -32,18 +32,18 @@ pub(crate) fn limit(target: &Point, reach: u64, best: &Option<Place>) -> u64
 }
 
 /// The x range of the boxes of a cell whose x differs from the target's by at most `slack`.
-pub(crate) fn window(search: &RowSearch<'_>, slack: u64) -> Span
-    requires near { IsNearDefPoint search.now.target.now }
-    requires small { slack ≤ 68719476736 }
-    ensures lo { result.lo ≡ search.now.target.now.x -ℤ pos slack }
-    ensures hi { result.hi ≡ (search.now.target.now.x +ℤ pos slack) +ℤ search.now.size.x }
+pub(crate) fn window(search: &RowSearch<'_>, slack: u64) -> SearchWindow
+    requires { slack ≤ 68719476736 }
+    ensures lo { result.span.lo ≡ search.now.target.now.x -ℤ pos slack }
+    ensures hi { result.span.hi ≡ (search.now.target.now.x +ℤ pos slack) +ℤ search.now.size.x }
 {
     let slack = slack as i64;
     let x = search.target.x;
-    Span {
+    let span = Span {
         lo: x - slack,
         hi: x + slack + search.size.x,
-    }
+    };
+    SearchWindow { span }
 }
 
 /// The better of the best place so far and this one.

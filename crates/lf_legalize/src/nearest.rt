@@ -1,18 +1,17 @@
 //! The best place of a cell, searched on the rows around the target, farther away in each round.
 
-ghost use Rattle.std.specs.Prelude.{◌≡◌, ◌↔◌, ◌⊎◌, ◌≤◌, ◌<◌, ◌≤ℤ◌, ◌<ℤ◌, IfOk, IsTrue, Some, length, negsuc, option_map, pos, slice_get};
+ghost use Rattle.std.specs.Prelude.{◌≡◌, ◌↔◌, ◌⊎◌, ◌≤◌, ◌<◌, ◌≤ℤ◌, ◌<ℤ◌, IfOk, IsTrue, Some, length, option_map, pos, slice_get};
 ghost use Rattle.lf_floorplan.specs.declared.parts.Row.{Row};
 ghost use Rattle.lf_floorplan.specs.Rows.{IsCoreRow, row_area};
 ghost use Rattle.lf_rules.specs.Choice.{IsChoice, IsAllowedPlace, SpotPlace, spot_of};
 ghost use Rattle.lf_frame_index.specs.RowsByY.{IsEntryOf};
-ghost use Rattle.lf_occupancy.specs.Floorplans.{IsOccupancyOf};
-ghost use Rattle.lf_legalize.specs.Extents.{IsNearDefPoint, IsOnRow, IsWithin, ScansPlacesWithin};
+ghost use Rattle.lf_legalize.specs.Extents.{IsOnRow, IsWithin, ScansPlacesWithin};
 ghost use Rattle.lf_legalize.specs.RowSearches.{IsChoiceAmong, IsOnRowIn, query_of_search};
 
 use crate::key::gap;
 use crate::limits::{better, limit, window};
 use crate::on_row::best_on_row;
-use crate::row_search::{RowSearch, rows_of};
+use crate::row_search::{RowSearch, SearchWindow, rows_of, search_is_occupied};
 use lf_floorplan::{Place, Row};
 use lf_frame_index::{RowEntry, runs_have_rows};
 use lf_units::{Point, Span};
@@ -32,16 +31,14 @@ fn best_in_window(
     alloc: Global,
     search: &RowSearch<'_>,
     number: usize,
-    window: &Span,
+    window: &SearchWindow,
 ) -> Result<Option<Place>, AllocError>
-    requires held { IsOccupancyOf search.now.frame.now search.now.cells.now search.now.occupancy.now }
-    requires within { number < length search.now.frame.now.rows }
-    requires low { negsuc 4611686018427387903 ≤ℤ window.now.lo }
+    requires { number < length search.now.frame.now.rows }
     ensures { (r : Row) → slice_get search.now.frame.now.rows number ≡ Some r → IfOk result (λ found.
-        IsChoiceAmong (IsOnRowIn search.now.frame.now search.now.size r window.now) (query_of_search search.now) search.now.target.now (option_map spot_of found)) }
+        IsChoiceAmong (IsOnRowIn search.now.frame.now search.now.size r window.now.span) (query_of_search search.now) search.now.target.now (option_map spot_of found)) }
 {
     let row = &search.frame.rows.as_slice()[number];
-    if is_beside(&search.frame.pitch, row, window) {
+    if is_beside(&search.frame.pitch, row, &window.span) {
         return Ok(None);
     }
     best_on_row(alloc, search, number, window)
@@ -55,8 +52,6 @@ fn with_row(
     best: Option<Place>,
     entry: &RowEntry,
 ) -> Result<Option<Place>, AllocError>
-    requires held { IsOccupancyOf search.now.frame.now search.now.cells.now search.now.occupancy.now }
-    requires near { IsNearDefPoint search.now.target.now }
     requires small { reach ≤ 68719476736 }
     requires known { IsEntryOf search.now.frame.now entry.now }
     ensures { IfOk result (λ found.
@@ -82,13 +77,12 @@ fn best_within(
     search: &RowSearch<'_>,
     reach: u64,
 ) -> Result<Option<Place>, AllocError>
-    requires held { IsOccupancyOf search.now.frame.now search.now.cells.now search.now.occupancy.now }
-    requires near { IsNearDefPoint search.now.target.now }
-    requires small { reach ≤ 68719476736 }
+    requires { reach ≤ 68719476736 }
     ensures { IfOk result (λ found.
         IsChoiceAmong (IsWithin search.now.target.now reach) (query_of_search search.now) search.now.target.now (option_map spot_of found)) }
 {
     runs_have_rows();
+    search_is_occupied(search);
     let y = search.target.y;
     let height = reach as i64;
     let mut best = None;
@@ -108,8 +102,6 @@ pub(crate) fn nearest(
     search: &RowSearch<'_>,
     farthest: u64,
 ) -> Result<Option<Place>, AllocError>
-    requires held { IsOccupancyOf search.now.frame.now search.now.cells.now search.now.occupancy.now }
-    requires near { IsNearDefPoint search.now.target.now }
     requires small { farthest ≤ 68719476736 }
     requires all { (p : SpotPlace) → IsAllowedPlace (query_of_search search.now) p → IsWithin search.now.target.now farthest p }
     ensures { IfOk result (λ found. IsChoice (query_of_search search.now) search.now.target.now (option_map spot_of found)) }

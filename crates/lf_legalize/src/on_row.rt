@@ -1,19 +1,18 @@
 //! The best place of a cell on one row.
 
-ghost use Rattle.std.specs.Prelude.{◌≡◌, ◌↔◌, ◌<◌, ◌≤ℤ◌, ◌<ℤ◌, All, IfOk, IsTrue, Some, negsuc, pos, option_map, slice_get, length, map};
+ghost use Rattle.std.specs.Prelude.{◌≡◌, ◌↔◌, ◌<◌, ◌<ℤ◌, All, IfOk, IsTrue, Some, pos, option_map, slice_get, length, map};
 ghost use Rattle.lf_floorplan.specs.declared.parts.Row.{Row};
 ghost use Rattle.lf_floorplan.specs.Bounds.{IsDefNumber};
 ghost use Rattle.lf_rules.specs.Choice.{spot_of};
 ghost use Rattle.lf_gaps.specs.Gaps.{FitsRows};
 ghost use Rattle.lf_spans.specs.Grids.{FindsNearest, IsBounded, IsBoundedSpan, IsGrid, grid_of};
 ghost use Rattle.lf_spans.specs.Spans.{IsRising};
-ghost use Rattle.lf_occupancy.specs.Floorplans.{IsOccupancyOf};
 ghost use Rattle.lf_legalize.specs.Levels.{AreLevels, FindsOrient, IsFirstOrient, IsEquivalentTarget, FitsRow};
 ghost use Rattle.lf_legalize.specs.RowSearches.{IsChoiceAmong, IsOnRowIn, query_of_search};
 
 use crate::levels::{BottomRow, free_by_level};
 use crate::open_spans::open_in_row;
-use crate::row_search::RowSearch;
+use crate::row_search::{RowSearch, SearchWindow, search_is_occupied};
 use lf_floorplan::{Frame, Place, Row, mac_at};
 use lf_gaps::best_in_row;
 use lf_orient::Orient;
@@ -36,10 +35,11 @@ fn fits_row(search: &RowSearch<'_>, bottom: &Row, orient: Orient) -> bool
     ensures { IsTrue result ↔ FitsRow search.now bottom.now orient }
 {
     let mac = mac_at(search.frame, search.mac);
-    if !is_on_rail(mac, search.height, bottom) {
+    let height = u32::from(search.height);
+    if !is_on_rail(mac, height, bottom) {
         return false;
     }
-    is_oriented(search.frame, mac, orient, search.height, bottom)
+    is_oriented(search.frame, mac, orient, height, bottom)
 }
 
 /// The first of the orientations N, S, FN and FS that the bottom row allows the cell. `None` if it
@@ -115,12 +115,12 @@ fn nearest_x(
     bottom: &BottomRow<'_>,
     lists: &[Vec<Span>],
 ) -> Result<Option<i64>, AllocError>
-    requires held { IsOccupancyOf search.now.frame.now search.now.cells.now search.now.occupancy.now }
     requires is_in_place { slice_get search.now.frame.now.rows bottom.now.number ≡ Some bottom.now.row.now }
-    requires levels { AreLevels search.now bottom.now.number bottom.now.row.now bottom.now.window.now search.now.height (map (λ list. list.items) lists.now) }
+    requires levels { AreLevels search.now bottom.now.number bottom.now.row.now bottom.now.window.now.span search.now.height (map (λ list. list.items) lists.now) }
     ensures { IfOk result (λ found. let rows = map (λ list. list.items) lists.now in
         FindsNearest (λ x. FitsRows rows (grid_of bottom.now.row.now.x search.now.frame.now.pitch.x) search.now.size.x x) search.now.target.now.x found) }
 {
+    search_is_occupied(search);
     let grid = grid_on(bottom.row, &search.frame.pitch);
     let target = equivalent_target(&search.target.x);
     nearest_fit(alloc, lists, &grid, &search.size.x, &target)
@@ -144,14 +144,14 @@ fn best_at(
     orient: Orient,
     lists: &[Vec<Span>],
 ) -> Result<Option<Place>, AllocError>
-    requires held { IsOccupancyOf search.now.frame.now search.now.cells.now search.now.occupancy.now }
     requires is_in_place { slice_get search.now.frame.now.rows bottom.now.number ≡ Some bottom.now.row.now }
     requires first { IsFirstOrient search.now bottom.now.row.now orient }
-    requires levels { AreLevels search.now bottom.now.number bottom.now.row.now bottom.now.window.now search.now.height (map (λ list. list.items) lists.now) }
+    requires levels { AreLevels search.now bottom.now.number bottom.now.row.now bottom.now.window.now.span search.now.height (map (λ list. list.items) lists.now) }
     ensures { IfOk result (λ found.
-        IsChoiceAmong (IsOnRowIn search.now.frame.now search.now.size bottom.now.row.now bottom.now.window.now) (query_of_search search.now) search.now.target.now
+        IsChoiceAmong (IsOnRowIn search.now.frame.now search.now.size bottom.now.row.now bottom.now.window.now.span) (query_of_search search.now) search.now.target.now
         (option_map spot_of found)) }
 {
+    search_is_occupied(search);
     let Some(x) = nearest_x(alloc, search, bottom, lists)? else {
         return Ok(None);
     };
@@ -165,15 +165,14 @@ fn best_of_one(
     bottom: &BottomRow<'_>,
     orient: Orient,
 ) -> Result<Option<Place>, AllocError>
-    requires held { IsOccupancyOf search.now.frame.now search.now.cells.now search.now.occupancy.now }
     requires is_in_place { slice_get search.now.frame.now.rows bottom.now.number ≡ Some bottom.now.row.now }
     requires first { IsFirstOrient search.now bottom.now.row.now orient }
-    requires low { negsuc 4611686018427387903 ≤ℤ bottom.now.window.now.lo }
     requires one { search.now.height ≡ 1 }
     ensures { IfOk result (λ found.
-        IsChoiceAmong (IsOnRowIn search.now.frame.now search.now.size bottom.now.row.now bottom.now.window.now) (query_of_search search.now) search.now.target.now
+        IsChoiceAmong (IsOnRowIn search.now.frame.now search.now.size bottom.now.row.now bottom.now.window.now.span) (query_of_search search.now) search.now.target.now
         (option_map spot_of found)) }
 {
+    search_is_occupied(search);
     let free = open_in_row(alloc, search, bottom.number, bottom.window)?;
     if free.is_empty() {
         return Ok(None);
@@ -187,14 +186,13 @@ pub(crate) fn best_on_row(
     alloc: Global,
     search: &RowSearch<'_>,
     number: usize,
-    window: &Span,
+    window: &SearchWindow,
 ) -> Result<Option<Place>, AllocError>
-    requires held { IsOccupancyOf search.now.frame.now search.now.cells.now search.now.occupancy.now }
-    requires within { number < length search.now.frame.now.rows }
-    requires low { negsuc 4611686018427387903 ≤ℤ window.now.lo }
+    requires { number < length search.now.frame.now.rows }
     ensures { (r : Row) → slice_get search.now.frame.now.rows number ≡ Some r → IfOk result (λ found.
-        IsChoiceAmong (IsOnRowIn search.now.frame.now search.now.size r window.now) (query_of_search search.now) search.now.target.now (option_map spot_of found)) }
+        IsChoiceAmong (IsOnRowIn search.now.frame.now search.now.size r window.now.span) (query_of_search search.now) search.now.target.now (option_map spot_of found)) }
 {
+    search_is_occupied(search);
     let row = row_at(search.frame, number);
     let Some(orient) = first_orient(search, row) else {
         return Ok(None);

@@ -1,13 +1,12 @@
 //! The free spans of a row without those that soft blockages cover.
 
-ghost use Rattle.std.specs.Prelude.{◌≡◌, ◌≤ℤ◌, ℕ, IfOk, [], negsuc, slice_index_or};
+ghost use Rattle.std.specs.Prelude.{◌≡◌, ℕ, IfOk, [], slice_index_or};
 ghost use Rattle.lf_spans.specs.Spans.{IsMinus, IsRising};
-ghost use Rattle.lf_occupancy.specs.Floorplans.{IsOccupancyOf};
 ghost use Rattle.lf_occupancy.specs.Views.{IsPaddingOf};
 ghost use Rattle.lf_legalize.specs.Levels.{AreWithoutSoft, AreOpenInRow};
 ghost use Rattle.lf_legalize.specs.RowSearches.{padding_in};
 
-use crate::row_search::RowSearch;
+use crate::row_search::{RowSearch, SearchWindow, search_is_occupied};
 use lf_frame_index::{FrameIndex, StripRange};
 use lf_spans::spans_minus;
 use lf_units::Span;
@@ -45,10 +44,10 @@ fn without_soft(
 
 /// The padding of the search, in database units.
 fn padding_length(search: &RowSearch<'_>) -> i64
-    requires { IsOccupancyOf search.now.frame.now search.now.cells.now search.now.occupancy.now }
     ensures is { result ≡ padding_in search.now }
     ensures padding { IsPaddingOf search.now.occupancy.now result }
 {
+    search_is_occupied(search);
     search.padding.length(search.frame)
 }
 
@@ -58,20 +57,24 @@ pub(crate) fn open_in_row(
     alloc: Global,
     search: &RowSearch<'_>,
     number: usize,
-    window: &Span,
+    window: &SearchWindow,
 ) -> Result<Vec<Span>, AllocError>
-    requires held { IsOccupancyOf search.now.frame.now search.now.cells.now search.now.occupancy.now }
-    requires low { negsuc 4611686018427387903 ≤ℤ window.now.lo }
-    ensures { IfOk result (λ left. AreOpenInRow search.now.occupancy.now number search.now.id window.now (padding_in search.now) left.items) }
+    ensures { IfOk result (λ left. AreOpenInRow search.now.occupancy.now number search.now.id window.now.span (padding_in search.now) left.items) }
 {
+    search_is_occupied(search);
     let padding = padding_length(search);
     let free = search
         .occupancy
-        .free_in_row(alloc, number, search.id, window, padding)?;
+        .free_in_row(alloc, number, search.id, &window.span, padding)?;
     let index = search.occupancy.index();
     if index.has_no_soft() {
         return Ok(free);
     }
-    let near = index.strips_overlapping(number, search.id.team as usize, &window.lo, &window.hi);
+    let near = index.strips_overlapping(
+        number,
+        search.id.team as usize,
+        &window.span.lo,
+        &window.span.hi,
+    );
     without_soft(alloc, index, &near, free)
 }

@@ -17,6 +17,17 @@ use lf_orient::Orient;
 use lf_rules::{Padding, Placed, box_of, first_broken, overlaps_soft};
 use lf_units::Point;
 
+/// A site of a core row of the frame that is searched.
+#[derive(Clone, Copy)]
+struct RowSite<'a> {
+    search: &'a Search<'a>,
+    row: &'a Row,
+    /// The number of sites left of it in the row.
+    site: u32,
+    ghost core_row: { IsCoreRow search.now.frame.now.pitch row.now },
+    ghost within: { site < row.now.sites },
+}
+
 /// Whether the place is legal for the cell.
 fn is_legal(search: &Search<'_>, place: &Place) -> bool
     ensures { IsTrue result ↔ IsLegalAt (searched_cell search.now) (spot_of place.now) }
@@ -67,37 +78,34 @@ fn offset(row: &Row, pitch: &Point, site: u32) -> i64
 }
 
 /// The place on this site of the row, in this orientation.
-fn place_at(row: &Row, pitch: &Point, site: u32, orient: Orient) -> Place
-    requires core_ones { IsCoreRow pitch.now row.now }
-    requires wide { pos 0 <ℤ pitch.now.x }
-    requires within { site < row.now.sites }
-    ensures { spot_of result ≡ spot_at pitch.now row.now site orient }
+fn place_at(at: &RowSite<'_>, orient: Orient) -> Place
+    ensures { spot_of result ≡ spot_at at.now.search.now.frame.now.pitch at.now.row.now at.now.site orient }
 {
-    let x = i64::from(row.x) + offset(row, pitch, site);
-    Place::new(x as i32, row.y, orient)
+    let x = i64::from(at.row.x) + offset(at.row, &at.search.frame.pitch, at.site);
+    Place::new(x as i32, at.row.y, orient)
 }
 
 /// The best place so far, compared with those on this site of the row.
-fn with_site(search: &Search<'_>, best: Option<Place>, row: &Row, site: u32) -> Option<Place>
-    requires core_ones { IsCoreRow search.now.frame.now.pitch row.now }
-    requires within { site < row.now.sites }
-    ensures { SearchScansPlaces (IsAtSite search.now.frame.now.pitch row.now site) search.now best result }
+fn with_site(at: &RowSite<'_>, best: Option<Place>) -> Option<Place>
+    ensures { SearchScansPlaces (IsAtSite at.now.search.now.frame.now.pitch at.now.row.now at.now.site)
+        at.now.search.now best result }
 {
-    let pitch = &search.frame.pitch;
-    let north = with_place(search, best, place_at(row, pitch, site, Orient::N));
-    let south = with_place(search, north, place_at(row, pitch, site, Orient::S));
-    let mirrored = with_place(search, south, place_at(row, pitch, site, Orient::FN));
-    with_place(search, mirrored, place_at(row, pitch, site, Orient::FS))
+    let search = at.search;
+    let north = with_place(search, best, place_at(at, Orient::N));
+    let south = with_place(search, north, place_at(at, Orient::S));
+    let mirrored = with_place(search, south, place_at(at, Orient::FN));
+    with_place(search, mirrored, place_at(at, Orient::FS))
 }
 
 /// The best place so far, compared with those of this row.
-fn with_row(search: &Search<'_>, best: Option<Place>, row: &Row) -> Option<Place>
+fn with_row<'a>(search: &'a Search<'a>, best: Option<Place>, row: &'a Row) -> Option<Place>
     requires { IsCoreRow search.now.frame.now.pitch row.now }
     ensures { SearchScansPlaces (IsOnSites search.now.frame.now.pitch row.now row.now.sites) search.now best result }
 {
     let mut best = best;
     for site in 0..row.sites {
-        best = with_site(search, best, row, site);
+        let at = RowSite { search, row, site };
+        best = with_site(&at, best);
     }
     best
 }

@@ -19,19 +19,13 @@ use Rattle.lf_undo.specs.declared.moves.Move.{Move}
 use Rattle.lf_undo.specs.Entries.{Places}
 use Rattle.lf_placement.specs.Placements.{SameButPlaces, boxes_at, moves_applied, working_places_of}
 use Rattle.lf_placement.specs.Steps.{AreRemoved, IsRemovedOrUnchanged, BoxesMayBeInserted, DoNotMove, AreInsertedExcept, RemovesFirst, moves_reverted, moved_positions}
-use Rattle.lf_placement.proofs.Moves.{same_back, same_made}
+use Rattle.lf_placement.proofs.Moves.{first_same, rest_same, same_back, same_made}
 use Rattle.lf_placement.proofs.Boxes.{fits_still}
 
 -- ---- macros
 
 abbrev pub macs : List Cell → List ℕ
 macs cells = map (λ c. c.mac) cells
-
-pub first_same : {a b : Cell} {rest others : List Cell} → a ∷ rest ≡ b ∷ others → a ≡ b
-first_same e = cc
-
-pub rest_same : {a b : Cell} {rest others : List Cell} → a ∷ rest ≡ b ∷ others → rest ≡ others
-rest_same e = cc
 
 pub macs_same : (old new : List Cell) → SameButPlaces old new → macs new ≡ macs old
 macs_same [] [] same = refl

@@ -25,9 +25,9 @@ use Rattle.lf_undo.specs.Entries.{Places, moves_taken_back}
 use Rattle.lf_placement.specs.Placements.{Fits, IsPlacing, OtherCellsStay, Placing, SameButPlaces, boxes_at, committed_of, moves_applied, placing_of, working_places_of}
 use Rattle.lf_placement.specs.Steps.{moves_reverted}
 use Rattle.lf_placement.specs.Laws.{SameMacros}
-use Rattle.lf_placement.proofs.Moves.{length_same, places_back, same_back, same_made}
+use Rattle.lf_placement.proofs.Moves.{first_same, length_same, places_back, rest_same, same_back, same_made}
 use Rattle.lf_placement.proofs.Boxes.{fits_still}
-use Rattle.lf_placement.proofs.Changing.{boxes_alike_at, boxes_at_new, boxes_at_work, first_same, macs_committed, macs_same, rest_same, sized_in}
+use Rattle.lf_placement.proofs.Changing.{boxes_alike_at, boxes_at_new, boxes_at_work, macs_committed, macs_same, sized_in}
 
 -- ---- what fits
 
@@ -65,7 +65,7 @@ committed_same (d ∷ ds) (c ∷ cs) same =
     ap (λ (x : Cell). x.committed ∷ committed_of cs) (first_same same) ∙ ap (λ (r : Places). d.committed ∷ r) (committed_same ds cs (rest_same same))
 
 -- what holds for the team's cells and for those of other teams holds for each team's cells
-each_team : (P : ℕ → List Cell → Type 0) (team : ℕ) (old new : Cells) → OtherCellsStay team old new → P team (cells_of new team)
+pub each_team : (P : ℕ → List Cell → Type 0) (team : ℕ) (old new : Cells) → OtherCellsStay team old new → P team (cells_of new team)
     → ((other : ℕ) → P other (cells_of old other)) → (other : ℕ) → P other (cells_of new other)
 each_team P team old new others here each other =
     ⊎_elim (λ (same : other ≡ team). rw same here) (λ (differ : other ≢ team). rw (others.cells other differ) (each other)) (cases_eq other team)

@@ -61,10 +61,10 @@ pub same_back : (moves : List Move) (cells : List Cell) → SameButPlaces cells 
 same_back [] cells = refl
 same_back (m ∷ ms) cells = same_moved (moves_reverted ms cells) m.own m.old ∙ same_back ms cells
 
-first_same : {a b : Cell} {rest others : List Cell} → a ∷ rest ≡ b ∷ others → a ≡ b
+pub first_same : {a b : Cell} {rest others : List Cell} → a ∷ rest ≡ b ∷ others → a ≡ b
 first_same e = cc
 
-rest_same : {a b : Cell} {rest others : List Cell} → a ∷ rest ≡ b ∷ others → rest ≡ others
+pub rest_same : {a b : Cell} {rest others : List Cell} → a ∷ rest ≡ b ∷ others → rest ≡ others
 rest_same e = cc
 
 first_place : {a b : Option Place} {rest others : Places} → a ∷ rest ≡ b ∷ others → a ≡ b

@@ -3,17 +3,17 @@
 //! All cells of a change are removed from the strips first, and then all are inserted. So no
 //! allocation is needed if the cells fit at their new places.
 
-ghost use Rattle.std.specs.Prelude.{◌≡◌, All, List, drop, map, take};
+ghost use Rattle.std.specs.Prelude.{◌≡◌, List, drop, map, take};
 ghost use Rattle.lf_cells.specs.declared.cell.Cell.{Cell};
 ghost use Rattle.lf_cells.specs.Cells.{as_committed, cells_of};
-ghost use Rattle.lf_legalize.specs.Members.{IsSizedCell};
 ghost use Rattle.lf_occupancy.specs.Views.{FitIn};
 ghost use Rattle.lf_occupancy.specs.Floorplans.{working_box_of, boxes_in};
 ghost use Rattle.lf_occupancy.specs.Strips.{MarksBoxes, with_boxes};
-ghost use Rattle.lf_placement.specs.Placements.{HaveMoved, OtherCellsStay, moves_applied};
+ghost use Rattle.lf_placement.specs.Placements.{AreSized, HaveMoved, OtherCellsStay, moves_applied};
 ghost use Rattle.lf_placement.specs.Steps.{KeepsStripRooms, moves_reverted};
 
 use crate::occupancy_sync::{insert_moved, remove_moved};
+use crate::sized_cells::SizedCells;
 use crate::table_sync::{apply_in_table, revert_in_table};
 use lf_cells::CellTable;
 use lf_floorplan::Frame;
@@ -40,7 +40,7 @@ pub(crate) fn apply_moves(
     moves: &mut Moves,
     from: usize,
 )
-    requires sized { All (IsSizedCell frame.now) (cells_of cells.old team) }
+    requires sized { AreSized frame.now cells.old }
     requires holds { MarksBoxes occupancy.old (boxes_in frame.now cells.old) }
     requires fits { FitIn (with_boxes occupancy.old (boxes_in frame.now cells.old)) team (map (working_box_of frame.now) (moves_applied (drop from moves.old) (cells_of cells.old team))) }
     ensures own { cells_of cells.new team ≡ moves_applied (drop from moves.old) (cells_of cells.old team) }
@@ -49,21 +49,11 @@ pub(crate) fn apply_moves(
     ensures holds { MarksBoxes occupancy.new (boxes_in frame.now cells.new) }
     ensures rooms { KeepsStripRooms occupancy.old occupancy.new }
 {
-    remove_moved(
-        frame,
-        occupancy,
-        cells,
-        team,
-        moves_from(moves.as_slice(), from),
-    );
+    let before = SizedCells { frame, cells };
+    remove_moved(&before, occupancy, team, moves_from(moves.as_slice(), from));
     apply_in_table(cells, team, moves, from);
-    insert_moved(
-        frame,
-        occupancy,
-        cells,
-        team,
-        moves_from(moves.as_slice(), from),
-    );
+    let after = SizedCells { frame, cells };
+    insert_moved(&after, occupancy, team, moves_from(moves.as_slice(), from));
 }
 
 /// Reverts the moves, the last one first.
@@ -74,7 +64,7 @@ pub(crate) fn revert_moves(
     team: usize,
     moves: &Moves,
 )
-    requires sized { All (IsSizedCell frame.now) (cells_of cells.old team) }
+    requires sized { AreSized frame.now cells.old }
     requires holds { MarksBoxes occupancy.old (boxes_in frame.now cells.old) }
     requires fits { FitIn (with_boxes occupancy.old (boxes_in frame.now cells.old)) team (map (working_box_of frame.now) (moves_reverted moves.now (cells_of cells.old team))) }
     ensures own { cells_of cells.new team ≡ moves_reverted moves.now (cells_of cells.old team) }
@@ -82,9 +72,11 @@ pub(crate) fn revert_moves(
     ensures holds { MarksBoxes occupancy.new (boxes_in frame.now cells.new) }
     ensures rooms { KeepsStripRooms occupancy.old occupancy.new }
 {
-    remove_moved(frame, occupancy, cells, team, moves.as_slice());
+    let before = SizedCells { frame, cells };
+    remove_moved(&before, occupancy, team, moves.as_slice());
     revert_in_table(cells, team, moves);
-    insert_moved(frame, occupancy, cells, team, moves.as_slice());
+    let after = SizedCells { frame, cells };
+    insert_moved(&after, occupancy, team, moves.as_slice());
 }
 
 /// Makes the working places of the team's cells their committed ones.

@@ -3,11 +3,12 @@
 ghost use Rattle.std.specs.Prelude.{◌≡◌, ◌≤◌, ℕ, IfOk, length};
 ghost use Rattle.lf_cells.specs.Cells.{cells_of};
 ghost use Rattle.lf_cells.specs.Initial.{initial_cells, initial_components};
-ghost use Rattle.lf_occupancy.specs.Floorplans.{HaveSize, IsMarkedBy, boxes_in};
+ghost use Rattle.lf_occupancy.specs.Floorplans.{IsMarkedBy, boxes_in};
 ghost use Rattle.lf_occupancy.specs.Strips.{MarksBoxes};
 ghost use Rattle.lf_placement.specs.Placements.{AreSized, IsPlacing, placing_of};
 
 use crate::counted_capacity::fit_all_committed;
+use crate::sized_cells::SizedCells;
 use lf_cells::CellTable;
 use lf_floorplan::{Frame, Loaded};
 use lf_frame_index::FrameIndex;
@@ -35,27 +36,21 @@ fn cells_in(alloc: Global, loaded: Loaded) -> Result<(Frame, CellTable), AllocEr
 }
 
 /// The occupancy of the frame by the cells at their working places.
-fn occupancy_of(alloc: Global, frame: &Frame, cells: &CellTable) -> Result<Occupancy, AllocError>
-    requires { HaveSize frame.now cells.now }
-    ensures held { IfOk result (λ held. IsMarkedBy frame.now cells.now held) }
+fn occupancy_of(alloc: Global, sized: &SizedCells<'_>) -> Result<Occupancy, AllocError>
+    ensures held { IfOk result (λ held. IsMarkedBy sized.now.frame.now sized.now.cells.now held) }
 {
-    let index = FrameIndex::build(alloc, frame)?;
-    Occupancy::build(alloc, frame, index, cells)
+    let index = FrameIndex::build(alloc, sized.frame)?;
+    Occupancy::build(alloc, sized.frame, index, sized.cells)
 }
 
 /// The occupancy of the frame, with room for the cells' committed places.
-pub(crate) fn fitted(
-    alloc: Global,
-    frame: &Frame,
-    cells: &CellTable,
-) -> Result<Occupancy, AllocError>
-    requires sized { AreSized frame.now cells.now }
-    requires few { (team : ℕ) → length (cells_of cells.now team) ≤ 4000000 }
-    ensures holds { IfOk result (λ held. MarksBoxes held (boxes_in frame.now cells.now)) }
-    ensures placing { IfOk result (λ held. IsPlacing (placing_of frame.now cells.now held)) }
+pub(crate) fn fitted(alloc: Global, sized: &SizedCells<'_>) -> Result<Occupancy, AllocError>
+    requires { (team : ℕ) → length (cells_of sized.now.cells.now team) ≤ 4000000 }
+    ensures holds { IfOk result (λ held. MarksBoxes held (boxes_in sized.now.frame.now sized.now.cells.now)) }
+    ensures placing { IfOk result (λ held. IsPlacing (placing_of sized.now.frame.now sized.now.cells.now held)) }
 {
-    let mut occupancy = occupancy_of(alloc, frame, cells)?;
-    fit_all_committed(alloc, frame, cells, &mut occupancy)?;
+    let mut occupancy = occupancy_of(alloc, sized)?;
+    fit_all_committed(alloc, sized, &mut occupancy)?;
     Ok(occupancy)
 }
 
@@ -69,7 +64,11 @@ pub(crate) fn tables_of(alloc: Global, loaded: Loaded) -> Result<BuiltParts, All
 {
     let built = cells_in(alloc, loaded)?;
     let (frame, cells) = built;
-    let occupancy = occupancy_of(alloc, &frame, &cells)?;
+    let sized = SizedCells {
+        frame: &frame,
+        cells: &cells,
+    };
+    let occupancy = occupancy_of(alloc, &sized)?;
     occupancy.boxes_fit();
     Ok(BuiltParts {
         frame,

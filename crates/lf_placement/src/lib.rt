@@ -20,6 +20,7 @@
 //!
 //! Modules, in reading order:
 //!
+//! - `sized_cells`: a frame and cells with its macros
 //! - `table_sync`: moves in the table of cells
 //! - `occupancy_sync`: moved cells removed from the strips and inserted again
 //! - `apply`: moves in the table and in the strips
@@ -46,6 +47,7 @@ mod counted_capacity;
 mod laws;
 mod occupancy_sync;
 mod placement;
+mod sized_cells;
 mod table_sync;
 mod undo_capacity;
 

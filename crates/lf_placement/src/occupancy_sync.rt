@@ -1,61 +1,53 @@
 //! Removes cells of a team from the strips, and inserts them at their working places.
 
-ghost use Rattle.std.specs.Prelude.{◌≡◌, All, IfSome, List, None, Option, Some, [], length, slice_index_or};
+ghost use Rattle.std.specs.Prelude.{◌≡◌, IfSome, List, None, Option, Some, [], length, slice_index_or};
 ghost use Rattle.lf_units.specs.declared.geometry.Rect.{Rect};
-ghost use Rattle.lf_cells.specs.Cells.{cell_at, cells_of};
-ghost use Rattle.lf_legalize.specs.Members.{IsSizedCell};
+ghost use Rattle.lf_cells.specs.Cells.{cell_at};
 ghost use Rattle.lf_occupancy.specs.Floorplans.{boxes_in};
 ghost use Rattle.lf_occupancy.specs.MarkLists.{IsPlaceX};
 ghost use Rattle.lf_occupancy.specs.Views.{cell_box};
 ghost use Rattle.lf_occupancy.specs.Strips.{MarksBoxes, HasBoxOrNone, with_boxes};
 ghost use Rattle.lf_placement.specs.Steps.{MovedMayBeInserted, MarksSome, IsPartly, KeepsStripRooms, CellMayBeInserted, BoxMayBeInserted, BoxesMayBeInserted, RemovesFirst, box_moved, box_set, moved_positions, working_boxes};
 
-use lf_cells::{CellId, CellTable};
-use lf_floorplan::{Frame, Place};
+use crate::sized_cells::SizedCells;
+use lf_cells::CellId;
+use lf_floorplan::Place;
 use lf_occupancy::Occupancy;
 use lf_rules::box_of;
 use lf_undo::Move;
 use lf_units::Rect;
 
 /// The box of a cell at a place. `None` if there is no place, or no such cell.
-pub(crate) fn box_at(
-    frame: &Frame,
-    cells: &CellTable,
-    id: CellId,
-    place: Option<Place>,
-) -> Option<Rect>
-    requires { All (IsSizedCell frame.now) (cells_of cells.now id.team) }
-    ensures is { result ≡ box_moved frame.now (cell_at cells.now id) place }
+pub(crate) fn box_at(sized: &SizedCells<'_>, id: CellId, place: Option<Place>) -> Option<Rect>
+    ensures is { result ≡ box_moved sized.now.frame.now (cell_at sized.now.cells.now id) place }
     ensures edge { IfSome result (λ rect. IsPlaceX rect.x1) }
 {
-    let standing = cells.placement_of(id)?;
+    let standing = sized.cells.placement_of(id)?;
     let place = place?;
-    let mac = &frame.macros.as_slice()[standing.mac];
-    Some(box_of(frame, mac, &place))
+    let mac = &sized.frame.macros.as_slice()[standing.mac];
+    Some(box_of(sized.frame, mac, &place))
 }
 
 /// The box of a cell at its working place. `None` if it is unplaced, or there is no such cell.
-fn working_box(frame: &Frame, cells: &CellTable, id: CellId) -> Option<Rect>
-    requires { All (IsSizedCell frame.now) (cells_of cells.now id.team) }
-    ensures is { result ≡ cell_box (working_boxes frame.now cells.now id.team) id.own }
+fn working_box(sized: &SizedCells<'_>, id: CellId) -> Option<Rect>
+    ensures is { result ≡ cell_box (working_boxes sized.now.frame.now sized.now.cells.now id.team) id.own }
     ensures edge { IfSome result (λ rect. IsPlaceX rect.x1) }
 {
-    box_at(frame, cells, id, cells.working(id))
+    box_at(sized, id, sized.cells.working(id))
 }
 
 /// Removes the team's cell at position `own` from the strips. It is marked at its working place or
 /// not at all. Does nothing if there is no such cell.
-fn remove_cell(frame: &Frame, occupancy: &mut Occupancy, cells: &CellTable, team: usize, own: u32)
-    requires sized { All (IsSizedCell frame.now) (cells_of cells.now team) }
-    requires part { MarksSome (IsPartly team (working_boxes frame.now cells.now team)) occupancy.old }
-    ensures holds { (boxes : List (List (Option Rect))) → IsPartly team (working_boxes frame.now cells.now team) (with_boxes occupancy.old boxes)
+fn remove_cell(sized: &SizedCells<'_>, occupancy: &mut Occupancy, team: usize, own: u32)
+    requires { MarksSome (IsPartly team (working_boxes sized.now.frame.now sized.now.cells.now team)) occupancy.old }
+    ensures holds { (boxes : List (List (Option Rect))) → IsPartly team (working_boxes sized.now.frame.now sized.now.cells.now team) (with_boxes occupancy.old boxes)
         → MarksBoxes occupancy.old boxes → MarksBoxes occupancy.new (box_set boxes team own None) }
     ensures rooms { KeepsStripRooms occupancy.old occupancy.new }
 {
-    let Some(id) = cells.cell_of(team, own as usize) else {
+    let Some(id) = sized.cells.cell_of(team, own as usize) else {
         return;
     };
-    let Some(rect) = working_box(frame, cells, id) else {
+    let Some(rect) = working_box(sized, id) else {
         return;
     };
     occupancy.remove(id, &rect);
@@ -63,19 +55,18 @@ fn remove_cell(frame: &Frame, occupancy: &mut Occupancy, cells: &CellTable, team
 
 /// Removes the cells of the moves from the strips.
 pub(crate) fn remove_moved(
-    frame: &Frame,
+    sized: &SizedCells<'_>,
     occupancy: &mut Occupancy,
-    cells: &CellTable,
     team: usize,
     moves: &[Move],
 )
-    requires sized { All (IsSizedCell frame.now) (cells_of cells.now team) }
-    requires holds { MarksBoxes occupancy.old (boxes_in frame.now cells.now) }
-    ensures out { MarksSome (RemovesFirst team (moved_positions moves.now) (length moves.now) (with_boxes occupancy.old (boxes_in frame.now cells.now))) occupancy.new }
+    requires { MarksBoxes occupancy.old (boxes_in sized.now.frame.now sized.now.cells.now) }
+    ensures out { MarksSome (RemovesFirst team (moved_positions moves.now) (length moves.now)
+        (with_boxes occupancy.old (boxes_in sized.now.frame.now sized.now.cells.now))) occupancy.new }
     ensures rooms { KeepsStripRooms occupancy.old occupancy.new }
 {
     for next in moves {
-        remove_cell(frame, occupancy, cells, team, next.own);
+        remove_cell(sized, occupancy, team, next.own);
     }
 }
 
@@ -93,23 +84,18 @@ fn replace_box(occupancy: &mut Occupancy, id: CellId, rect: &Rect)
 
 /// Marks the team's cell at position `own` at its working place. It has no marks yet, or those of
 /// its working place. Does nothing if there is no such cell.
-fn replace_at_working(
-    frame: &Frame,
-    occupancy: &mut Occupancy,
-    cells: &CellTable,
-    team: usize,
-    own: u32,
-)
-    requires sized { All (IsSizedCell frame.now) (cells_of cells.now team) }
-    requires may { MarksSome (BoxesMayBeInserted team (working_boxes frame.now cells.now team)) occupancy.old }
-    ensures holds { (boxes : List (List (Option Rect))) → IsPartly team (working_boxes frame.now cells.now team) (with_boxes occupancy.old boxes)
-        → MarksBoxes occupancy.old boxes → MarksBoxes occupancy.new (box_set boxes team own (cell_box (working_boxes frame.now cells.now team) own)) }
+fn replace_at_working(sized: &SizedCells<'_>, occupancy: &mut Occupancy, team: usize, own: u32)
+    requires { MarksSome
+        (BoxesMayBeInserted team (working_boxes sized.now.frame.now sized.now.cells.now team)) occupancy.old }
+    ensures holds { (boxes : List (List (Option Rect))) → IsPartly team (working_boxes sized.now.frame.now sized.now.cells.now team) (with_boxes occupancy.old boxes)
+        → MarksBoxes occupancy.old boxes → MarksBoxes occupancy.new
+        (box_set boxes team own (cell_box (working_boxes sized.now.frame.now sized.now.cells.now team) own)) }
     ensures rooms { KeepsStripRooms occupancy.old occupancy.new }
 {
-    let Some(id) = cells.cell_of(team, own as usize) else {
+    let Some(id) = sized.cells.cell_of(team, own as usize) else {
         return;
     };
-    let Some(rect) = working_box(frame, cells, id) else {
+    let Some(rect) = working_box(sized, id) else {
         return;
     };
     replace_box(occupancy, id, &rect);
@@ -117,18 +103,19 @@ fn replace_at_working(
 
 /// Marks the team's cell at position `own` at its working place. It has no marks yet. Does nothing
 /// if there is no such cell.
-fn insert_absent(frame: &Frame, occupancy: &mut Occupancy, cells: &CellTable, team: usize, own: u32)
-    requires sized { All (IsSizedCell frame.now) (cells_of cells.now team) }
-    requires may { MarksSome (CellMayBeInserted team (working_boxes frame.now cells.now team) own) occupancy.old }
+fn insert_absent(sized: &SizedCells<'_>, occupancy: &mut Occupancy, team: usize, own: u32)
+    requires { MarksSome
+        (CellMayBeInserted team (working_boxes sized.now.frame.now sized.now.cells.now team) own) occupancy.old }
     ensures holds { (boxes : List (List (Option Rect))) → cell_box (slice_index_or boxes team []) own ≡ None
-        → IsPartly team (working_boxes frame.now cells.now team) (with_boxes occupancy.old boxes)
-        → MarksBoxes occupancy.old boxes → MarksBoxes occupancy.new (box_set boxes team own (cell_box (working_boxes frame.now cells.now team) own)) }
+        → IsPartly team (working_boxes sized.now.frame.now sized.now.cells.now team) (with_boxes occupancy.old boxes)
+        → MarksBoxes occupancy.old boxes → MarksBoxes occupancy.new
+        (box_set boxes team own (cell_box (working_boxes sized.now.frame.now sized.now.cells.now team) own)) }
     ensures rooms { KeepsStripRooms occupancy.old occupancy.new }
 {
-    let Some(id) = cells.cell_of(team, own as usize) else {
+    let Some(id) = sized.cells.cell_of(team, own as usize) else {
         return;
     };
-    let Some(rect) = working_box(frame, cells, id) else {
+    let Some(rect) = working_box(sized, id) else {
         return;
     };
     occupancy.insert(id, &rect);
@@ -138,22 +125,21 @@ fn insert_absent(frame: &Frame, occupancy: &mut Occupancy, cells: &CellTable, te
 /// Several moves may name the same cell. So if there is more than one move, each cell is removed
 /// again before it is inserted. Does not allocate.
 pub(crate) fn insert_moved(
-    frame: &Frame,
+    sized: &SizedCells<'_>,
     occupancy: &mut Occupancy,
-    cells: &CellTable,
     team: usize,
     moves: &[Move],
 )
-    requires sized { All (IsSizedCell frame.now) (cells_of cells.now team) }
-    requires may { MarksSome (MovedMayBeInserted frame.now cells.now team (moved_positions moves.now)) occupancy.old }
-    ensures holds { MarksBoxes occupancy.new (boxes_in frame.now cells.now) }
+    requires { MarksSome
+        (MovedMayBeInserted sized.now.frame.now sized.now.cells.now team (moved_positions moves.now)) occupancy.old }
+    ensures holds { MarksBoxes occupancy.new (boxes_in sized.now.frame.now sized.now.cells.now) }
     ensures rooms { KeepsStripRooms occupancy.old occupancy.new }
 {
     if moves.len() == 1 {
-        insert_absent(frame, occupancy, cells, team, moves[0].own);
+        insert_absent(sized, occupancy, team, moves[0].own);
         return;
     }
     for next in moves {
-        replace_at_working(frame, occupancy, cells, team, next.own);
+        replace_at_working(sized, occupancy, team, next.own);
     }
 }

@@ -17,6 +17,7 @@ use crate::apply::{apply_moves, commit_places, revert_moves};
 use crate::build::{BuiltParts, fitted, tables_of};
 use crate::capacity::reserve_moves;
 use crate::counted_capacity::{Change, reserve_change};
+use crate::sized_cells::SizedCells;
 use crate::undo_capacity::fit_moves_back;
 use lf_cells::{CellId, CellTable};
 use lf_floorplan::{Frame, Loaded, PackedPlace, Place};
@@ -79,7 +80,11 @@ impl Placement {
         ensures frame { IfOk result (λ placement. placement.frame ≡ frame) }
         ensures cells { IfOk result (λ placement. placement.cells ≡ cells) }
     {
-        let occupancy = fitted(alloc, &frame, &cells)?;
+        let sized = SizedCells {
+            frame: &frame,
+            cells: &cells,
+        };
+        let occupancy = fitted(alloc, &sized)?;
         Ok(Placement {
             frame,
             cells,
@@ -192,14 +197,11 @@ impl Placement {
         ensures ok { OnOk result (Fits self.new team (working_places_of (moves_applied moves.now (cells_of self.old.cells team)))) }
         ensures same { SameButRooms self.old self.new }
     {
-        reserve_moves(
-            alloc,
-            &self.frame,
-            &self.cells,
-            &mut self.occupancy,
-            team,
-            moves,
-        )
+        let sized = SizedCells {
+            frame: &self.frame,
+            cells: &self.cells,
+        };
+        reserve_moves(alloc, &sized, &mut self.occupancy, team, moves)
     }
 
     /// The number of boxes that each strip holds. These counts bound the working places of each
@@ -228,14 +230,11 @@ impl Placement {
             → OnOk result (BoundsAt self.new other places tally.new) }
         ensures same { SameButRooms self.old self.new }
     {
-        reserve_change(
-            &self.frame,
-            &self.cells,
-            &mut self.occupancy,
-            tally,
-            team,
-            change,
-        )
+        let sized = SizedCells {
+            frame: &self.frame,
+            cells: &self.cells,
+        };
+        reserve_change(&sized, &mut self.occupancy, tally, team, change)
     }
 
     /// Undoes moves of the team's cells on a list of places, the last one first, and makes room for

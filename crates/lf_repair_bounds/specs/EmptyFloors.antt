@@ -6,7 +6,7 @@ use Rattle.lf_floorplan.specs.declared.loaded.LoadedCell.{LoadedCell}
 use Rattle.lf_floorplan.specs.Design.{CellsNamed, ComponentsRise, IsCell}
 use Rattle.lf_cells.specs.Cells.{Cells, cells_of}
 use Rattle.lf_occupancy.specs.Floorplans.{HaveSize, IsMarkedBy}
-use Rattle.lf_repair_bounds.specs.declared.empty_floor.EmptyFloor.{EmptyFloor}
+use Rattle.lf_occupancy.specs.Strips.{Marked}
 
 -- the cell, unplaced, as the entry of this position
 abbrev pub unplaced_cell_at : ℕ → LoadedCell → LoadedCell
@@ -36,10 +36,19 @@ pub record IsEmptyTable (f : Frame) (table : Cells) : Type 0 where
   pub few : (team : ℕ) → length (cells_of table team) ≤ 4000000
   pub unplaced : (team : ℕ) → All (λ c. c.working ≡ None) (cells_of table team)
 
--- the floor without cells belongs to this frame
-pub record IsEmptyFloorOf (f : Frame) (bare : EmptyFloor) : Type 0 where
-  pub table : IsEmptyTable f bare.table
-  pub marked : IsMarkedBy f bare.table bare.occupancy
+-- a frame, and the cells of a floor without placed cells
+pub record EmptyFloorView : Type 0 where
+  pub frame : Frame
+  pub table : Cells
+
+-- the two of them
+abbrev pub empty_floor_of : Frame → Cells → EmptyFloorView
+empty_floor_of f table = record { frame = f; table = table }
+
+-- the floor without placed cells belongs to this frame
+pub record IsEmptyFloorOf (f : Frame) (table : Cells) (m : Marked) : Type 0 where
+  pub cells : IsEmptyTable f table
+  pub marked : IsMarkedBy f table m
 
 -- the number raised to the displacement, if there is one and it is larger
 abbrev pub raised : ℕ → Option ℕ → ℕ

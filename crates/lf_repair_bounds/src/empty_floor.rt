@@ -5,7 +5,7 @@ ghost use Rattle.lf_floorplan.specs.Design.{MakeDesign};
 ghost use Rattle.lf_floorplan.specs.LoadedCells.{borrowed_cell, with_name};
 ghost use Rattle.lf_cells.specs.Cells.{cell_at};
 ghost use Rattle.lf_repair_bounds.specs.Copies.{AreCopies};
-ghost use Rattle.lf_repair_bounds.specs.EmptyFloors.{AreUnplaced, IsEmptyFloorOf, IsEmptyTable, IsKeptOr, unplaced_cell_at};
+ghost use Rattle.lf_repair_bounds.specs.EmptyFloors.{AreUnplaced, IsEmptyTable, IsKeptOr, unplaced_cell_at};
 
 use crate::frame_copy::clone_frame;
 use lf_cells::{CellId, CellTable};
@@ -13,6 +13,7 @@ use lf_floorplan::{CellRef, Frame, Loaded, LoadedCells, PackedPlace, UnnamedCell
 use lf_frame_index::FrameIndex;
 use lf_occupancy::Occupancy;
 use std::alloc::{AllocError, Global};
+use std::marker::Model;
 
 /// The first cell of a macro in a team, and its position among the team's cells on the floor
 /// without cells.
@@ -25,12 +26,24 @@ struct First {
 /// For each team the first cells, in order of their macros.
 type Firsts = Vec<Vec<First>>;
 
-/// The frame's strips without marks, and the first cells of all macros and teams, unplaced.
+/// A frame, its strips without marks, and the first cells of all macros and teams, unplaced. A
+/// contract sees the frame and the cells.
 #[derive(Drop)]
-pub(crate) struct EmptyFloor {
+pub(crate) struct EmptyFloor<'a> {
+    pub(crate) frame: &'a Frame,
     pub(crate) table: CellTable,
     pub(crate) occupancy: Occupancy,
     firsts: Firsts,
+}
+
+impl<'a> Model for EmptyFloor<'a> {
+    ghost use Rattle.lf_repair_bounds.specs.EmptyFloors.{EmptyFloorView, IsEmptyFloorOf, empty_floor_of};
+
+    ghost Value = { EmptyFloorView };
+
+    ghost view = { λ e. empty_floor_of e.frame.now e.table };
+
+    ghost invariant = { λ e. IsEmptyFloorOf e.frame.now e.table e.occupancy };
 }
 
 /// The position in the team of its first cell of the macro.
@@ -144,8 +157,8 @@ fn no_firsts(alloc: Global, teams: usize) -> Result<Firsts, AllocError> {
 /// The floor of the design's frame without cells.
 ///
 /// `Err` if an allocation fails.
-pub(crate) fn empty_floor(alloc: Global, loaded: &Loaded) -> Result<EmptyFloor, AllocError>
-    ensures { IfOk result (λ bare. IsEmptyFloorOf loaded.now.frame bare) }
+pub(crate) fn empty_floor(alloc: Global, loaded: &Loaded) -> Result<EmptyFloor<'_>, AllocError>
+    ensures { IfOk result (λ bare. bare.frame ≡ loaded.now.frame) }
 {
     let frame = &loaded.frame;
     let mut firsts = no_firsts(alloc, frame.teams.len() + 1)?;
@@ -154,6 +167,7 @@ pub(crate) fn empty_floor(alloc: Global, loaded: &Loaded) -> Result<EmptyFloor, 
     let index = FrameIndex::build(alloc, frame)?;
     let occupancy = Occupancy::build(alloc, frame, index, &table)?;
     Ok(EmptyFloor {
+        frame,
         table,
         occupancy,
         firsts,
@@ -162,7 +176,7 @@ pub(crate) fn empty_floor(alloc: Global, loaded: &Loaded) -> Result<EmptyFloor, 
 
 /// A cell of the team and the macro with these numbers on the floor without cells. `None` if there
 /// is no such cell.
-pub(crate) fn id_of(bare: &EmptyFloor, team: usize, mac: usize) -> Option<CellId>
+pub(crate) fn id_of(bare: &EmptyFloor<'_>, team: usize, mac: usize) -> Option<CellId>
     ensures team { IfSome result (λ id. id.team ≡ team) }
     ensures mac { IfSome result (λ id. option_map (λ c. c.mac) (cell_at bare.now.table id) ≡ Some mac) }
 {

@@ -1,15 +1,14 @@
 //! The least displacements of cells, and the largest of them in each team.
 
 ghost use Rattle.std.specs.Prelude.{◌≡◌, ◌+◌, IfOk, Some, length, option_map, replicate};
-ghost use Rattle.lf_floorplan.specs.Design.{IsCell};
 ghost use Rattle.lf_floorplan.specs.LoadedCells.{borrowed_cell};
 ghost use Rattle.lf_rules.specs.Choice.{distance, spot_of};
 ghost use Rattle.lf_repair_bounds.specs.MinDisplacements.{AreMaxMinDisplacements, IsMinDisplacementOrNone, corner as corner_of};
-ghost use Rattle.lf_repair_bounds.specs.EmptyFloors.{IsEmptyFloorOf, IsRaised};
+ghost use Rattle.lf_repair_bounds.specs.EmptyFloors.{IsRaised};
 
-use crate::empty_floor::{EmptyFloor, empty_floor};
-use crate::nearest_place::{is_legal_alone, nearest};
-use lf_floorplan::{CellRef, Frame, Loaded, Place};
+use crate::empty_floor::empty_floor;
+use crate::nearest_place::{LoneCell, is_legal_alone, nearest};
+use lf_floorplan::{Loaded, Place};
 use lf_units::Point;
 use std::alloc::{AllocError, Global};
 
@@ -43,37 +42,26 @@ fn displacement_to(wanted_place: &Place, found: &Option<Place>) -> Option<u64>
 /// The least displacement of a cell at this place. `None` if no place is allowed for it.
 fn min_displacement_from(
     alloc: Global,
-    frame: &Frame,
-    bare: &EmptyFloor,
-    cell: &CellRef<'_>,
+    lone: &LoneCell<'_>,
     wanted_place: &Place,
 ) -> Result<Option<u64>, AllocError>
-    requires bare { IsEmptyFloorOf frame.now bare.now }
-    requires cell { IsCell frame.now (borrowed_cell cell.now) }
-    requires wanted_place { cell.now.place ≡ Some wanted_place.now }
-    ensures { IfOk result (IsMinDisplacementOrNone frame.now (borrowed_cell cell.now)) }
+    requires { lone.now.cell.now.place ≡ Some wanted_place.now }
+    ensures { IfOk result (IsMinDisplacementOrNone lone.now.frame.now (borrowed_cell lone.now.cell.now)) }
 {
-    if is_legal_alone(frame, bare, cell, wanted_place) {
+    if is_legal_alone(lone, wanted_place) {
         return Ok(Some(0));
     }
     let from = corner(wanted_place);
-    let found = nearest(alloc, frame, bare, cell, &from)?;
+    let found = nearest(alloc, lone, &from)?;
     Ok(displacement_to(wanted_place, &found))
 }
 
 /// The cell's least displacement. `None` if it is unplaced, or no place is allowed for it.
-fn min_displacement(
-    alloc: Global,
-    frame: &Frame,
-    bare: &EmptyFloor,
-    cell: &CellRef<'_>,
-) -> Result<Option<u64>, AllocError>
-    requires bare { IsEmptyFloorOf frame.now bare.now }
-    requires cell { IsCell frame.now (borrowed_cell cell.now) }
-    ensures { IfOk result (IsMinDisplacementOrNone frame.now (borrowed_cell cell.now)) }
+fn min_displacement(alloc: Global, lone: &LoneCell<'_>) -> Result<Option<u64>, AllocError>
+    ensures { IfOk result (IsMinDisplacementOrNone lone.now.frame.now (borrowed_cell lone.now.cell.now)) }
 {
-    match cell.place {
-        Some(wanted_place) => min_displacement_from(alloc, frame, bare, cell, &wanted_place),
+    match lone.cell.place {
+        Some(wanted_place) => min_displacement_from(alloc, lone, &wanted_place),
         None => Ok(None),
     }
 }
@@ -107,7 +95,12 @@ pub fn max_min_displacements(alloc: Global, loaded: &Loaded) -> Result<Vec<u64>,
     let mut largest = zeros(alloc, loaded.frame.teams.len() + 1)?;
     for at in 0..loaded.cells.len() {
         let cell = loaded.cells.get(at).unwrap();
-        let way = min_displacement(alloc, &loaded.frame, &bare, &cell)?;
+        let lone = LoneCell {
+            bare: &bare,
+            frame: &loaded.frame,
+            cell: &cell,
+        };
+        let way = min_displacement(alloc, &lone)?;
         raise(&mut largest, cell.team, way);
     }
     Ok(largest)

@@ -3,16 +3,16 @@ use Rattle.std.proofs.lemmas.Int.{ints}
 use Rattle.lf_legalize.proofs.Reaches.{small_search}
 use Rattle.lf_legalize.proofs.limits.window.Goals as goal
 
-pub overflow_add-result-2 : goal.overflow_add-result-2
-overflow_add-result-2 c =
+pub overflow_add-span-2 : goal.overflow_add-span-2
+overflow_add-span-2 c =
     let small = small_search c.args.search.now in
-    omega (arith, ints, small.wide, small.x_small, c.requires.near.across.low, c.requires.near.across.high, c.requires.small)
+    omega (arith, ints, small.wide, small.x_small, c.args.search.now.near.across.low, c.args.search.now.near.across.high, c.requires)
 
 pub returns-clause-lo : goal.returns-clause-lo
 returns-clause-lo c =
-    omega (arith, ints, c.requires.near.across.low, c.requires.near.across.high, c.requires.small)
+    omega (arith, ints, c.args.search.now.near.across.low, c.args.search.now.near.across.high, c.requires)
 
 pub returns-clause-hi : goal.returns-clause-hi
 returns-clause-hi c =
     let small = small_search c.args.search.now in
-    omega (arith, ints, small.wide, small.x_small, c.requires.near.across.low, c.requires.near.across.high, c.requires.small)
+    omega (arith, ints, small.wide, small.x_small, c.args.search.now.near.across.low, c.args.search.now.near.across.high, c.requires)

@@ -12,7 +12,7 @@ pub with_row-requires-clause-known : goal.with_row-requires-clause-known
 with_row-requires-clause-known c =
     let run = rw c.rows_of.ensures at c.between-run.ensures in
     run_holds (IsEntryOf c.args.search.now.frame.now) c.args.search.now.occupancy.now.index.rows run.before c.between-run.result.now run.after_it run.parts
-    c.requires.held.index.rows.known c.loop-entry.entry-index record { y = pos 0; x = pos 0; row = 0 } (search rules)
+    c.search_is_occupied.ensures.index.rows.known c.loop-entry.entry-index record { y = pos 0; x = pos 0; row = 0 } (search rules)
 
 pub loop-entry-preserved : goal.loop-entry-preserved
 loop-entry-preserved c =
@@ -27,7 +27,7 @@ returns c =
     chosen_near (IsOnEntries c.args.search.now.frame.now c.args.search.now.size c.between-run.result.now (length c.between-run.result.now))
     (query_of_search c.args.search.now)
     c.args.search.now.target.now c.args.reach (option_map spot_of c.loop-entry.best)
-    (λ p may. all_seen c.args.search.now c.between-run.result.now c.args.reach _ _ c.runs_have_rows.ensures.between c.requires.held.index.rows (rw c.rows_of.ensures at c.between-run.ensures)
-    (omega (arith, ints, c.requires.small, c.requires.near.up.low, c.requires.near.up.high))
-    (omega (arith, ints, c.requires.small, c.requires.near.up.low, c.requires.near.up.high)) p may.legal)
+    (λ p may. all_seen c.args.search.now c.between-run.result.now c.args.reach _ _ c.runs_have_rows.ensures.between c.search_is_occupied.ensures.index.rows (rw c.rows_of.ensures at c.between-run.ensures)
+    (omega (arith, ints, c.requires, c.args.search.now.near.up.low, c.args.search.now.near.up.high))
+    (omega (arith, ints, c.requires, c.args.search.now.near.up.low, c.args.search.now.near.up.high)) p may.legal)
     (rw (← all) c.loop-entry.invariant)

@@ -13,7 +13,7 @@ returns-in_default c p on may =
     let s = c.args.search.now in
     let rows = map (λ list. list.items) c.args.lists.now in
     let none = subst (λ (found : Option ℤ). FindsNearest (IsFit s c.args.bottom.now.row.now rows) s.target.now.x found) c.in_default.is c.in_ok-x.ensures in
-    none p.x (may_go_fits s c.args.bottom.now.number c.args.bottom.now.row.now c.args.bottom.now.window.now rows p c.requires.is_in_place c.requires.held
+    none p.x (may_go_fits s c.args.bottom.now.number c.args.bottom.now.row.now c.args.bottom.now.window.now.span rows p c.requires.is_in_place c.search_is_occupied.ensures
     c.requires.levels on may)
 
 pub place_on-requires-clause-x_in_def : goal.place_on-requires-clause-x_in_def
@@ -22,8 +22,8 @@ place_on-requires-clause-x_in_def c =
     let rows = map (λ list. list.items) c.args.lists.now in
     let nearest : IsNearest (IsFit s c.args.bottom.now.row.now rows) s.target.now.x c.in-Some.x =
     subst (λ (found : Option ℤ). FindsNearest (IsFit s c.args.bottom.now.row.now rows) s.target.now.x found) c.in-Some.is c.in_ok-x.ensures in
-    let def : IsDefNumber c.in-Some.x = fit_in_def s c.args.bottom.now.number c.args.bottom.now.row.now c.args.bottom.now.window.now rows c.in-Some.x
-    c.requires.is_in_place c.requires.held
+    let def : IsDefNumber c.in-Some.x = fit_in_def s c.args.bottom.now.number c.args.bottom.now.row.now c.args.bottom.now.window.now.span rows c.in-Some.x
+    c.requires.is_in_place c.search_is_occupied.ensures
     c.requires.levels nearest.fit in
     subst IsDefNumber (sym (to_z-of_z w64 c.in-Some.x (search rules))) def
 
@@ -38,11 +38,11 @@ returns c =
     let fits : FitsSigned w64 x = search rules in
     let nearest : IsNearest (IsFit s c.args.bottom.now.row.now rows) s.target.now.x x =
     subst (λ (found : Option ℤ). FindsNearest (IsFit s c.args.bottom.now.row.now rows) s.target.now.x found) c.in-Some.is c.in_ok-x.ensures in
-    let best : ℤ → Type 0 = λ v. IsBestAmong (IsOnRowIn s.frame.now s.size c.args.bottom.now.row.now c.args.bottom.now.window.now) (query_of_search s) s.target.now
+    let best : ℤ → Type 0 = λ v. IsBestAmong (IsOnRowIn s.frame.now s.size c.args.bottom.now.row.now c.args.bottom.now.window.now.span) (query_of_search s) s.target.now
     (spot_on c.args.bottom.now.row.now v c.args.orient) in
-    subst (IsBestAmong (IsOnRowIn s.frame.now s.size c.args.bottom.now.row.now c.args.bottom.now.window.now) (query_of_search s) s.target.now) (sym
+    subst (IsBestAmong (IsOnRowIn s.frame.now s.size c.args.bottom.now.row.now c.args.bottom.now.window.now.span) (query_of_search s) s.target.now) (sym
     c.place_on.ensures)
     (subst best (sym (to_z-of_z w64 x fits))
-    (best_there s c.args.bottom.now.number c.args.bottom.now.row.now c.args.bottom.now.window.now rows c.args.orient x c.requires.is_in_place c.requires.held
+    (best_there s c.args.bottom.now.number c.args.bottom.now.row.now c.args.bottom.now.window.now.span rows c.args.orient x c.requires.is_in_place c.search_is_occupied.ensures
     c.requires.levels c.requires.first
     nearest))

@@ -9,13 +9,13 @@ use Rattle.lf_legalize.proofs.on_row.nearest_x.Goals as goal
 
 pub nearest_fit-requires-clause-rising : goal.nearest_fit-requires-clause-rising
 nearest_fit-requires-clause-rising c k d within =
-    (level_of_list c.args.search.now c.args.bottom.now.number c.args.bottom.now.row.now c.args.bottom.now.window.now c.args.lists.now k d c.requires.levels
+    (level_of_list c.args.search.now c.args.bottom.now.number c.args.bottom.now.row.now c.args.bottom.now.window.now.span c.args.lists.now k d c.requires.levels
     within).rising
 
 pub nearest_fit-requires-clause-bounded : goal.nearest_fit-requires-clause-bounded
 nearest_fit-requires-clause-bounded c k d within =
-    level_bounded c.args.search.now c.args.bottom.now.number c.args.bottom.now.row.now c.args.bottom.now.window.now k _ c.requires.held
-    (level_of_list c.args.search.now c.args.bottom.now.number c.args.bottom.now.row.now c.args.bottom.now.window.now c.args.lists.now k d c.requires.levels
+    level_bounded c.args.search.now c.args.bottom.now.number c.args.bottom.now.row.now c.args.bottom.now.window.now.span k _ c.search_is_occupied.ensures
+    (level_of_list c.args.search.now c.args.bottom.now.number c.args.bottom.now.row.now c.args.bottom.now.window.now.span c.args.lists.now k d c.requires.levels
     within)
 
 pub nearest_fit-requires-clause-grid : goal.nearest_fit-requires-clause-grid
@@ -36,7 +36,7 @@ returns c =
     (λ found. FindsNearest (IsFit s c.args.bottom.now.row.now rows) s.target.now.x found)
     (λ found nearest.
     nearest_to_target (IsFit s c.args.bottom.now.row.now rows) s.target.now.x near found c.equivalent_target-target.ensures
-    (λ x fit. fit_in_def s c.args.bottom.now.number c.args.bottom.now.row.now c.args.bottom.now.window.now rows x c.requires.is_in_place c.requires.held
+    (λ x fit. fit_in_def s c.args.bottom.now.number c.args.bottom.now.row.now c.args.bottom.now.window.now.span rows x c.requires.is_in_place c.search_is_occupied.ensures
     c.requires.levels fit)
     (subst (λ (t : ℤ). FindsNearest (IsFit s c.args.bottom.now.row.now rows) t found) (to_z-of_z w64 near fits)
     (subst (λ (g : SiteGrid). FindsNearest (λ x. FitsRows rows g s.size.x x) handed found) c.grid_on-grid.ensures nearest)))

@@ -17,13 +17,13 @@ without_soft-requires-clause-free c = c.in_ok-free.ensures.rising
 pub without_soft-requires-clause-soft : goal.without_soft-requires-clause-soft
 without_soft-requires-clause-soft c k =
     subst (λ (g : FrameIndexView). IsRising (slice_index_or g.soft k [])) (sym c.index-index.ensures)
-    (soft_rising c.args.search.now.frame.now c.args.search.now.occupancy.now.index c.requires.held.index k)
+    (soft_rising c.args.search.now.frame.now c.args.search.now.occupancy.now.index c.search_is_occupied.ensures.index k)
 
 pub returns-then-has_no_soft : goal.returns-then-has_no_soft
 returns-then-has_no_soft c =
     let o = c.args.search.now.occupancy.now in
     let id = c.args.search.now.id in
-    let window = c.args.window.now in
+    let window = c.args.window.now.span in
     let by : ℤ = c.padding_length-padding.result in
     let fits : FitsSigned w64 by = search rules in
     let free = c.in_ok-free.free.items in
@@ -35,7 +35,7 @@ pub returns : goal.returns
 returns c =
     let o = c.args.search.now.occupancy.now in
     let id = c.args.search.now.id in
-    let window = c.args.window.now in
+    let window = c.args.window.now.span in
     let start = c.strips_overlapping-near.result.start in
     let end = c.strips_overlapping-near.result.end in
     let padding = padding_in c.args.search.now in

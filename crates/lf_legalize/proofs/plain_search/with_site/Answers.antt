@@ -6,7 +6,7 @@ use Rattle.lf_legalize.proofs.plain_search.with_site.Goals as goal
 
 pub returns : goal.returns
 returns c =
-    all_four (searched_cell c.args.search.now) c.args.search.now.target.now c.args.search.now.frame.now.pitch c.args.row.now c.args.site
+    all_four (searched_cell c.args.at.now.search.now) c.args.at.now.search.now.target.now c.args.at.now.search.now.frame.now.pitch c.args.at.now.row.now c.args.at.now.site
     (option_map spot_of c.args.best) (option_map spot_of c.with_place-north.result) (option_map spot_of c.with_place-south.result)
     (option_map spot_of c.with_place-mirrored.result) (option_map spot_of c.with_place.result)
     (spot_of c.place_at.result) (spot_of c.place_at-2.result) (spot_of c.place_at-3.result) (spot_of c.place_at-4.result)

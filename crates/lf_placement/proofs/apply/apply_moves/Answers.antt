@@ -1,5 +1,7 @@
 use Rattle.std.proofs.Common.{◌≡◌, List, ℕ, drop, length, map, subst, sym, ap, ◌∙◌}
+use Rattle.std.specs.Prelude.{All}
 use Rattle.lf_cells.specs.Cells.{cells_of}
+use Rattle.lf_legalize.specs.Members.{IsSizedCell}
 use Rattle.lf_occupancy.specs.Views.{FitIn}
 use Rattle.lf_occupancy.specs.Floorplans.{working_box_of, boxes_in}
 use Rattle.lf_occupancy.specs.Strips.{with_boxes}
@@ -9,17 +11,21 @@ use Rattle.lf_undo.specs.declared.moves.Move.{Move}
 use Rattle.lf_cells.specs.declared.cell.Cell.{Cell}
 use Rattle.lf_placement.specs.Placements.{moves_applied}
 use Rattle.lf_placement.specs.Steps.{AreRemoved, BoxesMayBeInserted, AreInsertedExcept, moved_positions, working_boxes}
+use Rattle.lf_placement.proofs.Keeping.{each_team}
 use Rattle.lf_placement.proofs.Moves.{length_same, same_made}
 use Rattle.lf_placement.proofs.Changing.{all_out, may_be_placed, others_made, owns_count, owns_from, sized_made, placed_except}
 use Rattle.lf_placement.proofs.apply.apply_moves.Goals as goal
 
-pub insert_moved-requires-clause-sized : goal.insert_moved-requires-clause-sized
-insert_moved-requires-clause-sized c =
-    sized_made c.args.frame.now (drop c.args.from c.args.moves.now) (cells_of c.args.cells.now c.args.team)
-    (cells_of c.apply_in_table.new.cells c.args.team) c.apply_in_table.ensures.own c.requires.sized
+pub invariant_of-after : goal.invariant_of-after
+invariant_of-after c = record {
+  sized = each_team (λ n cs. All (IsSizedCell c.args.frame.now) cs) c.args.team c.args.cells.now c.apply_in_table.new.cells c.apply_in_table.ensures.others
+      (sized_made c.args.frame.now (drop c.args.from c.args.moves.now) (cells_of c.args.cells.now c.args.team)
+      (cells_of c.apply_in_table.new.cells c.args.team) c.apply_in_table.ensures.own (c.requires.sized c.args.team))
+      c.requires.sized;
+}
 
-pub insert_moved-requires-clause-may : goal.insert_moved-requires-clause-may
-insert_moved-requires-clause-may c =
+pub insert_moved-requires : goal.insert_moved-requires
+insert_moved-requires c =
     let f = c.args.frame.now in
     let team = c.args.team in
     let old = cells_of c.args.cells.now team in

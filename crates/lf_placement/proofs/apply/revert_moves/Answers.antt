@@ -1,6 +1,8 @@
 use Rattle.std.proofs.Common.{◌≡◌, List, ℕ, length, map, subst, sym, ap, ◌∙◌}
 use Rattle.lf_cells.specs.declared.cell.Cell.{Cell}
+use Rattle.std.specs.Prelude.{All}
 use Rattle.lf_cells.specs.Cells.{cells_of}
+use Rattle.lf_legalize.specs.Members.{IsSizedCell}
 use Rattle.lf_occupancy.specs.Views.{FitIn}
 use Rattle.lf_occupancy.specs.Floorplans.{working_box_of, boxes_in}
 use Rattle.lf_occupancy.specs.Strips.{with_boxes}
@@ -8,17 +10,21 @@ use Rattle.lf_occupancy.proofs.Building.{boxes_there}
 use Rattle.lf_placement.proofs.Marks.{can_be_placed, rooms_through}
 use Rattle.lf_undo.specs.declared.moves.Move.{Move}
 use Rattle.lf_placement.specs.Steps.{AreRemoved, BoxesMayBeInserted, AreInsertedExcept, moves_reverted, moved_positions, working_boxes}
+use Rattle.lf_placement.proofs.Keeping.{each_team}
 use Rattle.lf_placement.proofs.Moves.{length_same, same_back}
 use Rattle.lf_placement.proofs.Changing.{all_out, may_be_placed, others_back, owns_count, sized_back, placed_except}
 use Rattle.lf_placement.proofs.apply.revert_moves.Goals as goal
 
-pub insert_moved-requires-clause-sized : goal.insert_moved-requires-clause-sized
-insert_moved-requires-clause-sized c =
-    sized_back c.args.frame.now c.args.moves.now (cells_of c.args.cells.now c.args.team) (cells_of c.revert_in_table.new.cells c.args.team)
-    c.revert_in_table.ensures.own c.requires.sized
+pub invariant_of-after : goal.invariant_of-after
+invariant_of-after c = record {
+  sized = each_team (λ n cs. All (IsSizedCell c.args.frame.now) cs) c.args.team c.args.cells.now c.revert_in_table.new.cells c.revert_in_table.ensures.others
+      (sized_back c.args.frame.now c.args.moves.now (cells_of c.args.cells.now c.args.team) (cells_of c.revert_in_table.new.cells c.args.team)
+      c.revert_in_table.ensures.own (c.requires.sized c.args.team))
+      c.requires.sized;
+}
 
-pub insert_moved-requires-clause-may : goal.insert_moved-requires-clause-may
-insert_moved-requires-clause-may c =
+pub insert_moved-requires : goal.insert_moved-requires
+insert_moved-requires c =
     let f = c.args.frame.now in
     let team = c.args.team in
     let old = cells_of c.args.cells.now team in

@@ -4,4 +4,4 @@ use Rattle.lf_placement.specs.Steps.{requested_box}
 use Rattle.lf_placement.proofs.capacity.requested_boxes.Given as goal
 
 abbrev pub invariant-loop-next : goal.invariant-loop-next
-invariant-loop-next l = l.list.items ≡ map (requested_box l.frame l.team (cells_of l.cells l.team)) (take l.next-index l.moves)
+invariant-loop-next l = l.list.items ≡ map (requested_box l.sized.frame.now l.team (cells_of l.sized.cells.now l.team)) (take l.next-index l.moves)

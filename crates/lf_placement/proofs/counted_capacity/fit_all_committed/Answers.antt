@@ -8,15 +8,15 @@ use Rattle.lf_placement.proofs.counted_capacity.fit_all_committed.Goals as goal
 
 pub loop-team-init : goal.loop-team-init
 loop-team-init c =
-    let f = c.args.frame.now in
-    let cells = c.args.cells.now in
+    let f = c.args.sized.now.frame.now in
+    let cells = c.args.sized.now.cells.now in
     let m = c.args.occupancy.now in
     let tally = c.in_ok-tally.tally in
     let are = c.in_ok-tally.ensures {u = tt} in
     record {
       half = record {
         done = λ t less. absurd (omega (arith, less));
-        rest = λ t past. bounds_at_work f cells t (with_boxes m []) tally (are.bounds (boxes_in f cells) t c.requires.holds);
+        rest = λ t past. bounds_at_work f cells t (with_boxes m []) tally (are.bounds (boxes_in f cells) t c.requires);
       };
       gains = gains_none m;
       room = are.room;
@@ -31,7 +31,7 @@ loop-team-preserved c =
     let team = c.loop-team.team in
     let half = c.loop-team.invariant.half in
     record {
-      half = team_next c.args.frame.now c.args.cells.now (with_boxes c.loop-team.occupancy []) (with_boxes c.fit_team.new.occupancy []) team c.loop-team.tally
+      half = team_next c.args.sized.now.frame.now c.args.sized.now.cells.now (with_boxes c.loop-team.occupancy []) (with_boxes c.fit_team.new.occupancy []) team c.loop-team.tally
           c.fit_team.new.tally half (c.in_ok-fit_team.ensures.own (half.rest team (omega arith))) c.in_ok-fit_team.ensures.others;
       gains = gains_through c.args.occupancy.now c.loop-team.occupancy c.fit_team.new.occupancy c.loop-team.invariant.gains c.in_ok-fit_team.ensures.gains;
       room = c.in_ok-fit_team.ensures.room;
@@ -39,8 +39,8 @@ loop-team-preserved c =
 
 pub returns-clause-fits : goal.returns-clause-fits
 returns-clause-fits c = λ team.
-    let f = c.args.frame.now in
-    let cells = c.args.cells.now in
+    let f = c.args.sized.now.frame.now in
+    let cells = c.args.sized.now.cells.now in
     let own = cells_of cells team in
     let held = with_boxes c.loop-team.occupancy [] in
     let tally = c.loop-team.tally in

@@ -1,11 +1,10 @@
-use Rattle.std.proofs.Common.{◌≡◌, ◌≢◌, ◌<◌, ℕ, [], List, Option, Some, arith, get_or, length, set, subst, sym}
-use Rattle.std.specs.Prelude.{All, slice_get}
+use Rattle.std.proofs.Common.{◌≡◌, ◌≢◌, ◌<◌, ℕ, [], List, Option, Some, arith, get_or, length, set, subst}
+use Rattle.std.specs.Prelude.{slice_get}
 use Rattle.std.proofs.lemmas.List.{get_or_default}
 use Rattle.lf_units.specs.declared.geometry.Rect.{Rect}
 use Rattle.lf_cells.specs.declared.cell.CellId.{CellId}
 use Rattle.lf_cells.specs.Cells.{cells_of, committed_at, id_of, working_at}
 use Rattle.lf_cells.proofs.TeamIds.{ids_long, ids_read}
-use Rattle.lf_legalize.specs.Members.{IsSizedCell}
 use Rattle.lf_occupancy.specs.Views.{Bounds}
 use Rattle.lf_occupancy.specs.Strips.{with_boxes}
 use Rattle.lf_undo.specs.Entries.{Places}
@@ -17,13 +16,13 @@ abbrev no_id : CellId
 no_id = record { team = 0; own = 0 }
 
 pub loop-id-init : goal.loop-id-init
-loop-id-init c = record { own = λ b. b; others = λ boxes other differ b. b; gains = gains_none c.args.occupancy.now; room = c.requires.room }
+loop-id-init c = record { own = λ b. b; others = λ boxes other differ b. b; gains = gains_none c.args.occupancy.now; room = c.requires }
 
 pub loop-id-preserved : goal.loop-id-preserved
 loop-id-preserved c =
-    let f = c.args.frame.now in
+    let f = c.args.sized.now.frame.now in
     let team = c.args.team in
-    let table = c.args.cells.now in
+    let table = c.args.sized.now.cells.now in
     let cells = cells_of table team in
     let i = c.loop-id.id-index in
     let old = with_boxes c.loop-id.occupancy [] in
@@ -52,24 +51,13 @@ loop-id-preserved c =
       room = c.in_ok-fit_committed.ensures.room;
     }
 
-pub fit_committed-requires-clause-sized : goal.fit_committed-requires-clause-sized
-fit_committed-requires-clause-sized c =
-    let team = c.args.team in
-    let i = c.loop-id.id-index in
-    let cells = cells_of c.args.cells.now team in
-    let ids = c.cells_of-id-items.result.now in
-    let is : get_or ids i no_id ≡ id_of team i =
-    ids_read team i cells ids (get_or ids i no_id) c.cells_of-id-items.ensures c.loop-id-test.true
-    (get_or_default ids i no_id (get_or ids i no_id) c.loop-id-test.true) in
-    subst (λ (id : CellId). All (λ d. IsSizedCell c.args.frame.now d) (cells_of c.args.cells.now id.team)) (sym is) c.requires.sized
-
 pub returns-in_err-fit_committed-clause-gains : goal.returns-in_err-fit_committed-clause-gains
 returns-in_err-fit_committed-clause-gains c =
     gains_through c.args.occupancy.now c.loop-id.occupancy c.fit_committed.new.occupancy c.loop-id.invariant.gains c.in_err-fit_committed.ensures.gains
 
 pub returns-clause-own : goal.returns-clause-own
 returns-clause-own c = λ b.
-    let cells = cells_of c.args.cells.now c.args.team in
+    let cells = cells_of c.args.sized.now.cells.now c.args.team in
     let many = ids_long c.args.team cells c.cells_of-id-items.result.now c.cells_of-id-items.ensures in
-    subst (λ (ps : Places). Bounds (with_boxes c.loop-id.occupancy []) c.args.team (boxes_at c.args.frame.now cells ps) c.loop-id.tally)
+    subst (λ (ps : Places). Bounds (with_boxes c.loop-id.occupancy []) c.args.team (boxes_at c.args.sized.now.frame.now cells ps) c.loop-id.tally)
     (half_all c.loop-id.id-index cells (omega (arith, c.loop-id-test.false, many))) (c.loop-id.invariant.own b)

@@ -11,8 +11,8 @@ use Rattle.lf_placement.proofs.counted_capacity.fit_team.Given as goal
 -- the cells visited are counted at their committed places
 abbrev pub invariant-loop-id : goal.invariant-loop-id
 invariant-loop-id l = record {
-  own : Bounds (with_boxes l.fn.occupancy []) l.team (boxes_at l.frame (cells_of l.cells l.team) (working_places_of (cells_of l.cells l.team))) l.fn.tally
-      → Bounds (with_boxes l.occupancy []) l.team (boxes_at l.frame (cells_of l.cells l.team) (half_committed l.id-index (cells_of l.cells l.team))) l.tally;
+  own : Bounds (with_boxes l.fn.occupancy []) l.team (boxes_at l.sized.frame.now (cells_of l.sized.cells.now l.team) (working_places_of (cells_of l.sized.cells.now l.team))) l.fn.tally
+      → Bounds (with_boxes l.occupancy []) l.team (boxes_at l.sized.frame.now (cells_of l.sized.cells.now l.team) (half_committed l.id-index (cells_of l.sized.cells.now l.team))) l.tally;
   others : (boxes : List (Option Rect)) (other : ℕ) → other ≢ l.team → Bounds (with_boxes l.fn.occupancy []) other boxes l.fn.tally
       → Bounds (with_boxes l.occupancy []) other boxes l.tally;
   gains : KeepsMarks l.fn.occupancy l.occupancy;

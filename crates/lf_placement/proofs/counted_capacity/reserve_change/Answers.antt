@@ -10,8 +10,8 @@ use Rattle.lf_placement.proofs.counted_capacity.reserve_change.Goals as goal
 
 pub returns-clause-own : goal.returns-clause-own
 returns-clause-own c = λ places is bounds.
-    let f = c.args.frame.now in
-    let cells = cells_of c.args.cells.now c.args.team in
+    let f = c.args.sized.now.frame.now in
+    let cells = cells_of c.args.sized.now.cells.now c.args.team in
     let change = c.args.change.now in
     let boxes = boxes_at f cells places in
     let from = c.boxes_of_change-from.ensures.from in

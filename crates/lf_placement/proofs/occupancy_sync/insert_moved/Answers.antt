@@ -7,9 +7,9 @@ use Rattle.lf_placement.proofs.Boxes.{own_there}
 use Rattle.lf_placement.proofs.Marks.{all_hold, may_of, none_are_placed, one_enters, one_is_placed, rooms_same, rooms_through}
 use Rattle.lf_placement.proofs.occupancy_sync.insert_moved.Goals as goal
 
-pub insert_absent-requires-clause-may : goal.insert_absent-requires-clause-may
-insert_absent-requires-clause-may c =
-    let can = c.requires.may in
+pub insert_absent-requires : goal.insert_absent-requires
+insert_absent-requires c =
+    let can = c.requires in
     let first = c.index-moves-0.result in
     let many = length-map c.args.moves.now (λ (m : Move). m.own) in
     let is = sym (ap (λ (m : Move). m.own) c.index-moves-0.is) ∙ own_there c.args.moves.now 0 first (omega arith) c.index-moves-0.is in
@@ -24,30 +24,30 @@ insert_absent-requires-clause-may c =
 
 pub returns-then-moves-eq1-clause-holds : goal.returns-then-moves-eq1-clause-holds
 returns-then-moves-eq1-clause-holds c =
-    let can = c.requires.may in
+    let can = c.requires in
     let first = c.index-moves-0.result in
     let many = length-map c.args.moves.now (λ (m : Move). m.own) in
     let is = sym (ap (λ (m : Move). m.own) c.index-moves-0.is) ∙ own_there c.args.moves.now 0 first (omega arith) c.index-moves-0.is in
     let out = subst (λ (own : ℕ). cell_box (get_or can.boxes c.args.team []) own ≡ None) (sym is) (can.is.out 0 (omega (arith, many))) in
-    one_enters c.args.frame.now c.args.cells.now c.args.team (moved_positions c.args.moves.now) (get_or c.args.moves.now 0 first).own c.args.occupancy.now c.insert_absent.new.occupancy (omega (arith, many)) is
+    one_enters c.args.sized.now.frame.now c.args.sized.now.cells.now c.args.team (moved_positions c.args.moves.now) (get_or c.args.moves.now 0 first).own c.args.occupancy.now c.insert_absent.new.occupancy (omega (arith, many)) is
     c.insert_absent.ensures.rooms can (c.insert_absent.ensures.holds can.boxes out record { many = can.is.may.many; part = can.is.may.part } can.holds)
 
 pub loop-next-init : goal.loop-next-init
 loop-next-init c = record {
-  standing = none_are_placed c.args.frame.now c.args.cells.now c.args.team (moved_positions c.args.moves.now) c.args.occupancy.now c.requires.may;
+  standing = none_are_placed c.args.sized.now.frame.now c.args.sized.now.cells.now c.args.team (moved_positions c.args.moves.now) c.args.occupancy.now c.requires;
   rooms = rooms_same c.args.occupancy.now;
 }
 
-pub replace_at_working-requires-clause-may : goal.replace_at_working-requires-clause-may
-replace_at_working-requires-clause-may c =
-    may_of c.args.frame.now c.args.cells.now c.args.team (moved_positions c.args.moves.now) c.loop-next.next-index c.loop-next.occupancy c.loop-next.invariant.standing
+pub replace_at_working-requires : goal.replace_at_working-requires
+replace_at_working-requires c =
+    may_of c.args.sized.now.frame.now c.args.sized.now.cells.now c.args.team (moved_positions c.args.moves.now) c.loop-next.next-index c.loop-next.occupancy c.loop-next.invariant.standing
 
 pub loop-next-preserved : goal.loop-next-preserved
 loop-next-preserved c =
     let next = c.next-item.result in
     let was = c.loop-next.invariant.standing in
     record {
-      standing = one_is_placed c.args.frame.now c.args.cells.now c.args.team (moved_positions c.args.moves.now) c.loop-next.next-index next.own c.loop-next.occupancy
+      standing = one_is_placed c.args.sized.now.frame.now c.args.sized.now.cells.now c.args.team (moved_positions c.args.moves.now) c.loop-next.next-index next.own c.loop-next.occupancy
           c.replace_at_working.new.occupancy (own_there c.args.moves.now c.loop-next.next-index next c.loop-next-test.true c.next-item.is)
           c.replace_at_working.ensures.rooms was
           (c.replace_at_working.ensures.holds was.boxes record { many = was.is.may.many; part = was.is.may.part } was.holds);
@@ -58,5 +58,5 @@ pub returns-clause-holds : goal.returns-clause-holds
 returns-clause-holds c =
     let many = length-map c.args.moves.now (λ (m : Move). m.own) in
     let past : length (moved_positions c.args.moves.now) ≤ c.loop-next.next-index = omega (arith, many, c.loop-next-test.false) in
-    all_hold c.args.frame.now c.args.cells.now c.args.team (moved_positions c.args.moves.now) c.loop-next.next-index c.loop-next.occupancy past
+    all_hold c.args.sized.now.frame.now c.args.sized.now.cells.now c.args.team (moved_positions c.args.moves.now) c.loop-next.next-index c.loop-next.occupancy past
     c.loop-next.invariant.standing

@@ -5,6 +5,6 @@ use Rattle.lf_placement.proofs.occupancy_sync.remove_moved.Given as goal
 
 abbrev pub invariant-loop-next : goal.invariant-loop-next
 invariant-loop-next l = record {
-  out : MarksSome (RemovesFirst l.team (moved_positions l.moves) l.next-index (with_boxes l.fn.occupancy (boxes_in l.frame l.cells))) l.occupancy;
+  out : MarksSome (RemovesFirst l.team (moved_positions l.moves) l.next-index (with_boxes l.fn.occupancy (boxes_in l.sized.frame.now l.sized.cells.now))) l.occupancy;
   rooms : KeepsStripRooms l.fn.occupancy l.occupancy;
 }

@@ -7,8 +7,8 @@ use Rattle.lf_placement.proofs.occupancy_sync.replace_at_working.Goals as goal
 
 pub returns-in_default-clause-holds : goal.returns-in_default-clause-holds
 returns-in_default-clause-holds c = λ boxes part holds.
-    none_holds c.args.frame.now c.args.cells.now c.args.team c.args.own
-    (cell_box (working_boxes c.args.frame.now c.args.cells.now c.args.team) c.args.own) c.args.occupancy.now boxes (sym c.cell_of.ensures ∙ c.in_default.is)
+    none_holds c.args.sized.now.frame.now c.args.sized.now.cells.now c.args.team c.args.own
+    (cell_box (working_boxes c.args.sized.now.frame.now c.args.sized.now.cells.now c.args.team) c.args.own) c.args.occupancy.now boxes (sym c.cell_of.ensures ∙ c.in_default.is)
     part holds
 
 pub returns-in_default-clause-rooms : goal.returns-in_default-clause-rooms
@@ -16,17 +16,17 @@ returns-in_default-clause-rooms c = rooms_same c.args.occupancy.now
 
 pub returns-in_default-working_box-clause-holds : goal.returns-in_default-working_box-clause-holds
 returns-in_default-working_box-clause-holds c = λ boxes part holds.
-    still_bare c.args.frame.now c.args.cells.now c.args.team c.args.own c.in-Some.id (sym c.in-Some.is ∙ c.cell_of.ensures) c.args.occupancy.now boxes
+    still_bare c.args.sized.now.frame.now c.args.sized.now.cells.now c.args.team c.args.own c.in-Some.id (sym c.in-Some.is ∙ c.cell_of.ensures) c.args.occupancy.now boxes
     (sym c.in_default-working_box.is ∙ c.working_box.ensures.is) part holds
 
 pub replace_box-requires-clause-may : goal.replace_box-requires-clause-may
 replace_box-requires-clause-may c =
-    let may = c.requires.may in
+    let may = c.requires in
     let is = sym c.in-Some.is ∙ c.cell_of.ensures in
     record {
       boxes = may.boxes;
       holds = may.holds;
-      is = may_have c.args.frame.now c.args.cells.now c.args.team c.args.own c.in-Some.id is c.in-Some-working_box.rect (with_boxes c.args.occupancy.now may.boxes)
+      is = may_have c.args.sized.now.frame.now c.args.sized.now.cells.now c.args.team c.args.own c.in-Some.id is c.in-Some-working_box.rect (with_boxes c.args.occupancy.now may.boxes)
           (sym c.in-Some-working_box.is ∙ c.working_box.ensures.is) may.is;
     }
 
@@ -34,6 +34,6 @@ pub returns-clause-holds : goal.returns-clause-holds
 returns-clause-holds c = λ boxes part holds.
     let is = sym c.in-Some.is ∙ c.cell_of.ensures in
     let box = sym c.in-Some-working_box.is ∙ c.working_box.ensures.is in
-    at_work c.args.frame.now c.args.cells.now c.args.team c.args.own c.in-Some.id is c.in-Some-working_box.rect c.replace_box.new.occupancy boxes box
+    at_work c.args.sized.now.frame.now c.args.sized.now.cells.now c.args.team c.args.own c.in-Some.id is c.in-Some-working_box.rect c.replace_box.new.occupancy boxes box
     (c.replace_box.ensures.holds boxes
-    (is_at c.args.frame.now c.args.cells.now c.args.team c.args.own c.in-Some.id is c.in-Some-working_box.rect (with_boxes c.args.occupancy.now boxes) box part) holds)
+    (is_at c.args.sized.now.frame.now c.args.sized.now.cells.now c.args.team c.args.own c.in-Some.id is c.in-Some-working_box.rect (with_boxes c.args.occupancy.now boxes) box part) holds)

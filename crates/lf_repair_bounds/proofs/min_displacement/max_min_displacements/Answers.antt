@@ -13,14 +13,14 @@ pub unwrap-cell-requires : goal.unwrap-cell-requires
 unwrap-cell-requires c =
     there borrowed_cell c.args.loaded.now.cells c.loop-at.at c.get.result c.get.ensures (omega (arith, c.loop-at-test.true, c.len-at-end.ensures))
 
-pub min_displacement-requires : goal.min_displacement-requires
-min_displacement-requires c =
+pub invariant_of-lone : goal.invariant_of-lone
+invariant_of-lone c =
     let loaded = c.args.loaded.now in
     let cell = borrowed_cell c.unwrap-cell.result in
     let is : slice_get loaded.cells c.loop-at.at ≡ Some cell = sym c.get.ensures ∙ ap (option_map borrowed_cell) c.unwrap-cell.ensures in
     record {
-      bare = c.in_ok-bare.ensures {u = tt};
-      cell = rw (get_or_from_slice_get loaded.cells c.loop-at.at cell cell is) at (loaded.cells_known c.loop-at.at cell (slice_get_within loaded.cells c.loop-at.at cell is));
+      of_frame = sym (c.in_ok-bare.ensures {u = tt});
+      known = rw (get_or_from_slice_get loaded.cells c.loop-at.at cell cell is) at (loaded.cells_known c.loop-at.at cell (slice_get_within loaded.cells c.loop-at.at cell is));
     }
 
 pub loop-at-init : goal.loop-at-init

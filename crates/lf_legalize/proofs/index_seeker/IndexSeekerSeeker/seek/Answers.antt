@@ -1,4 +1,5 @@
-use Rattle.std.proofs.Common.{◌≡◌, Option, sym, ◌∙◌, map}
+use Rattle.std.proofs.Common.{◌≡◌, Option, subst, sym, ◌∙◌, map}
+use Rattle.std.specs.Prelude.{IfOk}
 use Rattle.std.specs.Option.{option_map}
 use Rattle.std.proofs.lemmas.Result.{IfOk-weaker}
 use Rattle.lf_floorplan.specs.declared.place.Place.{Place}
@@ -6,6 +7,7 @@ use Rattle.lf_rules.specs.Choice.{IsChoice, spot_of}
 use Rattle.lf_rules.specs.Team.{query_from}
 use Rattle.lf_cells.specs.Cells.{cells_of}
 use Rattle.lf_legalize.specs.Members.{best_of, member_of}
+use Rattle.lf_legalize.specs.OccupiedFrames.{OccupiedFrameView}
 use Rattle.lf_legalize.proofs.Members.{best_is}
 use Rattle.lf_legalize.proofs.index_seeker.IndexSeekerSeeker.seek.Goals as goal
 
@@ -21,5 +23,8 @@ returns c = record {
       (λ found. best_is l c.args.frame.now c.args.cell.team c.args.padding.sites c.args.cell.own (cells_of c.args.cells.now c.args.cell.team)
       c.args.target.now c.in-Some.standing
       (option_map spot_of found) c.requires.sized (sym c.placement_of.ensures ∙ c.in-Some.is))
-      c.best_for.ensures;
+      (subst (λ (o : OccupiedFrameView). IfOk c.best_for.result (λ found. IsChoice
+      (query_from o.frame c.args.cell.team c.args.padding.sites (map member_of (cells_of o.cells c.args.cell.team)) c.args.cell.own c.in-Some.standing.mac)
+      c.args.target.now (option_map spot_of found)))
+      c.new-occupied.ensures c.best_for.ensures);
 }

@@ -32,7 +32,7 @@ invariant_of-self c =
     }
 
 pub apply_moves-requires-clause-sized : goal.apply_moves-requires-clause-sized
-apply_moves-requires-clause-sized c = c.self.invariant.placing.sized c.args.team
+apply_moves-requires-clause-sized c = c.self.invariant.placing.sized
 
 pub apply_moves-requires-clause-holds : goal.apply_moves-requires-clause-holds
 apply_moves-requires-clause-holds c = c.self.invariant.holds

@@ -19,11 +19,11 @@ returns-clause-ok c =
     c.self.view_is
     (made_fits p c.args.team moves fits)) c.reserve_moves.ensures.ok
 
-pub reserve_moves-requires-clause-sized : goal.reserve_moves-requires-clause-sized
-reserve_moves-requires-clause-sized c = c.self.invariant.placing.sized c.args.team
+pub invariant_of-sized : goal.invariant_of-sized
+invariant_of-sized c = record { sized = c.self.invariant.placing.sized }
 
-pub reserve_moves-requires-clause-holds : goal.reserve_moves-requires-clause-holds
-reserve_moves-requires-clause-holds c = c.self.invariant.holds
+pub reserve_moves-requires : goal.reserve_moves-requires
+reserve_moves-requires c = c.self.invariant.holds
 
 pub invariant_of-self : goal.invariant_of-self
 invariant_of-self c = record {

@@ -6,11 +6,11 @@ use Rattle.lf_placement.specs.Placements.{BoundsAt, Placing, SameButRooms, boxes
 use Rattle.lf_placement.proofs.Keeping.{placing_grown}
 use Rattle.lf_placement.proofs.placement.Placement.reserve_change.Goals as goal
 
-pub reserve_change-requires-clause-sized : goal.reserve_change-requires-clause-sized
-reserve_change-requires-clause-sized c = c.self.invariant.placing.sized c.args.team
+pub invariant_of-sized : goal.invariant_of-sized
+invariant_of-sized c = record { sized = c.self.invariant.placing.sized }
 
-pub reserve_change-requires-clause-room : goal.reserve_change-requires-clause-room
-reserve_change-requires-clause-room c = subst (λ (p : Placing). KeepsCapacities c.args.tally.now p.held.rooms) (sym c.self.view_is) c.requires
+pub reserve_change-requires : goal.reserve_change-requires
+reserve_change-requires c = subst (λ (p : Placing). KeepsCapacities c.args.tally.now p.held.rooms) (sym c.self.view_is) c.requires
 
 pub invariant_of-self : goal.invariant_of-self
 invariant_of-self c =

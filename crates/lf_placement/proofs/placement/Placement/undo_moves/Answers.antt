@@ -38,7 +38,7 @@ returns-clause-own c = λ before have.
     (subst (λ (p : Placing). HaveMoved before c.args.moves.now (cells_of p.cells c.args.team)) (sym c.self.view_is) have)
 
 pub revert_moves-requires-clause-sized : goal.revert_moves-requires-clause-sized
-revert_moves-requires-clause-sized c = c.self.invariant.placing.sized c.args.team
+revert_moves-requires-clause-sized c = c.self.invariant.placing.sized
 
 pub revert_moves-requires-clause-holds : goal.revert_moves-requires-clause-holds
 revert_moves-requires-clause-holds c = c.self.invariant.holds
