@@ -4,8 +4,8 @@ from __future__ import annotations
 
 
 def status(found: list[str], unneeded: list[str], counts: str) -> int:
-    """Prints each finding, each entry of ALLOWED that no finding needs, and the counts. Returns 1 if it prints more than
-    the counts."""
+    """Prints each finding, each entry of ALLOWED that no finding needs, and the counts. Returns 1 if it prints more
+    than the counts."""
     for line in found:
         print(line)
     for entry in unneeded:

@@ -13,7 +13,7 @@ use Rattle.lf_frame_index.specs.declared.strip.Strip.{Strip}
 use Rattle.lf_frame_index.specs.Strips.{IsNear}
 use Rattle.lf_occupancy.specs.declared.strip_marks.StripMarks.{StripMarks}
 use Rattle.lf_frame_index.specs.Indexes.{FrameIndexView}
-use Rattle.lf_occupancy.specs.MarkLists.{HasAtMostOne, HasRoomOf, EntryIsInside, KeepsMarksOf, ShowsBoxes, IsMarked, IsOrderly, IsUnmarked, IsPutIn, OverlapsOne, StripView}
+use Rattle.lf_occupancy.specs.MarkLists.{AreRising, HasAtMostOne, HasRoomOf, EntryIsInside, KeepsMarksOf, ShowsBoxes, IsMarked, IsOrderly, IsUnmarked, IsPutIn, OverlapsOne, StripView}
 use Rattle.lf_occupancy.specs.MarkLists.{TakesPart, all_padded, others_in, strip_view, spans_in}
 use Rattle.lf_occupancy.specs.Views.{HasRoomFor, Occupied, strip_extent, cell_box, widened}
 

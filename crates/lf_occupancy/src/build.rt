@@ -12,8 +12,6 @@ use crate::marking::reserve_and_mark;
 use crate::strip_marks::StripMarks;
 use crate::widened::WidenedStrips;
 use lf_cells::{CellId, CellTable};
-use lf_floorplan::Frame;
-use lf_frame_index::FrameIndex;
 use lf_units::Rect;
 use std::alloc::{AllocError, Global};
 

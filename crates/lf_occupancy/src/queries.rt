@@ -10,7 +10,6 @@ use crate::marked_strips::{CellPadding, MarkedStrip, MarkedStrips};
 use crate::strip_marks::{free_in_mark_list, free_of_all, least_in_mark_list, x_range_of};
 use crate::widened::{widened_area, widened_strips};
 use lf_cells::CellId;
-use lf_frame_index::FrameIndex;
 use lf_units::{Rect, Span};
 use std::alloc::{AllocError, Global};
 

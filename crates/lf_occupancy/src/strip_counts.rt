@@ -10,8 +10,8 @@ ghost use Rattle.lf_occupancy.specs.Widened.{all_widened};
 ghost use Rattle.lf_occupancy.specs.StripCounting.{AreShifted, HaveRoomForCounts, IsHigher, IsLess, IsLessAt, IsLower, IsMore, IsShiftOf, IsShifted, IsShiftedAt, hull_in};
 
 use crate::strip_marks::{StripMarks, has_points, make_room, part_of};
-use crate::widened::{widened_area, widened_strips};
-use lf_frame_index::{FrameIndex, RowEntry, StripRange};
+use crate::widened::{DistinctRows, WidenedStrips, distinct_rows, widened_area, widened_strips};
+use lf_frame_index::StripRange;
 use lf_units::Rect;
 use std::alloc::{AllocError, Global};
 use std::marker::Model;
