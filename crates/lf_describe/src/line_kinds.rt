@@ -96,7 +96,8 @@ fn obstacle_line(
     number: usize,
 ) -> Result<Value, AllocError>
     requires { number < length frame.now.obstacles }
-    ensures { IfOk result (λ v. Some (view v) ≡ slice_get (obstacle_lines (map (λ n. n.now) names.now) frame.now.obstacles) number) }
+    ensures { IfOk result
+        (λ v. Some (view v) ≡ slice_get (obstacle_lines (map (λ n. n.now) names.now) frame.now.obstacles) number) }
 {
     obstacle_value(alloc, name_at(names, number), obstacle_at(frame, number))
 }
@@ -192,7 +193,8 @@ fn put_number<W: Sink>(
         → OnOk result (WritesFrontOf (W.contents writer.old) (W.contents writer.new)
         (waiting.old.items ++ line_text d) waiting.new.items) }
     ensures err { (d : Data) → slice_get (part_lines reported.now part) number ≡ Some d
-        → OnErr result (AppendsFront (W.contents writer.old) (W.contents writer.new) (waiting.old.items ++ line_text d)) }
+        → OnErr result
+        (AppendsFront (W.contents writer.old) (W.contents writer.new) (waiting.old.items ++ line_text d)) }
     ensures failed { W.has_failed writer.new ≡ (is_line_output result || W.has_failed writer.old) }
     ensures held { W.holds writer.new ≡ W.holds writer.old }
 {
@@ -210,8 +212,10 @@ fn put_part<W: Sink>(
     writer: &mut W,
     waiting: &mut Vec<u8>,
 ) -> Result<(), LineFault>
-    ensures ok { OnOk result (WritesFrontOf (W.contents writer.old) (W.contents writer.new) (waiting.old.items ++ part_text reported.now part) waiting.new.items) }
-    ensures err { OnErr result (AppendsFront (W.contents writer.old) (W.contents writer.new) (waiting.old.items ++ part_text reported.now part)) }
+    ensures ok { OnOk result (WritesFrontOf (W.contents writer.old) (W.contents writer.new)
+        (waiting.old.items ++ part_text reported.now part) waiting.new.items) }
+    ensures err { OnErr result (AppendsFront (W.contents writer.old) (W.contents writer.new)
+        (waiting.old.items ++ part_text reported.now part)) }
     ensures failed { W.has_failed writer.new ≡ (is_line_output result || W.has_failed writer.old) }
     ensures held { W.holds writer.new ≡ W.holds writer.old }
 {
@@ -229,8 +233,10 @@ fn write_kinds<W: Sink>(
     writer: &mut W,
     waiting: &mut Vec<u8>,
 ) -> Result<(), LineFault>
-    ensures ok { OnOk result (WritesFrontOf (W.contents writer.old) (W.contents writer.new) (waiting.old.items ++ flat_map (part_text reported.now) parts.now) waiting.new.items) }
-    ensures err { OnErr result (AppendsFront (W.contents writer.old) (W.contents writer.new) (waiting.old.items ++ flat_map (part_text reported.now) parts.now)) }
+    ensures ok { OnOk result (WritesFrontOf (W.contents writer.old) (W.contents writer.new)
+        (waiting.old.items ++ flat_map (part_text reported.now) parts.now) waiting.new.items) }
+    ensures err { OnErr result (AppendsFront (W.contents writer.old) (W.contents writer.new)
+        (waiting.old.items ++ flat_map (part_text reported.now) parts.now)) }
     ensures failed { W.has_failed writer.new ≡ (is_line_output result || W.has_failed writer.old) }
     ensures held { W.holds writer.new ≡ W.holds writer.old }
 {
@@ -248,8 +254,10 @@ fn write_all_kinds<W: Sink>(
     writer: &mut W,
     waiting: &mut Vec<u8>,
 ) -> Result<(), LineFault>
-    ensures ok { OnOk result (Appends (W.contents writer.old) (W.contents writer.new) (waiting.old.items ++ flat_map (part_text reported.now) parts.now)) }
-    ensures err { OnErr result (AppendsFront (W.contents writer.old) (W.contents writer.new) (waiting.old.items ++ flat_map (part_text reported.now) parts.now)) }
+    ensures ok { OnOk result (Appends (W.contents writer.old) (W.contents writer.new)
+        (waiting.old.items ++ flat_map (part_text reported.now) parts.now)) }
+    ensures err { OnErr result (AppendsFront (W.contents writer.old) (W.contents writer.new)
+        (waiting.old.items ++ flat_map (part_text reported.now) parts.now)) }
     ensures failed { W.has_failed writer.new ≡ (is_line_output result || W.has_failed writer.old) }
     ensures held { W.holds writer.new ≡ W.holds writer.old }
 {
@@ -264,7 +272,8 @@ pub(crate) fn put_parts<W: Sink>(
     writer: &mut W,
 ) -> Result<(), LineFault>
     ensures ok { OnOk result (Appends (W.contents writer.old) (W.contents writer.new) (parts_text reported.now)) }
-    ensures err { OnErr result (AppendsFront (W.contents writer.old) (W.contents writer.new) (parts_text reported.now)) }
+    ensures err { OnErr result
+        (AppendsFront (W.contents writer.old) (W.contents writer.new) (parts_text reported.now)) }
     ensures failed { W.has_failed writer.new ≡ (is_line_output result || W.has_failed writer.old) }
     ensures held { W.holds writer.new ≡ W.holds writer.old }
 {

@@ -51,7 +51,8 @@ impl<'a> Model for StateSnapshot<'a> {
 /// Writes the state text of the tables.
 fn write_tables<O: Output>(out: &mut O, tables: &Tables)
     requires { AreTables tables.now }
-    ensures text { PutsText O.took out.old out.new (state_text (design_names (floor_in tables.now)) (saved_teams_of tables.now)) }
+    ensures text { PutsText O.took out.old out.new
+        (state_text (design_names (floor_in tables.now)) (saved_teams_of tables.now)) }
     ensures in_range { All IsSavedInRange (saved_teams_of tables.now) }
 {
     let reported = StateView { tables };

@@ -77,7 +77,8 @@ fn count_teams(tables: &Tables) -> usize
 /// Returns the name of the team of that number. `None` if and only if there is no such team.
 fn name_of_team(tables: &Tables, team: usize) -> Option<&[u8]>
     requires { AreTables tables.now }
-    ensures { option_map (λ name. name.now) result ≡ option_map (λ t. t.name) (slice_get (design_names (floor_in tables.now)).teams team) }
+    ensures { option_map (λ name. name.now) result
+        ≡ option_map (λ t. t.name) (slice_get (design_names (floor_in tables.now)).teams team) }
 {
     team_name(tables.placement.frame(), team)
 }
@@ -97,7 +98,8 @@ fn count_cells(tables: &Tables, team: usize) -> usize
 /// cell.
 fn name_of_cell(tables: &Tables, team: usize, own: usize) -> Option<&[u8]>
     requires { AreTables tables.now }
-    ensures { option_map (λ name. name.now) result ≡ slice_get (named_team_of (design_names (floor_in tables.now)) team).cells own }
+    ensures { option_map (λ name. name.now) result
+        ≡ slice_get (named_team_of (design_names (floor_in tables.now)) team).cells own }
 {
     if team > tables.placement.frame().teams.len() {
         return None;
@@ -160,7 +162,8 @@ fn reported_entries(tables: &Tables, team: usize) -> usize
 fn reported_entry(tables: &Tables, team: usize, newer: usize) -> Option<&Moves>
     requires tables { AreTables tables.now }
     requires team { team < length (saved_teams_of tables.now) }
-    ensures { option_map (λ moves. moves_within (length (saved_at (saved_teams_of tables.now) team).cells) moves.now) result
+    ensures { option_map
+        (λ moves. moves_within (length (saved_at (saved_teams_of tables.now) team).cells) moves.now) result
         ≡ slice_get (saved_at (saved_teams_of tables.now) team).entries newer }
 {
     tables.undo.at(team, newer)

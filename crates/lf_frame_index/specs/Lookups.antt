@@ -4,7 +4,7 @@ use Rattle.lf_units.specs.declared.geometry.Point.{Point}
 use Rattle.lf_units.specs.declared.geometry.Rect.{Rect}
 use Rattle.lf_floorplan.specs.Bounds.{IsDefNumber}
 use Rattle.lf_floorplan.specs.declared.frame.Frame.{Frame}
-use Rattle.lf_floorplan.specs.Standing.{RestsOnRows}
+use Rattle.lf_floorplan.specs.RowSupport.{RestsOnRows}
 use Rattle.lf_segments.specs.declared.segment.Segment.{Segment}
 use Rattle.lf_segments.specs.Segments.{ComesBefore}
 use Rattle.lf_frame_index.specs.declared.rows_by_y.RowEntry.{RowEntry}

@@ -3,7 +3,7 @@
 ghost use Rattle.std.specs.Prelude.{◌≡◌, ◌↔◌, ◌≤◌, ◌+ℤ◌, ◌*ℤ◌, ◌≤ℤ◌, ◌<ℤ◌, All, AllPairs, IsTrue, MatchOption, Some, pos, slice_get};
 ghost use Rattle.std.specs.Option.{IsSomeAnd};
 ghost use Rattle.lf_floorplan.specs.Rows.{IsCoreRow, row_area};
-ghost use Rattle.lf_floorplan.specs.Standing.{ExtendsOver, RestsOnRows};
+ghost use Rattle.lf_floorplan.specs.RowSupport.{ExtendsOver, RestsOnRows};
 ghost use Rattle.lf_segments.specs.Boxes.{x_extent};
 ghost use Rattle.lf_frame_index.specs.Laws.{LiesAt, LiesInSegments};
 ghost use Rattle.lf_frame_index.specs.Lookups.{CanLookUp, IsLevelAbove};

@@ -11,7 +11,7 @@ use Rattle.lf_floorplan.specs.Bounds.{IsNearDefRect}
 use Rattle.lf_floorplan.specs.Boxes.{IsSized, size_of}
 use Rattle.lf_floorplan.specs.Rows.{row_area}
 use Rattle.lf_floorplan.specs.Sizes.{box_at, turned}
-use Rattle.lf_floorplan.specs.Standing.{IsBottomRow, IsSitesHigh}
+use Rattle.lf_floorplan.specs.RowSupport.{IsBottomRow, IsSitesHigh}
 use Rattle.lf_floorplan.proofs.SizeBounds.{IsSmall, small_pitch, turned_small, sized_pitch}
 use Rattle.lf_rules.specs.declared.rule.Rule.TheVariants.{Height, Row as RowRule}
 use Rattle.lf_rules.specs.Legality.{Holds}

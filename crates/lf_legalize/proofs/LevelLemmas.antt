@@ -16,7 +16,7 @@ use Rattle.lf_spans.proofs.Edges.{rising_nil, rising_tail, rising_after}
 use Rattle.lf_floorplan.specs.declared.frame.Frame.{Frame}
 use Rattle.lf_floorplan.specs.declared.parts.Row.{Row}
 use Rattle.lf_floorplan.specs.Rows.{row_area}
-use Rattle.lf_floorplan.specs.Standing.{rail_alternated}
+use Rattle.lf_floorplan.specs.RowSupport.{rail_alternated}
 use Rattle.lf_segments.specs.declared.segment.Segment.{Segment}
 use Rattle.lf_segments.specs.Segments.{IsCut, IsOf, IsOpen, IsSegment, LiesInSegment}
 use Rattle.lf_cells.specs.declared.cell.CellId.{CellId}

@@ -13,7 +13,7 @@ use Rattle.lf_floorplan.specs.declared.frame.Frame.{Frame}
 use Rattle.lf_floorplan.specs.declared.place.Place.{Place}
 use Rattle.lf_floorplan.specs.Boxes.{macro_of, size_of}
 use Rattle.lf_floorplan.specs.Sizes.{box_at, turned}
-use Rattle.lf_floorplan.specs.Standing.{IsBottomRow}
+use Rattle.lf_floorplan.specs.RowSupport.{IsBottomRow}
 use Rattle.lf_rules.specs.declared.rule.Rule.TheVariants.{Row as RowRule}
 use Rattle.lf_rules.specs.Legality.{Holds}
 use Rattle.lf_rules.specs.Choice.{SpotPlace, PlacementQuery, IsLegalAt, IsAllowedPlace, IsChoice, IsBest, distance, spot_of, candidate_at}

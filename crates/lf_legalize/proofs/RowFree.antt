@@ -20,8 +20,8 @@ use Rattle.lf_floorplan.specs.declared.parts.Row.{Row}
 use Rattle.lf_floorplan.specs.Rows.{row_area}
 use Rattle.lf_floorplan.specs.Boxes.{macro_of}
 use Rattle.lf_floorplan.specs.Ground.{StaysInGround, IsClear, OverlapsSoft}
-use Rattle.lf_floorplan.specs.Standing.{Supports, IsBottomRow, IsSupported, IsSitesHigh, RestsOnRows, rail_alternated}
-use Rattle.lf_floorplan.proofs.StandingLemmas.{height_one, bottom_one}
+use Rattle.lf_floorplan.specs.RowSupport.{Supports, IsBottomRow, IsSupported, IsSitesHigh, RestsOnRows, rail_alternated}
+use Rattle.lf_floorplan.proofs.RowSupportLemmas.{height_one, bottom_one}
 use Rattle.lf_segments.specs.declared.segment.Segment.{Segment}
 use Rattle.lf_segments.specs.Segments.{IsOpen}
 use Rattle.lf_gaps.specs.Gaps.{FitsRows}

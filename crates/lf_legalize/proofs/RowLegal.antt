@@ -22,7 +22,7 @@ use Rattle.lf_floorplan.specs.declared.place.Place.{Place}
 use Rattle.lf_floorplan.specs.Boxes.{macro_of, size_of}
 use Rattle.lf_floorplan.specs.Sizes.{box_at as box_sized, turned}
 use Rattle.lf_floorplan.specs.Ground.{StaysInGround, IsClear, OverlapsSoft}
-use Rattle.lf_floorplan.specs.Standing.{Supports, IsBottomRow, IsSitesHigh, RestsOnRows, rail_alternated}
+use Rattle.lf_floorplan.specs.RowSupport.{Supports, IsBottomRow, IsSitesHigh, RestsOnRows, rail_alternated}
 use Rattle.lf_segments.specs.declared.segment.Segment.{Segment}
 use Rattle.lf_segments.specs.Segments.{IsOf, LiesInSegment}
 use Rattle.lf_frame_index.proofs.LawLemmas.{segments_hold}

@@ -67,7 +67,8 @@ fn best_for(
     requires known { mac < length occupied.now.frame.macros }
     requires sized { IsSized occupied.now.frame (macro_of occupied.now.frame mac) }
     ensures { IfOk result (λ found.
-        IsChoice (query_from occupied.now.frame id.team padding.sites (map member_of (cells_of occupied.now.cells id.team)) id.own mac) target.now
+        IsChoice (query_from occupied.now.frame id.team padding.sites
+        (map member_of (cells_of occupied.now.cells id.team)) id.own mac) target.now
         (option_map spot_of found)) }
 {
     occupied.occupancy_holds_cells();
@@ -104,10 +105,10 @@ impl Seeker for IndexSeeker {
         target: &Point,
         padding: Padding,
     ) -> Result<Option<Place>, AllocError> {
-        let Some(standing) = cells.placement_of(cell) else {
+        let Some(cell_placement) = cells.placement_of(cell) else {
             return Ok(None);
         };
         let occupied = OccupiedFrame::new(frame, cells, occupancy);
-        best_for(alloc, &occupied, cell, standing.mac, target, padding)
+        best_for(alloc, &occupied, cell, cell_placement.mac, target, padding)
     }
 }

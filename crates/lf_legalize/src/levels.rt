@@ -3,7 +3,7 @@
 ghost use Rattle.std.specs.Prelude.{◌≡◌, ◌↔◌, ◌<◌, ◌+ℤ◌, ◌*ℤ◌, ◌≤ℤ◌, ◌<ℤ◌, IfOk, IsTrue, MatchOption, OnOk, Some, length, map, pos};
 ghost use Rattle.std.specs.Option.{option_map};
 ghost use Rattle.lf_orient.specs.Orientation.{rail_below};
-ghost use Rattle.lf_floorplan.specs.Standing.{rail_alternated};
+ghost use Rattle.lf_floorplan.specs.RowSupport.{rail_alternated};
 ghost use Rattle.lf_frame_index.specs.RowsByY.{IsRunAt};
 ghost use Rattle.lf_legalize.specs.Levels.{AddsLevel, AreFreeOn, AreLevels, HasBareLevel, IsLevel, IsLevelRow};
 ghost use Rattle.lf_legalize.specs.RowSearches.{padding_in};
@@ -48,14 +48,16 @@ fn y_at(bottom: &Row, pitch: &Point, level: u8) -> i64
 
 /// The rows `level` levels above the bottom row, in the order of their x.
 fn rows_above<'a>(search: &RowSearch<'a>, bottom: &Row, level: u8) -> &'a [RowEntry]
-    ensures { IsRunAt search.now.occupancy.now.index.rows (bottom.now.y +ℤ (pos level *ℤ search.now.frame.now.pitch.y)) result.now }
+    ensures { IsRunAt search.now.occupancy.now.index.rows
+        (bottom.now.y +ℤ (pos level *ℤ search.now.frame.now.pitch.y)) result.now }
 {
     rows_of(search).at(y_at(bottom, &search.frame.pitch, level))
 }
 
 /// Whether the row has the rail of a row `level` levels above the bottom row.
 fn is_railed(bottom: &Row, level: u8, row: &Row) -> bool
-    ensures { IsTrue result ↔ (rail_below row.now.orient ≡ option_map (rail_alternated level) (rail_below bottom.now.orient)) }
+    ensures { IsTrue result
+        ↔ (rail_below row.now.orient ≡ option_map (rail_alternated level) (rail_below bottom.now.orient)) }
 {
     row_rail(row.orient) == rail_at(bottom, level)
 }
@@ -71,7 +73,8 @@ fn push_row(
     spans: &mut Vec<Span>,
 ) -> Result<(), AllocError>
     requires { number < length search.now.frame.now.rows }
-    ensures { OnOk result (AddsLevel search.now bottom.now.row.now level number bottom.now.window.now.span spans.old.items spans.new.items) }
+    ensures { OnOk result (AddsLevel search.now bottom.now.row.now level number bottom.now.window.now.span
+        spans.old.items spans.new.items) }
 {
     let row = &search.frame.rows.as_slice()[number];
     if !is_railed(bottom.row, level, row) {
@@ -91,7 +94,8 @@ fn free_above(
     level: u8,
 ) -> Result<Vec<Span>, AllocError>
     ensures { IfOk result (λ free.
-        AreFreeOn (IsLevelRow search.now.frame.now bottom.now.row.now level) search.now.occupancy.now search.now.id bottom.now.window.now.span (padding_in search.now) free.items) }
+        AreFreeOn (IsLevelRow search.now.frame.now bottom.now.row.now level) search.now.occupancy.now search.now.id
+        bottom.now.window.now.span (padding_in search.now) free.items) }
 {
     search_is_occupied(search);
     let mut spans = Vec::new(alloc);
@@ -108,7 +112,8 @@ fn free_at(
     bottom: &BottomRow<'_>,
     level: u8,
 ) -> Result<Vec<Span>, AllocError>
-    ensures { IfOk result (λ free. IsLevel search.now bottom.now.number bottom.now.row.now bottom.now.window.now.span level free.items) }
+    ensures { IfOk result
+        (λ free. IsLevel search.now bottom.now.number bottom.now.row.now bottom.now.window.now.span level free.items) }
 {
     if level == 0 {
         return open_in_row(alloc, search, bottom.number, bottom.window);
@@ -123,8 +128,10 @@ pub(crate) fn free_by_level(
     search: &RowSearch<'_>,
     bottom: &BottomRow<'_>,
 ) -> Result<Option<Vec<Vec<Span>>>, AllocError>
-    ensures { IfOk result (λ found. MatchOption found (HasBareLevel search.now bottom.now.number bottom.now.row.now bottom.now.window.now.span)
-        (λ lists. AreLevels search.now bottom.now.number bottom.now.row.now bottom.now.window.now.span search.now.height (map (λ list. list.items) lists.items))) }
+    ensures { IfOk result (λ found. MatchOption found
+        (HasBareLevel search.now bottom.now.number bottom.now.row.now bottom.now.window.now.span)
+        (λ lists. AreLevels search.now bottom.now.number bottom.now.row.now bottom.now.window.now.span search.now.height
+        (map (λ list. list.items) lists.items))) }
 {
     let mut lists = Vec::new(alloc);
     for level in 0..search.height {

@@ -35,7 +35,8 @@ fn best_in_window(
 ) -> Result<Option<Place>, AllocError>
     requires { number < length search.now.frame.now.rows }
     ensures { (r : Row) → slice_get search.now.frame.now.rows number ≡ Some r → IfOk result (λ found.
-        IsChoiceAmong (IsOnRowIn search.now.frame.now search.now.size r window.now.span) (query_of_search search.now) search.now.target.now (option_map spot_of found)) }
+        IsChoiceAmong (IsOnRowIn search.now.frame.now search.now.size r window.now.span)
+        (query_of_search search.now) search.now.target.now (option_map spot_of found)) }
 {
     let row = &search.frame.rows.as_slice()[number];
     if is_beside(&search.frame.pitch, row, &window.span) {
@@ -79,7 +80,8 @@ fn best_within(
 ) -> Result<Option<Place>, AllocError>
     requires { reach ≤ 68719476736 }
     ensures { IfOk result (λ found.
-        IsChoiceAmong (IsWithin search.now.target.now reach) (query_of_search search.now) search.now.target.now (option_map spot_of found)) }
+        IsChoiceAmong (IsWithin search.now.target.now reach) (query_of_search search.now) search.now.target.now
+        (option_map spot_of found)) }
 {
     runs_have_rows();
     search_is_occupied(search);
@@ -103,8 +105,10 @@ pub(crate) fn nearest(
     farthest: u64,
 ) -> Result<Option<Place>, AllocError>
     requires small { farthest ≤ 68719476736 }
-    requires all { (p : SpotPlace) → IsAllowedPlace (query_of_search search.now) p → IsWithin search.now.target.now farthest p }
-    ensures { IfOk result (λ found. IsChoice (query_of_search search.now) search.now.target.now (option_map spot_of found)) }
+    requires all { (p : SpotPlace) → IsAllowedPlace (query_of_search search.now) p
+        → IsWithin search.now.target.now farthest p }
+    ensures { IfOk result
+        (λ found. IsChoice (query_of_search search.now) search.now.target.now (option_map spot_of found)) }
 {
     let mut reach = (search.frame.pitch.y as u64).max(2) - 1;
     while reach < farthest {

@@ -102,7 +102,8 @@ fn nearest_fit(
     requires wide { pos 0 <ℤ width.now }
     requires width { IsBounded width.now }
     requires target { IsBounded target.now }
-    ensures { IfOk result (λ found. let rows = map (λ list. list.items) lists.now in FindsNearest (λ x. FitsRows rows grid.now width.now x) target.now found) }
+    ensures { IfOk result (λ found. let rows = map (λ list. list.items) lists.now in
+        FindsNearest (λ x. FitsRows rows grid.now width.now x) target.now found) }
 {
     best_in_row(alloc, lists, grid, *width, *target)
 }
@@ -116,9 +117,11 @@ fn nearest_x(
     lists: &[Vec<Span>],
 ) -> Result<Option<i64>, AllocError>
     requires is_in_place { slice_get search.now.frame.now.rows bottom.now.number ≡ Some bottom.now.row.now }
-    requires levels { AreLevels search.now bottom.now.number bottom.now.row.now bottom.now.window.now.span search.now.height (map (λ list. list.items) lists.now) }
+    requires levels { AreLevels search.now bottom.now.number bottom.now.row.now bottom.now.window.now.span
+        search.now.height (map (λ list. list.items) lists.now) }
     ensures { IfOk result (λ found. let rows = map (λ list. list.items) lists.now in
-        FindsNearest (λ x. FitsRows rows (grid_of bottom.now.row.now.x search.now.frame.now.pitch.x) search.now.size.x x) search.now.target.now.x found) }
+        FindsNearest (λ x. FitsRows rows (grid_of bottom.now.row.now.x search.now.frame.now.pitch.x) search.now.size.x
+        x) search.now.target.now.x found) }
 {
     search_is_occupied(search);
     let grid = grid_on(bottom.row, &search.frame.pitch);
@@ -146,9 +149,11 @@ fn best_at(
 ) -> Result<Option<Place>, AllocError>
     requires is_in_place { slice_get search.now.frame.now.rows bottom.now.number ≡ Some bottom.now.row.now }
     requires first { IsFirstOrient search.now bottom.now.row.now orient }
-    requires levels { AreLevels search.now bottom.now.number bottom.now.row.now bottom.now.window.now.span search.now.height (map (λ list. list.items) lists.now) }
+    requires levels { AreLevels search.now bottom.now.number bottom.now.row.now bottom.now.window.now.span
+        search.now.height (map (λ list. list.items) lists.now) }
     ensures { IfOk result (λ found.
-        IsChoiceAmong (IsOnRowIn search.now.frame.now search.now.size bottom.now.row.now bottom.now.window.now.span) (query_of_search search.now) search.now.target.now
+        IsChoiceAmong (IsOnRowIn search.now.frame.now search.now.size bottom.now.row.now bottom.now.window.now.span)
+        (query_of_search search.now) search.now.target.now
         (option_map spot_of found)) }
 {
     search_is_occupied(search);
@@ -169,7 +174,8 @@ fn best_of_one(
     requires first { IsFirstOrient search.now bottom.now.row.now orient }
     requires one { search.now.height ≡ 1 }
     ensures { IfOk result (λ found.
-        IsChoiceAmong (IsOnRowIn search.now.frame.now search.now.size bottom.now.row.now bottom.now.window.now.span) (query_of_search search.now) search.now.target.now
+        IsChoiceAmong (IsOnRowIn search.now.frame.now search.now.size bottom.now.row.now bottom.now.window.now.span)
+        (query_of_search search.now) search.now.target.now
         (option_map spot_of found)) }
 {
     search_is_occupied(search);
@@ -190,7 +196,8 @@ pub(crate) fn best_on_row(
 ) -> Result<Option<Place>, AllocError>
     requires { number < length search.now.frame.now.rows }
     ensures { (r : Row) → slice_get search.now.frame.now.rows number ≡ Some r → IfOk result (λ found.
-        IsChoiceAmong (IsOnRowIn search.now.frame.now search.now.size r window.now.span) (query_of_search search.now) search.now.target.now (option_map spot_of found)) }
+        IsChoiceAmong (IsOnRowIn search.now.frame.now search.now.size r window.now.span)
+        (query_of_search search.now) search.now.target.now (option_map spot_of found)) }
 {
     search_is_occupied(search);
     let row = row_at(search.frame, number);

@@ -59,7 +59,8 @@ pub(crate) fn open_in_row(
     number: usize,
     window: &SearchWindow,
 ) -> Result<Vec<Span>, AllocError>
-    ensures { IfOk result (λ left. AreOpenInRow search.now.occupancy.now number search.now.id window.now.span (padding_in search.now) left.items) }
+    ensures { IfOk result (λ left. AreOpenInRow search.now.occupancy.now number search.now.id window.now.span
+        (padding_in search.now) left.items) }
 {
     search_is_occupied(search);
     let padding = padding_length(search);

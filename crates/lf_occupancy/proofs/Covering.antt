@@ -11,7 +11,7 @@ use Rattle.lf_floorplan.specs.declared.frame.Frame.{Frame}
 use Rattle.lf_floorplan.specs.declared.parts.Row.{Row}
 use Rattle.lf_floorplan.specs.Rows.{row_area}
 use Rattle.lf_floorplan.specs.Ground.{StaysInGround, IsClear}
-use Rattle.lf_floorplan.specs.Standing.{RestsOnRows}
+use Rattle.lf_floorplan.specs.RowSupport.{RestsOnRows}
 use Rattle.lf_segments.specs.declared.segment.Segment.{Segment}
 use Rattle.lf_segments.specs.Segments.{IsOf}
 use Rattle.lf_segments.specs.Boxes.{x_extent}

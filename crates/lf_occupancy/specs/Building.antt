@@ -36,13 +36,17 @@ PrecedesCell team own id = (id.team < team) ⊎ ((id.team ≡ team) × (id.own <
 
 -- each team has a list with an element for each of its cells: the box of the cell if it is done,
 -- otherwise None
-pub record AreFilled (f : Frame) (cells : Cells) (Done : CellId → Type 0) (boxes : List (List (Option Rect))) : Type 0 where
+pub record AreFilled (f : Frame) (cells : Cells) (Done : CellId → Type 0)
+    (boxes : List (List (Option Rect))) : Type 0 where
   pub many : (team : ℕ) → length (slice_index_or boxes team []) ≡ length (cells_of cells team)
-  pub done : (id : CellId) (c : Cell) → cell_at cells id ≡ Some c → Done id → cell_box (slice_index_or boxes id.team []) id.own ≡ working_box_of f c
-  pub rest : (id : CellId) (c : Cell) → cell_at cells id ≡ Some c → (Done id → ⊥) → cell_box (slice_index_or boxes id.team []) id.own ≡ None
+  pub done : (id : CellId) (c : Cell) → cell_at cells id ≡ Some c → Done id
+      → cell_box (slice_index_or boxes id.team []) id.own ≡ working_box_of f c
+  pub rest : (id : CellId) (c : Cell) → cell_at cells id ≡ Some c → (Done id → ⊥)
+      → cell_box (slice_index_or boxes id.team []) id.own ≡ None
 
 -- the marks of the strips are those of the cells that are done
-pub record AreFilledIn (f : Frame) (cells : Cells) (strips : List Strip) (Done : CellId → Type 0) (mark_lists : List StripMarks) : Type 0 where
+pub record AreFilledIn (f : Frame) (cells : Cells) (strips : List Strip) (Done : CellId → Type 0)
+    (mark_lists : List StripMarks) : Type 0 where
   pub boxes : List (List (Option Rect))
   pub filled : AreFilled f cells Done boxes
   pub marked : ShowAllBoxes strips boxes mark_lists

@@ -12,13 +12,15 @@ IsOneOf near n = (near.start ≤ n) × (n < near.end)
 
 -- there is a list of marks for each strip, and the strips of the range have room for the parts of
 -- the rectangle
-pub record CanTakeInRun (strips : List Strip) (near : StripRange) (rect : Rect) (mark_lists : List StripMarks) : Type 0 where
+pub record CanTakeInRun (strips : List Strip) (near : StripRange) (rect : Rect)
+    (mark_lists : List StripMarks) : Type 0 where
   pub many : length mark_lists ≡ length strips
   pub within : near.end ≤ length strips
   pub room : CanTake strips rect (IsOneOf near) mark_lists
 
 -- the strips get room, and then the cell's parts are marked in the chosen ones
-pub record AreReservedAndMarked (strips : List Strip) (own : ℕ) (rect : Rect) (Chosen : ℕ → Type 0) (old new : List StripMarks) : Type 0 where
+pub record AreReservedAndMarked (strips : List Strip) (own : ℕ) (rect : Rect) (Chosen : ℕ → Type 0)
+    (old new : List StripMarks) : Type 0 where
   pub roomy : List StripMarks
   pub kept : KeepMarksOf old roomy
   pub put : AreChanged Chosen (PutsIn strips own rect) roomy new

@@ -36,7 +36,8 @@ pub record IsLower (strips : List Strip) (team : ℕ) (from : Option Rect) (old 
   pub most : (n : ℕ) → slice_index_or new n 0 ≤ slice_index_or old n 0
   pub least : (n : ℕ) (d : Strip) → n < length strips →
       slice_index_or old n 0 ≤ slice_index_or new n 0 + count_in (slice_index_or strips n d) (from ∷ [])
-  pub others : (n : ℕ) (d : Strip) → n < length strips → (slice_index_or strips n d).team ≢ team → slice_index_or new n 0 ≡ slice_index_or old n 0
+  pub others : (n : ℕ) (d : Strip) → n < length strips → (slice_index_or strips n d).team ≢ team
+      → slice_index_or new n 0 ≡ slice_index_or old n 0
 
 -- no strip counts less, and those of the team that share a point with the box count at least one
 -- more
@@ -79,4 +80,5 @@ pub record AreShifted (strips : List Strip) (team : ℕ) (shift : BoxChange) (ol
   pub own : (n : ℕ) (d : Strip) → n < length strips → (slice_index_or strips n d).team ≡ team →
       (slice_index_or old n 0 + count_in (slice_index_or strips n d) (Some shift.to ∷ [])) ≤
       slice_index_or new n 0 + count_in (slice_index_or strips n d) (Some shift.from ∷ [])
-  pub others : (n : ℕ) (d : Strip) → n < length strips → (slice_index_or strips n d).team ≢ team → slice_index_or new n 0 ≡ slice_index_or old n 0
+  pub others : (n : ℕ) (d : Strip) → n < length strips → (slice_index_or strips n d).team ≢ team
+      → slice_index_or new n 0 ≡ slice_index_or old n 0

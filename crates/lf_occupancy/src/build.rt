@@ -115,9 +115,11 @@ fn mark_cell(
     id: &CellId,
 ) -> Result<(), AllocError>
     requires { HasRisingMarks (strips_to_mark placed.now) mark_lists.old.items }
-    ensures { (boxes : List (List (Option Rect))) → HasNoBox boxes id.now → ShowAllBoxes (strips_to_mark placed.now) boxes mark_lists.old.items
+    ensures { (boxes : List (List (Option Rect))) → HasNoBox boxes id.now
+        → ShowAllBoxes (strips_to_mark placed.now) boxes mark_lists.old.items
         → OnOk result (ShowAllBoxes (strips_to_mark placed.now)
-        (boxes_set boxes id.now (cell_box (slice_index_or (boxes_in placed.now.frame.now placed.now.cells.now) id.now.team []) id.now.own)) mark_lists.new.items) }
+        (boxes_set boxes id.now (cell_box (slice_index_or (boxes_in placed.now.frame.now placed.now.cells.now)
+        id.now.team []) id.now.own)) mark_lists.new.items) }
 {
     let Some(rect) = box_at_work(placed.frame, placed.cells, id) else {
         return Ok(());
@@ -148,8 +150,10 @@ fn fill_in(
     team: usize,
     from: usize,
 ) -> Result<(), AllocError>
-    requires { AreFilledIn placed.now.frame.now placed.now.cells.now (strips_to_mark placed.now) (PrecedesCell team from) mark_lists.old.items }
-    ensures { OnOk result (AreFilledIn placed.now.frame.now placed.now.cells.now (strips_to_mark placed.now) (PrecedesCell team (from + 65536)) mark_lists.new.items) }
+    requires { AreFilledIn placed.now.frame.now placed.now.cells.now (strips_to_mark placed.now)
+        (PrecedesCell team from) mark_lists.old.items }
+    ensures { OnOk result (AreFilledIn placed.now.frame.now placed.now.cells.now (strips_to_mark placed.now)
+        (PrecedesCell team (from + 65536)) mark_lists.new.items) }
 {
     let ids = part_of(placed.cells.cells_of(team), from);
     let order = by_place(alloc, placed.cells, ids)?;
@@ -166,8 +170,10 @@ fn fill_team(
     placed: &PlacedCells<'_>,
     team: usize,
 ) -> Result<(), AllocError>
-    requires { AreFilledIn placed.now.frame.now placed.now.cells.now (strips_to_mark placed.now) (PrecedesCell team 0) mark_lists.old.items }
-    ensures { OnOk result (AreFilledIn placed.now.frame.now placed.now.cells.now (strips_to_mark placed.now) (PrecedesCell (team + 1) 0) mark_lists.new.items) }
+    requires { AreFilledIn placed.now.frame.now placed.now.cells.now (strips_to_mark placed.now)
+        (PrecedesCell team 0) mark_lists.old.items }
+    ensures { OnOk result (AreFilledIn placed.now.frame.now placed.now.cells.now (strips_to_mark placed.now)
+        (PrecedesCell (team + 1) 0) mark_lists.new.items) }
 {
     for part in 0..placed.cells.cells_of(team).len() / PART + 1 {
         fill_in(alloc, mark_lists, placed, team, part * PART)?;
@@ -192,7 +198,8 @@ pub(crate) fn marks_of_strips(
     alloc: Global,
     placed: &PlacedCells<'_>,
 ) -> Result<Vec<StripMarks>, AllocError>
-    ensures { IfOk result (λ mark_lists. ShowAllBoxes (strips_to_mark placed.now) (boxes_in placed.now.frame.now placed.now.cells.now) mark_lists.items) }
+    ensures { IfOk result (λ mark_lists. ShowAllBoxes (strips_to_mark placed.now)
+        (boxes_in placed.now.frame.now placed.now.cells.now) mark_lists.items) }
 {
     let mut mark_lists = empty_marks(alloc, placed.index.strips().len())?;
     for team in 0..team_count(placed.cells.cell_ids()) {

@@ -32,7 +32,8 @@ fn make_room_in_row(
 ) -> Result<(), AllocError>
     requires { length mark_lists.old.items ≡ length (all_widened strips.now) }
     ensures kept { KeepMarksOf mark_lists.old.items mark_lists.new.items }
-    ensures ok { OnOk result (HaveRoom (IsReachedIn (all_widened strips.now) row id.now.team rect.now) more mark_lists.new.items) }
+    ensures ok { OnOk result
+        (HaveRoom (IsReachedIn (all_widened strips.now) row id.now.team rect.now) more mark_lists.new.items) }
 {
     let near = widened_strips(strips, row, id.team as usize, rect);
     for n in near.start..near.end {
@@ -52,7 +53,8 @@ fn make_room_in_rows(
 ) -> Result<(), AllocError>
     requires { length mark_lists.old.items ≡ length (all_widened strips.now) }
     ensures kept { KeepMarksOf mark_lists.old.items mark_lists.new.items }
-    ensures ok { OnOk result (HaveRoom (IsReached (all_widened strips.now) rows.now id.now.team rect.now) more mark_lists.new.items) }
+    ensures ok { OnOk result
+        (HaveRoom (IsReached (all_widened strips.now) rows.now id.now.team rect.now) more mark_lists.new.items) }
 {
     for entry in rows {
         make_room_in_row(mark_lists, strips, entry.row, id, rect, more)?;
@@ -90,7 +92,8 @@ fn prune_rows(
     rect: &Rect,
 )
     requires { HasOneMarkInRows (all_widened strips.now) rows.now.rows.now id.now rect.now mark_lists.old.items }
-    ensures { PruneInRows (all_widened strips.now) rows.now.rows.now id.now rect.now mark_lists.old.items mark_lists.new.items }
+    ensures { PruneInRows (all_widened strips.now) rows.now.rows.now id.now rect.now mark_lists.old.items
+        mark_lists.new.items }
 {
     for entry in rows.rows {
         prune_row(mark_lists, strips, entry.row, id, rect);
@@ -105,7 +108,8 @@ fn put_in_run(
     cell: &CellBox<'_>,
 )
     requires { CanTakeInRun (all_widened strips.now) near.now cell.now.rect.now mark_lists.old.items }
-    ensures { AreChanged (IsOneOf near.now) (PutsIn (all_widened strips.now) cell.now.id.now.own cell.now.rect.now) mark_lists.old.items mark_lists.new.items }
+    ensures { AreChanged (IsOneOf near.now) (PutsIn (all_widened strips.now) cell.now.id.now.own cell.now.rect.now)
+        mark_lists.old.items mark_lists.new.items }
 {
     for n in near.start..near.end {
         put_in(&mut mark_lists[n], &widened_area(strips, n), cell);
@@ -120,7 +124,8 @@ fn put_in_row(
     cell: &CellBox<'_>,
 )
     requires { CanTakeInRow (all_widened strips.now) row cell.now.id.now cell.now.rect.now mark_lists.old.items }
-    ensures { PutInRow (all_widened strips.now) row cell.now.id.now cell.now.rect.now mark_lists.old.items mark_lists.new.items }
+    ensures { PutInRow (all_widened strips.now) row cell.now.id.now cell.now.rect.now mark_lists.old.items
+        mark_lists.new.items }
 {
     let near = widened_strips(strips, row, cell.id.team as usize, cell.rect);
     put_in_run(mark_lists, strips, &near, cell);
@@ -133,8 +138,10 @@ fn put_in_rows(
     rows: &DistinctRows<'_>,
     cell: &CellBox<'_>,
 )
-    requires { CanTakeInRows (all_widened strips.now) rows.now.rows.now cell.now.id.now cell.now.rect.now mark_lists.old.items }
-    ensures { PutInRows (all_widened strips.now) rows.now.rows.now cell.now.id.now cell.now.rect.now mark_lists.old.items mark_lists.new.items }
+    requires { CanTakeInRows (all_widened strips.now) rows.now.rows.now cell.now.id.now cell.now.rect.now
+        mark_lists.old.items }
+    ensures { PutInRows (all_widened strips.now) rows.now.rows.now cell.now.id.now cell.now.rect.now
+        mark_lists.old.items mark_lists.new.items }
 {
     for entry in rows.rows {
         put_in_row(mark_lists, strips, entry.row, cell);
@@ -150,7 +157,8 @@ pub(crate) fn take_out(
     rect: &Rect,
 )
     requires { HasOneMark (all_widened strips.now) id.now rect.now mark_lists.old.items }
-    ensures mark_lists { (boxes : List (List (Option Rect))) → HasBoxOrNone boxes id.now rect.now → ShowAllBoxes (all_widened strips.now) boxes mark_lists.old.items
+    ensures mark_lists { (boxes : List (List (Option Rect))) → HasBoxOrNone boxes id.now rect.now
+        → ShowAllBoxes (all_widened strips.now) boxes mark_lists.old.items
         → ShowAllBoxes (all_widened strips.now) (boxes_set boxes id.now None) mark_lists.new.items }
     ensures rooms { capacities_in mark_lists.new.items ≡ capacities_in mark_lists.old.items }
 {
@@ -166,9 +174,12 @@ pub(crate) fn take_in(
     cell: &CellBox<'_>,
 )
     requires marks { HasRisingMarks (all_widened strips.now) mark_lists.old.items }
-    requires room { HaveRoom (OverlapsStrip (all_widened strips.now) cell.now.id.now.team cell.now.rect.now) 1 mark_lists.old.items }
-    ensures mark_lists { (boxes : List (List (Option Rect))) → HasNoBox boxes cell.now.id.now → ShowAllBoxes (all_widened strips.now) boxes mark_lists.old.items
-        → ShowAllBoxes (all_widened strips.now) (boxes_set boxes cell.now.id.now (Some cell.now.rect.now)) mark_lists.new.items }
+    requires room { HaveRoom (OverlapsStrip (all_widened strips.now) cell.now.id.now.team cell.now.rect.now) 1
+        mark_lists.old.items }
+    ensures mark_lists { (boxes : List (List (Option Rect))) → HasNoBox boxes cell.now.id.now
+        → ShowAllBoxes (all_widened strips.now) boxes mark_lists.old.items
+        → ShowAllBoxes (all_widened strips.now)
+        (boxes_set boxes cell.now.id.now (Some cell.now.rect.now)) mark_lists.new.items }
     ensures rooms { capacities_in mark_lists.new.items ≡ capacities_in mark_lists.old.items }
 {
     strips.index.strips_are_placed();
@@ -187,7 +198,8 @@ fn reserve_box(
 ) -> Result<(), AllocError>
     requires { length mark_lists.old.items ≡ length (all_widened strips.now) }
     ensures kept { KeepMarksOf mark_lists.old.items mark_lists.new.items }
-    ensures ok { OnOk result (IfSome to.now (λ rect. HaveRoom (OverlapsStrip (all_widened strips.now) id.now.team rect) more mark_lists.new.items)) }
+    ensures ok { OnOk result (IfSome to.now
+        (λ rect. HaveRoom (OverlapsStrip (all_widened strips.now) id.now.team rect) more mark_lists.new.items)) }
 {
     strips.index.strips_are_placed();
     if let Some(rect) = to {
@@ -212,7 +224,8 @@ pub(crate) fn reserve_moves(
 ) -> Result<(), AllocError>
     requires { length mark_lists.old.items ≡ length (all_widened strips.now) }
     ensures kept { KeepMarksOf mark_lists.old.items mark_lists.new.items }
-    ensures ok { OnOk result (HaveRoomForAll (all_widened strips.now) moves.now (length moves.now) mark_lists.new.items) }
+    ensures ok { OnOk result
+        (HaveRoomForAll (all_widened strips.now) moves.now (length moves.now) mark_lists.new.items) }
 {
     for (id, to) in moves {
         reserve_box(mark_lists, strips, id, to, moves.len())?;
@@ -244,7 +257,8 @@ fn settle_in_few(
 ) -> Result<(), AllocError>
     requires { HasRisingMarks (all_widened strips.now) mark_lists.old.items }
     ensures ok { OnOk result (AreReservedAndMarked (all_widened strips.now) cell.now.id.now.own cell.now.rect.now
-        (IsReached (all_widened strips.now) rows.now.rows.now cell.now.id.now.team cell.now.rect.now) mark_lists.old.items mark_lists.new.items) }
+        (IsReached (all_widened strips.now) rows.now.rows.now cell.now.id.now.team cell.now.rect.now)
+        mark_lists.old.items mark_lists.new.items) }
     ensures err { OnErr result (KeepMarksOf mark_lists.old.items mark_lists.new.items) }
 {
     if rows.rows.len() == 0 {
@@ -275,7 +289,8 @@ fn settle_in_rows(
 ) -> Result<(), AllocError>
     requires { HasRisingMarks (all_widened strips.now) mark_lists.old.items }
     ensures ok { OnOk result (AreReservedAndMarked (all_widened strips.now) cell.now.id.now.own cell.now.rect.now
-        (IsReached (all_widened strips.now) rows.now.rows.now cell.now.id.now.team cell.now.rect.now) mark_lists.old.items mark_lists.new.items) }
+        (IsReached (all_widened strips.now) rows.now.rows.now cell.now.id.now.team cell.now.rect.now)
+        mark_lists.old.items mark_lists.new.items) }
     ensures err { OnErr result (KeepMarksOf mark_lists.old.items mark_lists.new.items) }
 {
     if rows.rows.len() <= FEW {
@@ -294,8 +309,10 @@ pub(crate) fn reserve_and_mark(
     cell: &CellBox<'_>,
 ) -> Result<(), AllocError>
     requires { HasRisingMarks (all_widened strips.now) mark_lists.old.items }
-    ensures ok { (boxes : List (List (Option Rect))) → HasNoBox boxes cell.now.id.now → ShowAllBoxes (all_widened strips.now) boxes mark_lists.old.items
-        → OnOk result (ShowAllBoxes (all_widened strips.now) (boxes_set boxes cell.now.id.now (Some cell.now.rect.now)) mark_lists.new.items) }
+    ensures ok { (boxes : List (List (Option Rect))) → HasNoBox boxes cell.now.id.now
+        → ShowAllBoxes (all_widened strips.now) boxes mark_lists.old.items
+        → OnOk result (ShowAllBoxes (all_widened strips.now)
+        (boxes_set boxes cell.now.id.now (Some cell.now.rect.now)) mark_lists.new.items) }
     ensures err { OnErr result (KeepMarksOf mark_lists.old.items mark_lists.new.items) }
 {
     strips.index.strips_are_placed();

@@ -83,7 +83,8 @@ pub(crate) fn free_in_strips(
 ) -> Result<Vec<Span>, AllocError>
     requires mark_lists { MarkTheirBoxes marked.now }
     requires low { negsuc 4611686018427387903 ≤ℤ window.now.lo }
-    ensures { IfOk result (λ free. AreFreeTo marked.now.strips.now.index.now.strips (views_in marked.now) row id.now.team
+    ensures { IfOk result
+        (λ free. AreFreeTo marked.now.strips.now.index.now.strips (views_in marked.now) row id.now.team
         id.now.own window.now padding.now.length (length marked.now.strips.now.index.now.strips) free.items) }
 {
     let strips = marked.strips;
@@ -118,7 +119,8 @@ pub(crate) fn free_in_one(
     padding: &CellPadding,
 ) -> Result<Vec<Span>, AllocError>
     requires { MarkTheirBoxes marked.now }
-    ensures { IfOk result (λ free. AreFreeSpansOfStrip marked.now.strips.now.index.now.strips (views_in marked.now) without.now
+    ensures { IfOk result
+        (λ free. AreFreeSpansOfStrip marked.now.strips.now.index.now.strips (views_in marked.now) without.now
         padding.now.length number free.items) }
 {
     let strips = marked.strips;

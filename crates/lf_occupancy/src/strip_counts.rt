@@ -55,7 +55,8 @@ fn count_less(count: &mut usize, area: &Rect, rect: &Rect)
 fn lower_run(counts: &mut Vec<usize>, strips: &WidenedStrips<'_>, near: &StripRange, rect: &Rect)
     requires many { length counts.old.items ≡ length (all_widened strips.now) }
     requires within { near.now.end ≤ length (all_widened strips.now) }
-    ensures { AreChanged (IsOneOf near.now) (IsLessAt (all_widened strips.now) rect.now) counts.old.items counts.new.items }
+    ensures { AreChanged (IsOneOf near.now)
+        (IsLessAt (all_widened strips.now) rect.now) counts.old.items counts.new.items }
 {
     for n in near.start..near.end {
         count_less(&mut counts[n], &widened_area(strips, n), rect);
@@ -71,7 +72,8 @@ fn lower_rows(
     rect: &Rect,
 )
     requires { length counts.old.items ≡ length (all_widened strips.now) }
-    ensures { AreChanged (IsReached (all_widened strips.now) rows.now.rows.now team rect.now) (IsLessAt (all_widened strips.now) rect.now)
+    ensures { AreChanged (IsReached (all_widened strips.now) rows.now.rows.now team rect.now)
+        (IsLessAt (all_widened strips.now) rect.now)
         counts.old.items counts.new.items }
 {
     for entry in rows.rows {
@@ -142,7 +144,8 @@ fn raise_rows(
 ) -> Result<(), AllocError>
     requires { HaveRoomForCounts (all_widened strips.now) mark_lists.old.items counts.old.items }
     ensures kept { KeepMarksOf mark_lists.old.items mark_lists.new.items }
-    ensures more { OnOk result (IsHigher (all_widened strips.now) team (Some rect.now) counts.old.items counts.new.items) }
+    ensures more { OnOk result
+        (IsHigher (all_widened strips.now) team (Some rect.now) counts.old.items counts.new.items) }
     ensures room { OnOk result (KeepsCapacities counts.new.items (capacities_in mark_lists.new.items)) }
 {
     strips.index.strips_are_placed();
@@ -263,7 +266,8 @@ pub(crate) fn shift_rows(
 ) -> Result<(), AllocError>
     requires { HaveRoomForCounts (all_widened strips.now) mark_lists.old.items counts.old.items }
     ensures kept { KeepMarksOf mark_lists.old.items mark_lists.new.items }
-    ensures shifted { OnOk result (AreShifted (all_widened strips.now) team shift.now counts.old.items counts.new.items) }
+    ensures shifted { OnOk result
+        (AreShifted (all_widened strips.now) team shift.now counts.old.items counts.new.items) }
     ensures room { OnOk result (KeepsCapacities counts.new.items (capacities_in mark_lists.new.items)) }
 {
     strips.index.strips_are_placed();

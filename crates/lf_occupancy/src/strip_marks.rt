@@ -143,7 +143,8 @@ pub(crate) fn count_before(marks: &[Mark], x: &i64) -> usize
     requires { AreRising marks.now }
     ensures within { result ≤ length marks.now }
     ensures below { (k : ℕ) → (d : Mark) → k < result → (slice_index_or marks.now k d).left <ℤ x.now }
-    ensures rest { (k : ℕ) → (d : Mark) → result ≤ k → k < length marks.now → x.now ≤ℤ (slice_index_or marks.now k d).left }
+    ensures rest { (k : ℕ) → (d : Mark) → result ≤ k → k < length marks.now
+        → x.now ≤ℤ (slice_index_or marks.now k d).left }
 {
     let many = marks.len();
     if 0 < many && i64::from(marks[many - 1].left) < *x {
@@ -159,8 +160,10 @@ pub(crate) fn near_marks<'a>(mark_list: &'a StripMarks, lo: &i64, hi: &i64) -> &
     requires most { mark_list.now.widest ≤ℤ pos 1099511627776 }
     requires low { negsuc 4611686018427387903 ≤ℤ lo.now }
     ensures near { (cells : List (Option Rect)) → (area : Rect) → IsMarked cells area mark_list.now →
-        IsNearRun (marked_entries cells area mark_list.now.marks.items) lo.now hi.now (marked_entries cells area result.now) }
-    ensures reported { (cells : List (Option Rect)) → (area : Rect) → IsMarked cells area mark_list.now → MarksAreOf cells area result.now }
+        IsNearRun (marked_entries cells area mark_list.now.marks.items) lo.now hi.now
+        (marked_entries cells area result.now) }
+    ensures reported { (cells : List (Option Rect)) → (area : Rect) → IsMarked cells area mark_list.now
+        → MarksAreOf cells area result.now }
 {
     let marks = mark_list.marks.as_slice();
     let from = *lo - mark_list.widest;
@@ -257,7 +260,8 @@ fn padded_of(
 ) -> Result<Vec<Span>, AllocError>
     requires reported { AreMarksIn strip.now marks.now }
     requires around { All (λ e. HasRoomAround e.area) (entries_in strip.now marks.now) }
-    ensures { IfOk result (λ list. list.items ≡ spans_in (all_padded padding.now.length (entries_in strip.now marks.now))) }
+    ensures { IfOk result
+        (λ list. list.items ≡ spans_in (all_padded padding.now.length (entries_in strip.now marks.now))) }
 {
     let mut list = Vec::with_capacity(alloc, marks.len())?;
     for mark in marks {

@@ -55,7 +55,8 @@ pub(crate) fn widened_strips(
     team: usize,
     rect: &Rect,
 ) -> StripRange
-    ensures { AreNear (widened_strips strips.now.site.now strips.now.index.now.strips) row team rect.now.x1 rect.now.x2 result.start result.end }
+    ensures { AreNear (widened_strips strips.now.site.now strips.now.index.now.strips) row team rect.now.x1 rect.now.x2
+        result.start result.end }
 {
     strips.index.strips_are_placed();
     let reach = reach_of(strips);
@@ -67,7 +68,8 @@ pub(crate) fn widened_strips(
 /// The area of the strip with this number, widened.
 pub(crate) fn widened_area(strips: &WidenedStrips<'_>, number: usize) -> Rect
     requires { number < length (widened_strips strips.now.site.now strips.now.index.now.strips) }
-    ensures is { (d : Strip) → result ≡ (slice_index_or (widened_strips strips.now.site.now strips.now.index.now.strips) number d).area }
+    ensures is { (d : Strip) → result
+        ≡ (slice_index_or (widened_strips strips.now.site.now strips.now.index.now.strips) number d).area }
     ensures near { IsNearZero result }
 {
     strips.index.strips_are_placed();

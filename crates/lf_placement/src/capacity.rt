@@ -34,7 +34,8 @@ fn requested_boxes(
     team: usize,
     moves: &[Move],
 ) -> Result<Vec<(CellId, Option<Rect>)>, AllocError>
-    ensures { IfOk result (λ list. list.items ≡ map (requested_box sized.now.frame.now team (cells_of sized.now.cells.now team)) moves.now) }
+    ensures { IfOk result (λ list. list.items
+        ≡ map (requested_box sized.now.frame.now team (cells_of sized.now.cells.now team)) moves.now) }
 {
     let mut list = Vec::with_capacity(alloc, moves.len())?;
     for next in moves {
@@ -52,7 +53,9 @@ fn make_room_for(
     next: &Move,
 ) -> Result<(), AllocError>
     requires { MarksBoxes occupancy.old (boxes_in sized.now.frame.now sized.now.cells.now) }
-    ensures ok { OnOk result (FitIn (with_boxes occupancy.new (boxes_in sized.now.frame.now sized.now.cells.now)) team (map (working_box_of sized.now.frame.now) (moves_applied (next.now ∷ []) (cells_of sized.now.cells.now team)))) }
+    ensures ok { OnOk result
+        (FitIn (with_boxes occupancy.new (boxes_in sized.now.frame.now sized.now.cells.now)) team (map
+        (working_box_of sized.now.frame.now) (moves_applied (next.now ∷ []) (cells_of sized.now.cells.now team)))) }
     ensures holds { MarksBoxes occupancy.new (boxes_in sized.now.frame.now sized.now.cells.now) }
     ensures index { occupancy.new.index ≡ occupancy.old.index }
     ensures site { occupancy.new.site ≡ occupancy.old.site }
@@ -74,7 +77,8 @@ pub(crate) fn reserve_moves(
     moves: &[Move],
 ) -> Result<(), AllocError>
     requires { MarksBoxes occupancy.old (boxes_in sized.now.frame.now sized.now.cells.now) }
-    ensures ok { OnOk result (FitIn (with_boxes occupancy.new (boxes_in sized.now.frame.now sized.now.cells.now)) team (map (working_box_of sized.now.frame.now) (moves_applied moves.now (cells_of sized.now.cells.now team)))) }
+    ensures ok { OnOk result (FitIn (with_boxes occupancy.new (boxes_in sized.now.frame.now sized.now.cells.now)) team
+        (map (working_box_of sized.now.frame.now) (moves_applied moves.now (cells_of sized.now.cells.now team)))) }
     ensures holds { MarksBoxes occupancy.new (boxes_in sized.now.frame.now sized.now.cells.now) }
     ensures index { occupancy.new.index ≡ occupancy.old.index }
     ensures site { occupancy.new.site ≡ occupancy.old.site }

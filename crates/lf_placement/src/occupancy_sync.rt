@@ -22,9 +22,9 @@ pub(crate) fn box_at(sized: &SizedCells<'_>, id: CellId, place: Option<Place>) -
     ensures is { result ≡ box_moved sized.now.frame.now (cell_at sized.now.cells.now id) place }
     ensures edge { IfSome result (λ rect. IsPlaceX rect.x1) }
 {
-    let standing = sized.cells.placement_of(id)?;
+    let cell_placement = sized.cells.placement_of(id)?;
     let place = place?;
-    let mac = &sized.frame.macros.as_slice()[standing.mac];
+    let mac = &sized.frame.macros.as_slice()[cell_placement.mac];
     Some(box_of(sized.frame, mac, &place))
 }
 
@@ -40,7 +40,8 @@ fn working_box(sized: &SizedCells<'_>, id: CellId) -> Option<Rect>
 /// not at all. Does nothing if there is no such cell.
 fn remove_cell(sized: &SizedCells<'_>, occupancy: &mut Occupancy, team: usize, own: u32)
     requires { MarksSome (IsPartly team (working_boxes sized.now.frame.now sized.now.cells.now team)) occupancy.old }
-    ensures holds { (boxes : List (List (Option Rect))) → IsPartly team (working_boxes sized.now.frame.now sized.now.cells.now team) (with_boxes occupancy.old boxes)
+    ensures holds { (boxes : List (List (Option Rect)))
+        → IsPartly team (working_boxes sized.now.frame.now sized.now.cells.now team) (with_boxes occupancy.old boxes)
         → MarksBoxes occupancy.old boxes → MarksBoxes occupancy.new (box_set boxes team own None) }
     ensures rooms { KeepsStripRooms occupancy.old occupancy.new }
 {
@@ -74,7 +75,8 @@ pub(crate) fn remove_moved(
 fn replace_box(occupancy: &mut Occupancy, id: CellId, rect: &Rect)
     requires edge { IsPlaceX rect.now.x1 }
     requires may { MarksSome (BoxMayBeInserted id rect.now) occupancy.old }
-    ensures holds { (boxes : List (List (Option Rect))) → HasBoxOrNone boxes id rect.now → MarksBoxes occupancy.old boxes
+    ensures holds { (boxes : List (List (Option Rect))) → HasBoxOrNone boxes id rect.now
+        → MarksBoxes occupancy.old boxes
         → MarksBoxes occupancy.new (box_set boxes id.team id.own (Some rect.now)) }
     ensures rooms { KeepsStripRooms occupancy.old occupancy.new }
 {
@@ -87,7 +89,8 @@ fn replace_box(occupancy: &mut Occupancy, id: CellId, rect: &Rect)
 fn replace_at_working(sized: &SizedCells<'_>, occupancy: &mut Occupancy, team: usize, own: u32)
     requires { MarksSome
         (BoxesMayBeInserted team (working_boxes sized.now.frame.now sized.now.cells.now team)) occupancy.old }
-    ensures holds { (boxes : List (List (Option Rect))) → IsPartly team (working_boxes sized.now.frame.now sized.now.cells.now team) (with_boxes occupancy.old boxes)
+    ensures holds { (boxes : List (List (Option Rect)))
+        → IsPartly team (working_boxes sized.now.frame.now sized.now.cells.now team) (with_boxes occupancy.old boxes)
         → MarksBoxes occupancy.old boxes → MarksBoxes occupancy.new
         (box_set boxes team own (cell_box (working_boxes sized.now.frame.now sized.now.cells.now team) own)) }
     ensures rooms { KeepsStripRooms occupancy.old occupancy.new }

@@ -77,7 +77,8 @@ fn put_words(out: &mut Vec<u8>, words: &[Word<'_>]) -> Result<(), AllocError>
 fn put_line(out: &mut Vec<u8>, first: &[u8], words: &[Word<'_>]) -> Result<(), AllocError>
     ensures ok { OnOk result (out.new.items ≡ out.old.items ++ reply_words_line (first.now ∷ map word_text words.now)) }
     ensures kept { take (vec_len out.old) out.new.items ≡ out.old.items }
-    ensures full { OnErr result (vec_capacity out.old < vec_len out.old + length (reply_words_line (first.now ∷ map word_text words.now))) }
+    ensures full { OnErr result
+        (vec_capacity out.old < vec_len out.old + length (reply_words_line (first.now ∷ map word_text words.now))) }
     ensures capacity { vec_capacity out.old ≤ vec_capacity out.new }
 {
     put(out, first)?;
@@ -87,9 +88,11 @@ fn put_line(out: &mut Vec<u8>, first: &[u8], words: &[Word<'_>]) -> Result<(), A
 
 /// Appends the line of a refusal that names no cell. An `Err` may leave a part of it appended.
 fn put_plain<'x>(out: &mut Vec<u8>, number: &'x [u8], name: &'x [u8]) -> Result<(), AllocError>
-    ensures ok { OnOk result (out.new.items ≡ out.old.items ++ reply_words_line (codes "no" ∷ number.now ∷ name.now ∷ [])) }
+    ensures ok { OnOk result
+        (out.new.items ≡ out.old.items ++ reply_words_line (codes "no" ∷ number.now ∷ name.now ∷ [])) }
     ensures kept { take (vec_len out.old) out.new.items ≡ out.old.items }
-    ensures full { OnErr result (vec_capacity out.old < vec_len out.old + length (reply_words_line (codes "no" ∷ number.now ∷ name.now ∷ []))) }
+    ensures full { OnErr result
+        (vec_capacity out.old < vec_len out.old + length (reply_words_line (codes "no" ∷ number.now ∷ name.now ∷ []))) }
     ensures capacity { vec_capacity out.old ≤ vec_capacity out.new }
 {
     put_line(out, b"no", &[Word::Text(number), Word::Text(name)])
@@ -104,9 +107,11 @@ fn put_illegal<'x>(
     other_name: &'x [u8],
     out: &mut Vec<u8>,
 ) -> Result<(), AllocError>
-    ensures ok { OnOk result (out.new.items ≡ out.old.items ++ reply_words_line (codes "no" ∷ illegal_words rule other cell_name.now other_name.now)) }
+    ensures ok { OnOk result (out.new.items
+        ≡ out.old.items ++ reply_words_line (codes "no" ∷ illegal_words rule other cell_name.now other_name.now)) }
     ensures kept { take (vec_len out.old) out.new.items ≡ out.old.items }
-    ensures full { OnErr result (vec_capacity out.old < vec_len out.old + length (reply_words_line (codes "no" ∷ illegal_words rule other cell_name.now other_name.now))) }
+    ensures full { OnErr result (vec_capacity out.old < vec_len out.old
+        + length (reply_words_line (codes "no" ∷ illegal_words rule other cell_name.now other_name.now))) }
     ensures capacity { vec_capacity out.old ≤ vec_capacity out.new }
 {
     let number = Word::Number(rule.number());
@@ -142,9 +147,11 @@ fn put_refusal<'x>(
     other_name: &'x [u8],
     out: &mut Vec<u8>,
 ) -> Result<(), AllocError>
-    ensures ok { OnOk result (out.new.items ≡ out.old.items ++ reply_words_line (codes "no" ∷ refusal_words refusal.now cell_name.now other_name.now)) }
+    ensures ok { OnOk result (out.new.items
+        ≡ out.old.items ++ reply_words_line (codes "no" ∷ refusal_words refusal.now cell_name.now other_name.now)) }
     ensures kept { take (vec_len out.old) out.new.items ≡ out.old.items }
-    ensures full { OnErr result (vec_capacity out.old < vec_len out.old + length (reply_words_line (codes "no" ∷ refusal_words refusal.now cell_name.now other_name.now))) }
+    ensures full { OnErr result (vec_capacity out.old < vec_len out.old
+        + length (reply_words_line (codes "no" ∷ refusal_words refusal.now cell_name.now other_name.now))) }
     ensures capacity { vec_capacity out.old ≤ vec_capacity out.new }
 {
     match refusal {
@@ -198,7 +205,8 @@ fn put_reply_line(
 ) -> Result<(), AllocError>
     ensures ok { OnOk result (out.new.items ≡ out.old.items ++ reply_line reply.now cell_name.now other_name.now) }
     ensures kept { take (vec_len out.old) out.new.items ≡ out.old.items }
-    ensures full { OnErr result (vec_capacity out.old < vec_len out.old + length (reply_line reply.now cell_name.now other_name.now)) }
+    ensures full { OnErr result
+        (vec_capacity out.old < vec_len out.old + length (reply_line reply.now cell_name.now other_name.now)) }
     ensures capacity { vec_capacity out.old ≤ vec_capacity out.new }
 {
     match reply {
@@ -261,7 +269,8 @@ fn put_reply(
 ) -> Result<(), AllocError>
     ensures ok { OnOk result (out.new.items ≡ out.old.items ++ reply_text reply.now cell_name.now other_name.now) }
     ensures kept { take (vec_len out.old) out.new.items ≡ out.old.items }
-    ensures full { OnErr result (vec_capacity out.old < vec_len out.old + length (reply_text reply.now cell_name.now other_name.now)) }
+    ensures full { OnErr result
+        (vec_capacity out.old < vec_len out.old + length (reply_text reply.now cell_name.now other_name.now)) }
     ensures capacity { vec_capacity out.old ≤ vec_capacity out.new }
 {
     put_reply_line(reply, cell_name, other_name, out)?;
@@ -282,7 +291,8 @@ pub fn reply_text(
 ) -> Result<(), AllocError>
     ensures ok { OnOk result (out.new.items ≡ out.old.items ++ reply_text reply.now cell_name.now other_name.now) }
     ensures err { OnErr result (out.new.items ≡ out.old.items) }
-    ensures succeeds { vec_len out.old + length (reply_text reply.now cell_name.now other_name.now) ≤ vec_capacity out.old → IsOk result }
+    ensures succeeds { vec_len out.old + length (reply_text reply.now cell_name.now other_name.now)
+        ≤ vec_capacity out.old → IsOk result }
     ensures capacity { vec_capacity out.old ≤ vec_capacity out.new }
 {
     let before = out.len();

@@ -38,7 +38,8 @@ fn nearest_of(
 ) -> Result<Option<Place>, AllocError>
     requires team { id.team ≡ lone.now.cell.now.team }
     requires mac { option_map (λ c. c.mac) (cell_at lone.now.bare.now.table id) ≡ Some lone.now.cell.now.mac }
-    ensures { IfOk result (λ found. IsChoice (query_alone lone.now.frame.now (borrowed_cell lone.now.cell.now)) target.now (option_map spot_of found)) }
+    ensures { IfOk result (λ found. IsChoice (query_alone lone.now.frame.now (borrowed_cell lone.now.cell.now))
+        target.now (option_map spot_of found)) }
 {
     legalizer_exists();
     let bare = lone.bare;
@@ -61,7 +62,8 @@ pub(crate) fn nearest(
     lone: &LoneCell<'_>,
     target: &Point,
 ) -> Result<Option<Place>, AllocError>
-    ensures { IfOk result (λ found. IsChoice (query_alone lone.now.frame.now (borrowed_cell lone.now.cell.now)) target.now (option_map spot_of found)) }
+    ensures { IfOk result (λ found. IsChoice (query_alone lone.now.frame.now (borrowed_cell lone.now.cell.now))
+        target.now (option_map spot_of found)) }
 {
     let cell = lone.cell;
     if let Some(id) = id_of(lone.bare, cell.team, cell.mac) {
@@ -81,7 +83,8 @@ fn has_no_soft(frame: &Frame) -> bool
 
 /// Whether the cell alone breaks no rule at this place.
 fn keeps_rules(lone: &LoneCell<'_>, wanted_place: &Place) -> bool
-    ensures { IsTrue result → IsFrameRuleVerdict (candidate_of lone.now.frame.now lone.now.cell.now.team 0 (macro_of lone.now.frame.now lone.now.cell.now.mac) wanted_place.now []) None }
+    ensures { IsTrue result → IsFrameRuleVerdict (candidate_of lone.now.frame.now lone.now.cell.now.team 0
+        (macro_of lone.now.frame.now lone.now.cell.now.mac) wanted_place.now []) None }
 {
     let bare = lone.bare;
     let plan = IndexedFrame::new(lone.frame, bare.occupancy.index());
@@ -95,7 +98,8 @@ fn keeps_rules(lone: &LoneCell<'_>, wanted_place: &Place) -> bool
 /// Whether the cell is allowed alone at this place, on a frame without soft blockages. Returns
 /// false without a test if there are soft blockages.
 pub(crate) fn is_legal_alone(lone: &LoneCell<'_>, wanted_place: &Place) -> bool
-    ensures { IsTrue result → IsAllowedPlace (query_alone lone.now.frame.now (borrowed_cell lone.now.cell.now)) (spot_of wanted_place.now) }
+    ensures { IsTrue result
+        → IsAllowedPlace (query_alone lone.now.frame.now (borrowed_cell lone.now.cell.now)) (spot_of wanted_place.now) }
 {
     if !has_no_soft(lone.frame) {
         return false;

@@ -58,7 +58,8 @@ fn put_words(out: &mut Vec<u8>, words: &[Word<'_>]) -> Result<(), AllocError>
 /// Appends a line of words. The first word is a separate argument.
 #[tactic(auto, using(crate::proofs::Lines::line_put))]
 fn put_line(out: &mut Vec<u8>, first: &[u8], words: &[Word<'_>]) -> Result<(), AllocError>
-    ensures { OnOk result (out.new.items ≡ out.old.items ++ reply_words_line (first.now ∷ map request_word_text words.now)) }
+    ensures { OnOk result
+        (out.new.items ≡ out.old.items ++ reply_words_line (first.now ∷ map request_word_text words.now)) }
 {
     out.extend_from_slice(first)?;
     put_words(out, words)?;
@@ -72,7 +73,8 @@ fn put_change<'x>(
     session: u32,
     change: &Change<&'x [u8]>,
 ) -> Result<(), AllocError>
-    ensures { OnOk result (out.new.items ≡ out.old.items ++ request_line (To team.now (Within session (Changing (change_of change.now))))) }
+    ensures { OnOk result (out.new.items
+        ≡ out.old.items ++ request_line (To team.now (Within session (Changing (change_of change.now))))) }
 {
     let (team, session) = (Word::Text(team), Word::Number(session));
     match change {
@@ -124,7 +126,8 @@ fn put_action<'x>(
     session: u32,
     action: &Action<&'x [u8]>,
 ) -> Result<(), AllocError>
-    ensures { OnOk result (out.new.items ≡ out.old.items ++ request_line (To team.now (Within session (action_of action.now)))) }
+    ensures { OnOk result
+        (out.new.items ≡ out.old.items ++ request_line (To team.now (Within session (action_of action.now)))) }
 {
     let words = [Word::Text(team), Word::Number(session)];
     match action {

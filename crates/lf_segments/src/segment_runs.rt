@@ -76,7 +76,8 @@ fn count_ended(segments: &[Segment], x: &i64) -> usize
     requires { AllPairs (λ g h. g.span.hi ≤ℤ h.span.hi) segments.now }
     ensures within { result ≤ length segments.now }
     ensures ended { (k : ℕ) → (d : Segment) → k < result → (slice_index_or segments.now k d).span.hi ≤ℤ x.now }
-    ensures rest { (k : ℕ) → (d : Segment) → result ≤ k → k < length segments.now → x.now <ℤ (slice_index_or segments.now k d).span.hi }
+    ensures rest { (k : ℕ) → (d : Segment) → result ≤ k → k < length segments.now
+        → x.now <ℤ (slice_index_or segments.now k d).span.hi }
 {
     segments.partition_point(|segment| segment.span.hi <= *x)
 }
@@ -98,7 +99,8 @@ pub(crate) fn place_in(
     x: &i64,
 ) -> Option<usize>
     requires { HaveRowStarts segments.now starts.now }
-    ensures { MatchOption result (All (λ g. IsAt row team x.now g → ⊥) segments.now) (λ n. HoldsAt (IsAt row team x.now) segments.now n) }
+    ensures { MatchOption result (All (λ g. IsAt row team x.now g → ⊥) segments.now)
+        (λ n. HoldsAt (IsAt row team x.now) segments.now n) }
 {
     let run = run_of(segments, starts, row, team);
     let k = count_ended(run.segments, x);

@@ -108,7 +108,8 @@ fn put_cell_at<O: Output, D: DesignSchema, T: TeamViews>(
 )
     requires { team < length (T.saved teams.now) }
     ensures text { PutsText O.took out.old out.new
-        (line_of_pair cell_line (named_team_of (D.named design.now) team).cells (saved_at (T.saved teams.now) team).cells own) }
+        (line_of_pair cell_line (named_team_of (D.named design.now) team).cells
+        (saved_at (T.saved teams.now) team).cells own) }
     ensures spotted { IfSome (slice_get (saved_at (T.saved teams.now) team).cells own) IsSpottedCell }
 {
     if let Some(cell) = teams.cell(team, own) {
@@ -191,7 +192,8 @@ fn put_entry<O: Output>(out: &mut O, cells: usize, entry: &Moves)
 /// Writes the lines of the team's undo entry that has `newer` newer ones, if there is one.
 fn put_entry_at<O: Output, T: TeamViews>(out: &mut O, teams: &T, team: usize, newer: usize)
     requires { team < length (T.saved teams.now) }
-    ensures text { PutsText O.took out.old out.new (entry_if (slice_get (saved_at (T.saved teams.now) team).entries newer)) }
+    ensures text { PutsText O.took out.old out.new
+        (entry_if (slice_get (saved_at (T.saved teams.now) team).entries newer)) }
     ensures spotted { IfSome (slice_get (saved_at (T.saved teams.now) team).entries newer) IsSpottedEntry }
 {
     let cells = teams.cell_count(team);
@@ -250,7 +252,8 @@ fn put_team<O: Output, D: DesignSchema, T: TeamViews>(
 )
     requires named { team < length (D.named design.now).teams }
     requires reported { team < length (T.saved teams.now) }
-    ensures text { PutsText O.took out.old out.new (saved_team_lines (named_team_of (D.named design.now) team) (saved_at (T.saved teams.now) team)) }
+    ensures text { PutsText O.took out.old out.new
+        (saved_team_lines (named_team_of (D.named design.now) team) (saved_at (T.saved teams.now) team)) }
     ensures in_range { IsSavedInRange (saved_at (T.saved teams.now) team) }
 {
     put_head(out, name_of_team(design, team), teams, team);
@@ -262,7 +265,8 @@ fn put_team<O: Output, D: DesignSchema, T: TeamViews>(
 /// Writes the lines of the teams.
 fn put_teams<O: Output, D: DesignSchema, T: TeamViews>(out: &mut O, design: &D, teams: &T)
     requires { length (T.saved teams.now) ≡ length (D.named design.now).teams }
-    ensures text { PutsText O.took out.old out.new (lines_by saved_team_lines (D.named design.now).teams (T.saved teams.now)) }
+    ensures text { PutsText O.took out.old out.new
+        (lines_by saved_team_lines (D.named design.now).teams (T.saved teams.now)) }
     ensures in_range { All IsSavedInRange (T.saved teams.now) }
 {
     for team in 0..design.team_count() {
