@@ -2,7 +2,7 @@ use Rattle.std.proofs.Common.{◌≡◌, ◌+◌, length, take, vec_len, vec_cap
 use Rattle.std.specs.List.{flat_map}
 use Rattle.lf_proto.specs.Words.{spaced_word}
 use Rattle.lf_proto.proofs.Fronts.{kept_more, room_for_all, on_err_from}
-use Rattle.lf_proto.proofs.reply_words.put_words.Goals as goal
+use Rattle.lf_proto.proofs.words.put_words.Goals as goal
 
 pub returns-in_err-put_spaced-clause-kept : goal.returns-in_err-put_spaced-clause-kept
 returns-in_err-put_spaced-clause-kept c =

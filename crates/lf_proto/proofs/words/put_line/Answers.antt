@@ -1,7 +1,7 @@
 use Rattle.std.proofs.Common.{arith}
 use Rattle.std.proofs.lemmas.Result.{on_err_weaker, on_ok_weaker}
 use Rattle.lf_proto.proofs.Fronts.{line_put, length_line, on_err_from}
-use Rattle.lf_proto.proofs.reply_words.put_line.Goals as goal
+use Rattle.lf_proto.proofs.words.put_line.Goals as goal
 
 pub returns-in_err-put_words-clause-full : goal.returns-in_err-put_words-clause-full
 returns-in_err-put_words-clause-full c =

@@ -1,7 +1,7 @@
 use Rattle.std.proofs.Common.{◌≡◌, ◌≤◌, ◌++◌, take, vec_capacity}
 use Rattle.std.specs.List.{flat_map}
 use Rattle.lf_proto.specs.Words.{spaced_word}
-use Rattle.lf_proto.proofs.reply_words.put_words.Given as goal
+use Rattle.lf_proto.proofs.words.put_words.Given as goal
 
 abbrev pub invariant-loop-word : goal.invariant-loop-word
 invariant-loop-word l = record {
