@@ -11,7 +11,7 @@ use lf_orient::Orient;
 use lf_proto::{
     Action, Change, Command, Refusal, Reply, Request, RequestList, TeamCommand, reply_text,
 };
-use lf_team_def::Output;
+use lf_io::Output;
 use lf_tests_support::with_line;
 use std::alloc::{AllocError, Global};
 use std::test::Fail;
