@@ -22,10 +22,10 @@ LONG = {
     "lf_floor_model": 77, "lf_floor_verbs": 48, "lf_floorplan": 8, "lf_frame": 10, "lf_frame_checks": 31,
     "lf_frame_claims": 28, "lf_gaps": 2, "lf_io_files": 2, "lf_laws_roundtrip": 9,
     "lf_laws_slices": 13, "lf_lef": 46, "lf_legalize": 42, "lf_lex": 13, "lf_names": 22, "lf_occupancy": 99,
-    "lf_placement": 35, "lf_proto": 31, "lf_repair_bounds": 10, "lf_repair_packing": 9, "lf_repair_planner": 3,
+    "lf_placement": 35, "lf_proto": 30, "lf_repair_bounds": 10, "lf_repair_packing": 9, "lf_repair_planner": 3,
     "lf_repair_report": 6, "lf_repair_strategy": 1, "lf_repair_team": 71, "lf_reports": 33, "lf_rtree": 1,
     "lf_rules": 21, "lf_segments": 43, "lf_server": 48, "lf_sessions": 3, "lf_spans": 3, "lf_state_restore": 8,
-    "lf_state_text": 35, "lf_task_designs": 56, "lf_task_files": 57, "lf_task_repair": 70, "lf_task_serve": 57,
+    "lf_state_text": 34, "lf_task_designs": 56, "lf_task_files": 57, "lf_task_repair": 70, "lf_task_serve": 57,
     "lf_team_def": 7, "lf_tests_app": 2, "lf_tests_protocol": 4, "lf_undo": 8, "lf_units": 3, "lf_write": 19,
 }
 FOLDERS = ("front", "tools", "tests", "bench")

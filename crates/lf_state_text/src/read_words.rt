@@ -66,7 +66,8 @@ fn word_len(byte: u8, cursor: &mut Cursor) -> Result<usize, ReadError>
 /// ends it. Does not take these bytes.
 #[tactic(auto, unfolding(crate::specs::Reading::number_at))]
 fn next_number(end: WordEnd, cursor: &mut Cursor) -> Result<(u32, usize), ReadError>
-    ensures read { ReadsState (λ x left. (x.0, drop x.1 left)) result (number_at (end_byte end) (rest cursor.old)) (rest cursor.new) }
+    ensures read { ReadsState (λ x left. (x.0, drop x.1 left)) result
+        (number_at (end_byte end) (rest cursor.old)) (rest cursor.new) }
     ensures within { IfOk result (λ x. x.1 ≤ length (front cursor.new)) }
     ensures rest { rest cursor.new ≡ rest cursor.old }
     ensures ends { (text : List ℕ) → IsEnd text cursor.old → IsEnd text cursor.new }
@@ -84,7 +85,8 @@ fn next_number(end: WordEnd, cursor: &mut Cursor) -> Result<(u32, usize), ReadEr
 
 /// Reads a number below 2^32.
 pub(crate) fn number_at(end: WordEnd, cursor: &mut Cursor) -> Result<u32, ReadError>
-    ensures read { ReadsState (λ n left. (n, left)) result (number_at (end_byte end) (rest cursor.old)) (rest cursor.new) }
+    ensures read { ReadsState (λ n left. (n, left)) result
+        (number_at (end_byte end) (rest cursor.old)) (rest cursor.new) }
     ensures ends { (text : List ℕ) → IsEnd text cursor.old → IsEnd text cursor.new }
 {
     let (number, len) = next_number(end, cursor)?;
@@ -95,7 +97,8 @@ pub(crate) fn number_at(end: WordEnd, cursor: &mut Cursor) -> Result<u32, ReadEr
 /// Reads a number below a limit.
 #[tactic(auto, unfolding(crate::specs::Reading::below_at))]
 pub(crate) fn below_at(limit: usize, end: WordEnd, cursor: &mut Cursor) -> Result<u32, ReadError>
-    ensures read { ReadsState (λ n left. (n, left)) result (below_at limit (end_byte end) (rest cursor.old)) (rest cursor.new) }
+    ensures read { ReadsState (λ n left. (n, left)) result
+        (below_at limit (end_byte end) (rest cursor.old)) (rest cursor.new) }
     ensures ends { (text : List ℕ) → IsEnd text cursor.old → IsEnd text cursor.new }
 {
     let (number, len) = next_number(end, cursor)?;
@@ -109,7 +112,8 @@ pub(crate) fn below_at(limit: usize, end: WordEnd, cursor: &mut Cursor) -> Resul
 /// Takes the expected number.
 #[tactic(auto, unfolding(crate::specs::Reading::count_at))]
 pub(crate) fn count_at(count: usize, end: WordEnd, cursor: &mut Cursor) -> Result<(), ReadError>
-    ensures read { ReadsState (λ _ left. left) result (count_at count (end_byte end) (rest cursor.old)) (rest cursor.new) }
+    ensures read { ReadsState (λ _ left. left) result
+        (count_at count (end_byte end) (rest cursor.old)) (rest cursor.new) }
     ensures ends { (text : List ℕ) → IsEnd text cursor.old → IsEnd text cursor.new }
 {
     let (number, len) = next_number(end, cursor)?;
@@ -126,7 +130,8 @@ pub(crate) fn read_place_or_none(
     end: WordEnd,
     cursor: &mut Cursor,
 ) -> Result<PackedPlace, ReadError>
-    ensures read { ReadsState (λ place left. (place, left)) result (read_spot (end_byte end) (rest cursor.old)) (rest cursor.new) }
+    ensures read { ReadsState (λ place left. (place, left)) result
+        (read_spot (end_byte end) (rest cursor.old)) (rest cursor.new) }
     ensures ends { (text : List ℕ) → IsEnd text cursor.old → IsEnd text cursor.new }
 {
     let byte = end.byte();
