@@ -4,7 +4,8 @@
 //! team. It has no rows. `write_team_def` writes it to an `Output`, `team_def_length` counts its
 //! bytes, and `team_def` returns the whole text.
 //!
-//! Used by most other crates.
+//! Used by `lf_write`, `lf_laws_roundtrip`, `lf_floor_model`, `lf_floor_verbs`, `lf_floor` and
+//! `lf_laws_slices`.
 //!
 //! Modules, in reading order:
 //!
