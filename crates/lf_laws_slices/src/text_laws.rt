@@ -1,7 +1,7 @@
 //! Laws on slices as they are loaded, and on lines and their replies.
 
-ghost use Rattle.lf_laws_slice_texts.specs.Cuts.{CutsExist, SlicesLoadAlike};
-ghost use Rattle.lf_laws_slice_texts.specs.Lines.{TextsAreAlike, SliceTextsAreAlike};
+ghost use Rattle.lf_laws_slices.specs.Cuts.{CutsExist, SlicesLoadAlike};
+ghost use Rattle.lf_laws_slices.specs.Lines.{TextsAreAlike, SliceTextsAreAlike};
 
 use lf_rules::{best_place_is_unique, verdict_is_unique};
 

@@ -1,5 +1,5 @@
-use Rattle.lf_laws_slice_texts.proofs.Lines.{lines_same}
-use Rattle.lf_laws_slice_texts.proofs.laws.texts_are_alike.Goals as goal
+use Rattle.lf_laws_slices.proofs.Lines.{lines_same}
+use Rattle.lf_laws_slices.proofs.text_laws.texts_are_alike.Goals as goal
 
 pub returns : goal.returns
 returns c = λ l m team end end' a a' b b' v v' w w' done others alike comes comes' same.

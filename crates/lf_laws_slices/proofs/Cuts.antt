@@ -35,7 +35,7 @@ use Rattle.lf_cells.specs.Initial.{initial_cell, own_cells}
 use Rattle.lf_floor_model.specs.Teams.{team_number}
 use Rattle.lf_floor_model.proofs.Parts.{taken, passed, not_equal}
 use Rattle.lf_laws_slices.specs.Alike.{AreSameRects, AreFramesAlike, AreCellsAlike, AreDesignsAlike}
-use Rattle.lf_laws_slice_texts.specs.Cuts.{IsOwn, AreSameComponents, IsCutFrom}
+use Rattle.lf_laws_slices.specs.Cuts.{IsOwn, AreSameComponents, IsCutFrom}
 
 -- ---- frames
 

@@ -16,8 +16,8 @@ use Rattle.lf_frame_checks.specs.Loading.{macro_named}
 use Rattle.lf_frame_checks.specs.Findings.{LoadInputs, units_in}
 use Rattle.lf_frame.specs.Loads.{fixed_box, blocked, obstacles_in, IsLoadedFrom}
 use Rattle.lf_floor_model.proofs.Parts.{taken, passed}
-use Rattle.lf_laws_slice_texts.specs.Cuts.{IsOwn, AreSameComponents, IsCutFrom, without_others}
-use Rattle.lf_laws_slice_texts.proofs.Cuts.{Makes, team_is_one, without_positions}
+use Rattle.lf_laws_slices.specs.Cuts.{IsOwn, AreSameComponents, IsCutFrom, without_others}
+use Rattle.lf_laws_slices.proofs.Cuts.{Makes, team_is_one, without_positions}
 
 -- ---- components of the team
 

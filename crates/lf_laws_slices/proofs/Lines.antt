@@ -21,20 +21,11 @@ use Rattle.lf_server.specs.Exchanges.{Exchange, reply_cells}
 use Rattle.lf_server.specs.Endings.{WritesReplies}
 use Rattle.lf_server.specs.Laws.{commands, replies, reply_texts}
 use Rattle.lf_server.specs.declared.serve_loop.Ending.{Ending}
-use Rattle.lf_server.proofs.Telling.{acts_at, reported_own, own_texts}
+use Rattle.lf_server.proofs.Telling.{acts_at, name_for, own_texts, reported_own, text_for}
 use Rattle.lf_laws_slices.specs.Alike.{AreFramesAlike, AreCellsAlike, AreTeamsAlike, AreFloorsAlike}
 use Rattle.lf_laws_slices.proofs.Cells.{zip_option}
 use Rattle.lf_laws_slices.proofs.Zips.{zip_get}
 use Rattle.lf_laws_slices.proofs.Runs.{number_same, ruled_alike}
-
--- the name of the cell at that position, if the reply names a cell
-abbrev name_for : TeamState → Option ℕ → List ℕ
-name_for s None = []
-name_for s (Some own) = unwrap_or (name_at s.cells own) []
-
--- the text of a reply to the team in that state
-abbrev text_for : TeamState → Reply → List ℕ
-text_for s reply = reply_text reply (name_for s (reply_cells reply).0) (name_for s (reply_cells reply).1)
 
 name_same : (f g : Frame) (cs ds : List Cell) (own : ℕ) → AllZip (AreCellsAlike f g) cs ds → name_at cs own ≡ name_at ds own
 name_same f g cs ds own z =
