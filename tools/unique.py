@@ -15,6 +15,7 @@ from collections.abc import Iterator
 from pathlib import Path
 
 from definitions import SIGNATURE, START
+from findings import status
 
 OUTSIDE = re.compile(r"lf_tests_|lefence")
 # Names that several crates may give, each with the reason.
@@ -68,13 +69,9 @@ def main(words: list[str]) -> int:
     shared = {name: found for name, found in given.items() if len({path.parts[1] for _, path in found}) > 1}
     shared = {name: found for name, found in shared.items() if not is_quoted(name, found)}
     bad = {name: found for name, found in sorted(shared.items()) if name not in ALLOWED}
-    for name, found in bad.items():
-        print(f"{name}: {', '.join(f'{kind} of {path}' for kind, path in found)}")
+    lines = [f"{name}: {', '.join(f'{kind} of {path}' for kind, path in found)}" for name, found in bad.items()]
     unneeded = [name for name in ALLOWED if name not in shared]
-    for name in unneeded:
-        print(f"{name}: ALLOWED has it, and no two crates give it")
-    print(f"{len(given)} names, {len(bad) or 'none'} of two crates")
-    return 1 if bad or unneeded else 0
+    return status(lines, unneeded, f"{len(given)} names, {len(bad) or 'none'} of two crates")
 
 
 if __name__ == "__main__":

@@ -3,8 +3,8 @@
 files, folders and code, comments, docstrings, texts of programs (messages), and documents outside of code.
 
 usage: tools/words.py [FOLDER]    checks the repository in FOLDER, else that in the present folder; prints each finding
-                                  as `FILE:LINE: WORDS: INSTEAD`, each line of ALLOWED and LATER that no finding needs,
-                                  and the counts; status 1 if it prints anything else than the counts
+                                  as `FILE:LINE: WORDS: INSTEAD`, each line of ALLOWED that no finding needs, and the
+                                  count; status 1 if it prints anything else than the count
 """
 
 from __future__ import annotations
@@ -16,6 +16,8 @@ from collections.abc import Iterable, Iterator
 from functools import lru_cache
 from pathlib import Path
 from typing import NamedTuple
+
+from findings import status
 
 # Where a word is: in a name, in a comment or document, or in a text of a program.
 NAME, PROSE, MESSAGE = "name", "comment", "message"
@@ -103,8 +105,8 @@ WORDS = {
 
 
 class Exempt(NamedTuple):
-    """Findings that are no fault, or none yet: the key in WORDS; where they are; the found words or name, and the path,
-    each as a pattern of the shell; and why."""
+    """Findings that are no fault: the key in WORDS; where they are; the found words or name, and the path, each as a
+    pattern of the shell; and why."""
 
     key: str
     places: tuple[str, ...]
@@ -118,21 +120,9 @@ ALLOWED = (
     Exempt("stand", (NAME, PROSE, MESSAGE), "Stand", "*", "rule 3 of legality, as the specification names it"),
     Exempt("stand", (NAME,), "stand_in", "front/tests/*", "a test double"),
     Exempt("tell", (NAME,), "tell", "*.py", "the method of Python's file objects"),
+    Exempt("told", (NAME,), "eqb_tells", "crates/*", "a lemma of std"),
     Exempt("homes", (NAME,), "home", "front/*", "the folder of a user, as Python names it"),
     Exempt("marked", (PROSE,), "*", "crates/lf_occupancy/*", "a strip has a mark for a cell that is marked in it"),
-)
-# What is still to be renamed, in names and texts of code. A line goes as soon as nothing needs it.
-LATER = (
-    Exempt("stand", (NAME,), "*tanding*", "crates/*", "proofs and clauses about placed cells"),
-    Exempt("told", (NAME,), "eqb_tells", "crates/*", "a lemma"),
-    Exempt("told", (NAME,), "Telling", "crates/*", "files of proofs"),
-    Exempt("told", (NAME,), "untold", "crates/*", "proofs, clauses and tests about what is not reported"),
-    Exempt("judged", (NAME,), "Judging", "crates/*", "files of proofs"),
-    Exempt("passed over", (NAME,), "pass*_over*", "crates/*", "definitions and tests about skipped statements"),
-    Exempt("so many", (NAME,), "so_many", "crates/lf_occupancy/*", "a proof"),
-    Exempt("none", (NAME,), "a_text_that_is_none*", "crates/lf_tests_app/*", "a test"),
-    Exempt("homes", (NAME,), "at_home", "crates/lf_task_designs/*", "a proof"),
-    Exempt("lifted", (NAME,), "lift*", "crates/lf_repair_*", "a proof, and a parameter"),
 )
 
 
@@ -291,10 +281,10 @@ def findings(top: Path) -> Iterator[Finding]:
 
 
 def exempting(found: Finding) -> list[Exempt]:
-    """The lines of ALLOWED and LATER that exempt this finding."""
+    """The lines of ALLOWED that exempt this finding."""
     return [
         one
-        for one in (*ALLOWED, *LATER)
+        for one in ALLOWED
         if one.key == found.key
         and found.place in one.places
         and fnmatch.fnmatchcase(found.found, one.found)
@@ -307,19 +297,14 @@ def main(words: list[str]) -> int:
         print(__doc__, file=sys.stderr)
         return 2
     needed: set[Exempt] = set()
-    count = later = 0
+    lines: list[str] = []
     for found in findings(Path(*words)):
         exempt = exempting(found)
         needed.update(exempt)
-        later += any(one in LATER for one in exempt)
         if not exempt:
-            count += 1
-            print(f"{found.path}:{found.line}: {found.found} ({found.place}): {WORDS[found.key].instead}")
-    unneeded = [one for one in (*ALLOWED, *LATER) if one not in needed]
-    for one in unneeded:
-        print(f"{SELF}: nothing needs {one.key} of {one.path}")
-    print(f"{count or 'no'} findings, and {later} on the list of what is still to be renamed")
-    return 1 if count or unneeded else 0
+            lines.append(f"{found.path}:{found.line}: {found.found} ({found.place}): {WORDS[found.key].instead}")
+    unneeded = [f"{one.key} ({one.found}) of {one.path}" for one in ALLOWED if one not in needed]
+    return status(lines, unneeded, f"{len(lines) or 'no'} findings")
 
 
 if __name__ == "__main__":

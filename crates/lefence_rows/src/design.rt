@@ -295,7 +295,8 @@ fn exported<S: Seeker + Drop>(
     floor: &Floor<S>,
     document: &DefDoc<'_>,
 ) -> Result<Vec<u8>, AllocError>
-    requires fits { (places : List (ℕ × Option Place)) → AreCommittedPlaces floor.now places → AreExportable document.now.components places }
+    requires fits { (places : List (ℕ × Option Place)) → AreCommittedPlaces floor.now places
+        → AreExportable document.now.components places }
 {
     let places = floor.committed_places()?;
     export(alloc, document, &places)
@@ -318,7 +319,8 @@ fn put_export<S: Seeker + Drop>(
     document: &DefDoc<'_>,
     replies: &mut Vec<u8>,
 ) -> Result<(), AllocError>
-    requires fits { (places : List (ℕ × Option Place)) → AreCommittedPlaces floor.now places → AreExportable document.now.components places }
+    requires fits { (places : List (ℕ × Option Place)) → AreCommittedPlaces floor.now places
+        → AreExportable document.now.components places }
 {
     let text = exported(alloc, floor, document)?;
     put_lines(replies, &text)
@@ -355,7 +357,8 @@ fn put_replies<S: Seeker + Drop>(
     requested: &Requested<'_>,
     replies: &mut Vec<u8>,
 ) -> Result<(), AllocError>
-    requires fits { (s : FloorState) (places : List (ℕ × Option Place)) → s.components ≡ floor.old.components → AreCommittedPlaces s places
+    requires fits { (s : FloorState) (places : List (ℕ × Option Place)) → s.components ≡ floor.old.components
+        → AreCommittedPlaces s places
         → AreExportable document.now.components places }
 {
     put_answers(alloc, floor, requested, replies)?;
@@ -374,7 +377,8 @@ fn replies_by<S: Seeker + Drop>(
     seeker: S,
     requested: &Requested<'_>,
 ) -> Result<Vec<u8>, AllocError>
-    requires loads { (library : Contents) × (limits : TheLimits) × IsLoadedFrom (inputs library document.now limits) loaded }
+    requires loads { (library : Contents) × (limits : TheLimits)
+        × IsLoadedFrom (inputs library document.now limits) loaded }
 {
     loaded_cells_are_exportable();
     places_follow_design();
@@ -393,7 +397,8 @@ fn replies_by_index(
     document: &DefDoc<'_>,
     requested: &Requested<'_>,
 ) -> Result<Vec<u8>, AllocError>
-    requires loads { (library : Contents) × (limits : TheLimits) × IsLoadedFrom (inputs library document.now limits) loaded }
+    requires loads { (library : Contents) × (limits : TheLimits)
+        × IsLoadedFrom (inputs library document.now limits) loaded }
 {
     let seeker = IndexSeeker::build(alloc, &loaded.frame)?;
     replies_by(alloc, loaded, document, seeker, requested)

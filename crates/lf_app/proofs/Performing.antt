@@ -16,7 +16,7 @@ pub std_fault : (gives : ReadsFile) (job : Job) (a a' b b' c c' d d' e e' f f' :
 std_fault gives job a a' b b' c c' d d' e e' f f' kept kept' reader writer export service sound failed exit ends a_is b_is c_is d_is e_is f_is keeps = (
   ends.0,
   (rw (sym a_is, sym b_is, sym c_is, sym d_is) ends.1.0, λ early. keeps (ends.1.1.early early)),
-  record { status = ends.2.status; reported = rw (sym e_is, sym f_is) ends.2.reported; untold = λ (none : exit.is_printed ≡ false). ap not none },
+  record { status = ends.2.status; reported = rw (sym e_is, sym f_is) ends.2.reported; unreported = λ (none : exit.is_printed ≡ false). ap not none },
 )
 
 -- An outcome over devices is an outcome over the readers and writers that they hold.
@@ -32,5 +32,5 @@ pub std_ends : (gives : ReadsFile) (job : Job) (a a' b b' c c' d d' e e' f f' : 
 std_ends gives job a a' b b' c c' d d' e e' f f' kept kept' failed exit ends a_is b_is c_is d_is e_is f_is keeps = (
   ends.0,
   (rw (sym a_is, sym b_is, sym c_is, sym d_is) ends.1.0, λ early. keeps (ends.1.1 early)),
-  record { status = ends.2.status; reported = rw (sym e_is, sym f_is) ends.2.reported; untold = ends.2.untold },
+  record { status = ends.2.status; reported = rw (sym e_is, sym f_is) ends.2.reported; unreported = ends.2.unreported },
 )

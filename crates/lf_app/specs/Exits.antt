@@ -67,22 +67,27 @@ reads_of _ = default_most_lines
 abbrev pub IsOutcomeWithin : Limits → ReadsFile → Job → Streams → ℕ → Type 0
 IsOutcomeWithin limits gives demo io status =
     (loaded : Loaded) × IsTextDesign limits DEMO_DEF.now DEMO_LEF.now loaded
-    × ((floor : FloorState) × AnswersInput default_most_lines (initial_floor loaded) floor io.input io.left io.before io.after)
+    × ((floor : FloorState)
+    × AnswersInput default_most_lines (initial_floor loaded) floor io.input io.left io.before io.after)
     × (status ≡ 0)
 IsOutcomeWithin limits gives (replay def lefs state slots lines save export) io status =
-    IsServedDesign limits gives def lefs state save export (λ begin floor io. AnswersInput lines begin floor io.input io.left io.before io.after) io × (status ≡ 0)
+    IsServedDesign limits gives def lefs state save export
+    (λ begin floor io. AnswersInput lines begin floor io.input io.left io.before io.after) io × (status ≡ 0)
 IsOutcomeWithin limits gives (serve def lefs state slots port connections save export) io status =
     IsServedDesign limits gives def lefs state save export
-    (λ begin floor io. IsOffered begin floor connections io.before io.after io.old_accepted io.new_accepted) io × (status ≡ 0)
+    (λ begin floor io. IsOffered begin floor connections io.before io.after io.old_accepted io.new_accepted) io
+    × (status ≡ 0)
 IsOutcomeWithin limits gives (check def lefs state slots) io status =
     (seen : Loaded) × IsViewedDesignOf limits gives def lefs state seen × IsReported seen io.before io.after status
-IsOutcomeWithin limits gives (describe def lefs state slots) io status = IsOpenDescribed limits gives def lefs state io.before io.after status
+IsOutcomeWithin limits gives (describe def lefs state slots) io status =
+    IsOpenDescribed limits gives def lefs state io.before io.after status
 IsOutcomeWithin limits gives (repair def lefs teams legal export lines) io status =
     IsOpenRepaired limits gives def lefs teams legal export lines io.before io.after io.old_puts io.new_puts status
 
 -- The outcome of a job that succeeds, with this status.
 abbrev pub IsJobOutcome : ReadsFile → Job → Streams → ℕ → Type 0
-IsJobOutcome gives job io status = (limits : Limits) × AreWithSlots (job_slots job) limits × IsOutcomeWithin limits gives job io status
+IsJobOutcome gives job io status = (limits : Limits) × AreWithSlots (job_slots job) limits
+    × IsOutcomeWithin limits gives job io status
 
 -- ---- faults
 
@@ -92,7 +97,8 @@ IsJobOutcome gives job io status = (limits : Limits) × AreWithSlots (job_slots 
 abbrev pub IsJobFaultWithin : Limits → ReadsFile → Job → Fault → Streams → Type 0
 IsJobFaultWithin limits gives demo fault io =
     IsJobStop (IsTextFault limits DEMO_DEF.now DEMO_LEF.now) (IsTextDesign limits DEMO_DEF.now DEMO_LEF.now)
-    (λ loaded fault io. IsLinesFault default_most_lines (initial_floor loaded) fault io.input io.left io.before io.after) fault io
+    (λ loaded fault io. IsLinesFault default_most_lines
+    (initial_floor loaded) fault io.input io.left io.before io.after) fault io
 IsJobFaultWithin limits gives (replay def lefs state slots lines save export) fault io =
     IsUndone limits gives def lefs state save export
     (λ begin fault io. EndsWithFault lines begin fault io.input io.left io.before io.after)
@@ -111,4 +117,5 @@ IsJobFaultWithin limits gives (repair def lefs teams legal export lines) fault i
 
 -- Why a job fails.
 abbrev pub IsJobFault : ReadsFile → Job → Fault → Streams → Type 0
-IsJobFault gives job fault io = (limits : Limits) × AreWithSlots (job_slots job) limits × IsJobFaultWithin limits gives job fault io
+IsJobFault gives job fault io = (limits : Limits) × AreWithSlots (job_slots job) limits
+    × IsJobFaultWithin limits gives job fault io

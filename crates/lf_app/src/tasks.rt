@@ -43,14 +43,19 @@ fn demo<'a, R: Source, W: Sink>(
     writer: &mut W,
 ) -> Result<u8, Fault<'a>>
     requires ready { IsReady R.has_failed R.reads W.has_failed reader.old writer.old }
-    ensures ok { IfOk result (λ status. (loaded : Loaded) × IsTextDesign limits DEMO_DEF.now DEMO_LEF.now loaded × ((floor : FloorState)
-        × AnswersInput default_most_lines (initial_floor loaded) floor (R.remaining reader.old) (R.remaining reader.new) (W.contents writer.old) (W.contents writer.new))
+    ensures ok { IfOk result
+        (λ status. (loaded : Loaded) × IsTextDesign limits DEMO_DEF.now DEMO_LEF.now loaded × ((floor : FloorState)
+        × AnswersInput default_most_lines (initial_floor loaded) floor (R.remaining reader.old) (R.remaining reader.new)
+        (W.contents writer.old) (W.contents writer.new))
         × (status ≡ 0)) }
     ensures err { IfErr result (λ fault.
         IsJobStop (IsTextFault limits DEMO_DEF.now DEMO_LEF.now) (IsTextDesign limits DEMO_DEF.now DEMO_LEF.now)
-        (λ loaded fault io. IsLinesFault default_most_lines (initial_floor loaded) fault io.input io.left io.before io.after) fault
-        (streams_alone (R.remaining reader.old) (R.remaining reader.new) (W.contents writer.old) (W.contents writer.new))
-        × BlamesStreams default_most_lines fault (writer.new ≡ writer.old) (R.has_failed reader.new) (R.reads reader.old) (R.reads reader.new)
+        (λ loaded fault io. IsLinesFault default_most_lines
+        (initial_floor loaded) fault io.input io.left io.before io.after) fault
+        (streams_alone (R.remaining reader.old) (R.remaining reader.new) (W.contents writer.old)
+        (W.contents writer.new))
+        × BlamesStreams default_most_lines fault (writer.new ≡ writer.old) (R.has_failed reader.new)
+        (R.reads reader.old) (R.reads reader.new)
         (W.has_failed writer.new)) }
     ensures reader_held { R.holds reader.new ≡ R.holds reader.old }
     ensures writer_held { W.holds writer.new ≡ W.holds writer.old }
@@ -80,11 +85,14 @@ fn outcome_within<
         (io_of R.remaining W.contents E.puts V.accepted around.old around.new)) }
     ensures err { IfErr result (λ fault. IsJobFaultWithin limits (T.gives around.old.texts) (as_job task.now) fault
         (io_of R.remaining W.contents E.puts V.accepted around.old around.new)
-        × BlamesEnvironment E.has_failed V.has_failed R.has_failed R.reads W.has_failed (reads_of (as_job task.now)) around.old around.new fault) }
+        × BlamesEnvironment E.has_failed V.has_failed R.has_failed R.reads W.has_failed
+        (reads_of (as_job task.now)) around.old around.new fault) }
     ensures unread { ReadsNoInput (as_job task.now) → around.new.reader ≡ around.old.reader }
-    ensures unput { NamesNoState (as_job task.now) → OnErr result (E.puts around.new.exports ≡ E.puts around.old.exports) }
+    ensures unput { NamesNoState (as_job task.now)
+        → OnErr result (E.puts around.new.exports ≡ E.puts around.old.exports) }
     ensures unasked { NamesNoFile (as_job task.now) → around.new.exports ≡ around.old.exports }
-    ensures offered { OnOk result (IsOfferOf (as_job task.now) (V.offers around.old.services) (V.offers around.new.services)) }
+    ensures offered { OnOk result
+        (IsOfferOf (as_job task.now) (V.offers around.old.services) (V.offers around.new.services)) }
     ensures unoffered { (V.offers around.new.services ≡ V.offers around.old.services)
         ⊎ IsOfferOf (as_job task.now) (V.offers around.old.services) (V.offers around.new.services) }
     ensures silent { RepairsNothing (as_job task.now) → around.new.progress ≡ around.old.progress }
@@ -107,7 +115,7 @@ fn outcome_within<
                 state: *state,
                 limits,
             };
-            let lines = LineSource::Stream { most: *lines };
+            let lines = LineSource::Reader { max_lines: *lines };
             let outputs = OutputPaths {
                 export: *export,
                 save: *save,
@@ -214,14 +222,18 @@ fn outcome<'a, T: InputFiles, E: OutputFiles, V: PortListener, R: Source, W: Sin
     task: &'a Task<'_>,
 ) -> Result<u8, Fault<'a>>
     requires ready { IsReady R.has_failed R.reads W.has_failed around.old.reader around.old.writer }
-    ensures ok { IfOk result (IsJobOutcome (T.gives around.old.texts) (as_job task.now) (io_of R.remaining W.contents E.puts V.accepted around.old around.new)) }
+    ensures ok { IfOk result (IsJobOutcome (T.gives around.old.texts) (as_job task.now)
+        (io_of R.remaining W.contents E.puts V.accepted around.old around.new)) }
     ensures err { IfErr result (λ fault. IsJobFault (T.gives around.old.texts) (as_job task.now) fault
         (io_of R.remaining W.contents E.puts V.accepted around.old around.new)
-        × BlamesEnvironment E.has_failed V.has_failed R.has_failed R.reads W.has_failed (reads_of (as_job task.now)) around.old around.new fault) }
+        × BlamesEnvironment E.has_failed V.has_failed R.has_failed R.reads W.has_failed
+        (reads_of (as_job task.now)) around.old around.new fault) }
     ensures unread { ReadsNoInput (as_job task.now) → around.new.reader ≡ around.old.reader }
-    ensures unput { NamesNoState (as_job task.now) → OnErr result (E.puts around.new.exports ≡ E.puts around.old.exports) }
+    ensures unput { NamesNoState (as_job task.now)
+        → OnErr result (E.puts around.new.exports ≡ E.puts around.old.exports) }
     ensures unasked { NamesNoFile (as_job task.now) → around.new.exports ≡ around.old.exports }
-    ensures offered { OnOk result (IsOfferOf (as_job task.now) (V.offers around.old.services) (V.offers around.new.services)) }
+    ensures offered { OnOk result
+        (IsOfferOf (as_job task.now) (V.offers around.old.services) (V.offers around.new.services)) }
     ensures unoffered { (V.offers around.new.services ≡ V.offers around.old.services)
         ⊎ IsOfferOf (as_job task.now) (V.offers around.old.services) (V.offers around.new.services) }
     ensures silent { RepairsNothing (as_job task.now) → around.new.progress ≡ around.old.progress }
@@ -274,15 +286,19 @@ pub fn perform_over<
         (io_of R.remaining W.contents E.puts V.accepted around.old around.new) result.status }
     ensures done { IsDone result.status → around.new.faults ≡ around.old.faults }
     ensures reported { IsDone result.status → IsTrue result.is_printed }
-    ensures fault { IsFailure result.status → EndsTask (λ fault. IsJobFault (T.gives around.old.texts) (as_job task.now) fault
+    ensures fault { IsFailure result.status
+        → EndsTask (λ fault. IsJobFault (T.gives around.old.texts) (as_job task.now) fault
         (io_of R.remaining W.contents E.puts V.accepted around.old around.new)
-        × BlamesEnvironment E.has_failed V.has_failed R.has_failed R.reads W.has_failed (reads_of (as_job task.now)) around.old around.new fault)
+        × BlamesEnvironment E.has_failed V.has_failed R.has_failed R.reads W.has_failed
+        (reads_of (as_job task.now)) around.old around.new fault)
         (F.contents around.old.faults) (F.contents around.new.faults) (F.has_failed around.new.faults) result }
     ensures checked { result.status ≡ 4 → ReadsNone task.now }
     ensures unread { ReadsNoInput (as_job task.now) → around.new.reader ≡ around.old.reader }
-    ensures unput { NamesNoState (as_job task.now) → IsFailure result.status → E.puts around.new.exports ≡ E.puts around.old.exports }
+    ensures unput { NamesNoState (as_job task.now) → IsFailure result.status
+        → E.puts around.new.exports ≡ E.puts around.old.exports }
     ensures unasked { NamesNoFile (as_job task.now) → around.new.exports ≡ around.old.exports }
-    ensures offered { IsDone result.status → IsOfferOf (as_job task.now) (V.offers around.old.services) (V.offers around.new.services) }
+    ensures offered { IsDone result.status
+        → IsOfferOf (as_job task.now) (V.offers around.old.services) (V.offers around.new.services) }
     ensures unoffered { (V.offers around.new.services ≡ V.offers around.old.services)
         ⊎ IsOfferOf (as_job task.now) (V.offers around.old.services) (V.offers around.new.services) }
     ensures silent { RepairsNothing (as_job task.now) → around.new.progress ≡ around.old.progress }
@@ -320,10 +336,12 @@ fn perform_with<T: Files + Net + AllocGlobal, R: Source + Drop, W: Sink + Drop, 
     requires writable { W.has_failed writer ≡ false }
     ensures status { IsDone result.exit.status ⊎ IsFailure result.exit.status }
     ensures outcome { IsDone result.exit.status → IsJobOutcome (λ path text. ⊤) (as_job task.now)
-        (streams_alone (R.remaining reader) (R.remaining result.reader) (W.contents writer) (W.contents result.writer)) result.exit.status }
+        (streams_alone (R.remaining reader) (R.remaining result.reader) (W.contents writer) (W.contents result.writer))
+        result.exit.status }
     ensures done { IsDone result.exit.status → result.faults ≡ faults }
     ensures reported { IsDone result.exit.status → IsTrue result.exit.is_printed }
-    ensures fault { IsFailure result.exit.status → EndsTask (λ fault. IsJobFault (λ path text. ⊤) (as_job task.now) fault
+    ensures fault { IsFailure result.exit.status
+        → EndsTask (λ fault. IsJobFault (λ path text. ⊤) (as_job task.now) fault
         (streams_alone (R.remaining reader) (R.remaining result.reader) (W.contents writer) (W.contents result.writer))
         × (IsEarly fault → result.writer ≡ writer))
         (F.contents faults) (F.contents result.faults) (not result.exit.is_printed) result.exit }
@@ -369,11 +387,13 @@ pub fn perform<T: Files + Net + AllocGlobal, R: Read, W: Write, F: Write>(
 ) -> TaskExit
     ensures status { IsDone result.status ⊎ IsFailure result.status }
     ensures outcome { IsDone result.status → IsJobOutcome (λ path text. ⊤) (as_job task.now)
-        (streams_alone (R.remaining reader.old) (R.remaining reader.new) (W.contents writer.old) (W.contents writer.new)) result.status }
+        (streams_alone (R.remaining reader.old) (R.remaining reader.new) (W.contents writer.old)
+        (W.contents writer.new)) result.status }
     ensures done { IsDone result.status → faults.new ≡ faults.old }
     ensures reported { IsDone result.status → IsTrue result.is_printed }
     ensures fault { IsFailure result.status → EndsTask (λ fault. IsJobFault (λ path text. ⊤) (as_job task.now) fault
-        (streams_alone (R.remaining reader.old) (R.remaining reader.new) (W.contents writer.old) (W.contents writer.new))
+        (streams_alone (R.remaining reader.old) (R.remaining reader.new) (W.contents writer.old)
+        (W.contents writer.new))
         × (IsEarly fault → writer.new ≡ writer.old))
         (F.contents faults.old) (F.contents faults.new) (not result.is_printed) result }
     ensures checked { result.status ≡ 4 → ReadsNone task.now }

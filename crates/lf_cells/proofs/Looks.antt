@@ -58,13 +58,13 @@ committed_is p table id s view is =
       by None = refl
       by (Some x) = refl
 
-abbrev slot_standing : CellRecord → CellPlacement
-slot_standing s = record { mac = s.mac; working = s.working }
+abbrev record_placement : CellRecord → CellPlacement
+record_placement s = record { mac = s.mac; working = s.working }
 
-pub standing_is : (p : TableParts) (table : Cells) (id : CellId) (s : Option CellRecord) → table_of p ≡ table → s ≡ record_at p.teams.items id
-    → option_map placement_of (slice_get (cells_of table id.team) id.own) ≡ option_map slot_standing s
-standing_is p table id s view is =
+pub cell_placement_is : (p : TableParts) (table : Cells) (id : CellId) (s : Option CellRecord) → table_of p ≡ table → s ≡ record_at p.teams.items id
+    → option_map placement_of (slice_get (cells_of table id.team) id.own) ≡ option_map record_placement s
+cell_placement_is p table id s view is =
     ap (λ (c : Option Cell). option_map placement_of c) (cell_is p table id view ∙ ap (option_map (cell_with_name p.names)) (sym is)) ∙ by s where
-      by : (o : Option CellRecord) → option_map placement_of (option_map (cell_with_name p.names) o) ≡ option_map slot_standing o
+      by : (o : Option CellRecord) → option_map placement_of (option_map (cell_with_name p.names) o) ≡ option_map record_placement o
       by None = refl
       by (Some x) = refl

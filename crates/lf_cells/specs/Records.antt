@@ -14,11 +14,22 @@ use Rattle.lf_cells.specs.Cells.{Cells, id_of}
 
 -- A cell as it is loaded, with the position of its name.
 abbrev pub initial_record : ℕ → UnnamedCell → CellRecord
-initial_record label c = record { label = label; mac = c.mac; component = c.component; working = c.place; committed = c.place }
+initial_record label c = record {
+  label = label;
+  mac = c.mac;
+  component = c.component;
+  working = c.place;
+  committed = c.place;
+}
 
 -- The cell, with its name from the table of names.
 abbrev pub cell_with_name : List (List ℕ) → CellRecord → Cell
-cell_with_name names s = record { name = slice_index_or names s.label []; mac = s.mac; working = s.working; committed = s.committed }
+cell_with_name names s = record {
+  name = slice_index_or names s.label [];
+  mac = s.mac;
+  working = s.working;
+  committed = s.committed;
+}
 
 -- The cell with its working place committed.
 abbrev pub committed_record : CellRecord → CellRecord
@@ -39,7 +50,8 @@ labels slots = map (λ s. s.label) slots
 -- The team's own cells in the list. `label` is the position of the first cell's name.
 abbrev pub own_records : ℕ → ℕ → List UnnamedCell → List CellRecord
 own_records number label [] = []
-own_records number label (c ∷ cs) = if c.team == number then initial_record label c ∷ own_records number (label + 1) cs else own_records number (label + 1) cs
+own_records number label (c ∷ cs) = if c.team == number then initial_record label c ∷ own_records number (label + 1) cs
+    else own_records number (label + 1) cs
 
 -- ---- the cells of all teams
 
@@ -77,7 +89,8 @@ pub record IsIndex (owners : List CellId) (labels : List (List ℕ)) : Type 0 wh
 
 -- Each team's ids are those of its cells, in loading order.
 pub record AreListed (ids : List (List CellId)) (labels : List (List ℕ)) : Type 0 where
-  pub listed : (team : ℕ) → slice_index_or ids team [] ≡ map (λ own. id_of team own) (range_with_len 0 (length (slice_index_or labels team [])))
+  pub listed : (team : ℕ) → slice_index_or ids team []
+      ≡ map (λ own. id_of team own) (range_with_len 0 (length (slice_index_or labels team [])))
 
 -- The names differ, each has one owner, the owners are in the order of their entries, and each team
 -- has the ids of its cells.
@@ -85,7 +98,8 @@ pub record AreIndexed (p : TableParts) : Type 0 where
   pub differ : AllPairs (λ name later. name ≢ later) p.names
   pub many : length p.names ≡ length p.owners.items
   pub index : IsIndex p.owners.items (labels_in p.teams.items)
-  pub rise : AllPairs (λ id later. position_in (components_in p.teams.items) id < position_in (components_in p.teams.items) later) p.owners.items
+  pub rise : AllPairs (λ id later. position_in (components_in p.teams.items) id
+      < position_in (components_in p.teams.items) later) p.owners.items
   pub ids : AreListed p.ids.items (labels_in p.teams.items)
 
 -- ---- filling a table
@@ -93,8 +107,10 @@ pub record AreIndexed (p : TableParts) : Type 0 where
 -- The cell is the last one of its team; the names are unchanged.
 pub record AddsCell (c : UnnamedCell) (old new : TableParts) : Type 0 where
   pub names : new.names ≡ old.names
-  pub owners : new.owners.items ≡ old.owners.items ++ id_of c.team (length (slice_index_or old.teams.items c.team [])) ∷ []
-  pub teams : new.teams.items ≡ slice_set old.teams.items c.team (slice_index_or old.teams.items c.team [] ++ initial_record (length old.owners.items) c ∷ [])
+  pub owners :
+      new.owners.items ≡ old.owners.items ++ id_of c.team (length (slice_index_or old.teams.items c.team [])) ∷ []
+  pub teams : new.teams.items ≡ slice_set old.teams.items c.team
+      (slice_index_or old.teams.items c.team [] ++ initial_record (length old.owners.items) c ∷ [])
   pub ids : new.ids.items ≡ slice_set old.ids.items c.team
       (slice_index_or old.ids.items c.team [] ++ id_of c.team (length (slice_index_or old.teams.items c.team [])) ∷ [])
 

@@ -144,7 +144,8 @@ impl CellTable {
     /// Changes the working place of one cell and nothing else. Changes nothing if there is no such
     /// cell.
     pub fn set_working(&mut self, id: CellId, place: Option<Place>)
-        ensures cells { self.new.cells ≡ slice_set self.old.cells id.team (moved (cells_of self.old id.team) id.own place) }
+        ensures cells { self.new.cells
+            ≡ slice_set self.old.cells id.team (moved (cells_of self.old id.team) id.own place) }
         ensures components { self.new.components ≡ self.old.components }
     {
         let team = id.team as usize;

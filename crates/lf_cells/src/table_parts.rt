@@ -39,7 +39,8 @@ fn id_of(team: usize, own: usize) -> CellId
 /// Appends a cell to its team. `Err` if an allocation fails.
 fn push_cell(teams: &mut Vec<TeamCells>, team: usize, slot: CellRecord) -> Result<(), AllocError>
     requires { team < length teams.old.items }
-    ensures { OnOk result (teams.new.items ≡ slice_set teams.old.items team (slice_index_or teams.old.items team [] ++ slot ∷ [])) }
+    ensures { OnOk result
+        (teams.new.items ≡ slice_set teams.old.items team (slice_index_or teams.old.items team [] ++ slot ∷ [])) }
 {
     teams[team].push(slot)
 }
@@ -47,7 +48,8 @@ fn push_cell(teams: &mut Vec<TeamCells>, team: usize, slot: CellRecord) -> Resul
 /// Appends an id to its team. `Err` if an allocation fails.
 fn push_id(ids: &mut Vec<Ids>, team: usize, id: CellId) -> Result<(), AllocError>
     requires { team < length ids.old.items }
-    ensures { OnOk result (ids.new.items ≡ slice_set ids.old.items team (slice_index_or ids.old.items team [] ++ id ∷ [])) }
+    ensures { OnOk result
+        (ids.new.items ≡ slice_set ids.old.items team (slice_index_or ids.old.items team [] ++ id ∷ [])) }
 {
     ids[team].push(id)
 }
@@ -55,7 +57,8 @@ fn push_id(ids: &mut Vec<Ids>, team: usize, id: CellId) -> Result<(), AllocError
 /// Changes the working place of a team's cell, if the team has the cell.
 pub(crate) fn move_cell(teams: &mut Vec<TeamCells>, team: usize, own: usize, place: Option<Place>)
     requires { team < length teams.old.items }
-    ensures { teams.new.items ≡ slice_set teams.old.items team (moved_records (slice_index_or teams.old.items team []) own place) }
+    ensures { teams.new.items
+        ≡ slice_set teams.old.items team (moved_records (slice_index_or teams.old.items team []) own place) }
 {
     teams[team].set_working(own, place);
 }
@@ -63,7 +66,8 @@ pub(crate) fn move_cell(teams: &mut Vec<TeamCells>, team: usize, own: usize, pla
 /// Commits the working places of the team's cells.
 pub(crate) fn commit_cells(teams: &mut Vec<TeamCells>, team: usize)
     requires { team < length teams.old.items }
-    ensures { teams.new.items ≡ slice_set teams.old.items team (map committed_record (slice_index_or teams.old.items team [])) }
+    ensures { teams.new.items
+        ≡ slice_set teams.old.items team (map committed_record (slice_index_or teams.old.items team [])) }
 {
     teams[team].commit();
 }

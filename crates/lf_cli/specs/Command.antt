@@ -13,7 +13,7 @@ use Rattle.clap.specs.Walk.{Row, Rule, Text, all_of, first_of}
 use Rattle.clap.specs.declared.builder.action.ArgAction.TheVariants.{Append, SetTrue}
 use Rattle.clap.specs.declared.builder.value_parser.ValueParser.TheVariants as parser
 use Rattle.lf_cli.specs.declared.parse.LegalCells.{LegalCells}
-use Rattle.lf_cli.specs.declared.parse.LegalCells.TheVariants.{MoveAsNeeded, Stay, Move}
+use Rattle.lf_cli.specs.declared.parse.LegalCells.TheVariants.{MoveAsNeeded, KeepLegal, MoveAll}
 use Rattle.lf_cli.specs.declared.parse.Task.{Task}
 use Rattle.lf_cli.specs.declared.parse.Task.TheVariants as task
 use Rattle.lf_cli.specs.declared.subcommand.Subcommand.{Subcommand}
@@ -36,7 +36,8 @@ subcommands = Demo ∷ Check ∷ Describe ∷ Replay ∷ Serve ∷ Repair ∷ []
 
 -- The subcommand of this word.
 abbrev pub subcommand_named : Text → Option Subcommand
-subcommand_named word = option_and_then (slice_get subcommands) (position (λ chosen. bytes_eq (subcommand_word chosen) word) subcommands)
+subcommand_named word =
+    option_and_then (slice_get subcommands) (position (λ chosen. bytes_eq (subcommand_word chosen) word) subcommands)
 
 -- ---- declarations
 
@@ -144,7 +145,8 @@ clash_among saves def lefs state save export =
 -- The option of a job whose file would replace another of its files.
 abbrev pub clash_of : Job → Option Text
 clash_of (replay def lefs state slots lines save export) = clash_among (codes "save") def lefs state save export
-clash_of (serve def lefs state slots port connections save export) = clash_among (codes "save") def lefs state save export
+clash_of (serve def lefs state slots port connections save export) =
+    clash_among (codes "save") def lefs state save export
 clash_of (repair def lefs teams legal export lines) = clash_among (codes "lines") def lefs None lines export
 clash_of _ = None
 
@@ -152,7 +154,8 @@ clash_of _ = None
 
 -- True if the text is a number: at least one digit, after an optional '+'. It may begin with zeros.
 abbrev pub is_number_text : Text → Bool
-is_number_text text = nat_lt 0 (length (without_leading_plus text)) && list_all (λ digit. nat_lt (digit_value digit) 10) (without_leading_plus text)
+is_number_text text = nat_lt 0 (length (without_leading_plus text))
+    && list_all (λ digit. nat_lt (digit_value digit) 10) (without_leading_plus text)
 
 -- The number that the digits of a text write.
 abbrev pub decimal_number : Text → ℕ
@@ -161,7 +164,8 @@ decimal_number text = digits_value 10 (without_leading_plus text)
 -- The number that the text writes, or `None` if it is out of this range.
 abbrev pub number_in : ℕ → ℕ → Text → Option ℕ
 number_in least most text =
-    if is_number_text text && (nat_le least (decimal_number text) && nat_le (decimal_number text) most) then Some (decimal_number text) else None
+    if is_number_text text && (nat_le least (decimal_number text) && nat_le (decimal_number text) most) then
+    Some (decimal_number text) else None
 
 -- ---- what the parser finds of a subcommand's arguments
 
@@ -197,8 +201,8 @@ service_of rows =
 -- What '--keep' and '--all' mean for legal cells. At most one of them may be given.
 abbrev pub legal_cells : Bool → Bool → Option LegalCells
 legal_cells false false = Some MoveAsNeeded
-legal_cells true false = Some Stay
-legal_cells false true = Some Move
+legal_cells true false = Some KeepLegal
+legal_cells false true = Some MoveAll
 legal_cells true true = None
 
 -- ---- what the words name
@@ -206,20 +210,25 @@ legal_cells true true = None
 -- The job of a subcommand on these paths.
 abbrev pub job_on : Subcommand → Text → List Text → List Row → Option Job
 job_on Demo def lefs rows = Some demo
-job_on Check def lefs rows = option_map (λ slots. check def lefs (first_of (codes "state") rows) slots) (slots_among rows)
-job_on Describe def lefs rows = option_map (λ slots. describe def lefs (first_of (codes "state") rows) slots) (slots_among rows)
+job_on Check def lefs rows =
+    option_map (λ slots. check def lefs (first_of (codes "state") rows) slots) (slots_among rows)
+job_on Describe def lefs rows =
+    option_map (λ slots. describe def lefs (first_of (codes "state") rows) slots) (slots_among rows)
 job_on Replay def lefs rows =
     option_and_then (λ lines. option_map
-    (λ slots. replay def lefs (first_of (codes "state") rows) slots lines (first_of (codes "save") rows) (first_of (codes "export") rows))
+    (λ slots. replay def lefs (first_of (codes "state") rows) slots lines (first_of (codes "save") rows)
+    (first_of (codes "export") rows))
     (slots_among rows))
     (most_lines (first_of (codes "lines") rows))
 job_on Serve def lefs rows =
     option_and_then (λ service. option_map
-    (λ slots. serve def lefs (first_of (codes "state") rows) slots service.0 service.1 (first_of (codes "save") rows) (first_of (codes "export") rows))
+    (λ slots. serve def lefs (first_of (codes "state") rows) slots service.0 service.1 (first_of (codes "save") rows)
+    (first_of (codes "export") rows))
     (slots_among rows))
     (service_of rows)
 job_on Repair def lefs rows = option_map
-    (λ legal. repair def lefs (values_of (codes "team") rows) legal (first_of (codes "export") rows) (first_of (codes "lines") rows))
+    (λ legal. repair def lefs (values_of (codes "team") rows) legal (first_of (codes "export") rows)
+    (first_of (codes "lines") rows))
     (legal_cells (is_set (codes "keep") rows) (is_set (codes "all") rows))
 
 -- The job of a subcommand that takes the path of a DEF file and at least one path of a LEF file.
@@ -235,7 +244,8 @@ is_demo _ = false
 
 -- The job of a subcommand for which this was found.
 abbrev pub job_by : Subcommand → List Row → Option Job
-job_by chosen rows = if is_demo chosen then Some demo else job_over chosen (first_of (codes "def") rows) (values_of (codes "lef") rows) rows
+job_by chosen rows = if is_demo chosen then Some demo
+    else job_over chosen (first_of (codes "def") rows) (values_of (codes "lef") rows) rows
 
 -- The job that is requested if the parser finds this subcommand. If it finds no subcommand, the job
 -- is the demo.
@@ -264,15 +274,18 @@ job_of words = unless_fault (fault_of command_line words) (job_found (subcommand
 -- The job that a task does.
 abbrev pub as_job : Task → Job
 as_job task.Demo = demo
-as_job (task.Check def lefs state slots) = check def.now (map (λ lef. lef.now) lefs) (option_map (λ path. path.now) state) slots.number
-as_job (task.Describe def lefs state slots) = describe def.now (map (λ lef. lef.now) lefs) (option_map (λ path. path.now) state) slots.number
+as_job (task.Check def lefs state slots) =
+    check def.now (map (λ lef. lef.now) lefs) (option_map (λ path. path.now) state) slots.number
+as_job (task.Describe def lefs state slots) =
+    describe def.now (map (λ lef. lef.now) lefs) (option_map (λ path. path.now) state) slots.number
 as_job (task.Replay def lefs state slots lines save export) =
     replay def.now (map (λ lef. lef.now) lefs) (option_map (λ path. path.now) state) slots.number
     lines (option_map (λ path. path.now) save) (option_map (λ path. path.now) export)
 as_job (task.Serve def lefs state slots port connections save export) =
     serve def.now (map (λ lef. lef.now) lefs) (option_map (λ path. path.now) state) slots.number
     port connections (option_map (λ path. path.now) save) (option_map (λ path. path.now) export)
-as_job (task.Repair def lefs teams legal export lines) = repair def.now (map (λ lef. lef.now) lefs) (map (λ team. team.now) teams)
+as_job (task.Repair def lefs teams legal export lines) =
+    repair def.now (map (λ lef. lef.now) lefs) (map (λ team. team.now) teams)
     legal (option_map (λ path. path.now) export) (option_map (λ path. path.now) lines)
 
 -- Holds if the task reads no line.

@@ -30,9 +30,9 @@ pub enum LegalCells {
     /// They move only if a cell would otherwise have no place or a large displacement.
     MoveAsNeeded,
     /// They stay.
-    Stay,
+    KeepLegal,
     /// They move if that makes the total displacement smaller.
-    Move,
+    MoveAll,
 }
 
 /// What the program is to do. A design is given by the path of a DEF file and by the paths of one
@@ -158,7 +158,8 @@ fn value_of<'a>(matches: &ArgMatches<'a>, name: &str) -> Option<&'a str>
 
 /// Returns the values of the argument of this name, in order, or `None` if it has no value.
 fn all_of<'m, 'a>(matches: &'m ArgMatches<'a>, name: &str) -> Option<&'m [&'a str]>
-    ensures { option_map (λ texts. map (λ text. text.now) texts.now) result ≡ all_of name.now (rows_of (found_of matches.now)) }
+    ensures { option_map (λ texts. map (λ text. text.now) texts.now) result
+        ≡ all_of name.now (rows_of (found_of matches.now)) }
 {
     matches.get_strs(name)
 }
@@ -169,7 +170,8 @@ fn values_of<'a>(
     matches: &ArgMatches<'a>,
     name: &str,
 ) -> Result<Sequence<&'a str>, AllocError>
-    ensures { IfOk result (λ texts. map (λ text. text.now) texts ≡ values_of name.now (rows_of (found_of matches.now))) }
+    ensures { IfOk result
+        (λ texts. map (λ text. text.now) texts ≡ values_of name.now (rows_of (found_of matches.now))) }
 {
     match all_of(matches, name) {
         Some(found) => Ok(Sequence::from_vec(Vec::from_slice(alloc, found)?)),
@@ -222,15 +224,16 @@ fn legal_cells(keep: bool, all: bool) -> Option<LegalCells>
 {
     match (keep, all) {
         (false, false) => Some(LegalCells::MoveAsNeeded),
-        (true, false) => Some(LegalCells::Stay),
-        (false, true) => Some(LegalCells::Move),
+        (true, false) => Some(LegalCells::KeepLegal),
+        (false, true) => Some(LegalCells::MoveAll),
         (true, true) => None,
     }
 }
 
 /// Makes the task of a check on these paths.
 fn check_on<'a>(def: &'a str, lefs: Sequence<&'a str>, matches: &ArgMatches<'a>) -> Option<Task<'a>>
-    ensures { option_map as_job result ≡ job_on Check def.now (map (λ lef. lef.now) lefs.entry) (rows_of (found_of matches.now)) }
+    ensures { option_map as_job result
+        ≡ job_on Check def.now (map (λ lef. lef.now) lefs.entry) (rows_of (found_of matches.now)) }
 {
     let slots = slots_of(matches)?;
     let state = value_of(matches, "state");
@@ -248,7 +251,8 @@ fn describe_on<'a>(
     lefs: Sequence<&'a str>,
     matches: &ArgMatches<'a>,
 ) -> Option<Task<'a>>
-    ensures { option_map as_job result ≡ job_on Describe def.now (map (λ lef. lef.now) lefs.entry) (rows_of (found_of matches.now)) }
+    ensures { option_map as_job result
+        ≡ job_on Describe def.now (map (λ lef. lef.now) lefs.entry) (rows_of (found_of matches.now)) }
 {
     let slots = slots_of(matches)?;
     let state = value_of(matches, "state");
@@ -266,7 +270,8 @@ fn replay_on<'a>(
     lefs: Sequence<&'a str>,
     matches: &ArgMatches<'a>,
 ) -> Option<Task<'a>>
-    ensures { option_map as_job result ≡ job_on Replay def.now (map (λ lef. lef.now) lefs.entry) (rows_of (found_of matches.now)) }
+    ensures { option_map as_job result
+        ≡ job_on Replay def.now (map (λ lef. lef.now) lefs.entry) (rows_of (found_of matches.now)) }
 {
     let lines = most_lines(matches)?;
     let slots = slots_of(matches)?;
@@ -283,7 +288,8 @@ fn replay_on<'a>(
 
 /// Makes the task of a service on these paths.
 fn serve_on<'a>(def: &'a str, lefs: Sequence<&'a str>, matches: &ArgMatches<'a>) -> Option<Task<'a>>
-    ensures { option_map as_job result ≡ job_on Serve def.now (map (λ lef. lef.now) lefs.entry) (rows_of (found_of matches.now)) }
+    ensures { option_map as_job result
+        ≡ job_on Serve def.now (map (λ lef. lef.now) lefs.entry) (rows_of (found_of matches.now)) }
 {
     let (port, connections) = service_of(matches)?;
     let slots = slots_of(matches)?;
@@ -380,7 +386,8 @@ fn task_over<'a>(
 
 /// Returns the subcommand that `clap` found, with what it found of its arguments.
 fn subcommand_found<'m, 'a>(matches: &'m ArgMatches<'a>) -> Option<(&'a str, &'m ArgMatches<'a>)>
-    ensures { option_map (λ found. (found.0.now, rows_of (found_of found.1.now))) result ≡ subcommand_rows_of matches.now }
+    ensures { option_map (λ found. (found.0.now, rows_of (found_of found.1.now))) result
+        ≡ subcommand_rows_of matches.now }
 {
     matches.subcommand()
 }
@@ -436,7 +443,8 @@ fn clash_among(
     export: Option<&str>,
 ) -> Option<&'static str>
     ensures { option_map (λ word. word.now) result ≡ clash_among saves.now def.now (map (λ lef. lef.now) lefs.now)
-        (option_map (λ path. path.now) state.entry) (option_map (λ path. path.now) save.entry) (option_map (λ path. path.now) export.entry) }
+        (option_map (λ path. path.now) state.entry) (option_map (λ path. path.now) save.entry)
+        (option_map (λ path. path.now) export.entry) }
 {
     if is_same(save, Some(def)) || is_among(save, lefs) {
         return Some(saves);
@@ -503,7 +511,8 @@ fn task_of<'a>(alloc: Global, matches: &ArgMatches<'a>) -> Result<Option<Task<'a
 
 /// Returns what `clap` finds in the words.
 fn matches_of<'a>(alloc: Global, words: &'a [&'a str]) -> Result<ArgMatches<'a>, UsageFault>
-    ensures ok { IfOk result (λ matches. job_of (map (λ word. word.now) words.now) ≡ job_found (subcommand_rows_of matches)) }
+    ensures ok { IfOk result
+        (λ matches. job_of (map (λ word. word.now) words.now) ≡ job_found (subcommand_rows_of matches)) }
     ensures err { IfErr result (λ fault. fault ≡ Usage → job_of (map (λ word. word.now) words.now) ≡ None) }
 {
     let Ok(command) = command_line(alloc) else {

@@ -154,7 +154,8 @@ fn slots<'a>(alloc: Global) -> Arg<'a>
 /// Declares a subcommand of this name that reads a design, optionally with the places of a saved
 /// state.
 fn look<'a>(alloc: Global, name: &'a str) -> Result<Command<'a>, AllocError>
-    ensures line { IfOk result (λ made. app_of made ≡ design_line name.now (text_rule (codes "state") ∷ slots_rule ∷ [])) }
+    ensures line { IfOk result
+        (λ made. app_of made ≡ design_line name.now (text_rule (codes "state") ∷ slots_rule ∷ [])) }
     ensures local { IfOk result (λ made. (out-Command made).has_globals ≡ false) }
 {
     let command = over_design(alloc, name)?.arg(text(alloc, "state"))?;
@@ -200,7 +201,8 @@ fn serve<'a>(alloc: Global) -> Result<Command<'a>, AllocError>
 /// Declares the subcommand that repairs cells, with the options that select which cells move.
 fn repair_of_cells<'a>(alloc: Global) -> Result<Command<'a>, AllocError>
     ensures line { IfOk result (λ made. app_of made
-        ≡ design_line (codes "repair") (repeated_rule (codes "team") ∷ flag_rule (codes "keep") ∷ flag_rule (codes "all") ∷ [])) }
+        ≡ design_line (codes "repair")
+        (repeated_rule (codes "team") ∷ flag_rule (codes "keep") ∷ flag_rule (codes "all") ∷ [])) }
     ensures local { IfOk result (λ made. (out-Command made).has_globals ≡ false) }
 {
     over_design(alloc, "repair")?

@@ -18,25 +18,25 @@ use Rattle.lf_def.specs.Header.{no_header}
 use Rattle.lf_def.specs.Document.{Document, no_parts, document_of}
 use Rattle.lf_def.specs.Laws.{without_places}
 use Rattle.lf_def.specs.Printed.{WritesNumbers, IsWord, IsPrintedRow, IsPrintedRegion, IsPrintedGroup, IsPrintedComponent, IsPrintedBlockage}
-use Rattle.lf_def.specs.PrintedTexts.{Skipped, IsSkipped, TextPart, passed_over, design_is, one_row, regions_section, groups_section, components_section, blockages_section, text_tokens, IsPrintedPart, with_parts, document_with, BeginsWith, ReadsApartFromOffsets, design_named, after_skipped, ReadsBackInTexts, ComponentsReadBackInTexts}
+use Rattle.lf_def.specs.PrintedTexts.{Skipped, IsSkipped, TextPart, skipped_part, design_is, one_row, regions_section, groups_section, components_section, blockages_section, text_tokens, IsPrintedPart, with_parts, document_with, BeginsWith, ReadsApartFromOffsets, design_named, after_skipped, ReadsBackInTexts, ComponentsReadBackInTexts}
 use Rattle.lf_def.proofs.PrintedTexts.{parts_read_back}
 
 -- The parts of a text after its DESIGN.
 abbrev named_parts : List ℕ → DocParts
 named_parts n = record no_parts { header = record no_header { design = Some n } }
 
-passed_adds_nothing : (ps : List Skipped) (qs : List TextPart) (d : DocParts) → with_parts d (map passed_over ps ++ qs) ≡ with_parts d qs
+passed_adds_nothing : (ps : List Skipped) (qs : List TextPart) (d : DocParts) → with_parts d (map skipped_part ps ++ qs) ≡ with_parts d qs
 passed_adds_nothing [] qs d = refl
 passed_adds_nothing (p ∷ ps) qs d = passed_adds_nothing ps qs d
 
 -- Skipped statements add nothing in front of DESIGN and after it.
 after_is : (before : List Skipped) (n : List ℕ) (between : List Skipped) (parts : List TextPart) → with_parts no_parts (after_skipped before n between parts) ≡ with_parts (named_parts n) parts
-after_is before n between parts = passed_adds_nothing before (design_is n ∷ (map passed_over between ++ parts)) no_parts ∙ passed_adds_nothing between parts (named_parts n)
+after_is before n between parts = passed_adds_nothing before (design_is n ∷ (map skipped_part between ++ parts)) no_parts ∙ passed_adds_nothing between parts (named_parts n)
 
 after_printed : (before : List Skipped) (n : List ℕ) (between : List Skipped) (parts : List TextPart) → All IsSkipped before → All IsSkipped between → IsWord n → All IsPrintedPart parts → All IsPrintedPart (after_skipped before n between parts)
 after_printed before n between parts hb hm hn hp =
-    All-append IsPrintedPart (map passed_over before) (design_is n ∷ (map passed_over between ++ parts)) (All-map IsPrintedPart passed_over before hb)
-    (All-cons IsPrintedPart (design_is n) (map passed_over between ++ parts) hn (All-append IsPrintedPart (map passed_over between) parts (All-map IsPrintedPart passed_over between hm) hp))
+    All-append IsPrintedPart (map skipped_part before) (design_is n ∷ (map skipped_part between ++ parts)) (All-map IsPrintedPart skipped_part before hb)
+    (All-cons IsPrintedPart (design_is n) (map skipped_part between ++ parts) hn (All-append IsPrintedPart (map skipped_part between) parts (All-map IsPrintedPart skipped_part between hm) hp))
 
 -- The document of a text with these parts, if they give d after DESIGN.
 says_after : (print : ℤ → List ℕ) → WritesNumbers print → (before : List Skipped) (n : List ℕ) (between : List Skipped) (parts : List TextPart) (d : DocParts) → All IsSkipped before → All IsSkipped between → IsWord n → All IsPrintedPart parts

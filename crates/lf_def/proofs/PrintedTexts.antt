@@ -27,7 +27,7 @@ use Rattle.lf_def.specs.Ranges.{IsCount}
 use Rattle.lf_def.specs.Printed.{WritesNumbers, IsWord, row_words, IsPrintedRow, region_words, IsPrintedRegion, group_words, IsPrintedGroup, component_words}
 use Rattle.lf_def.specs.Printed.{IsPrintedComponent, blockage_words, section_words}
 use Rattle.lf_def.specs.PrintedTexts.{statement_keywords, section_keywords, Skipped, to_its_semicolon, to_its_end, extension, skipped_tokens, IsSkipped, TextPart}
-use Rattle.lf_def.specs.PrintedTexts.{passed_over, version_is, divider_is, brackets_are, design_is, units_are, one_row, regions_section, groups_section}
+use Rattle.lf_def.specs.PrintedTexts.{skipped_part, version_is, divider_is, brackets_are, design_is, units_are, one_row, regions_section, groups_section}
 use Rattle.lf_def.specs.PrintedTexts.{components_section, components_with_others, blockages_section, quoted_of, part_tokens, text_tokens, IsPrintedPart}
 use Rattle.lf_def.specs.PrintedTexts.{with_part, with_parts, document_with, PartsReadBack}
 use Rattle.lf_def.specs.PrintedComponents.{IsPrintedEntry, entry_tokens, components_tokens, printed_component}
@@ -186,7 +186,7 @@ with_row_back print writes rows r h = at_map same same row (λ (x : RowStatement
 at_part : (print : ℤ → List ℕ) → WritesNumbers print → (s : DocParts) (p : TextPart) → IsPrintedPart p
     → BackAt (turn_bare bare_doc) (def_statement s) (part_tokens print p) (turn (with_part s p) true)
 unfolding def_statement_from header_statement body_statement
-at_part print writes s (passed_over p) h = passed_part s p h
+at_part print writes s (skipped_part p) h = passed_part s p h
 at_part print writes s (version_is v) h =
     part_back same version (λ (x : List ℕ). record s.header { version = first_counts s.header.version x }) (λ (x : HeaderParts). record s { header = x }) s
     (plain_word (codes "VERSION")) (map plain_word (v ∷ codes ";" ∷ [])) v (with_part s (version_is v))
@@ -239,9 +239,9 @@ at_part print writes s (blockages_section count bs) h =
     (λ t l e. by_bytes s t l _ e) (λ x e. ap (λ z. bare_doc (record s { blockages = z })) e) (blockages_back print writes count h.0 bs s.blockages h.1)
 
 some_tokens : (print : ℤ → List ℕ) (p : TextPart) → 0 < length (part_tokens print p)
-some_tokens print (passed_over (to_its_semicolon w ps)) = omega arith
-some_tokens print (passed_over (to_its_end w ps)) = omega arith
-some_tokens print (passed_over (extension ps)) = omega arith
+some_tokens print (skipped_part (to_its_semicolon w ps)) = omega arith
+some_tokens print (skipped_part (to_its_end w ps)) = omega arith
+some_tokens print (skipped_part (extension ps)) = omega arith
 some_tokens print (version_is v) = omega arith
 some_tokens print (divider_is q) = omega arith
 some_tokens print (brackets_are q) = omega arith
@@ -263,7 +263,7 @@ more_alike cs s s' a =
 
 -- Places do not affect what a part adds.
 with_alike : (p : TextPart) (s s' : DocParts) → bare_doc s' ≡ bare_doc s → bare_doc (with_part s' p) ≡ bare_doc (with_part s p)
-with_alike (passed_over p) s s' a = a
+with_alike (skipped_part p) s s' a = a
 with_alike (version_is v) s s' a = ap (λ (z : DocParts). with_part z (version_is v)) a
 with_alike (divider_is q) s s' a = ap (λ (z : DocParts). with_part z (divider_is q)) a
 with_alike (brackets_are q) s s' a = ap (λ (z : DocParts). with_part z (brackets_are q)) a

@@ -17,7 +17,11 @@ with_rect parts l = do
 
 -- Records the word of a clause, if it is SOFT or PARTIAL.
 abbrev pub noted : BlockageParts → Lexeme → BlockageParts
-noted parts t = record parts { soft = parts.soft || is (codes "SOFT") t; partial = parts.partial || is (codes "PARTIAL") t; due = Rest }
+noted parts t = record parts {
+  soft = parts.soft || is (codes "SOFT") t;
+  partial = parts.partial || is (codes "PARTIAL") t;
+  due = Rest;
+}
 
 -- The part of a blockage that begins with a token, which is no separator. What follows the word of
 -- a clause is skipped up to RECT.
@@ -50,7 +54,8 @@ unfoldable pub blockage : Reader (Option Blockage)
 blockage l = do
   t ← token l
   if is (codes "LAYER") t.value then (to_semicolon t.rest >>= λ stop. taken None stop.rest)
-      else if is (codes "PLACEMENT") t.value then (block blockage_token no_blockage t.rest >>= λ parts. taken (Some (blockage_of parts.value)) parts.rest)
+      else if is (codes "PLACEMENT") t.value then
+      (block blockage_token no_blockage t.rest >>= λ parts. taken (Some (blockage_of parts.value)) parts.rest)
       else fault_at Unexpected t.value.line
 
 abbrev pub with_blockage : List Blockage → Option Blockage → List Blockage

@@ -55,7 +55,8 @@ only_placement (Some first) plus t l = fault_at Unexpected t.line
 -- A clause, after its plus and its word. A placement is read, and other clauses are skipped.
 unfoldable pub clause : ComponentParts → Lexeme → Reader (Turn ComponentParts)
 clause parts t l =
-    if is_placement_word t then (only_placement parts.placement parts.plus t l >>= λ p. continues (record parts { placement = Some p.value; due = Separator; point = is (codes "UNPLACED") t }) p.rest)
+    if is_placement_word t then (only_placement parts.placement parts.plus t l >>= λ p.
+    continues (record parts { placement = Some p.value; due = Separator; point = is (codes "UNPLACED") t }) p.rest)
     else continues (record parts { due = Rest }) l
 
 abbrev pub up_to_stop : ℕ → PlacementClause → PlacementClause
@@ -73,7 +74,8 @@ unfoldable pub component_part : Due → ComponentParts → Lexeme → Reader (Tu
 component_part Item parts t l = continues parts l
 component_part Keyword parts t l = clause parts t l
 component_part Rest parts t l = continues parts l
-component_part Separator parts t l = if parts.point && is (codes "(") t then unplaced_point parts l else fault_at Unexpected t.line
+component_part Separator parts t l = if parts.point && is (codes "(") t then unplaced_point parts l
+    else fault_at Unexpected t.line
 
 -- The part of a component that begins with a token. A semicolon is the last, and a plus begins a
 -- clause.
@@ -97,7 +99,12 @@ component l = do
   n ← name l
   mac ← name n.rest
   parts ← block component_token no_component mac.rest
-  taken (record { name = n.value.text; mac = mac.value.text; placement = parts.value.placement; semicolon = parts.value.semicolon }) parts.rest
+  taken (record {
+    name = n.value.text;
+    mac = mac.value.text;
+    placement = parts.value.placement;
+    semicolon = parts.value.semicolon;
+  }) parts.rest
 
 -- COMPONENTS count ; entries END COMPONENTS, after its keyword.
 abbrev pub components : List Component → Reader (List Component)

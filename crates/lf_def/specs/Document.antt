@@ -35,16 +35,19 @@ pub record Document : Type 0 where
 -- STYLES, NONDEFAULTRULES, PINS, PINPROPERTIES, SLOTS, FILLS, SPECIALNETS, NETS, SCANCHAINS).
 abbrev pub is_skipped_section : Lexeme → Bool
 is_skipped_section t =
-    is (codes "PROPERTYDEFINITIONS") t || is (codes "VIAS") t || is (codes "STYLES") t || is (codes "NONDEFAULTRULES") t || is (codes "PINS") t || is
-    (codes "PINPROPERTIES") t
-    || is (codes "SLOTS") t || is (codes "FILLS") t || is (codes "SPECIALNETS") t || is (codes "NETS") t || is (codes "SCANCHAINS") t
+    is (codes "PROPERTYDEFINITIONS") t || is (codes "VIAS") t || is (codes "STYLES") t || is (codes "NONDEFAULTRULES") t
+    || is (codes "PINS") t
+    || is (codes "PINPROPERTIES") t
+    || is (codes "SLOTS") t || is (codes "FILLS") t || is (codes "SPECIALNETS") t || is (codes "NETS") t
+    || is (codes "SCANCHAINS") t
 
 -- True for statements that are skipped up to their semicolon (DEF TRACKS, GCELLGRID, HISTORY,
 -- TECHNOLOGY, DIEAREA, COMPONENTMASKSHIFT, NAMESCASESENSITIVE).
 abbrev pub is_skipped_statement : Lexeme → Bool
 is_skipped_statement t =
-    is (codes "TRACKS") t || is (codes "GCELLGRID") t || is (codes "HISTORY") t || is (codes "TECHNOLOGY") t || is (codes "DIEAREA") t || is
-    (codes "COMPONENTMASKSHIFT") t || is (codes "NAMESCASESENSITIVE") t
+    is (codes "TRACKS") t || is (codes "GCELLGRID") t || is (codes "HISTORY") t || is (codes "TECHNOLOGY") t
+    || is (codes "DIEAREA") t
+    || is (codes "COMPONENTMASKSHIFT") t || is (codes "NAMESCASESENSITIVE") t
 
 -- Skips a statement, after its first token. Any other word begins no statement.
 unfoldable pub skip_from : Lexeme → Reader (Unit {0})
@@ -68,17 +71,21 @@ end_design parts l = do
 unfoldable pub body_statement : DocParts → Lexeme → Reader DocParts
 body_statement parts t l =
     if is (codes "ROW") t then (with_row parts.rows l >>= λ s. taken (record parts { rows = s.value }) s.rest)
-    else if is (codes "REGIONS") t then (regions parts.regions l >>= λ s. taken (record parts { regions = s.value }) s.rest)
+    else if is (codes "REGIONS") t then
+    (regions parts.regions l >>= λ s. taken (record parts { regions = s.value }) s.rest)
     else if is (codes "GROUPS") t then (groups parts.groups l >>= λ s. taken (record parts { groups = s.value }) s.rest)
-    else if is (codes "COMPONENTS") t then (components parts.components l >>= λ s. taken (record parts { components = s.value }) s.rest)
-    else if is (codes "BLOCKAGES") t then (blockages parts.blockages l >>= λ s. taken (record parts { blockages = s.value }) s.rest)
+    else if is (codes "COMPONENTS") t then
+    (components parts.components l >>= λ s. taken (record parts { components = s.value }) s.rest)
+    else if is (codes "BLOCKAGES") t then
+    (blockages parts.blockages l >>= λ s. taken (record parts { blockages = s.value }) s.rest)
     else (skip_from t l >>= λ stop. taken parts stop.rest)
 
 -- A statement of the text, after its first token.
 unfoldable pub def_statement_from : DocParts → Lexeme → Reader (Turn DocParts)
 def_statement_from parts t l =
     if is (codes "END") t then (end_design parts l >>= λ stop. finishes parts stop.rest)
-    else if is_header t then (header_statement parts.header t l >>= λ h. continues (record parts { header = h.value }) h.rest)
+    else if is_header t then
+    (header_statement parts.header t l >>= λ h. continues (record parts { header = h.value }) h.rest)
     else (body_statement parts t l >>= λ new. continues new.value new.rest)
 
 unfoldable pub def_statement : Statement DocParts
@@ -111,10 +118,19 @@ abbrev pub document_of : List ℕ → Result Document ReadFault
 document_of text = document_from (doc_parts_of text)
 
 -- Holds if the document is what its text says.
-abbrev pub IsReadFrom : List ℕ → DocumentHeader → List RowStatement → List Region → List Group → List Component → List Blockage → Type 0
+abbrev pub IsReadFrom : List ℕ → DocumentHeader → List RowStatement → List Region → List Group → List Component
+    → List Blockage → Type 0
 IsReadFrom text header rows regions groups components blockages =
-    document_of text ≡ Ok (record { header = header; rows = rows; regions = regions; groups = groups; components = components; blockages = blockages })
+    document_of text ≡ Ok (record {
+      header = header;
+      rows = rows;
+      regions = regions;
+      groups = groups;
+      components = components;
+      blockages = blockages;
+    })
 
 -- Holds if the fault is that of the text, with its line, or a failed allocation.
 abbrev pub RefusesDef : LoadFault → Result Document ReadFault → Type 0
-RefusesDef fault reading = (fault ≡ load_fault_of Memory) ⊎ ((first : ReadFault) × (reading ≡ Err first) × (fault ≡ load_fault_of (Fault first)))
+RefusesDef fault reading = (fault ≡ load_fault_of Memory)
+    ⊎ ((first : ReadFault) × (reading ≡ Err first) × (fault ≡ load_fault_of (Fault first)))

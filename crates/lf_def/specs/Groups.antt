@@ -26,7 +26,8 @@ with_region parts l = do
 -- is read, and other clauses are skipped.
 unfoldable pub group_part : Due → GroupParts → Lexeme → Reader (Turn GroupParts)
 group_part Item parts t l = with_pattern parts t l
-group_part Keyword parts t l = if is (codes "REGION") t then with_region parts l else continues (record parts { due = Rest }) l
+group_part Keyword parts t l = if is (codes "REGION") t then with_region parts l
+    else continues (record parts { due = Rest }) l
 group_part Rest parts t l = continues parts l
 group_part Separator parts t l = fault_at Unexpected t.line
 

@@ -40,15 +40,20 @@ units l = do
   taken n.value stop.rest
 
 abbrev pub is_header : Lexeme → Bool
-is_header t = is (codes "VERSION") t || is (codes "DIVIDERCHAR") t || is (codes "BUSBITCHARS") t || is (codes "DESIGN") t || is (codes "UNITS") t
+is_header t = is (codes "VERSION") t || is (codes "DIVIDERCHAR") t || is (codes "BUSBITCHARS") t
+    || is (codes "DESIGN") t || is (codes "UNITS") t
 
 -- A statement of the header, after its keyword.
 unfoldable pub header_statement : HeaderParts → Lexeme → Reader HeaderParts
 header_statement parts t l =
-    if is (codes "VERSION") t then (version l >>= λ v. taken (record parts { version = first_counts parts.version v.value }) v.rest)
-    else if is (codes "DIVIDERCHAR") t then (quoted l >>= λ q. taken (record parts { divider = first_counts parts.divider q.value }) q.rest)
-    else if is (codes "BUSBITCHARS") t then (quoted l >>= λ q. taken (record parts { brackets = first_counts parts.brackets q.value }) q.rest)
-    else if is (codes "DESIGN") t then (design l >>= λ d. taken (record parts { design = first_counts parts.design d.value }) d.rest)
+    if is (codes "VERSION") t then
+    (version l >>= λ v. taken (record parts { version = first_counts parts.version v.value }) v.rest)
+    else if is (codes "DIVIDERCHAR") t then
+    (quoted l >>= λ q. taken (record parts { divider = first_counts parts.divider q.value }) q.rest)
+    else if is (codes "BUSBITCHARS") t then
+    (quoted l >>= λ q. taken (record parts { brackets = first_counts parts.brackets q.value }) q.rest)
+    else if is (codes "DESIGN") t then
+    (design l >>= λ d. taken (record parts { design = first_counts parts.design d.value }) d.rest)
     else (units l >>= λ n. taken (record parts { units = first_counts parts.units n.value }) n.rest)
 
 abbrev pub no_header : HeaderParts
@@ -57,4 +62,10 @@ no_header = record { version = None; divider = None; brackets = None; design = N
 -- The header that the statements describe. The defaults are 5.8, "/" and "[]".
 abbrev pub header_of : HeaderParts → DocumentHeader
 header_of parts =
-    record { version = unwrap_or parts.version (codes "5.8"); divider = unwrap_or parts.divider (codes "\"/\""); brackets = unwrap_or parts.brackets (codes "\"[]\""); design = unwrap_or parts.design []; units = parts.units }
+    record {
+      version = unwrap_or parts.version (codes "5.8");
+      divider = unwrap_or parts.divider (codes "\"/\"");
+      brackets = unwrap_or parts.brackets (codes "\"[]\"");
+      design = unwrap_or parts.design [];
+      units = parts.units;
+    }

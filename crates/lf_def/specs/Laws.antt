@@ -17,7 +17,8 @@ abbrev pub placement_without_places : PlacementClause → PlacementClause
 placement_without_places p = record { kind = p.kind; place = p.place; start = 0; stop = 0 }
 
 abbrev pub without_places : Component → Component
-without_places c = record { name = c.name; mac = c.mac; placement = option_map placement_without_places c.placement; semicolon = 0 }
+without_places c =
+    record { name = c.name; mac = c.mac; placement = option_map placement_without_places c.placement; semicolon = 0 }
 
 abbrev pub document_without_places : Document → Document
 document_without_places d = record d { components = map without_places d.components }
@@ -27,24 +28,30 @@ document_without_places d = record d { components = map without_places d.compone
 abbrev pub ComponentReadsAlike : Type 0
 ComponentReadsAlike = (l m : Lexed) (c : Component) → component l ≡ taken c m
     → (run : List Lexeme) × (l ≡ with_tokens run m)
-    × ((same : List Lexeme) → map plain same ≡ map plain run → (lexed_after : Lexed) → (again : Component) × (component (with_tokens same lexed_after) ≡ taken again lexed_after) × (without_places again ≡ without_places c))
+    × ((same : List Lexeme) → map plain same ≡ map plain run → (lexed_after : Lexed)
+    → (again : Component) × (component (with_tokens same lexed_after) ≡ taken again lexed_after)
+    × (without_places again ≡ without_places c))
 
 -- Holds if texts whose tokens have the same bytes give the same document, except for offsets.
 abbrev pub ReadsTheSame : List ℕ → List ℕ → Type 0
-ReadsTheSame a b = map plain (tokens_of a).tokens ≡ map plain (tokens_of b).tokens → (d : Document) → document_of a ≡ Ok d
+ReadsTheSame a b = map plain (tokens_of a).tokens ≡ map plain (tokens_of b).tokens
+    → (d : Document) → document_of a ≡ Ok d
     → (again : Document) × (document_of b ≡ Ok again) × (document_without_places again ≡ document_without_places d)
 
 -- Holds if any bytes may replace those from the first unread token on, when the statements of the
 -- text leave tokens unread.
 abbrev pub UnreadDefBytesDoNotMatter : List ℕ → Type 0
-UnreadDefBytesDoNotMatter text = (read : List Lexeme) (t : Lexeme) (unread : List Lexeme) (parts : DocParts) → (tokens_of text).tokens ≡ read ++ t ∷ unread
-    → block def_statement no_parts (tokens_of text) ≡ taken parts (lexed_after (t ∷ unread) (tokens_of text)) → (bytes : List ℕ) → document_of (take t.start text ++ bytes) ≡ document_of text
+UnreadDefBytesDoNotMatter text = (read : List Lexeme) (t : Lexeme) (unread : List Lexeme) (parts : DocParts)
+    → (tokens_of text).tokens ≡ read ++ t ∷ unread
+    → block def_statement no_parts (tokens_of text) ≡ taken parts (lexed_after (t ∷ unread) (tokens_of text))
+    → (bytes : List ℕ) → document_of (take t.start text ++ bytes) ≡ document_of text
 
 -- The offsets of placement clauses.
 
 -- ( x y ) orient
 abbrev pub IsPlace : List Lexeme → Type 0
-IsPlace (start ∷ x ∷ y ∷ stop ∷ o ∷ []) = (is (codes "(") start ≡ true) × (is (codes ")") stop ≡ true) × ((orient : Orient) × (orient_of o ≡ Ok orient))
+IsPlace (start ∷ x ∷ y ∷ stop ∷ o ∷ []) = (is (codes "(") start ≡ true) × (is (codes ")") stop ≡ true)
+    × ((orient : Orient) × (orient_of o ≡ Ok orient))
 IsPlace _ = ⊥
 
 -- Holds if the last of these tokens ends at this offset.
@@ -89,7 +96,8 @@ pub record IsComponentOf (tokens : List Lexeme) (c : Component) : Type 0 where
   pub clause : HasClause front c.placement
 
 abbrev pub ComponentsHaveClauses : Type 0
-ComponentsHaveClauses = (l m : Lexed) (c : Component) → component l ≡ taken c m → (run : List Lexeme) × (l ≡ with_tokens run m) × IsComponentOf run c
+ComponentsHaveClauses = (l m : Lexed) (c : Component) → component l ≡ taken c m
+    → (run : List Lexeme) × (l ≡ with_tokens run m) × IsComponentOf run c
 
 -- Holds if the placement clause, if any, is within these offsets.
 abbrev pub ClauseWithin : ℕ → ℕ → Option PlacementClause → Type 0
@@ -100,7 +108,8 @@ ClauseWithin from to (Some p) = (from ≤ p.start) × (p.start < p.stop) × (p.s
 -- in front of its semicolon.
 abbrev pub AreInTextOrder : ℕ → ℕ → List Component → Type 0
 AreInTextOrder from to [] = from ≤ to
-AreInTextOrder from to (c ∷ cs) = (from ≤ c.semicolon) × ClauseWithin from c.semicolon c.placement × AreInTextOrder (c.semicolon + 1) to cs
+AreInTextOrder from to (c ∷ cs) = (from ≤ c.semicolon) × ClauseWithin from c.semicolon c.placement
+    × AreInTextOrder (c.semicolon + 1) to cs
 
 -- Holds if the components of the text's document are in the text in order.
 abbrev pub ComponentsAreInTextOrder : List ℕ → Type 0

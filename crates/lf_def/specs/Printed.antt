@@ -33,7 +33,8 @@ pub record IsWord (n : List ℕ) : Type 0 where
 
 -- ( x1 y1 ) ( x2 y2 ): the lower left corner, then the upper right one.
 abbrev pub rect_words : (ℤ → List ℕ) → Rect → List (List ℕ) → List (List ℕ)
-rect_words print r rest = codes "(" ∷ print r.x1 ∷ print r.y1 ∷ codes ")" ∷ codes "(" ∷ print r.x2 ∷ print r.y2 ∷ codes ")" ∷ rest
+rect_words print r rest =
+    codes "(" ∷ print r.x1 ∷ print r.y1 ∷ codes ")" ∷ codes "(" ∷ print r.x2 ∷ print r.y2 ∷ codes ")" ∷ rest
 
 -- Rows (DEF ROW).
 
@@ -43,7 +44,8 @@ step_words print (Some p) = codes "STEP" ∷ print p.x ∷ print p.y ∷ codes "
 
 -- name site x y orient DO numX BY numY [STEP sx sy] ;
 abbrev pub row_words : (ℤ → List ℕ) → RowStatement → List (List ℕ)
-row_words print r = r.name ∷ r.site ∷ print r.x ∷ print r.y ∷ orient_word r.orient ∷ codes "DO" ∷ print (pos r.sites_x) ∷ codes "BY" ∷ print (pos r.sites_y) ∷ step_words print r.step
+row_words print r = r.name ∷ r.site ∷ print r.x ∷ print r.y ∷ orient_word r.orient ∷ codes "DO" ∷ print (pos r.sites_x)
+    ∷ codes "BY" ∷ print (pos r.sites_y) ∷ step_words print r.step
 
 pub record IsPrintedRow (r : RowStatement) : Type 0 where
   pub row : IsRow r
@@ -143,24 +145,29 @@ partial_words true rest = codes "+" ∷ codes "PARTIAL" ∷ codes "0.5" ∷ rest
 partial_words false rest = rest
 
 abbrev pub blockage_words : (ℤ → List ℕ) → Blockage → List (List ℕ)
-blockage_words print b = codes "PLACEMENT" ∷ soft_words b.soft (partial_words b.partial (block_rects_words print b.rects))
+blockage_words print b =
+    codes "PLACEMENT" ∷ soft_words b.soft (partial_words b.partial (block_rects_words print b.rects))
 
 abbrev pub IsPrintedBlockage : Blockage → Type 0
 IsPrintedBlockage b = All IsRect b.rects
 
 -- Holds if tokens with these bytes read as this value, whatever follows.
 abbrev pub ReadsBack : {A : Type 0} → Reader A → List (List ℕ) → A → Type 0
-ReadsBack reader words x = (tokens : List Lexeme) → map plain tokens ≡ map plain_word words → (after_it : Lexed) → reader (with_tokens tokens after_it) ≡ taken x after_it
+ReadsBack reader words x = (tokens : List Lexeme) → map plain tokens ≡ map plain_word words
+    → (after_it : Lexed) → reader (with_tokens tokens after_it) ≡ taken x after_it
 
 -- The same for a component, except for its offsets.
 abbrev pub ComponentReadsBack : List (List ℕ) → Component → Type 0
 ComponentReadsBack words c = (tokens : List Lexeme) → map plain tokens ≡ map plain_word words → (after_it : Lexed)
-    → (read : Component) × (component (with_tokens tokens after_it) ≡ taken read after_it) × (without_places read ≡ without_places c)
+    → (read : Component) × (component (with_tokens tokens after_it) ≡ taken read after_it)
+    × (without_places read ≡ without_places c)
 
 -- The same for a list of components.
 abbrev pub ComponentsReadBack : Reader (List Component) → List (List ℕ) → List Component → Type 0
-ComponentsReadBack reader words cs = (tokens : List Lexeme) → map plain tokens ≡ map plain_word words → (after_it : Lexed)
-    → (read : List Component) × (reader (with_tokens tokens after_it) ≡ taken read after_it) × (map without_places read ≡ map without_places cs)
+ComponentsReadBack reader words cs = (tokens : List Lexeme) → map plain tokens ≡ map plain_word words
+    → (after_it : Lexed)
+    → (read : List Component) × (reader (with_tokens tokens after_it) ≡ taken read after_it)
+    × (map without_places read ≡ map without_places cs)
 
 -- Each entry after its minus.
 abbrev pub entries_words : {A : Type 0} → (A → List (List ℕ)) → List A → List (List ℕ) → List (List ℕ)

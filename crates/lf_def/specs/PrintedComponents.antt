@@ -69,7 +69,8 @@ place_words print (Some p) = codes "(" ∷ print p.x ∷ print p.y ∷ codes ")"
 
 -- [+ FIXED pt orient | + COVER pt orient | + PLACED pt orient | + UNPLACED [pt orient]], and then
 -- the rest.
-abbrev pub placement_tokens : (ℤ → List ℕ) → Option PlacementClause → Option Location → List PlainToken → List PlainToken
+abbrev pub placement_tokens : (ℤ → List ℕ) → Option PlacementClause → Option Location
+    → List PlainToken → List PlainToken
 placement_tokens print None point rest = rest
 placement_tokens print (Some p) point rest = plain_word (codes "+") ∷ plain_word
     (kind_word p.kind) ∷ (map plain_word (place_words print (printed_place p.kind p.place point)) ++ rest)
@@ -88,7 +89,8 @@ entries_tokens tokens (x ∷ xs) rest = plain_word (codes "-") ∷ (tokens x ++ 
 -- count ; entries END COMPONENTS
 abbrev pub components_tokens : (ℤ → List ℕ) → List ℕ → List PrintedComponent → List PlainToken
 components_tokens print count ps =
-    plain_word count ∷ plain_word (codes ";") ∷ entries_tokens (entry_tokens print) ps (plain_word (codes "END") ∷ plain_word (codes "COMPONENTS") ∷ [])
+    plain_word count ∷ plain_word (codes ";") ∷ entries_tokens (entry_tokens print) ps
+    (plain_word (codes "END") ∷ plain_word (codes "COMPONENTS") ∷ [])
 
 abbrev pub printed_component : PrintedComponent → Component
 printed_component p = p.component
@@ -96,9 +98,11 @@ printed_component p = p.component
 -- Holds if these tokens read as the component, except for its offsets, whatever follows.
 abbrev pub EntryReadsBack : List PlainToken → Component → Type 0
 EntryReadsBack printed c = (tokens : List Lexeme) → map plain tokens ≡ printed → (after_it : Lexed)
-    → (read : Component) × (component (with_tokens tokens after_it) ≡ taken read after_it) × (without_places read ≡ without_places c)
+    → (read : Component) × (component (with_tokens tokens after_it) ≡ taken read after_it)
+    × (without_places read ≡ without_places c)
 
 -- The same for a list of components.
 abbrev pub EntriesReadBack : Reader (List Component) → List PlainToken → List Component → Type 0
 EntriesReadBack reader printed cs = (tokens : List Lexeme) → map plain tokens ≡ printed → (after_it : Lexed)
-    → (read : List Component) × (reader (with_tokens tokens after_it) ≡ taken read after_it) × (map without_places read ≡ map without_places cs)
+    → (read : List Component) × (reader (with_tokens tokens after_it) ≡ taken read after_it)
+    × (map without_places read ≡ map without_places cs)

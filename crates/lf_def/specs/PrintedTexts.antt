@@ -23,14 +23,16 @@ use Rattle.lf_def.specs.PrintedComponents.{PrintedComponent, IsPrintedEntry, com
 
 -- The keywords of statements that are skipped up to their semicolon.
 abbrev pub statement_keywords : List (List ℕ)
-statement_keywords = codes "TRACKS" ∷ codes "GCELLGRID" ∷ codes "HISTORY" ∷ codes "TECHNOLOGY" ∷ codes "DIEAREA" ∷ codes "COMPONENTMASKSHIFT" ∷ codes
-    "NAMESCASESENSITIVE" ∷ []
+statement_keywords = codes "TRACKS" ∷ codes "GCELLGRID" ∷ codes "HISTORY" ∷ codes "TECHNOLOGY" ∷ codes "DIEAREA"
+    ∷ codes "COMPONENTMASKSHIFT"
+    ∷ codes "NAMESCASESENSITIVE" ∷ []
 
 -- The keywords of sections that are skipped up to END and their keyword.
 abbrev pub section_keywords : List (List ℕ)
 section_keywords =
-    codes "PROPERTYDEFINITIONS" ∷ codes "VIAS" ∷ codes "STYLES" ∷ codes "NONDEFAULTRULES" ∷ codes "PINS" ∷ codes "PINPROPERTIES" ∷ codes "SLOTS" ∷ codes
-    "FILLS" ∷ codes "SPECIALNETS" ∷ codes "NETS" ∷ codes "SCANCHAINS" ∷ []
+    codes "PROPERTYDEFINITIONS" ∷ codes "VIAS" ∷ codes "STYLES" ∷ codes "NONDEFAULTRULES" ∷ codes "PINS"
+    ∷ codes "PINPROPERTIES" ∷ codes "SLOTS"
+    ∷ codes "FILLS" ∷ codes "SPECIALNETS" ∷ codes "NETS" ∷ codes "SCANCHAINS" ∷ []
 
 -- A skipped statement: its keyword, and the words and quoted texts up to its end.
 pub data Skipped : Type 0 where
@@ -43,20 +45,23 @@ pub data Skipped : Type 0 where
 
 abbrev pub skipped_tokens : Skipped → List PlainToken
 skipped_tokens (to_its_semicolon keyword between) = plain_word keyword ∷ (between ++ plain_word (codes ";") ∷ [])
-skipped_tokens (to_its_end keyword between) = plain_word keyword ∷ (between ++ plain_word (codes "END") ∷ plain_word keyword ∷ [])
+skipped_tokens (to_its_end keyword between) =
+    plain_word keyword ∷ (between ++ plain_word (codes "END") ∷ plain_word keyword ∷ [])
 skipped_tokens (extension between) = plain_word (codes "BEGINEXT") ∷ (between ++ plain_word (codes "ENDEXT") ∷ [])
 
 -- Holds if the keyword is that of a skipped statement, and the statement has no earlier end.
 abbrev pub IsSkipped : Skipped → Type 0
-IsSkipped (to_its_semicolon keyword between) = Contains statement_keywords keyword × OccurNowhere (codes ";" ∷ []) between
-IsSkipped (to_its_end keyword between) = Contains section_keywords keyword × OccurNowhere (codes "END" ∷ keyword ∷ []) between
+IsSkipped (to_its_semicolon keyword between) = Contains statement_keywords keyword
+    × OccurNowhere (codes ";" ∷ []) between
+IsSkipped (to_its_end keyword between) = Contains section_keywords keyword
+    × OccurNowhere (codes "END" ∷ keyword ∷ []) between
 IsSkipped (extension between) = OccurNowhere (codes "ENDEXT" ∷ []) between
 
 -- Parts of a text.
 
 -- A statement or a section of a text. Each section has a count, which is ignored.
 pub data TextPart : Type 0 where
-  passed_over : Skipped → TextPart
+  skipped_part : Skipped → TextPart
   version_is : List ℕ → TextPart
   divider_is : List ℕ → TextPart
   brackets_are : List ℕ → TextPart
@@ -78,18 +83,23 @@ abbrev pub quoted_tokens : List ℕ → List ℕ → List PlainToken
 quoted_tokens keyword text = plain_word keyword ∷ quoted_of text ∷ plain_word (codes ";") ∷ []
 
 abbrev pub part_tokens : (ℤ → List ℕ) → TextPart → List PlainToken
-part_tokens print (passed_over p) = skipped_tokens p
+part_tokens print (skipped_part p) = skipped_tokens p
 part_tokens print (version_is v) = map plain_word (codes "VERSION" ∷ v ∷ codes ";" ∷ [])
 part_tokens print (divider_is text) = quoted_tokens (codes "DIVIDERCHAR") text
 part_tokens print (brackets_are text) = quoted_tokens (codes "BUSBITCHARS") text
 part_tokens print (design_is n) = map plain_word (codes "DESIGN" ∷ n ∷ codes ";" ∷ [])
-part_tokens print (units_are n) = map plain_word (codes "UNITS" ∷ codes "DISTANCE" ∷ codes "MICRONS" ∷ print (pos n) ∷ codes ";" ∷ [])
+part_tokens print (units_are n) =
+    map plain_word (codes "UNITS" ∷ codes "DISTANCE" ∷ codes "MICRONS" ∷ print (pos n) ∷ codes ";" ∷ [])
 part_tokens print (one_row r) = map plain_word (codes "ROW" ∷ row_words print r)
-part_tokens print (regions_section count rs) = map plain_word (codes "REGIONS" ∷ section_words (codes "REGIONS") count (region_words print) rs)
-part_tokens print (groups_section count gs) = map plain_word (codes "GROUPS" ∷ section_words (codes "GROUPS") count group_words gs)
-part_tokens print (components_section count cs) = map plain_word (codes "COMPONENTS" ∷ section_words (codes "COMPONENTS") count (component_words print) cs)
+part_tokens print (regions_section count rs) =
+    map plain_word (codes "REGIONS" ∷ section_words (codes "REGIONS") count (region_words print) rs)
+part_tokens print (groups_section count gs) =
+    map plain_word (codes "GROUPS" ∷ section_words (codes "GROUPS") count group_words gs)
+part_tokens print (components_section count cs) =
+    map plain_word (codes "COMPONENTS" ∷ section_words (codes "COMPONENTS") count (component_words print) cs)
 part_tokens print (components_with_others count ps) = plain_word (codes "COMPONENTS") ∷ components_tokens print count ps
-part_tokens print (blockages_section count bs) = map plain_word (codes "BLOCKAGES" ∷ section_words (codes "BLOCKAGES") count (blockage_words print) bs)
+part_tokens print (blockages_section count bs) =
+    map plain_word (codes "BLOCKAGES" ∷ section_words (codes "BLOCKAGES") count (blockage_words print) bs)
 
 -- The parts in order, and END DESIGN.
 abbrev pub text_tokens : (ℤ → List ℕ) → List TextPart → List PlainToken
@@ -98,7 +108,7 @@ text_tokens print (p ∷ ps) = part_tokens print p ++ text_tokens print ps
 
 -- Holds if the part can be printed.
 abbrev pub IsPrintedPart : TextPart → Type 0
-IsPrintedPart (passed_over p) = IsSkipped p
+IsPrintedPart (skipped_part p) = IsSkipped p
 IsPrintedPart (version_is v) = v ≢ codes ";"
 IsPrintedPart (divider_is text) = Unit {0}
 IsPrintedPart (brackets_are text) = Unit {0}
@@ -114,10 +124,12 @@ IsPrintedPart (blockages_section count bs) = (count ≢ codes ";") × All IsPrin
 -- Adds the contents of a part. The first of each statement of the header counts, and lists are
 -- appended.
 abbrev pub with_part : DocParts → TextPart → DocParts
-with_part d (passed_over p) = d
+with_part d (skipped_part p) = d
 with_part d (version_is v) = record d { header = record d.header { version = first_counts d.header.version v } }
 with_part d (divider_is text) = record d { header = record d.header { divider = first_counts d.header.divider text } }
-with_part d (brackets_are text) = record d { header = record d.header { brackets = first_counts d.header.brackets text } }
+with_part d (brackets_are text) = record d {
+  header = record d.header { brackets = first_counts d.header.brackets text };
+}
 with_part d (design_is n) = record d { header = record d.header { design = first_counts d.header.design n } }
 with_part d (units_are n) = record d { header = record d.header { units = first_counts d.header.units n } }
 with_part d (one_row r) = record d { rows = d.rows ++ r ∷ [] }
@@ -166,20 +178,31 @@ PartsReadBack print parts = All IsPrintedPart parts → IsSome (with_parts no_pa
 
 -- The document of a design with this name, and nothing else.
 abbrev pub design_named : List ℕ → Document
-design_named n = record { header = header_of (record no_header { design = Some n }); rows = []; regions = []; groups = []; components = []; blockages = [] }
+design_named n = record {
+  header = header_of (record no_header { design = Some n });
+  rows = [];
+  regions = [];
+  groups = [];
+  components = [];
+  blockages = [];
+}
 
 -- DESIGN, with skipped statements in front of it and after it, and then these parts.
 abbrev pub after_skipped : List Skipped → List ℕ → List Skipped → List TextPart → List TextPart
-after_skipped before n between parts = map passed_over before ++ design_is n ∷ (map passed_over between ++ parts)
+after_skipped before n between parts = map skipped_part before ++ design_is n ∷ (map skipped_part between ++ parts)
 
 -- Holds if these parts give this document of the design, after any skipped statements and with
 -- anything after END DESIGN.
 abbrev pub ReadsBackInTexts : (ℤ → List ℕ) → List TextPart → (Document → Document) → Type 0
-ReadsBackInTexts print parts said = (before between : List Skipped) (n : List ℕ) → All IsSkipped before → All IsSkipped between → IsWord n
-    → (text : List ℕ) → BeginsWith text (text_tokens print (after_skipped before n between parts)) → document_of text ≡ Ok (said (design_named n))
+ReadsBackInTexts print parts said = (before between : List Skipped) (n : List ℕ) → All IsSkipped before
+    → All IsSkipped between → IsWord n
+    → (text : List ℕ) → BeginsWith text (text_tokens print (after_skipped before n between parts))
+    → document_of text ≡ Ok (said (design_named n))
 
 -- The same for components, except for their offsets.
 abbrev pub ComponentsReadBackInTexts : (ℤ → List ℕ) → List ℕ → List Component → Type 0
-ComponentsReadBackInTexts print count cs = (before between : List Skipped) (n : List ℕ) → All IsSkipped before → All IsSkipped between → IsWord n
-    → (text : List ℕ) → BeginsWith text (text_tokens print (after_skipped before n between (components_section count cs ∷ [])))
+ComponentsReadBackInTexts print count cs = (before between : List Skipped) (n : List ℕ) → All IsSkipped before
+    → All IsSkipped between → IsWord n
+    → (text : List ℕ)
+    → BeginsWith text (text_tokens print (after_skipped before n between (components_section count cs ∷ [])))
     → ReadsApartFromOffsets text (record (design_named n) { components = cs })

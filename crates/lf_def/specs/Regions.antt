@@ -16,7 +16,8 @@ use Rattle.lf_def.specs.Entries.{section}
 
 -- The type that the token names.
 abbrev pub kind_named : Lexeme → Result RegionKind ReadFault
-kind_named t = if is (codes "FENCE") t then Ok Fence else if is (codes "GUIDE") t then Ok Guide else fault_at Unexpected t.line
+kind_named t = if is (codes "FENCE") t then Ok Fence else if is (codes "GUIDE") t then Ok Guide
+    else fault_at Unexpected t.line
 
 -- Adds a rectangle.
 unfoldable pub with_rect : RegionParts → Reader (Turn RegionParts)
@@ -35,7 +36,8 @@ with_kind parts l = do
 -- is read, and other clauses are skipped.
 unfoldable pub region_part : Due → RegionParts → Lexeme → Reader (Turn RegionParts)
 region_part Item parts t l = if is (codes "(") t then with_rect parts l else fault_at Unexpected t.line
-region_part Keyword parts t l = if is (codes "TYPE") t then with_kind parts l else continues (record parts { due = Rest }) l
+region_part Keyword parts t l = if is (codes "TYPE") t then with_kind parts l
+    else continues (record parts { due = Rest }) l
 region_part Rest parts t l = continues parts l
 region_part Separator parts t l = fault_at Unexpected t.line
 

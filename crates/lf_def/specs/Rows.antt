@@ -18,7 +18,8 @@ row_end t l =
 -- [STEP sx sy] and the end of the row, after its first token.
 unfoldable pub step : Lexeme → Reader (Option Point)
 step t l =
-    if is (codes "STEP") t then (dbu l >>= λ x. dbu x.rest >>= λ y. token y.rest >>= λ u. row_end u.value u.rest >>= λ stop. taken (Some (record { x = x.value; y = y.value })) stop.rest)
+    if is (codes "STEP") t then (dbu l >>= λ x. dbu x.rest >>= λ y. token y.rest >>= λ u. row_end u.value u.rest
+    >>= λ stop. taken (Some (record { x = x.value; y = y.value })) stop.rest)
     else (row_end t l >>= λ stop. taken None stop.rest)
 
 -- numX BY numY [STEP sx sy] and the end of the row, after DO.
@@ -52,7 +53,16 @@ row l = do
   orient ← orient_of t.value
   u ← token t.rest
   s ← sites_from u.value u.rest
-  taken (record { name = n.value.text; site = site.value.text; x = x.value; y = y.value; orient = orient; sites_x = s.value.x; sites_y = s.value.y; step = s.value.step }) s.rest
+  taken (record {
+    name = n.value.text;
+    site = site.value.text;
+    x = x.value;
+    y = y.value;
+    orient = orient;
+    sites_x = s.value.x;
+    sites_y = s.value.y;
+    step = s.value.step;
+  }) s.rest
 
 -- One more row, after its keyword.
 unfoldable pub with_row : List RowStatement → Reader (List RowStatement)

@@ -69,7 +69,8 @@ fn blockage_part(
     token: &Token,
 ) -> Result<bool, ReadError>
     requires rects { All IsRect parts.old.rects }
-    ensures read { ReadsOn (turn parts.new) result (grammar.blockage_part parts.old.due parts.old (lexeme token.now)) lexer.old lexer.new }
+    ensures read { ReadsOn (turn parts.new) result
+        (grammar.blockage_part parts.old.due parts.old (lexeme token.now)) lexer.old lexer.new }
     ensures rects { All IsRect parts.new.rects }
 {
     match parts.due {
@@ -102,7 +103,8 @@ fn blockage_from(
     token: &Token,
 ) -> Result<bool, ReadError>
     requires rects { All IsRect parts.old.rects }
-    ensures read { ReadsOn (turn parts.new) result (grammar.blockage_from parts.old (lexeme token.now)) lexer.old lexer.new }
+    ensures read { ReadsOn (turn parts.new) result
+        (grammar.blockage_from parts.old (lexeme token.now)) lexer.old lexer.new }
     ensures rects { All IsRect parts.new.rects }
 {
     if is_token(b";", token) {

@@ -106,7 +106,8 @@ impl<'a> Component<'a> {
         semicolon: usize,
     ) -> Result<Self, AllocError>
         requires { names.kind ≡ None }
-        ensures { IfOk result (λ c. c ≡ record { name = names.entry.name; mac = names.entry.mac; placement = placement; semicolon = semicolon }) }
+        ensures { IfOk result (λ c. c
+            ≡ record { name = names.entry.name; mac = names.entry.mac; placement = placement; semicolon = semicolon }) }
     {
         match placement {
             Some(clause) => {
@@ -332,7 +333,8 @@ fn component_part(
     token: &Token,
 ) -> Result<bool, ReadError>
     requires range { IfSome parts.old.placement (λ p. IsPlacement p) }
-    ensures read { ReadsOn (turn parts.new) result (grammar.component_part parts.old.due parts.old (lexeme token.now)) lexer.old lexer.new }
+    ensures read { ReadsOn (turn parts.new) result
+        (grammar.component_part parts.old.due parts.old (lexeme token.now)) lexer.old lexer.new }
     ensures range { IfSome parts.new.placement (λ p. IsPlacement p) }
 {
     match parts.due {
@@ -357,7 +359,8 @@ fn component_from(
     token: &Token,
 ) -> Result<bool, ReadError>
     requires range { IfSome parts.old.placement (λ p. IsPlacement p) }
-    ensures read { ReadsOn (turn parts.new) result (grammar.component_from parts.old (lexeme token.now)) lexer.old lexer.new }
+    ensures read { ReadsOn (turn parts.new) result
+        (grammar.component_from parts.old (lexeme token.now)) lexer.old lexer.new }
     ensures range { IfSome parts.new.placement (λ p. IsPlacement p) }
 {
     if is_token(b";", token) {
@@ -426,7 +429,8 @@ fn component_or_end<'a>(
     components: &mut Sequence<Component<'a>>,
 ) -> Result<bool, ReadError>
     requires range { All IsComponent components.old }
-    ensures read { Reads (turn components.new) result (entry_or_end (codes "COMPONENTS") grammar.component components.old) lexer.old lexer.new }
+    ensures read { Reads (turn components.new) result
+        (entry_or_end (codes "COMPONENTS") grammar.component components.old) lexer.old lexer.new }
     ensures range { All IsComponent components.new }
 {
     let token = token(lexer)?;
@@ -450,7 +454,8 @@ fn component_entries<'a>(
     components: &mut Sequence<Component<'a>>,
 ) -> Result<(), ReadError>
     requires range { All IsComponent components.old }
-    ensures read { Reads (λ _. components.new) result (block (entry_or_end (codes "COMPONENTS") grammar.component) components.old) lexer.old lexer.new }
+    ensures read { Reads (λ _. components.new) result
+        (block (entry_or_end (codes "COMPONENTS") grammar.component) components.old) lexer.old lexer.new }
     ensures range { All IsComponent components.new }
 {
     while component_or_end(alloc, lexer, components)? {}

@@ -14,7 +14,8 @@ use lf_units::{Point, Rect, Span, read_fixed};
 /// Returns the whole number of a token. `Err(BadNumber)` if it is no whole number from -2147483647
 /// to 2147483647.
 fn dbu_of(token: &Token) -> Result<i64, ReadError>
-    ensures read { MatchResult result (λ x. grammar.dbu_of (lexeme token.now) ≡ Ok x) (λ e. Fails e (grammar.dbu_of (lexeme token.now))) }
+    ensures read { MatchResult result (λ x. grammar.dbu_of (lexeme token.now) ≡ Ok x)
+        (λ e. Fails e (grammar.dbu_of (lexeme token.now))) }
     ensures range { IfOk result (λ x. IsDefCoordinate x) }
 {
     match read_fixed(token.text, 0, 2_147_483_647) {
@@ -35,7 +36,8 @@ pub(crate) fn dbu(lexer: &mut Lexer) -> Result<i64, ReadError>
 
 /// Returns the number. `Err(BadNumber)` if it is not from 1 to `most`.
 fn up_to(most: u32, value: i64, line: usize) -> Result<u32, ReadError>
-    ensures read { MatchResult result (λ n. grammar.number_up_to most value line ≡ Ok n) (λ e. Fails e (grammar.number_up_to most value line)) }
+    ensures read { MatchResult result (λ n. grammar.number_up_to most value line ≡ Ok n)
+        (λ e. Fails e (grammar.number_up_to most value line)) }
     ensures range { IfOk result (λ n. IsCount most n) }
 {
     if value < 1 || value > most as i64 {
@@ -132,7 +134,8 @@ pub(crate) fn rect(lexer: &mut Lexer) -> Result<Rect, ReadError>
 
 /// Returns the orientation that a token names. `Err(Unexpected)` if it names no orientation.
 pub(crate) fn orient_of(token: &Token) -> Result<Orient, ReadError>
-    ensures { MatchResult result (λ o. grammar.orient_of (lexeme token.now) ≡ Ok o) (λ e. Fails e (grammar.orient_of (lexeme token.now))) }
+    ensures { MatchResult result (λ o. grammar.orient_of (lexeme token.now) ≡ Ok o)
+        (λ e. Fails e (grammar.orient_of (lexeme token.now))) }
 {
     if is_token(b"N", token) {
         Ok(Orient::N)

@@ -42,7 +42,8 @@ fn with_pattern(
 ) -> Result<bool, ReadError>
     requires spelled { IsSpelled (lexeme token.now) }
     requires names { AreGroupParts parts.old }
-    ensures read { ReadsOn (turn parts.new) result (grammar.with_pattern parts.old (lexeme token.now)) lexer.now lexer.now }
+    ensures read { ReadsOn (turn parts.new) result
+        (grammar.with_pattern parts.old (lexeme token.now)) lexer.now lexer.now }
     ensures names { AreGroupParts parts.new }
 {
     check_name(token)?;
@@ -78,7 +79,8 @@ fn group_part(
 ) -> Result<bool, ReadError>
     requires spelled { IsSpelled (lexeme token.now) }
     requires names { AreGroupParts parts.old }
-    ensures read { ReadsOn (turn parts.new) result (grammar.group_part parts.old.due parts.old (lexeme token.now)) lexer.old lexer.new }
+    ensures read { ReadsOn (turn parts.new) result
+        (grammar.group_part parts.old.due parts.old (lexeme token.now)) lexer.old lexer.new }
     ensures names { AreGroupParts parts.new }
 {
     match parts.due {
@@ -106,7 +108,8 @@ fn group_from(
 ) -> Result<bool, ReadError>
     requires spelled { IsSpelled (lexeme token.now) }
     requires names { AreGroupParts parts.old }
-    ensures read { ReadsOn (turn parts.new) result (grammar.group_from parts.old (lexeme token.now)) lexer.old lexer.new }
+    ensures read { ReadsOn (turn parts.new) result
+        (grammar.group_from parts.old (lexeme token.now)) lexer.old lexer.new }
     ensures names { AreGroupParts parts.new }
 {
     if is_token(b";", token) {

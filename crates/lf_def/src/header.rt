@@ -108,7 +108,8 @@ pub(crate) fn header_statement(
 ) -> Result<(), ReadError>
     requires design { IfSome parts.old.design (λ n. IsName n) }
     requires units { IfSome parts.old.units (λ n. IsCount 20000 n) }
-    ensures read { Reads (λ _. parts.new) result (grammar.header_statement parts.old (lexeme token.now)) lexer.old lexer.new }
+    ensures read { Reads (λ _. parts.new) result
+        (grammar.header_statement parts.old (lexeme token.now)) lexer.old lexer.new }
     ensures design { IfSome parts.new.design (λ n. IsName n) }
     ensures units { IfSome parts.new.units (λ n. IsCount 20000 n) }
 {

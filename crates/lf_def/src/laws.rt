@@ -67,10 +67,13 @@ pub fn nothing_after_end_design_counts()
 /// and whatever follows. The offsets of a component may differ. A component's entry may also have
 /// skipped words, quoted texts and clauses, or a point after UNPLACED.
 pub fn printed_entries_read_back()
-    ensures row { (print : ℤ → List ℕ) → WritesNumbers print → (r : RowStatement) → IsPrintedRow r → ReadsBack row (row_words print r) r }
-    ensures region { (print : ℤ → List ℕ) → WritesNumbers print → (r : Region) → IsPrintedRegion r → ReadsBack region (region_words print r) r }
+    ensures row { (print : ℤ → List ℕ) → WritesNumbers print → (r : RowStatement) → IsPrintedRow r
+        → ReadsBack row (row_words print r) r }
+    ensures region { (print : ℤ → List ℕ) → WritesNumbers print → (r : Region) → IsPrintedRegion r
+        → ReadsBack region (region_words print r) r }
     ensures group { (g : Group) → IsPrintedGroup g → ReadsBack group (group_words g) g }
-    ensures component { (print : ℤ → List ℕ) → WritesNumbers print → (c : Component) → IsPrintedComponent c → ComponentReadsBack (component_words print c) c }
+    ensures component { (print : ℤ → List ℕ) → WritesNumbers print → (c : Component) → IsPrintedComponent c
+        → ComponentReadsBack (component_words print c) c }
     ensures component_with_others { (print : ℤ → List ℕ) → WritesNumbers print
         → (p : PrintedComponent) → IsPrintedEntry p
         → EntryReadsBack (entry_tokens print p) p.component }
@@ -109,7 +112,8 @@ pub fn printed_sections_read_back()
         (components_tokens print count new) (known ++ map printed_component new) }
     ensures blockages { (print : ℤ → List ℕ) → WritesNumbers print → (count : List ℕ) → count ≢ codes ";"
         → (new known : List Blockage) → All IsPrintedBlockage new
-        → ReadsBack (blockages known) (section_words (codes "BLOCKAGES") count (blockage_words print) new) (known ++ new) }
+        → ReadsBack (blockages known)
+        (section_words (codes "BLOCKAGES") count (blockage_words print) new) (known ++ new) }
 {}
 
 /// A printed text reads back. Its statements and sections may be in any order, with DESIGN and any
@@ -125,13 +129,18 @@ pub fn printed_texts_read_back()
 pub fn printed_lists_read_back_in_texts()
     ensures rows { (print : ℤ → List ℕ) → WritesNumbers print → (new : List RowStatement) → All IsPrintedRow new
         → ReadsBackInTexts print (map one_row new) (λ d. record d { rows = new }) }
-    ensures regions { (print : ℤ → List ℕ) → WritesNumbers print → (count : List ℕ) → count ≢ codes ";" → (new : List Region)
-        → All IsPrintedRegion new → ReadsBackInTexts print (regions_section count new ∷ []) (λ d. record d { regions = new }) }
-    ensures groups { (print : ℤ → List ℕ) → WritesNumbers print → (count : List ℕ) → count ≢ codes ";" → (new : List Group)
-        → All IsPrintedGroup new → ReadsBackInTexts print (groups_section count new ∷ []) (λ d. record d { groups = new }) }
+    ensures regions { (print : ℤ → List ℕ) → WritesNumbers print → (count : List ℕ) → count ≢ codes ";"
+        → (new : List Region)
+        → All IsPrintedRegion new
+        → ReadsBackInTexts print (regions_section count new ∷ []) (λ d. record d { regions = new }) }
+    ensures groups { (print : ℤ → List ℕ) → WritesNumbers print → (count : List ℕ) → count ≢ codes ";"
+        → (new : List Group)
+        → All IsPrintedGroup new
+        → ReadsBackInTexts print (groups_section count new ∷ []) (λ d. record d { groups = new }) }
     ensures components { (print : ℤ → List ℕ) → WritesNumbers print → (count : List ℕ) → count ≢ codes ";"
         → (new : List Component) → All IsPrintedComponent new → ComponentsReadBackInTexts print count new }
-    ensures blockages { (print : ℤ → List ℕ) → WritesNumbers print → (count : List ℕ) → count ≢ codes ";" → (new : List Blockage)
+    ensures blockages { (print : ℤ → List ℕ) → WritesNumbers print → (count : List ℕ) → count ≢ codes ";"
+        → (new : List Blockage)
         → All IsPrintedBlockage new → ReadsBackInTexts print (blockages_section count new ∷ [])
         (λ d. record d { blockages = new }) }
 {}
@@ -139,7 +148,8 @@ pub fn printed_lists_read_back_in_texts()
 /// A text may be printed with one space between its words, a line feed after them, and any bytes
 /// after that. Its first tokens are these words.
 pub fn printed_words_are_read()
-    ensures { (words : List (List ℕ)) (rest : List ℕ) → list_all is_word_text words ≡ true → BeginsWith (joined_words words ++ 10 ∷ rest) (map plain_word words) }
+    ensures { (words : List (List ℕ)) (rest : List ℕ) → list_all is_word_text words ≡ true
+        → BeginsWith (joined_words words ++ 10 ∷ rest) (map plain_word words) }
 {}
 
 /// Decimal numbers, as the standard library writes them, denote coordinates that read back. Each of

@@ -46,7 +46,8 @@ pub struct RegionParts {
 
 /// Returns the type that a token names. `Err(Unexpected)` if it names no type.
 fn kind_of(token: &Token) -> Result<RegionKind, ReadError>
-    ensures { MatchResult result (λ k. grammar.kind_named (lexeme token.now) ≡ Ok k) (λ e. Fails e (grammar.kind_named (lexeme token.now))) }
+    ensures { MatchResult result (λ k. grammar.kind_named (lexeme token.now) ≡ Ok k)
+        (λ e. Fails e (grammar.kind_named (lexeme token.now))) }
 {
     if is_token(b"FENCE", token) {
         Ok(RegionKind::Fence)
@@ -93,7 +94,8 @@ fn with_kind(lexer: &mut Lexer, parts: &mut RegionParts) -> Result<bool, ReadErr
 fn region_part(lexer: &mut Lexer, parts: &mut RegionParts, token: &Token) -> Result<bool, ReadError>
     requires rects { All IsRect parts.old.rects }
     requires some { 0 < length parts.old.rects }
-    ensures read { ReadsOn (turn parts.new) result (grammar.region_part parts.old.due parts.old (lexeme token.now)) lexer.old lexer.new }
+    ensures read { ReadsOn (turn parts.new) result
+        (grammar.region_part parts.old.due parts.old (lexeme token.now)) lexer.old lexer.new }
     ensures rects { All IsRect parts.new.rects }
     ensures some { 0 < length parts.new.rects }
 {
@@ -123,7 +125,8 @@ fn region_part(lexer: &mut Lexer, parts: &mut RegionParts, token: &Token) -> Res
 fn region_from(lexer: &mut Lexer, parts: &mut RegionParts, token: &Token) -> Result<bool, ReadError>
     requires rects { All IsRect parts.old.rects }
     requires some { 0 < length parts.old.rects }
-    ensures read { ReadsOn (turn parts.new) result (grammar.region_from parts.old (lexeme token.now)) lexer.old lexer.new }
+    ensures read { ReadsOn (turn parts.new) result
+        (grammar.region_from parts.old (lexeme token.now)) lexer.old lexer.new }
     ensures rects { All IsRect parts.new.rects }
     ensures some { 0 < length parts.new.rects }
 {

@@ -114,7 +114,8 @@ pub(crate) fn section<E: Entry>(
     entries: &mut Sequence<E>,
 ) -> Result<(), ReadError>
     requires range { All E.keeps entries.old }
-    ensures read { Reads (λ _. entries.new) result (grammar.section keyword.now E.entry entries.old) lexer.old lexer.new }
+    ensures read { Reads (λ _. entries.new) result
+        (grammar.section keyword.now E.entry entries.old) lexer.old lexer.new }
     ensures range { All E.keeps entries.new }
 {
     skip_to_semicolon(lexer)?;

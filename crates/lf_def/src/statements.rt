@@ -115,7 +115,8 @@ fn body_statement<'a>(
     token: &Token,
 ) -> Result<(), ReadError>
     requires range { AreParts parts.old }
-    ensures read { ReadsOn (λ _. parts.new) result (grammar.body_statement parts.old (lexeme token.now)) lexer.old lexer.new }
+    ensures read { ReadsOn (λ _. parts.new) result
+        (grammar.body_statement parts.old (lexeme token.now)) lexer.old lexer.new }
     ensures range { AreParts parts.new }
 {
     if is_token(b"ROW", token) {
@@ -142,7 +143,8 @@ fn statement_from<'a>(
     token: &Token,
 ) -> Result<bool, ReadError>
     requires range { AreParts parts.old }
-    ensures read { ReadsOn (turn parts.new) result (grammar.def_statement_from parts.old (lexeme token.now)) lexer.old lexer.new }
+    ensures read { ReadsOn (turn parts.new) result
+        (grammar.def_statement_from parts.old (lexeme token.now)) lexer.old lexer.new }
     ensures range { AreParts parts.new }
 {
     if is_token(b"END", token) {

@@ -12,7 +12,7 @@ use Rattle.lf_rules.specs.FullyLegal.{DesignCell, IsFullyLegal, design_cells_at}
 use Rattle.lf_rules.specs.Legalizer.{Legalizer}
 use Rattle.lf_rules.specs.Reports.{IsClean}
 use Rattle.lf_reports.specs.Reports.{IsListed, listed_at, with_byte_name, report_of, design_cell_of}
-use Rattle.lf_reports.proofs.CleanLemmas.{all_listed, clean_is_legal, each_named, length_listed, standing_listed}
+use Rattle.lf_reports.proofs.CleanLemmas.{all_listed, clean_is_legal, each_named, length_listed, design_cells_listed}
 use Rattle.lf_describe.specs.Description.{listed_movables, places_in_text}
 
 pub are_cells : (cells : List LoadedCell) (slice items : List (Listed (Bor (List ℕ)))) → slice ≡ items → map with_byte_name items ≡ listed_at cells (places_in_text cells) →
@@ -36,5 +36,5 @@ pub legal_is : {E : Type 0} → CellIsSized → (l : Legalizer) (loaded : Loaded
 legal_is sized l loaded slice r are said =
     let both : IsClean (report_of l loaded.frame 0 (map with_byte_name slice)) ↔ IsFullyLegal loaded.frame (design_cells_at loaded.cells (places_in_text loaded.cells)) =
     subst (λ (cells : List DesignCell). IsClean (report_of l loaded.frame 0 (map with_byte_name slice)) ↔ IsFullyLegal loaded.frame cells)
-    (ap (λ (cs : List (Listed (List ℕ))). map design_cell_of cs) are ∙ standing_listed loaded.cells (places_in_text loaded.cells)) (clean_is_legal l loaded.frame (map with_byte_name slice) (all_are sized loaded slice are)) in
+    (ap (λ (cs : List (Listed (List ℕ))). map design_cell_of cs) are ∙ design_cells_listed loaded.cells (places_in_text loaded.cells)) (clean_is_legal l loaded.frame (map with_byte_name slice) (all_are sized loaded slice are)) in
     IfOk-weaker r _ _ (λ b is. (λ yes. both.0 (is.0 yes), λ legal. is.1 (both.1 legal))) said

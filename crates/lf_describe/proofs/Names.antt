@@ -16,8 +16,8 @@ pub reported : (name : List ℕ) → IsUtf8 name → text_data name ≡ string n
 reported name is = ap (λ (b : Bool). if b then string name else null) (is_utf8-from_IsUtf8 name is)
 
 -- Any other name is null.
-pub untold : (name : List ℕ) → (IsUtf8 name → ⊥) → text_data name ≡ null
-untold name is_not = by (is_utf8 name) refl
+pub not_utf8_is_null : (name : List ℕ) → (IsUtf8 name → ⊥) → text_data name ≡ null
+not_utf8_is_null name is_not = by (is_utf8 name) refl
   where
     by : (b : Bool) → is_utf8 name ≡ b → (if is_utf8 name then string name else null) ≡ null
     by true holds = absurd (is_not (IsUtf8-from_is_utf8 name holds))

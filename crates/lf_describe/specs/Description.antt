@@ -106,7 +106,8 @@ described_team_name f team = option_map_or (λ t. t.name) (slice_get f.teams tea
 
 -- The box of the cell at its place; null if it is unplaced.
 abbrev pub box_data : Frame → Listed (List ℕ) → Data
-box_data f c = option_map_or (λ p. rect_data (box_at (turned (size_of f (macro_of f c.mac)) p.orient) p.x p.y)) c.place null
+box_data f c =
+    option_map_or (λ p. rect_data (box_at (turned (size_of f (macro_of f c.mac)) p.orient) p.x p.y)) c.place null
 
 -- The orientation of a cell at its place; null if it is unplaced.
 abbrev pub orientation_data : Option Place → Data
@@ -176,7 +177,8 @@ cell_lines l f cells = map (λ e. cell_data f cells e.1 (broken_among l f 0 cell
 -- The design, its rows, fences, obstacles, soft blockages and movable cells, and the totals.
 abbrev pub described_lines : Legalizer → Frame → List (List ℕ) → List (Listed (List ℕ)) → List Data
 described_lines l f names cells =
-    design_data f ∷ (map (row_data f) f.rows ++ (map fence_data f.teams ++ (obstacle_lines names f.obstacles ++ (map soft_data f.soft
+    design_data f
+    ∷ (map (row_data f) f.rows ++ (map fence_data f.teams ++ (obstacle_lines names f.obstacles ++ (map soft_data f.soft
     ++ (cell_lines l f cells ++ report_total f (report_of l f 0 cells) ∷ [])))))
 
 -- A line: JSON without spaces, and a line feed.

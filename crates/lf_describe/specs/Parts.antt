@@ -26,8 +26,10 @@ part_lines reported Rows = map (row_data reported.frame.now) reported.frame.now.
 part_lines reported Fences = map fence_data reported.frame.now.teams
 part_lines reported Obstacles = obstacle_lines (fixed_component_names reported) reported.frame.now.obstacles
 part_lines reported Soft = map soft_data reported.frame.now.soft
-part_lines reported Cells = map (λ e. cell_data reported.frame.now (described_cells reported) e.1 (verdict_at reported.verdicts.now e.0)) (enumerate_from 0 (described_cells reported))
-part_lines reported Total = total_data reported.frame.now (length (described_cells reported)) (count_by is_some reported.verdicts.now) (count_by (λ c. is_none c.place) (described_cells reported)) ∷ []
+part_lines reported Cells = map (λ e. cell_data reported.frame.now (described_cells reported) e.1
+    (verdict_at reported.verdicts.now e.0)) (enumerate_from 0 (described_cells reported))
+part_lines reported Total = total_data reported.frame.now (length (described_cells reported))
+    (count_by is_some reported.verdicts.now) (count_by (λ c. is_none c.place) (described_cells reported)) ∷ []
 
 -- The text of a part.
 abbrev pub part_text : DescribedDesign → Part → List ℕ

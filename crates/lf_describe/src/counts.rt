@@ -8,9 +8,9 @@ ghost use Rattle.lf_reports.specs.Reports.{AreVerdicts, IsListed, listed_at, wit
 ghost use Rattle.lf_describe.specs.Description.{places_in_text};
 
 use lf_floorplan::{Frame, LoadedCells};
+use lf_frame_index::{FrameIndex, IndexedFrame};
 use lf_reports::verdicts_with_plan;
 use lf_rules::{Broken, Listed, Padding};
-use lf_segments::{FrameIndex, IndexedFrame};
 use std::alloc::{AllocError, Global};
 
 /// The number of cells, and how many of them are illegal or unplaced.
@@ -54,7 +54,8 @@ pub(crate) fn verdicts_of(
     requires listed { All (λ c. IsListed frame.now (with_byte_name c)) cells.now }
     requires few { length cells.now ≤ 4000000 }
     ensures count { IfOk result (λ verdicts. length verdicts.items ≡ length cells.now) }
-    ensures each { (l : Legalizer) → IfOk result (λ verdicts. AreVerdicts l frame.now 0 (map with_byte_name cells.now) verdicts.items) }
+    ensures each { (l : Legalizer)
+        → IfOk result (λ verdicts. AreVerdicts l frame.now 0 (map with_byte_name cells.now) verdicts.items) }
 {
     let index = FrameIndex::build(alloc, frame)?;
     verdicts_with_plan(
@@ -94,7 +95,8 @@ pub(crate) fn counts_of(cells: &[Listed<&[u8]>], verdicts: &[Option<Broken>]) ->
 
 /// Returns whether no cell breaks a rule and no cell is unplaced.
 pub(crate) fn is_clean(counts: &Counts) -> bool
-    ensures { (report : Report) → counts.now.illegal ≡ length report.violations → counts.now.unplaced ≡ report.unplaced → IsTrue result ↔ IsClean report }
+    ensures { (report : Report) → counts.now.illegal ≡ length report.violations → counts.now.unplaced ≡ report.unplaced
+        → IsTrue result ↔ IsClean report }
 {
     counts.illegal == 0 && counts.unplaced == 0
 }

@@ -68,8 +68,10 @@ fn write_description<W: Sink>(
     writer: &mut W,
 ) -> Result<bool, DescribeFailure>
     ensures text { OnOk result (Appends (W.contents writer.old) (W.contents writer.new) (parts_text reported.now)) }
-    ensures clean { (report : Report) → Counts reported.now report → IfOk result (λ clean. IsTrue clean ↔ IsClean report) }
-    ensures cut { OnErr result (AppendsFront (W.contents writer.old) (W.contents writer.new) (parts_text reported.now)) }
+    ensures clean { (report : Report) → Counts reported.now report
+        → IfOk result (λ clean. IsTrue clean ↔ IsClean report) }
+    ensures cut { OnErr result
+        (AppendsFront (W.contents writer.old) (W.contents writer.new) (parts_text reported.now)) }
     ensures late { IfErr result (λ fault. fault ≡ DescribeFailure.OutOfMemory → ⊥) }
     ensures failed { W.has_failed writer.new ≡ (is_output result || W.has_failed writer.old) }
     ensures held { W.holds writer.new ≡ W.holds writer.old }
@@ -93,7 +95,8 @@ fn describe_cells<W: Sink>(
     requires few { length cells.now ≤ 4000000 }
     ensures text { (l : Legalizer) → OnOk result (Appends (W.contents writer.old) (W.contents writer.new)
         (lines_text l frame.now (map (λ n. n.now) names.now) (map with_byte_name cells.now))) }
-    ensures clean { (l : Legalizer) → IfOk result (λ clean. IsTrue clean ↔ IsClean (report_of l frame.now 0 (map with_byte_name cells.now))) }
+    ensures clean { (l : Legalizer)
+        → IfOk result (λ clean. IsTrue clean ↔ IsClean (report_of l frame.now 0 (map with_byte_name cells.now))) }
     ensures cut { (l : Legalizer) → OnErr result (AppendsFront (W.contents writer.old) (W.contents writer.new)
         (lines_text l frame.now (map (λ n. n.now) names.now) (map with_byte_name cells.now))) }
     ensures unwritten { IfErr result (λ fault. fault ≡ DescribeFailure.OutOfMemory → writer.new ≡ writer.old) }
@@ -130,10 +133,13 @@ pub fn describe<W: Sink>(
     document: &DefDoc<'_>,
     writer: &mut W,
 ) -> Result<bool, DescribeFailure>
-    ensures text { (l : Legalizer) → OnOk result (Appends (W.contents writer.old) (W.contents writer.new) (description l loaded.now (contents document.now))) }
-    ensures legal { IfOk result (λ legal. IsTrue legal ↔ IsFullyLegal loaded.now.frame (design_cells_at loaded.now.cells (places_in_text loaded.now.cells))) }
+    ensures text { (l : Legalizer) → OnOk result
+        (Appends (W.contents writer.old) (W.contents writer.new) (description l loaded.now (contents document.now))) }
+    ensures legal { IfOk result (λ legal. IsTrue legal
+        ↔ IsFullyLegal loaded.now.frame (design_cells_at loaded.now.cells (places_in_text loaded.now.cells))) }
     ensures cut { (l : Legalizer) → OnErr result ((n : ℕ)
-        × Appends (W.contents writer.old) (W.contents writer.new) (take n (description l loaded.now (contents document.now)))) }
+        × Appends (W.contents writer.old) (W.contents writer.new)
+        (take n (description l loaded.now (contents document.now)))) }
     ensures unwritten { IfErr result (λ fault. fault ≡ DescribeFailure.OutOfMemory → writer.new ≡ writer.old) }
     ensures failed { W.has_failed writer.new ≡ (is_output result || W.has_failed writer.old) }
     ensures held { W.holds writer.new ≡ W.holds writer.old }

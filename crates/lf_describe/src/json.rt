@@ -209,7 +209,8 @@ pub(crate) fn cell_value(
     broken: &Option<Broken>,
 ) -> Result<Value, AllocError>
     requires { IsListed frame.now (with_byte_name cell.now) }
-    ensures { IfOk result (λ v. view v ≡ cell_data frame.now (map with_byte_name cells.now) (with_byte_name cell.now) broken.now) }
+    ensures { IfOk result
+        (λ v. view v ≡ cell_data frame.now (map with_byte_name cells.now) (with_byte_name cell.now) broken.now) }
 {
     let size = cell_size(frame, cell);
     let rect = box_value(alloc, frame, cell)?;

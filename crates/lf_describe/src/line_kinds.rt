@@ -120,7 +120,8 @@ fn soft_line(alloc: Global, frame: &Frame, number: usize) -> Result<Option<Value
 
 /// Returns the cell of this number. `None` if there is no such cell.
 fn cell_at<'a>(reported: &DescribedDesign<'a>, number: usize) -> Option<&'a Listed<&'a [u8]>>
-    ensures there { option_map (λ cell. with_byte_name cell.now) result ≡ slice_get (described_cells reported.now) number }
+    ensures there { option_map (λ cell. with_byte_name cell.now) result
+        ≡ slice_get (described_cells reported.now) number }
     ensures listed { IfSome result (λ cell. IsListed reported.now.frame.now (with_byte_name cell.now)) }
 {
     reported.cells.get(number)
@@ -226,7 +227,8 @@ fn put_number<W: Sink>(
         → OnOk result (WritesFrontOf (W.contents writer.old) (W.contents writer.new)
         (waiting.old.items ++ line_text d) waiting.new.items) }
     ensures err { (d : Data) → slice_get (part_lines reported.now part) number ≡ Some d
-        → OnErr result (AppendsFront (W.contents writer.old) (W.contents writer.new) (waiting.old.items ++ line_text d)) }
+        → OnErr result
+        (AppendsFront (W.contents writer.old) (W.contents writer.new) (waiting.old.items ++ line_text d)) }
     ensures failed { W.has_failed writer.new ≡ (is_line_output result || W.has_failed writer.old) }
     ensures held { W.holds writer.new ≡ W.holds writer.old }
 {
@@ -247,8 +249,10 @@ fn put_part<W: Sink>(
     writer: &mut W,
     waiting: &mut Vec<u8>,
 ) -> Result<(), LineFault>
-    ensures ok { OnOk result (WritesFrontOf (W.contents writer.old) (W.contents writer.new) (waiting.old.items ++ part_text reported.now part) waiting.new.items) }
-    ensures err { OnErr result (AppendsFront (W.contents writer.old) (W.contents writer.new) (waiting.old.items ++ part_text reported.now part)) }
+    ensures ok { OnOk result (WritesFrontOf (W.contents writer.old) (W.contents writer.new)
+        (waiting.old.items ++ part_text reported.now part) waiting.new.items) }
+    ensures err { OnErr result (AppendsFront (W.contents writer.old) (W.contents writer.new)
+        (waiting.old.items ++ part_text reported.now part)) }
     ensures failed { W.has_failed writer.new ≡ (is_line_output result || W.has_failed writer.old) }
     ensures held { W.holds writer.new ≡ W.holds writer.old }
 {
@@ -266,8 +270,10 @@ fn write_kinds<W: Sink>(
     writer: &mut W,
     waiting: &mut Vec<u8>,
 ) -> Result<(), LineFault>
-    ensures ok { OnOk result (WritesFrontOf (W.contents writer.old) (W.contents writer.new) (waiting.old.items ++ flat_map (part_text reported.now) parts.now) waiting.new.items) }
-    ensures err { OnErr result (AppendsFront (W.contents writer.old) (W.contents writer.new) (waiting.old.items ++ flat_map (part_text reported.now) parts.now)) }
+    ensures ok { OnOk result (WritesFrontOf (W.contents writer.old) (W.contents writer.new)
+        (waiting.old.items ++ flat_map (part_text reported.now) parts.now) waiting.new.items) }
+    ensures err { OnErr result (AppendsFront (W.contents writer.old) (W.contents writer.new)
+        (waiting.old.items ++ flat_map (part_text reported.now) parts.now)) }
     ensures failed { W.has_failed writer.new ≡ (is_line_output result || W.has_failed writer.old) }
     ensures held { W.holds writer.new ≡ W.holds writer.old }
 {
@@ -285,8 +291,10 @@ fn write_all_kinds<W: Sink>(
     writer: &mut W,
     waiting: &mut Vec<u8>,
 ) -> Result<(), LineFault>
-    ensures ok { OnOk result (Appends (W.contents writer.old) (W.contents writer.new) (waiting.old.items ++ flat_map (part_text reported.now) parts.now)) }
-    ensures err { OnErr result (AppendsFront (W.contents writer.old) (W.contents writer.new) (waiting.old.items ++ flat_map (part_text reported.now) parts.now)) }
+    ensures ok { OnOk result (Appends (W.contents writer.old) (W.contents writer.new)
+        (waiting.old.items ++ flat_map (part_text reported.now) parts.now)) }
+    ensures err { OnErr result (AppendsFront (W.contents writer.old) (W.contents writer.new)
+        (waiting.old.items ++ flat_map (part_text reported.now) parts.now)) }
     ensures failed { W.has_failed writer.new ≡ (is_line_output result || W.has_failed writer.old) }
     ensures held { W.holds writer.new ≡ W.holds writer.old }
 {
@@ -301,7 +309,8 @@ pub(crate) fn put_parts<W: Sink>(
     writer: &mut W,
 ) -> Result<(), LineFault>
     ensures ok { OnOk result (Appends (W.contents writer.old) (W.contents writer.new) (parts_text reported.now)) }
-    ensures err { OnErr result (AppendsFront (W.contents writer.old) (W.contents writer.new) (parts_text reported.now)) }
+    ensures err { OnErr result
+        (AppendsFront (W.contents writer.old) (W.contents writer.new) (parts_text reported.now)) }
     ensures failed { W.has_failed writer.new ≡ (is_line_output result || W.has_failed writer.old) }
     ensures held { W.holds writer.new ≡ W.holds writer.old }
 {

@@ -38,7 +38,8 @@ fn put_bytes<W: Sink>(writer: &mut W, bytes: &[u8]) -> Result<(), LineFault>
 
 /// Sends all buffered bytes to the writer, and empties the buffer.
 fn flush_buffer<W: Sink>(writer: &mut W, waiting: &mut Vec<u8>) -> Result<(), LineFault>
-    ensures ok { OnOk result (WritesFrontOf (W.contents writer.old) (W.contents writer.new) waiting.old.items waiting.new.items) }
+    ensures ok { OnOk result
+        (WritesFrontOf (W.contents writer.old) (W.contents writer.new) waiting.old.items waiting.new.items) }
     ensures none { OnOk result (waiting.new.items ≡ []) }
     ensures err { OnErr result (AppendsFront (W.contents writer.old) (W.contents writer.new) waiting.old.items) }
     ensures failed { W.has_failed writer.new ≡ (is_line_output result || W.has_failed writer.old) }
@@ -68,8 +69,10 @@ pub(crate) fn put_line<W: Sink>(
     value: &Value,
 ) -> Result<(), LineFault>
     requires { has_float (view value.now) ≡ false }
-    ensures ok { OnOk result (WritesFrontOf (W.contents writer.old) (W.contents writer.new) (waiting.old.items ++ line_text (view value.now)) waiting.new.items) }
-    ensures err { OnErr result (AppendsFront (W.contents writer.old) (W.contents writer.new) (waiting.old.items ++ line_text (view value.now))) }
+    ensures ok { OnOk result (WritesFrontOf (W.contents writer.old) (W.contents writer.new)
+        (waiting.old.items ++ line_text (view value.now)) waiting.new.items) }
+    ensures err { OnErr result (AppendsFront (W.contents writer.old) (W.contents writer.new)
+        (waiting.old.items ++ line_text (view value.now))) }
     ensures failed { W.has_failed writer.new ≡ (is_line_output result || W.has_failed writer.old) }
     ensures held { W.holds writer.new ≡ W.holds writer.old }
 {

@@ -6,4 +6,4 @@ pub mod Unplacing
 pub mod Saving
 pub mod Numbered
 pub mod Placing
-pub mod Standing
+pub mod RestoredTeams

@@ -8,11 +8,11 @@ use Rattle.lf_cells.specs.declared.cell.CellId.{CellId}
 use Rattle.lf_cells.specs.Cells.{id_in, id_of}
 use Rattle.lf_legalize.specs.Members.{member_of}
 use Rattle.lf_floor_model.specs.States.{TeamState, FloorState}
-use Rattle.lf_floor_model.proofs.Standing.{some_one}
+use Rattle.lf_floor_model.proofs.LegalPlaces.{some_one}
 use Rattle.lf_floor_verbs.specs.declared.tables.Tables.{Tables}
 use Rattle.lf_placement.proofs.Moves.{id_there}
 use Rattle.lf_floor_verbs.specs.Tables.{table_cells, floor_in, frame_of, own_team, padding_of, teams_in}
-use Rattle.lf_floor_verbs.proofs.Standing.{cell_there}
+use Rattle.lf_floor_verbs.proofs.IllegalCells.{cell_there}
 use Rattle.lf_floor.proofs.Rows.{count_teams, team_there}
 
 -- the team of that number in the view

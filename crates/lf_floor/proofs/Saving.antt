@@ -29,7 +29,7 @@ use Rattle.lf_state_text.specs.Reading.{FailsAt, saved_state_of}
 use Rattle.lf_state_text.specs.Saved.{AreOf, IsSavedInRange, SavedTeam, saved_at, team_view, team_views, IsSavedTeamOf}
 use Rattle.lf_state_restore.specs.Saved.{MatchDesign, ShareDesign, IsRestoredFrom, IsStateText, RestoredIsCommitted, SavedRestores, AreSavedTeams, map_two, design_names, named_team, restored_floor, restored_team, saved_design}
 use Rattle.lf_state_restore.specs.Placed.{saved_entries, SavedEntriesFit as StackFits, OthersStay as CellsStay}
-use Rattle.lf_state_restore.proofs.Telling.{floor_reported}
+use Rattle.lf_state_restore.proofs.ReportedTeams.{floor_reported}
 use Rattle.lf_state_restore.proofs.Framing.{all_due, last_due, last_restored, still_of_design, team_restored}
 use Rattle.lf_floor_verbs.specs.declared.tables.Tables.{Tables}
 use Rattle.lf_floor.specs.SavedStates.{HasNumbers, saved_teams_of, saved_team_of}

@@ -15,7 +15,7 @@ use Rattle.lf_floor_model.specs.States.{FloorState, TeamState}
 use Rattle.lf_floor_model.specs.Steps.{IsAnswerOf}
 use Rattle.lf_floor_model.specs.Teams.{state_at, team_number}
 use Rattle.lf_floor.specs.declared.response.Response.{Response}
-use Rattle.lf_floor.specs.declared.response.Response.TheVariants.{Whole, Def as Apart}
+use Rattle.lf_floor.specs.declared.response.Response.TheVariants.{Reply as Whole, DefText}
 
 -- the team of a command; bye has no team
 abbrev pub team_addressed : Command (List ℕ) Place → List ℕ
@@ -40,7 +40,7 @@ def_text floor team = text_at floor (team_number floor.frame team)
 -- the reply to a command of the team of that name, with the DEF text of the floor
 abbrev pub reply_in : FloorState → List ℕ → Response → Reply
 reply_in floor team (Whole reply) = reply
-reply_in floor team (Apart length) = Def (def_text floor team)
+reply_in floor team (DefText length) = Def (def_text floor team)
 
 -- the team's command requests its DEF text
 abbrev pub WantsTeamText : TeamCommand (List ℕ) Place → Type 0
@@ -57,4 +57,4 @@ WantsText (To team order) = WantsTeamText order
 abbrev pub RespondsWithText : FloorState → Command (List ℕ) Place → Response → Type 0
 RespondsWithText floor command response =
     (l : Legalizer) (text : List ℕ) → WantsText command → IsAnswerOf l floor command (Def text) floor
-    → (response ≡ Apart (length text)) ⊎ (2 ^ 64 ≤ length text)
+    → (response ≡ DefText (length text)) ⊎ (2 ^ 64 ≤ length text)

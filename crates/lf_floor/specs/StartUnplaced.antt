@@ -22,6 +22,7 @@ pub record AreOfDesign (design : Loaded) (tables : Tables) : Type 0 where
   pub cells : HaveSameCells (loaded_cells design) tables.placement.cells
   pub undo : tables.undo.lists ≡ replicate (length design.frame.teams + 1) []
   pub limit : tables.undo.limit ≡ design.frame.limits.undo
-  pub sessions : tables.sessions ≡ replicate (length design.frame.teams + 1) (replicate design.frame.limits.sessions None)
+  pub sessions : tables.sessions
+      ≡ replicate (length design.frame.teams + 1) (replicate design.frame.limits.sessions None)
   pub revisions : tables.revisions.items ≡ replicate (length design.frame.teams + 1) 0
   pub paddings : sites_in tables ≡ replicate (length design.frame.teams + 1) 0

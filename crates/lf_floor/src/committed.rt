@@ -28,7 +28,8 @@ pub(crate) fn all_committed(
     alloc: Global,
     cells: &CellTable,
 ) -> Result<Vec<(usize, Option<Place>)>, AllocError>
-    ensures { IfOk result (λ places. (ids : List CellId) × AreAllIds cells.now ids × (places.items ≡ map (committed_entry cells.now) ids)) }
+    ensures { IfOk result (λ places. (ids : List CellId) × AreAllIds cells.now ids
+        × (places.items ≡ map (committed_entry cells.now) ids)) }
 {
     let ids = cells.cell_ids();
     let mut places = Vec::with_capacity(alloc, ids.len())?;

@@ -112,7 +112,8 @@ fn run_team_command<S: Seeker>(
     ensures ok { (l : Legalizer) → IfOk result (λ reply. IsGivenAnswer
         (answer_at (Some number) l (floor_in tables.old) (order_of order.now)) reply (floor_in tables.new)) }
     ensures err { (l : Legalizer) → OnErr result (IsOutOfMemoryAnswer
-        (answer_at (Some number) l (floor_in tables.old) (order_of order.now)) (floor_in tables.old) (floor_in tables.new)) }
+        (answer_at (Some number) l (floor_in tables.old) (order_of order.now)) (floor_in tables.old)
+        (floor_in tables.new)) }
     ensures takes { OnErr result (takes_memory (order_of order.now) ≡ true) }
     ensures untested { (l : Legalizer) → OnErr result (is_tested (order_of order.now)
         (answer_at (Some number) l (floor_in tables.old) (order_of order.now)).reply ≡ false) }
@@ -151,7 +152,8 @@ impl<S: Seeker + Drop> Floor<S> {
     pub fn start(alloc: Global, loaded: Loaded, seeker: S) -> Result<Floor<S>, AllocError>
         ensures opens { IfOk result (λ floor. floor ≡ initial_floor loaded) }
         ensures committed { IfOk result (λ floor. AreAtLoadedPlaces loaded floor) }
-        ensures legal { IfOk result (λ floor. IsCommittedLegal floor ↔ IsFullyLegal loaded.frame (loaded_design loaded)) }
+        ensures legal { IfOk result (λ floor. IsCommittedLegal floor
+            ↔ IsFullyLegal loaded.frame (loaded_design loaded)) }
     {
         let tables = Tables::initial(alloc, loaded)?;
         Ok(Floor {
@@ -177,7 +179,8 @@ impl<S: Seeker + Drop> Floor<S> {
     ///
     /// `None` if the team has no such cell, or there is no such team.
     pub fn name_of(&self, team: &[u8], own: usize) -> Option<&[u8]>
-        ensures name { option_map (λ name. name.now) result ≡ option_and_then (λ s. name_at s.cells own) (state_of self.now team.now) }
+        ensures name { option_map (λ name. name.now) result
+            ≡ option_and_then (λ s. name_at s.cells own) (state_of self.now team.now) }
         ensures printed { IfSome result (λ name. IsDesignName name.now) }
     {
         let number = team_with_name(self.tables.placement.frame(), team)?;
@@ -221,8 +224,10 @@ impl<S: Seeker + Drop> Floor<S> {
     ///
     /// `Err` if an allocation fails; then the floor is unchanged.
     fn try_step(&mut self, request: &Request) -> Result<Reply, AllocError>
-        ensures ok { (l : Legalizer) → IfOk result (λ reply. IsAnswerOf l self.old (command_with_names request.now) reply self.new) }
-        ensures err { (l : Legalizer) → OnErr result (MayRunOutOfMemory l self.old (command_with_names request.now) self.new) }
+        ensures ok { (l : Legalizer)
+            → IfOk result (λ reply. IsAnswerOf l self.old (command_with_names request.now) reply self.new) }
+        ensures err { (l : Legalizer)
+            → OnErr result (MayRunOutOfMemory l self.old (command_with_names request.now) self.new) }
     {
         match request {
             Command::Bye => Ok(Reply::Done),
@@ -249,7 +254,8 @@ impl<S: Seeker + Drop> Floor<S> {
     /// after any command.
     pub fn step(&mut self, request: &Request) -> Reply
         ensures step { (l : Legalizer) → Step l self.old (command_with_names request.now) result self.new }
-        ensures others { (team : List ℕ) → ¬ IsTo team (command_with_names request.now) → state_of self.new team ≡ state_of self.old team }
+        ensures others { (team : List ℕ) → ¬ IsTo team (command_with_names request.now)
+            → state_of self.new team ≡ state_of self.old team }
         ensures frame { self.new.frame ≡ self.old.frame }
         ensures components { self.new.components ≡ self.old.components }
         ensures placed { (l : Legalizer) → PlacesLegally l (command_with_names request.now) result self.new }
@@ -284,11 +290,14 @@ impl<S: Seeker + Drop> Floor<S> {
     /// Memory for all replies is allocated first. `Err` if that fails; then no request was run.
     pub fn run(&mut self, requests: &RequestList) -> Result<Vec<Reply>, AllocError>
         ensures run { (l : Legalizer) → IfOk result (λ replies. Run l self.old requests.now replies.items self.new) }
-        ensures isolated { (l : Legalizer) → IfOk result (λ replies. IsIsolated l self.old requests.now replies.items self.new) }
-        ensures legal { (l : Legalizer) → IfOk result (λ replies. IsCommittedLegal self.old → LegalRun l self.old requests.now replies.items self.new) }
+        ensures isolated { (l : Legalizer)
+            → IfOk result (λ replies. IsIsolated l self.old requests.now replies.items self.new) }
+        ensures legal { (l : Legalizer) → IfOk result (λ replies. IsCommittedLegal self.old
+            → LegalRun l self.old requests.now replies.items self.new) }
         ensures commits { IfOk result (λ replies. CommitsMakeLegal self.old requests.now replies.items self.new) }
         ensures tidied { IfOk result (λ replies. EachTidiedCommits self.old requests.now replies.items) }
-        ensures left_out { (l : Legalizer) → IfOk result (λ replies. AreOmittable l self.old requests.now replies.items self.new) }
+        ensures left_out { (l : Legalizer)
+            → IfOk result (λ replies. AreOmittable l self.old requests.now replies.items self.new) }
         ensures backed_up { (l : Legalizer)
             → IfOk result (λ replies. IsBackup l self.old (lasting requests.now replies.items)
             (lasting_replies requests.now replies.items) self.new) }

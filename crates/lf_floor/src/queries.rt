@@ -26,7 +26,8 @@ impl<S: Seeker + Drop> Floor<S> {
     /// The frame, and the cells of all teams at their places.
     pub fn placement(&self) -> &Placement
         ensures frame { result.now.frame ≡ self.now.frame }
-        ensures cells { (number : ℕ) (s : TeamState) → slice_get self.now.teams number ≡ Some s → cells_of result.now.cells number ≡ s.cells }
+        ensures cells { (number : ℕ) (s : TeamState) → slice_get self.now.teams number ≡ Some s
+            → cells_of result.now.cells number ≡ s.cells }
     {
         &self.tables.placement
     }

@@ -13,7 +13,7 @@ ghost use Rattle.lf_floor_model.specs.Teams.{state_of};
 ghost use Rattle.lf_io.specs.Output.{PutsText};
 ghost use Rattle.lf_team_def.specs.Lengths.{IsLengthOf};
 ghost use Rattle.lf_floor.specs.Responses.{WantsText, WantsTeamText, RespondsWithText, def_text, reply_in, team_addressed};
-ghost use Rattle.lf_floor.specs.declared.response.Response.TheVariants.{Def as Apart};
+ghost use Rattle.lf_floor.specs.declared.response.Response.TheVariants.{DefText};
 
 use crate::floor::{Floor, team_with_name};
 use lf_io::Output;
@@ -25,9 +25,9 @@ use lf_team_def::{team_def_length, write_team_def};
 #[derive(Drop)]
 pub enum Response {
     /// The reply.
-    Whole(Reply),
+    Reply(Reply),
     /// The DEF text of the requested team, with its length in bytes; `Floor::write_def` writes it.
-    Def(usize),
+    DefText(usize),
 }
 
 /// Returns the session that requests the team's DEF text by this command. `None` if the command
@@ -79,12 +79,15 @@ impl<S: Seeker + Drop> Floor<S> {
     /// Returns the team whose DEF text is the reply to the request. `None` if the reply is not a
     /// DEF text.
     fn def_requested<'a>(&self, request: &Request<'a>) -> Option<&'a [u8]>
-        ensures requested { (l : Legalizer) → IfSome result (λ team. IsAnswerOf l self.now (command_with_names request.now) (Def (def_text self.now team.now)) self.now) }
+        ensures requested { (l : Legalizer) → IfSome result (λ team. IsAnswerOf l self.now
+            (command_with_names request.now) (Def (def_text self.now team.now)) self.now) }
         ensures team { IfSome result (λ team. team.now ≡ team_addressed (command_with_names request.now)) }
         ensures takes { IfSome result (λ team. AllocatesNothing (command_with_names request.now) → ⊥) }
-        ensures untested { (reply : Reply) → IfSome result (λ team. IsTested (command_with_names request.now) reply → ⊥) }
+        ensures untested { (reply : Reply)
+            → IfSome result (λ team. IsTested (command_with_names request.now) reply → ⊥) }
         ensures none { (l : Legalizer) (text : List ℕ)
-            → IfNone result (WantsText (command_with_names request.now) → IsAnswerOf l self.now (command_with_names request.now) (Def text) self.now → ⊥) }
+            → IfNone result (WantsText (command_with_names request.now)
+            → IsAnswerOf l self.now (command_with_names request.now) (Def text) self.now → ⊥) }
     {
         let Command::To { team, order } = request else {
             return None;
@@ -99,19 +102,22 @@ impl<S: Seeker + Drop> Floor<S> {
     /// change the floor: its text can be written until the next command runs. The reply to it is
     /// never `OutOfMemory`, unless the text has 2^64 bytes or more.
     pub fn respond(&mut self, request: &Request) -> Response
-        ensures step { (l : Legalizer) → Step l self.old (command_with_names request.now) (reply_in self.new (team_addressed (command_with_names request.now)) result) self.new }
-        ensures length { (count : ℕ) → result ≡ Apart count → count ≡ length (def_text self.new (team_addressed (command_with_names request.now))) }
+        ensures step { (l : Legalizer) → Step l self.old (command_with_names request.now)
+            (reply_in self.new (team_addressed (command_with_names request.now)) result) self.new }
+        ensures length { (count : ℕ) → result ≡ DefText count
+            → count ≡ length (def_text self.new (team_addressed (command_with_names request.now))) }
         ensures text { RespondsWithText self.old (command_with_names request.now) result }
-        ensures others { (team : List ℕ) → ¬ IsTo team (command_with_names request.now) → state_of self.new team ≡ state_of self.old team }
+        ensures others { (team : List ℕ) → ¬ IsTo team (command_with_names request.now)
+            → state_of self.new team ≡ state_of self.old team }
         ensures frame { self.new.frame ≡ self.old.frame }
         ensures components { self.new.components ≡ self.old.components }
         ensures legal { IsCommittedLegal self.old → IsCommittedLegal self.new }
     {
         match self.def_requested(request) {
-            None => Response::Whole(self.step(request)),
+            None => Response::Reply(self.step(request)),
             Some(team) => match self.def_length(team) {
-                Some(count) => Response::Def(count),
-                None => Response::Whole(Reply::Refused(Refusal::OutOfMemory)),
+                Some(count) => Response::DefText(count),
+                None => Response::Reply(Reply::Refused(Refusal::OutOfMemory)),
             },
         }
     }

@@ -64,15 +64,18 @@ fn restore_team(
     row: TeamRow,
 ) -> Result<(), AllocError>
     requires served { HasTeamRow number tables.old }
-    requires due { IsSavedTeamOf (frame_of tables.old).limits (named_team [] (own_team number tables.old)) (saved_team_at (own_team number tables.old) (team_view row)) }
+    requires due { IsSavedTeamOf (frame_of tables.old).limits (named_team [] (own_team number tables.old))
+        (saved_team_at (own_team number tables.old) (team_view row)) }
     requires room { KeepsCapacities tally.old tables.old.placement.held.rooms }
     requires awaits { HasNoEntriesYet number tally.old tables.old }
-    ensures team { OnOk result (own_team number tables.new ≡ restored_team (own_team number tables.old) (saved_team_at (own_team number tables.old) (team_view row))) }
+    ensures team { OnOk result (own_team number tables.new
+        ≡ restored_team (own_team number tables.old) (saved_team_at (own_team number tables.old) (team_view row))) }
     ensures others { OnOk result (KeepsOtherTeams number tables.old tables.new) }
     ensures cells { OnOk result (tables.new.placement.cells ≡ tables.old.placement.cells) }
     ensures fit { OnOk result (EntriesFit number tables.new) }
     ensures room { OnOk result (KeepsCapacities tally.new tables.new.placement.held.rooms) }
-    ensures awaits { (other : ℕ) → other ≢ number → HasNoEntriesYet other tally.old tables.old → OnOk result (HasNoEntriesYet other tally.new tables.new) }
+    ensures awaits { (other : ℕ) → other ≢ number → HasNoEntriesYet other tally.old tables.old
+        → OnOk result (HasNoEntriesYet other tally.new tables.new) }
 {
     let TeamRow {
         revision,
@@ -106,11 +109,13 @@ fn restore_teams(
 ) -> Result<(), AllocError>
     requires tables { AreTables tables.old }
     requires many { length rows.items ≡ length (teams_in tables.old) }
-    requires due { MatchDesign (frame_of tables.old).limits (teams_in tables.old) (saved_teams_at tables.old (team_views rows.items)) }
+    requires due { MatchDesign (frame_of tables.old).limits (teams_in tables.old)
+        (saved_teams_at tables.old (team_views rows.items)) }
     requires room { KeepsCapacities tally.old tables.old.placement.held.rooms }
     requires each { FirstHaveNoEntriesYet (length rows.items) tally.old tables.old }
     ensures tables { OnOk result (AreTables tables.new) }
-    ensures floor { OnOk result (floor_in tables.new ≡ restored_floor (floor_in tables.old) (saved_teams_at tables.old (team_views rows.items))) }
+    ensures floor { OnOk result (floor_in tables.new
+        ≡ restored_floor (floor_in tables.old) (saved_teams_at tables.old (team_views rows.items))) }
 {
     let mut left = rows;
     while !left.is_empty() {
@@ -175,8 +180,10 @@ fn restored_by(alloc: Global, tables: Tables, rows: Vec<TeamRow>) -> Result<Tabl
 /// `Err` with the first fault of the text and its line, or if an allocation fails.
 fn read_rows(alloc: Global, tables: &Tables, text: &[u8]) -> Result<Vec<TeamRow>, StateError>
     requires { AreTables tables.now }
-    ensures exact { ReturnsAt (λ rows. team_views rows.items) result (saved_state_of (design_names (floor_in tables.now)) text.now) }
-    ensures due { IfOk result (λ rows. MatchDesign (frame_of tables.now).limits (teams_in tables.now) (team_views rows.items)) }
+    ensures exact { ReturnsAt (λ rows. team_views rows.items) result
+        (saved_state_of (design_names (floor_in tables.now)) text.now) }
+    ensures due { IfOk result
+        (λ rows. MatchDesign (frame_of tables.now).limits (teams_in tables.now) (team_views rows.items)) }
 {
     let reported = StateView { tables };
     read_state(alloc, &reported, text)
@@ -192,8 +199,10 @@ fn read_pieces_of(
     pieces: VecDeque<Vec<u8>>,
 ) -> Result<Vec<TeamRow>, ChunkError>
     requires { AreTables tables.now }
-    ensures exact { ReturnsIn (λ rows. team_views rows.items) result (saved_state_of (design_names (floor_in tables.now)) (text_of_chunks pieces.items)) }
-    ensures due { IfOk result (λ rows. MatchDesign (frame_of tables.now).limits (teams_in tables.now) (team_views rows.items)) }
+    ensures exact { ReturnsIn (λ rows. team_views rows.items) result
+        (saved_state_of (design_names (floor_in tables.now)) (text_of_chunks pieces.items)) }
+    ensures due { IfOk result
+        (λ rows. MatchDesign (frame_of tables.now).limits (teams_in tables.now) (team_views rows.items)) }
     ensures end { IfErr result (λ error. HoldsEnd (text_of_chunks pieces.items) error) }
 {
     let reported = StateView { tables };
@@ -228,8 +237,10 @@ impl<S: Seeker + Drop> Floor<S> {
     pub fn restore(self, text: &[u8]) -> Result<Floor<S>, StateError>
         ensures restored { IfOk result (λ floor. IsRestoredFrom self text.now floor) }
         ensures fault { IfErr result (λ error. FailsAt error (saved_state_of (design_names self) text.now)) }
-        ensures again { (saved : FloorState) → ShareDesign self saved → IsStateText saved text.now → IfOk result (λ floor. floor ≡ saved) }
-        ensures again_fails { (saved : FloorState) → ShareDesign self saved → IsStateText saved text.now → IfErr result (λ error. error ≡ Memory) }
+        ensures again { (saved : FloorState) → ShareDesign self saved → IsStateText saved text.now
+            → IfOk result (λ floor. floor ≡ saved) }
+        ensures again_fails { (saved : FloorState) → ShareDesign self saved → IsStateText saved text.now
+            → IfErr result (λ error. error ≡ Memory) }
         ensures design { IfOk result (λ floor. ShareDesign self floor) }
         ensures legal { (saved : List SavedTeam) → saved_state_of (design_names self) text.now ≡ Ok saved
             → IfOk result (λ floor. IsCommittedLegal floor ↔ IsFullyLegal self.frame (saved_design self saved)) }
@@ -258,7 +269,8 @@ impl<S: Seeker + Drop> Floor<S> {
     /// `Err` with the first fault of a text that is not a state of the design, its line, and the
     /// end of the text; or if an allocation fails.
     pub fn read_state_chunks(&self, pieces: VecDeque<Vec<u8>>) -> Result<Vec<TeamRow>, ChunkError>
-        ensures exact { ReturnsIn (λ rows. team_views rows.items) result (saved_state_of (design_names self.now) (text_of_chunks pieces.items)) }
+        ensures exact { ReturnsIn (λ rows. team_views rows.items) result
+            (saved_state_of (design_names self.now) (text_of_chunks pieces.items)) }
         ensures due { IfOk result (λ rows. MatchDesign self.now.frame.limits self.now.teams (team_views rows.items)) }
         ensures end { IfErr result (λ error. HoldsEnd (text_of_chunks pieces.items) error) }
     {

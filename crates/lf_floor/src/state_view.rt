@@ -77,7 +77,8 @@ fn count_teams(tables: &Tables) -> usize
 /// Returns the name of the team of that number. `None` if and only if there is no such team.
 fn name_of_team(tables: &Tables, team: usize) -> Option<&[u8]>
     requires { AreTables tables.now }
-    ensures { option_map (λ name. name.now) result ≡ option_map (λ t. t.name) (slice_get (design_names (floor_in tables.now)).teams team) }
+    ensures { option_map (λ name. name.now) result
+        ≡ option_map (λ t. t.name) (slice_get (design_names (floor_in tables.now)).teams team) }
 {
     team_name(tables.placement.frame(), team)
 }
@@ -97,7 +98,8 @@ fn count_cells(tables: &Tables, team: usize) -> usize
 /// cell.
 fn name_of_cell(tables: &Tables, team: usize, own: usize) -> Option<&[u8]>
     requires { AreTables tables.now }
-    ensures { option_map (λ name. name.now) result ≡ slice_get (named_team_of (design_names (floor_in tables.now)) team).cells own }
+    ensures { option_map (λ name. name.now) result
+        ≡ slice_get (named_team_of (design_names (floor_in tables.now)) team).cells own }
 {
     if team > tables.placement.frame().teams.len() {
         return None;
@@ -171,7 +173,8 @@ fn reported_entries(tables: &Tables, team: usize) -> usize
 /// there is no such entry.
 fn reported_entry(tables: &Tables, team: usize, newer: usize) -> Option<&Moves>
     requires { AreTables tables.now }
-    ensures { option_map (λ moves. moves_within (length (saved_at (saved_teams_of tables.now) team).cells) moves.now) result
+    ensures { option_map
+        (λ moves. moves_within (length (saved_at (saved_teams_of tables.now) team).cells) moves.now) result
         ≡ slice_get (saved_at (saved_teams_of tables.now) team).entries newer }
 {
     if team >= tables.revisions.len() {
@@ -261,7 +264,8 @@ impl<'a> TeamViews for StateView<'a> {
 /// Writes the state text of the tables.
 pub(crate) fn write_tables<O: Output>(out: &mut O, tables: &Tables)
     requires { AreTables tables.now }
-    ensures text { PutsText O.took out.old out.new (state_text (design_names (floor_in tables.now)) (saved_teams_of tables.now)) }
+    ensures text { PutsText O.took out.old out.new
+        (state_text (design_names (floor_in tables.now)) (saved_teams_of tables.now)) }
     ensures in_range { All IsSavedInRange (saved_teams_of tables.now) }
 {
     let reported = StateView { tables };

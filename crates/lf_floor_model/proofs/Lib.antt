@@ -10,7 +10,7 @@ pub mod Parts
 pub mod Loading
 pub mod Committing
 pub mod VerbBack
-pub mod Standing
+pub mod LegalPlaces
 pub mod Places
 pub mod Tidying
 pub mod VerbLegal

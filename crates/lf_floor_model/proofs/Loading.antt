@@ -17,7 +17,7 @@ use Rattle.lf_floor_model.specs.Designs.{initial_team, initial_floor}
 use Rattle.lf_floor_model.specs.Committed.{LoadedIsCommitted, committed_member, committed_members, committed_design, loaded_design, AreAtPlaces}
 use Rattle.lf_floor_model.proofs.Openings.{team_of, opening_is, count_teams}
 use Rattle.lf_floor_model.proofs.Parts.{taken, passed, not_equal, part_of, part_is, same_parts}
-use Rattle.lf_floor_model.proofs.Standing.{some_one}
+use Rattle.lf_floor_model.proofs.LegalPlaces.{some_one}
 
 -- the team's cells of a loaded design, at their places
 abbrev own_members : ℕ → List LoadedCell → List Member

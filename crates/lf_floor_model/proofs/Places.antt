@@ -16,7 +16,7 @@ use Rattle.lf_floor_model.specs.States.{TeamState}
 use Rattle.lf_floor_model.specs.Designs.{initial_floor}
 use Rattle.lf_floor_model.specs.Places.{IsCommittedAt, PlacesBeginAsLoaded, PlacesFollowDesign, cell_in}
 use Rattle.lf_floor_model.proofs.Openings.{map_at, pairs_map, team_of}
-use Rattle.lf_floor_model.proofs.Standing.{some_one}
+use Rattle.lf_floor_model.proofs.LegalPlaces.{some_one}
 
 -- ---- ascending lists
 

@@ -24,7 +24,7 @@ use Rattle.lf_floor_model.proofs.Committing.{Commits, commit_commits}
 use Rattle.lf_floor_model.proofs.Isolation.{step_frame}
 use Rattle.lf_floor_model.proofs.Kept.{false_true, granted_plain}
 use Rattle.lf_floor_model.proofs.Promises.{Ends, ends_good}
-use Rattle.lf_floor_model.proofs.Standing.{some_one, none_some}
+use Rattle.lf_floor_model.proofs.LegalPlaces.{some_one, none_some}
 use Rattle.lf_floor_model.proofs.Stepping.{CommittedAt, step_teams, step_committed, teams_committed, step_keeps}
 
 -- after a run each team is still a team of the frame

@@ -22,7 +22,7 @@ use Rattle.lf_floor_model.proofs.Committing.{order_keeps}
 use Rattle.lf_floor_model.proofs.Isolation.{step_frame}
 use Rattle.lf_floor_model.proofs.Kept.{verb_keeps}
 use Rattle.lf_floor_model.proofs.Parts.{each, all_there, legal_teams}
-use Rattle.lf_floor_model.proofs.Standing.{some_one}
+use Rattle.lf_floor_model.proofs.LegalPlaces.{some_one}
 
 -- ---- the state of each team before a step
 

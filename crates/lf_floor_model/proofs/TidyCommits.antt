@@ -36,7 +36,7 @@ use Rattle.lf_floor_model.proofs.Isolation.{isolated_from_run, has_number}
 use Rattle.lf_floor_model.proofs.Kept.{look_kept, padding_stays, refusal_leaves, verb_keeps}
 use Rattle.lf_floor_model.proofs.Parts.{each}
 use Rattle.lf_floor_model.proofs.Promises.{denied_is}
-use Rattle.lf_floor_model.proofs.Standing.{some_one, sized_at, there_within, member_is}
+use Rattle.lf_floor_model.proofs.LegalPlaces.{some_one, sized_at, there_within, member_is}
 use Rattle.lf_floor_model.proofs.VerbLegal.{verb_legal}
 
 -- ---- a team whose cells are all team-legal

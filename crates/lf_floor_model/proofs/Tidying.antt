@@ -22,7 +22,7 @@ use Rattle.lf_cells.specs.Cells.{working_at, as_committed}
 use Rattle.lf_floor_model.specs.Queries.{place_of_spot, query_of_cell, best_at}
 use Rattle.lf_reports.specs.declared.broken_cell.BrokenCell.{BrokenCell}
 use Rattle.lf_floor_model.specs.Changes.{restored, places_in, broken_where, first_unplaced, broken_cells}
-use Rattle.lf_floor_model.proofs.Standing.{some_one, none_some, member_there, place_is, sized_at, is_placed_where}
+use Rattle.lf_floor_model.proofs.LegalPlaces.{some_one, none_some, member_there, place_is, sized_at, is_placed_where}
 
 -- ---- the macros are unchanged
 

@@ -18,7 +18,7 @@ use Rattle.lf_floor_model.specs.Changes.{broken_where, exchanged}
 use Rattle.lf_floor_model.specs.VerbLaws.{HasLegal, AreLegal, is_accepted, outcome_of_asking}
 use Rattle.lf_floor_model.proofs.Cases.{CellsAfter, accepted_is, exchanged_part, moved_part}
 use Rattle.lf_floor_model.proofs.Kept.{mac_at, same_length, sized_as}
-use Rattle.lf_floor_model.proofs.Standing.{named_there, named_alike, working_is, moved_here, moved_there, sized_at, unbroken, is_placed_moved, is_placed_where}
+use Rattle.lf_floor_model.proofs.LegalPlaces.{named_there, named_alike, working_is, moved_here, moved_there, sized_at, unbroken, is_placed_moved, is_placed_where}
 use Rattle.lf_floor_model.proofs.Tidying.{tidied_placed, best_legal, committed_are_placed}
 
 -- what is legal after an accepted change

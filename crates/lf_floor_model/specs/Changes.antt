@@ -33,7 +33,8 @@ placed_unless None own limits session place s = changed session (moved s.cells o
 -- the outcome of place, given the position of the cell; None if the team has no such cell
 abbrev pub placed_own : Option ℕ → TeamRules → ℕ → Place → TeamState → Outcome
 placed_own None t session place s = refused NoCell s
-placed_own (Some own) t session place s = placed_unless (broken_at t s.cells own place) own t.frame.limits session place s
+placed_own (Some own) t session place s =
+    placed_unless (broken_at t s.cells own place) own t.frame.limits session place s
 
 -- place: the team's cell of that name is moved to the place if it breaks no rule there
 unfoldable pub placed : TeamRules → ℕ → List ℕ → Place → TeamState → Outcome
@@ -116,7 +117,8 @@ swapped_to cells t session first second s =
 abbrev pub swapped_from : Option Place → Option Place → TeamRules → ℕ → ℕ → ℕ → TeamState → Outcome
 swapped_from None place t session first second s = refused (Unplaced first) s
 swapped_from (Some place) None t session first second s = refused (Unplaced second) s
-swapped_from (Some place) (Some other) t session first second s = swapped_to (exchanged s.cells first second) t session first second s
+swapped_from (Some place) (Some other) t session first second s =
+    swapped_to (exchanged s.cells first second) t session first second s
 
 -- refused if one of the cells is not in the team
 abbrev pub swapped_own : Option ℕ → Option ℕ → TeamRules → ℕ → TeamState → Outcome
@@ -157,7 +159,8 @@ first_unplaced cells = position (λ c. is_none c.working) cells
 -- the cells that break a rule at their working places, in loading order
 abbrev pub broken_cells : TeamRules → List Cell → List BrokenCell
 broken_cells t cells =
-    filter_map (λ own. option_map (λ broken. record { own = own; broken = broken }) (broken_where t cells own)) (range_with_len 0 (length cells))
+    filter_map (λ own. option_map (λ broken. record { own = own; broken = broken }) (broken_where t cells own))
+    (range_with_len 0 (length cells))
 
 -- refused for the first unplaced cell, otherwise for the first cell that breaks a rule; otherwise
 -- the places are committed

@@ -61,7 +61,8 @@ loaded_design design = design_cells_at design.cells (map (λ c. c.place) design.
 
 -- when a floor begins, its committed design is fully legal if and only if the loaded design is
 abbrev pub LoadedIsCommitted : Type 0
-LoadedIsCommitted = (design : Loaded) → IsCommittedLegal (initial_floor design) ↔ IsFullyLegal design.frame (loaded_design design)
+LoadedIsCommitted = (design : Loaded) → IsCommittedLegal (initial_floor design)
+    ↔ IsFullyLegal design.frame (loaded_design design)
 
 -- these are both the team's working places and its committed places
 pub record AreAtPlaces (s : TeamState) (places : List (Option Place)) : Type 0 where
@@ -72,7 +73,8 @@ pub record AreAtPlaces (s : TeamState) (places : List (Option Place)) : Type 0 w
 -- are committed
 abbrev pub AreAtLoadedPlaces : Loaded → FloorState → Type 0
 AreAtLoadedPlaces design floor =
-    (team : List ℕ) (number : ℕ) (s : TeamState) → team_number design.frame team ≡ Some number → state_of floor team ≡ Some s →
+    (team : List ℕ) (number : ℕ) (s : TeamState) → team_number design.frame team ≡ Some number
+    → state_of floor team ≡ Some s →
     AreAtPlaces s (map (λ c. c.place) (filter (λ c. c.team == number) design.cells))
 
 -- this holds when a floor begins

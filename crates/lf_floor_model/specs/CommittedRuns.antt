@@ -38,7 +38,8 @@ StepKeepsCommitted =
 -- after a run each team of the floor is still a team of its frame
 abbrev pub RunKeepsTeams : Type 0
 RunKeepsTeams =
-    (l : Legalizer) (old new : FloorState) (commands : List (Command (List ℕ) Place)) (replies : List Reply) → HasFrameTeams old
+    (l : Legalizer) (old new : FloorState) (commands : List (Command (List ℕ) Place)) (replies : List Reply)
+    → HasFrameTeams old
     → Run l old commands replies new → HasFrameTeams new
 
 -- a run in which the committed design is fully legal after each command
@@ -52,13 +53,15 @@ LegalRun l old (command ∷ commands) [] new = ⊥
 -- in a run that starts with a fully legal committed design, it is fully legal after each command
 abbrev pub RunStaysLegal : Type 0
 RunStaysLegal =
-    (l : Legalizer) (old new : FloorState) (commands : List (Command (List ℕ) Place)) (replies : List Reply) → HasFrameTeams old
+    (l : Legalizer) (old new : FloorState) (commands : List (Command (List ℕ) Place)) (replies : List Reply)
+    → HasFrameTeams old
     → Run l old commands replies new → IsCommittedLegal old → LegalRun l old commands replies new
 
 -- the same for each run on a floor that begins with a fully legal loaded design
 abbrev pub LoadedRunStaysLegal : Type 0
 LoadedRunStaysLegal =
-    (l : Legalizer) (design : Loaded) (new : FloorState) (commands : List (Command (List ℕ) Place)) (replies : List Reply)
+    (l : Legalizer) (design : Loaded) (new : FloorState) (commands : List (Command (List ℕ) Place))
+    (replies : List Reply)
     → IsFullyLegal design.frame (loaded_design design)
     → Run l (initial_floor design) commands replies new → LegalRun l (initial_floor design) commands replies new
 
@@ -77,12 +80,14 @@ pub record HasCommitted (team : List ℕ) (commands : List (Command (List ℕ) P
 -- whatever they were at the start and whatever commands come later
 abbrev pub CommitLasts : Type 0
 CommitLasts =
-    (l : Legalizer) (old new : FloorState) (commands : List (Command (List ℕ) Place)) (replies : List Reply) → HasFrameTeams old
+    (l : Legalizer) (old new : FloorState) (commands : List (Command (List ℕ) Place)) (replies : List Reply)
+    → HasFrameTeams old
     → Run l old commands replies new → (team : List ℕ) (number : ℕ) (s : TeamState) → HasCommitted team commands replies
     → team_number new.frame team ≡ Some number → state_of new team ≡ Some s → AreCommittedLegal new.frame number s
 
 -- a commit of the team of that number was accepted, under its name
-pub record NumberHasCommitted (f : Frame) (number : ℕ) (commands : List (Command (List ℕ) Place)) (replies : List Reply) : Type 0 where
+pub record NumberHasCommitted (f : Frame) (number : ℕ) (commands : List (Command (List ℕ) Place))
+    (replies : List Reply) : Type 0 where
   pub team : List ℕ
   pub named : team_number f team ≡ Some number
   pub committed : HasCommitted team commands replies
@@ -101,7 +106,8 @@ CommitsMakeLegal old commands replies new = AllHaveCommitted old commands replie
 -- this holds for each run
 abbrev pub RunCommitsMakeLegal : Type 0
 RunCommitsMakeLegal =
-    (l : Legalizer) (old new : FloorState) (commands : List (Command (List ℕ) Place)) (replies : List Reply) → HasFrameTeams old
+    (l : Legalizer) (old new : FloorState) (commands : List (Command (List ℕ) Place)) (replies : List Reply)
+    → HasFrameTeams old
     → Run l old commands replies new → CommitsMakeLegal old commands replies new
 
 -- ---- a commit after a tidy
@@ -138,20 +144,24 @@ pub record TidyThenCommit (orders : List (TeamCommand (List ℕ) Place)) (replie
   pub commit : slice_get orders j ≡ Some (Within second (Changing Commit))
   pub between :
       (k : ℕ) (order : TeamCommand (List ℕ) Place) (own_replies_in : Reply) → i < k → k < j
-      → slice_get orders k ≡ Some order → slice_get replies k ≡ Some own_replies_in → is_change order ≡ true → is_ok own_replies_in ≡ false
+      → slice_get orders k ≡ Some order → slice_get replies k ≡ Some own_replies_in → is_change order ≡ true
+      → is_ok own_replies_in ≡ false
 
 -- the commit at j finds no fault
 abbrev pub TidiedCommits : List (TeamCommand (List ℕ) Place) → List Reply → Type 0
 TidiedCommits orders replies =
-    (i j : ℕ) (reply : Reply) → TidyThenCommit orders replies i j → slice_get replies j ≡ Some reply → finds_no_fault reply ≡ true
+    (i j : ℕ) (reply : Reply) → TidyThenCommit orders replies i j → slice_get replies j ≡ Some reply
+    → finds_no_fault reply ≡ true
 
 -- this holds for each team's commands among these, without those with the reply OutOfMemory
 abbrev pub EachTidiedCommits : FloorState → List (Command (List ℕ) Place) → List Reply → Type 0
 EachTidiedCommits old commands replies =
-    (team : List ℕ) (s : TeamState) → state_of old team ≡ Some s → TidiedCommits (own_commands team commands replies) (own_replies_in team commands replies)
+    (team : List ℕ) (s : TeamState) → state_of old team ≡ Some s
+    → TidiedCommits (own_commands team commands replies) (own_replies_in team commands replies)
 
 -- this holds for each run
 abbrev pub RunTidiedCommits : Type 0
 RunTidiedCommits =
-    (l : Legalizer) (old new : FloorState) (commands : List (Command (List ℕ) Place)) (replies : List Reply) → HasFrameTeams old
+    (l : Legalizer) (old new : FloorState) (commands : List (Command (List ℕ) Place)) (replies : List Reply)
+    → HasFrameTeams old
     → Run l old commands replies new → EachTidiedCommits old commands replies

@@ -23,7 +23,11 @@ initial_teams design number (suc more) = initial_team design number ∷ initial_
 -- the floor after loading: the fence teams in the frame's order, then the ground team
 abbrev pub initial_floor : Loaded → FloorState
 initial_floor design =
-    record { frame = design.frame; teams = initial_teams design 0 (length design.frame.teams + 1); components = initial_components design }
+    record {
+      frame = design.frame;
+      teams = initial_teams design 0 (length design.frame.teams + 1);
+      components = initial_components design;
+    }
 
 -- two designs agree for a team: they have one frame with a team of that name, and the team has the
 -- same cells in both

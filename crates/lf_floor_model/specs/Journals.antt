@@ -38,14 +38,16 @@ marked _ _ = []
 -- be true too
 abbrev pub MarkLasting : List Bool → List (Command (List ℕ) Place) → List Reply → Type 0
 MarkLasting [] [] [] = Unit {0}
-MarkLasting (mark ∷ marks) (command ∷ commands) (reply ∷ replies) = (is_lasting command reply ≡ true → mark ≡ true) × MarkLasting marks commands replies
+MarkLasting (mark ∷ marks) (command ∷ commands) (reply ∷ replies) = (is_lasting command reply ≡ true → mark ≡ true)
+    × MarkLasting marks commands replies
 MarkLasting _ _ _ = ⊥
 
 -- whichever non-lasting commands are left out, the remaining commands are a run to the same floor
 -- with their old replies
 abbrev pub AreOmittable : Legalizer → FloorState → List (Command (List ℕ) Place) → List Reply → FloorState → Type 0
 AreOmittable l old commands replies new =
-    (marks : List Bool) → MarkLasting marks commands replies → Run l old (marked marks commands) (marked marks replies) new
+    (marks : List Bool) → MarkLasting marks commands replies
+    → Run l old (marked marks commands) (marked marks replies) new
 
 -- ---- the journal
 
@@ -65,10 +67,12 @@ lasting_replies commands replies = marked (which_last commands replies) replies
 -- the journal is a backup: it is a run to the same floor, with the replies of its commands; each
 -- run of it from the old floor with memory for each command gets these replies and ends in this
 -- floor
-pub record IsBackup (l : Legalizer) (old : FloorState) (journal : List (Command (List ℕ) Place)) (replies : List Reply) (new : FloorState) : Type 0 where
+pub record IsBackup (l : Legalizer) (old : FloorState) (journal : List (Command (List ℕ) Place)) (replies : List Reply)
+    (new : FloorState) : Type 0 where
   pub runs : Run l old journal replies new
   pub again :
-      (answers : List Reply) (end : FloorState) → Run l old journal answers end → All (λ answer. is_short answer ≡ false) answers
+      (answers : List Reply) (end : FloorState) → Run l old journal answers end
+      → All (λ answer. is_short answer ≡ false) answers
       → (answers ≡ replies) × (end ≡ new)
 
 -- ---- laws
@@ -90,7 +94,9 @@ JournalRestores =
 -- left out
 abbrev pub TeamsInAnyOrder : Type 0
 TeamsInAnyOrder =
-    (l : Legalizer) (old a b : FloorState) (commands others : List (Command (List ℕ) Place)) (replies answers : List Reply)
+    (l : Legalizer) (old a b : FloorState) (commands others : List (Command (List ℕ) Place))
+    (replies answers : List Reply)
     → Run l old commands replies a → Run l old others answers b
-    → ((team : List ℕ) (number : ℕ) → team_number old.frame team ≡ Some number → own_commands team commands replies ≡ own_commands team others answers)
+    → ((team : List ℕ) (number : ℕ) → team_number old.frame team ≡ Some number
+    → own_commands team commands replies ≡ own_commands team others answers)
     → b ≡ a

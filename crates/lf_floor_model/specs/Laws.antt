@@ -21,18 +21,22 @@ RunIsIsolated =
 -- does not matter; commands with the reply OutOfMemory are left out
 abbrev pub OthersDoNotMatter : Type 0
 OthersDoNotMatter =
-    (l : Legalizer) (team : List ℕ) (a a' b b' : FloorState) (commands others : List (Command (List ℕ) Place)) (replies answers : List Reply) (s : TeamState)
+    (l : Legalizer) (team : List ℕ) (a a' b b' : FloorState) (commands others : List (Command (List ℕ) Place))
+    (replies answers : List Reply) (s : TeamState)
     → Run l a commands replies a' → Run l b others answers b'
     → a.frame ≡ b.frame → state_of a team ≡ Some s → state_of b team ≡ Some s
     → own_commands team commands replies ≡ own_commands team others answers
-    → (own_replies_in team commands replies ≡ own_replies_in team others answers) × (state_of a' team ≡ state_of b' team)
+    → (own_replies_in team commands replies ≡ own_replies_in team others answers)
+    × (state_of a' team ≡ state_of b' team)
 
 -- the same for two loaded designs that agree for the team: the cells of the other teams do not
 -- matter
 abbrev pub OtherDesignsDoNotMatter : Type 0
 OtherDesignsDoNotMatter =
-    (l : Legalizer) (team : List ℕ) (a b : Loaded) (a' b' : FloorState) (commands others : List (Command (List ℕ) Place)) (replies answers : List Reply)
+    (l : Legalizer) (team : List ℕ) (a b : Loaded) (a' b' : FloorState)
+    (commands others : List (Command (List ℕ) Place)) (replies answers : List Reply)
     → AgreeFor team a b
     → Run l (initial_floor a) commands replies a' → Run l (initial_floor b) others answers b'
     → own_commands team commands replies ≡ own_commands team others answers
-    → (own_replies_in team commands replies ≡ own_replies_in team others answers) × (state_of a' team ≡ state_of b' team)
+    → (own_replies_in team commands replies ≡ own_replies_in team others answers)
+    × (state_of a' team ≡ state_of b' team)

@@ -69,7 +69,12 @@ abbrev pub changed : ℕ → List Cell → List (List (Option Place)) → TeamSt
 changed session cells entries s =
     record {
       reply = Revision (s.revision + 1);
-      team = record s { cells = cells; revision = s.revision + 1; entries = entries; slots = slice_set s.slots session (Some (s.revision + 1)) };
+      team = record s {
+        cells = cells;
+        revision = s.revision + 1;
+        entries = entries;
+        slots = slice_set s.slots session (Some (s.revision + 1));
+      };
     }
 
 -- the undo entries with the present working places added as the newest; beyond the limit the oldest

@@ -38,7 +38,8 @@ pub record AreCommittedPlaces (floor : FloorState) (places : List (ℕ × Option
 -- order, whatever commands the floor has run
 abbrev pub PlacesFollowDesign : Type 0
 PlacesFollowDesign =
-    (design : Loaded) (floor : FloorState) (places : List (ℕ × Option Place)) → floor.components ≡ initial_components design
+    (design : Loaded) (floor : FloorState) (places : List (ℕ × Option Place))
+    → floor.components ≡ initial_components design
     → AreCommittedPlaces floor places → map (λ entry. entry.0) places ≡ map (λ c. c.component) design.cells
 
 -- when a floor begins, the list has the cells' places in the DEF text

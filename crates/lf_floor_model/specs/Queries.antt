@@ -34,7 +34,11 @@ located name s = located_own (cell_named name s.cells) s
 
 -- check: the report of the team's cells at their working places, with the team's padding
 unfoldable pub checked : TeamRules → TeamState → Outcome
-checked t s = record { reply = Report (report_text (report_of t.legalizer t.frame t.padding (map (listed_of t.number) s.cells))); team = s }
+checked t s = record {
+  reply = Report
+      (report_text (report_of t.legalizer t.frame t.padding (map (listed_of t.number) s.cells)));
+  team = s;
+}
 
 -- def: the team's DEF text, with its cells at their working places
 unfoldable pub written : TeamRules → TeamState → Outcome

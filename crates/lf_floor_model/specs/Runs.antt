@@ -16,7 +16,8 @@ use Rattle.lf_floor_model.specs.Outcomes.{is_short}
 -- these commands in order take the floor from old to new, with one reply to each
 abbrev pub Run : Legalizer → FloorState → List (Command (List ℕ) Place) → List Reply → FloorState → Type 0
 Run l old [] [] new = new ≡ old
-Run l old (command ∷ commands) (reply ∷ replies) new = (mid : FloorState) × Step l old command reply mid × Run l mid commands replies new
+Run l old (command ∷ commands) (reply ∷ replies) new = (mid : FloorState) × Step l old command reply mid
+    × Run l mid commands replies new
 Run l old [] (reply ∷ replies) new = ⊥
 Run l old (command ∷ commands) [] new = ⊥
 
@@ -25,7 +26,8 @@ Run l old (command ∷ commands) [] new = ⊥
 -- the replies to a team's own commands, run in order
 abbrev pub own_replies : Legalizer → Frame → ℕ → List (TeamCommand (List ℕ) Place) → TeamState → List Reply
 own_replies l f number [] s = []
-own_replies l f number (order ∷ orders) s = (outcome_by_rules l f number order s).reply ∷ own_replies l f number orders (outcome_by_rules l f number order s).team
+own_replies l f number (order ∷ orders) s = (outcome_by_rules l f number order s).reply ∷ own_replies l f number orders
+    (outcome_by_rules l f number order s).team
 
 -- the team after its own commands
 abbrev pub own_state : Legalizer → Frame → ℕ → List (TeamCommand (List ℕ) Place) → TeamState → TeamState
@@ -33,30 +35,37 @@ own_state l f number [] s = s
 own_state l f number (order ∷ orders) s = own_state l f number orders (outcome_by_rules l f number order s).team
 
 -- the later commands, preceded by this command if it is the team's and its reply is not OutOfMemory
-abbrev pub own_command_before : List ℕ → Command (List ℕ) Place → Reply → List (TeamCommand (List ℕ) Place) → List (TeamCommand (List ℕ) Place)
+abbrev pub own_command_before : List ℕ → Command (List ℕ) Place → Reply → List (TeamCommand (List ℕ) Place)
+    → List (TeamCommand (List ℕ) Place)
 own_command_before team Bye reply later = later
-own_command_before team (To name order) reply later = if bytes_eq name team && not (is_short reply) then order ∷ later else later
+own_command_before team (To name order) reply later =
+    if bytes_eq name team && not (is_short reply) then order ∷ later else later
 
 -- the commands of a run to the team of that name, without those with the reply OutOfMemory
 abbrev pub own_commands : List ℕ → List (Command (List ℕ) Place) → List Reply → List (TeamCommand (List ℕ) Place)
 own_commands team [] replies = []
 own_commands team (command ∷ commands) [] = []
-own_commands team (command ∷ commands) (reply ∷ replies) = own_command_before team command reply (own_commands team commands replies)
+own_commands team (command ∷ commands) (reply ∷ replies) =
+    own_command_before team command reply (own_commands team commands replies)
 
 -- the later replies, preceded by this reply if its command is the team's and it is not OutOfMemory
 abbrev pub own_reply_before : List ℕ → Command (List ℕ) Place → Reply → List Reply → List Reply
 own_reply_before team Bye reply later = later
-own_reply_before team (To name order) reply later = if bytes_eq name team && not (is_short reply) then reply ∷ later else later
+own_reply_before team (To name order) reply later =
+    if bytes_eq name team && not (is_short reply) then reply ∷ later else later
 
 -- the replies of a run to the team of that name, without OutOfMemory
 abbrev pub own_replies_in : List ℕ → List (Command (List ℕ) Place) → List Reply → List Reply
 own_replies_in team [] replies = []
 own_replies_in team (command ∷ commands) [] = []
-own_replies_in team (command ∷ commands) (reply ∷ replies) = own_reply_before team command reply (own_replies_in team commands replies)
+own_replies_in team (command ∷ commands) (reply ∷ replies) =
+    own_reply_before team command reply (own_replies_in team commands replies)
 
 -- the team's replies and state are those of its own commands alone from its first state
-pub record IsOwnRun (l : Legalizer) (frame : Frame) (number : ℕ) (team : List ℕ) (s : TeamState) (commands : List (Command (List ℕ) Place)) (replies : List Reply) (new : FloorState) : Type 0 where
-  pub replies_are : own_replies_in team commands replies ≡ own_replies l frame number (own_commands team commands replies) s
+pub record IsOwnRun (l : Legalizer) (frame : Frame) (number : ℕ) (team : List ℕ) (s : TeamState)
+    (commands : List (Command (List ℕ) Place)) (replies : List Reply) (new : FloorState) : Type 0 where
+  pub replies_are : own_replies_in team commands replies
+      ≡ own_replies l frame number (own_commands team commands replies) s
   pub state_is : state_of new team ≡ Some (own_state l frame number (own_commands team commands replies) s)
 
 -- each team's replies and state are those of its own commands alone

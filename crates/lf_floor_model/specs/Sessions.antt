@@ -13,7 +13,10 @@ with_session_slot session seen s = record s { slots = slice_set s.slots session 
 -- the outcome of open, given the slot for the session; None if all slots are taken
 abbrev pub opened_at : Option ℕ → TeamState → Outcome
 opened_at None s = refused SessionsFull s
-opened_at (Some session) s = record { reply = Opened session s.revision; team = with_session_slot session (Some s.revision) s }
+opened_at (Some session) s = record {
+  reply = Opened session s.revision;
+  team = with_session_slot session (Some s.revision) s;
+}
 
 -- open: the session gets the least free slot, and has seen the present revision
 unfoldable pub opened : TeamState → Outcome

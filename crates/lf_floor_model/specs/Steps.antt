@@ -34,7 +34,10 @@ outcome_by_rules l f number order s = outcome_of (team_rules l f number s.paddin
 
 -- the team's outcome on the floor: this team gets the outcome's state, and the others are unchanged
 abbrev pub answer_of_outcome : FloorState → ℕ → Outcome → Answer
-answer_of_outcome floor number o = record { reply = o.reply; floor = record floor { teams = slice_set floor.teams number o.team } }
+answer_of_outcome floor number o = record {
+  reply = o.reply;
+  floor = record floor { teams = slice_set floor.teams number o.team };
+}
 
 -- the answer if no team has the name
 abbrev pub no_team : FloorState → Answer
@@ -88,7 +91,8 @@ pub record IsOutOfMemoryAnswer (answer : Answer) (old new : FloorState) : Type 0
   pub may : may_be_short answer.reply ≡ true
 
 -- the same, and the command may allocate and does so for this answer
-pub record MayRunOutOfMemory (l : Legalizer) (old : FloorState) (command : Command (List ℕ) Place) (new : FloorState) : Type 0 where
+pub record MayRunOutOfMemory (l : Legalizer) (old : FloorState) (command : Command (List ℕ) Place)
+    (new : FloorState) : Type 0 where
   pub short : IsOutOfMemoryAnswer (answer_of l old command) old new
   pub takes : AllocatesNothing command → ⊥
   pub untested : IsTested command (answer_of l old command).reply → ⊥
@@ -96,7 +100,8 @@ pub record MayRunOutOfMemory (l : Legalizer) (old : FloorState) (command : Comma
 -- a command gets this reply, and the floor changes from old to new: either the reply is OutOfMemory
 -- and the floor is unchanged, or both are the answer's
 abbrev pub Step : Legalizer → FloorState → Command (List ℕ) Place → Reply → FloorState → Type 0
-Step l old command reply new = MatchBool (is_short reply) (MayRunOutOfMemory l old command new) (IsAnswerOf l old command reply new)
+Step l old command reply new =
+    MatchBool (is_short reply) (MayRunOutOfMemory l old command new) (IsAnswerOf l old command reply new)
 
 -- ---- what a caller can rely on
 
@@ -112,13 +117,15 @@ pub record IsLegalCellOf (l : Legalizer) (floor : FloorState) (team name : List 
 abbrev pub PlacesLegally : Legalizer → Command (List ℕ) Place → Reply → FloorState → Type 0
 PlacesLegally l command reply new =
     (team name : List ℕ) (session : ℕ) (place : Place)
-    → command ≡ To team (Within session (Changing (PlaceAt name place))) → is_ok reply ≡ true → IsLegalCellOf l new team name
+    → command ≡ To team (Within session (Changing (PlaceAt name place))) → is_ok reply ≡ true
+    → IsLegalCellOf l new team name
 
 -- after an accepted legalize the cell is team-legal
 abbrev pub LegalizesLegally : Legalizer → Command (List ℕ) Place → Reply → FloorState → Type 0
 LegalizesLegally l command reply new =
     (team name : List ℕ) (session : ℕ) (target : Point)
-    → command ≡ To team (Within session (Changing (Legalize name target))) → is_ok reply ≡ true → IsLegalCellOf l new team name
+    → command ≡ To team (Within session (Changing (Legalize name target))) → is_ok reply ≡ true
+    → IsLegalCellOf l new team name
 
 -- the team of that name has all its cells placed and team-legal
 pub record AreAllLegalIn (l : Legalizer) (floor : FloorState) (team : List ℕ) : Type 0 where
@@ -131,7 +138,8 @@ pub record AreAllLegalIn (l : Legalizer) (floor : FloorState) (team : List ℕ) 
 -- after an accepted tidy every cell of the team is placed and team-legal
 abbrev pub TidiesLegally : Legalizer → Command (List ℕ) Place → Reply → FloorState → Type 0
 TidiesLegally l command reply new =
-    (team : List ℕ) (session : ℕ) → command ≡ To team (Within session (Changing Tidy)) → is_ok reply ≡ true → AreAllLegalIn l new team
+    (team : List ℕ) (session : ℕ) → command ≡ To team (Within session (Changing Tidy)) → is_ok reply ≡ true
+    → AreAllLegalIn l new team
 
 -- after an accepted swap both cells are team-legal
 abbrev pub SwapsLegally : Legalizer → Command (List ℕ) Place → Reply → FloorState → Type 0
@@ -154,7 +162,8 @@ pub record AllCommittedIn (l : Legalizer) (floor : FloorState) (team : List ℕ)
 -- is its working place
 abbrev pub CommitsLegally : Legalizer → Command (List ℕ) Place → Reply → FloorState → Type 0
 CommitsLegally l command reply new =
-    (team : List ℕ) (session : ℕ) → command ≡ To team (Within session (Changing Commit)) → is_ok reply ≡ true → AllCommittedIn l new team
+    (team : List ℕ) (session : ℕ) → command ≡ To team (Within session (Changing Commit)) → is_ok reply ≡ true
+    → AllCommittedIn l new team
 
 -- a refusal leaves the whole floor unchanged
 abbrev pub KeepsIfRefused : Reply → FloorState → FloorState → Type 0

@@ -66,7 +66,8 @@ team_rules l f number padding = record { legalizer = l; frame = f; number = numb
 -- the candidate: the cell at that position, tested at a place among the team's other placed cells
 abbrev pub candidate_of_cell : TeamRules → List Cell → ℕ → Cell → Place → Candidate
 candidate_of_cell t cells own c place =
-    candidate_of t.frame t.number t.padding (macro_of t.frame c.mac) place (boxes_beside t.frame (map member_of cells) own)
+    candidate_of t.frame t.number t.padding (macro_of t.frame c.mac) place
+    (boxes_beside t.frame (map member_of cells) own)
 
 -- the first rule that this cell breaks; None if there is no cell
 abbrev pub broken_by : Option Cell → TeamRules → List Cell → ℕ → Place → Option Broken

@@ -47,7 +47,8 @@ pub record MayChange (t : TeamRules) (session : ℕ) (s : TeamState) : Type 0 wh
 
 -- no verb's outcome is OutOfMemory: the rules do not depend on memory
 abbrev pub NeverOutOfMemory : Type 0
-NeverOutOfMemory = (t : TeamRules) (verb : TeamCommand (List ℕ) Place) (s : TeamState) → is_short (outcome_of t verb s).reply ≡ false
+NeverOutOfMemory = (t : TeamRules) (verb : TeamCommand (List ℕ) Place) (s : TeamState)
+    → is_short (outcome_of t verb s).reply ≡ false
 
 -- a refusal leaves the team unchanged
 abbrev pub RefusalKeepsState : Type 0
@@ -88,7 +89,8 @@ pub record CountsOne (t : TeamRules) (session : ℕ) (old : TeamState) (o : Outc
 abbrev pub ChangeCounts : Type 0
 ChangeCounts =
     (t : TeamRules) (session : ℕ) (change : Change (List ℕ) Place) (s : TeamState)
-    → is_accepted (outcome_of_asking t session change s) ≡ true → CountsOne t session s (outcome_of_asking t session change s)
+    → is_accepted (outcome_of_asking t session change s) ≡ true
+    → CountsOne t session s (outcome_of_asking t session change s)
 
 -- the verb is a change of the team
 abbrev pub is_change : TeamCommand (List ℕ) Place → Bool
@@ -104,7 +106,8 @@ pub record KeepsCells (old new : TeamState) : Type 0 where
 
 -- a verb that is not a change leaves cells, revision, undo entries and padding unchanged
 abbrev pub QueryKeepsState : Type 0
-QueryKeepsState = (t : TeamRules) (verb : TeamCommand (List ℕ) Place) (s : TeamState) → is_change verb ≡ false → KeepsCells s (outcome_of t verb s).team
+QueryKeepsState = (t : TeamRules) (verb : TeamCommand (List ℕ) Place) (s : TeamState) → is_change verb ≡ false
+    → KeepsCells s (outcome_of t verb s).team
 
 -- ---- undo, commit and revert
 
@@ -127,7 +130,8 @@ abbrev pub RevertAfterCommitKeeps : Type 0
 RevertAfterCommitKeeps =
     (t : TeamRules) (session other : ℕ) (s : TeamState) →
     let after = outcome_of_asking t session Commit s in
-    is_accepted after ≡ true → MayChange t other after.team → LeadsToPlaces (outcome_of_asking t other Revert after.team) (places_of s.cells)
+    is_accepted after ≡ true → MayChange t other after.team
+    → LeadsToPlaces (outcome_of_asking t other Revert after.team) (places_of s.cells)
 
 -- the verb is a commit
 abbrev pub is_commit : TeamCommand (List ℕ) Place → Bool
@@ -153,7 +157,8 @@ is_pad _ = false
 
 -- only pad changes the padding
 abbrev pub OnlyPadPads : Type 0
-OnlyPadPads = (t : TeamRules) (verb : TeamCommand (List ℕ) Place) (s : TeamState) → is_pad verb ≡ false → (outcome_of t verb s).team.padding ≡ s.padding
+OnlyPadPads = (t : TeamRules) (verb : TeamCommand (List ℕ) Place) (s : TeamState) → is_pad verb ≡ false
+    → (outcome_of t verb s).team.padding ≡ s.padding
 
 -- the team has this padding; its working places, committed places and undo entries are unchanged
 pub record IsPadded (sites : Padding) (old new : TeamState) : Type 0 where
@@ -175,7 +180,8 @@ PadKeeps =
 -- legal for the cell
 abbrev pub BestIsFound : Type 0
 BestIsFound =
-    (t : TeamRules) (s : TeamState) (own : ℕ) (c : Cell) (target : Point) → IsTeamOf t.frame s → slice_get s.cells own ≡ Some c
+    (t : TeamRules) (s : TeamState) (own : ℕ) (c : Cell) (target : Point) → IsTeamOf t.frame s
+    → slice_get s.cells own ≡ Some c
     → IsChoice (query_of_cell t s.cells own c) target (option_map spot_of (best_at t s.cells own target))
 
 -- every cell of the team is placed and team-legal
@@ -223,4 +229,5 @@ SwapMakesLegal =
 
 -- after any verb a team of the frame is still a team of the frame
 abbrev pub VerbKeepsTeam : Type 0
-VerbKeepsTeam = (t : TeamRules) (verb : TeamCommand (List ℕ) Place) (s : TeamState) → IsTeamOf t.frame s → IsTeamOf t.frame (outcome_of t verb s).team
+VerbKeepsTeam = (t : TeamRules) (verb : TeamCommand (List ℕ) Place) (s : TeamState) → IsTeamOf t.frame s
+    → IsTeamOf t.frame (outcome_of t verb s).team

@@ -36,7 +36,13 @@ three p q r = row_cell (codes "a1") 0 p ∷ row_cell (codes "a2") 0 q ∷ row_ce
 
 -- a team that has made this many changes; its one session has seen the last of them
 abbrev pub team_after : ℕ → List (List (Option Place)) → List Cell → TeamState
-team_after revision entries cells = record { cells = cells; revision = revision; entries = entries; slots = Some revision ∷ []; padding = 0 }
+team_after revision entries cells = record {
+  cells = cells;
+  revision = revision;
+  entries = entries;
+  slots = Some revision ∷ [];
+  padding = 0;
+}
 
 -- that session's query for a cell's place
 abbrev pub where_is : List ℕ → TeamCommand (List ℕ) Place
@@ -56,9 +62,11 @@ abbrev pub SessionRow : Type 0
 SessionRow =
     (t : TeamRules) (cells : List Cell) →
     replies_to t
-    (Open ∷ Open ∷ Open ∷ Open ∷ Open ∷ Open ∷ Open ∷ Open ∷ Open ∷ Within 3 Close ∷ Open ∷ Within 9 (Where (codes "zz")) ∷ [])
+    (Open ∷ Open ∷ Open ∷ Open ∷ Open ∷ Open ∷ Open ∷ Open ∷ Open ∷ Within 3 Close ∷ Open ∷ Within 9
+    (Where (codes "zz")) ∷ [])
     (record { cells = cells; revision = 0; entries = []; slots = replicate 8 None; padding = 0 })
-    ≡ (Opened 0 0 ∷ Opened 1 0 ∷ Opened 2 0 ∷ Opened 3 0 ∷ Opened 4 0 ∷ Opened 5 0 ∷ Opened 6 0 ∷ Opened 7 0 ∷ Refused SessionsFull
+    ≡ (Opened 0 0 ∷ Opened 1 0 ∷ Opened 2 0 ∷ Opened 3 0 ∷ Opened 4 0 ∷ Opened 5 0 ∷ Opened 6 0 ∷ Opened 7 0
+    ∷ Refused SessionsFull
     ∷ Done ∷ Opened 3 0 ∷ Refused NoSession ∷ [])
 
 -- a session that has not seen the last change is stale until it has synchronized
@@ -67,32 +75,44 @@ StaleRow =
     (t : TeamRules) (p q : Place) → HasRoomForRows t → broken_at t (three (Some p) None None) 1 q ≡ None →
     let place = Within 1 (Changing (PlaceAt (codes "a2") q)) in
     replies_to t (place ∷ Within 1 Sync ∷ place ∷ Within 1 (Where (codes "a2")) ∷ [])
-    (record { cells = three (Some p) None None; revision = 1; entries = (None ∷ None ∷ None ∷ []) ∷ []; slots = Some 1 ∷ Some 0 ∷ []; padding = 0 })
+    (record {
+      cells = three (Some p) None None;
+      revision = 1;
+      entries = (None ∷ None ∷ None ∷ []) ∷ [];
+      slots = Some 1 ∷ Some 0 ∷ [];
+      padding = 0;
+    })
     ≡ (Refused (Stale 1) ∷ Revision 1 ∷ Revision 2 ∷ At q ∷ [])
 
 -- with two undo entries allowed, three changes are made, and a third undo finds no entry
 abbrev pub UndoRow : Type 0
 UndoRow =
     (t : TeamRules) (p q r : Place) → 9 < t.frame.limits.revisions → t.frame.limits.undo ≡ 2 →
-    broken_at t (three None None None) 0 p ≡ None → broken_at t (three (Some p) None None) 1 q ≡ None → broken_at t (three (Some p) (Some q) None) 2 r ≡ None →
+    broken_at t (three None None None) 0 p ≡ None → broken_at t (three (Some p) None None) 1 q
+    ≡ None → broken_at t (three (Some p) (Some q) None) 2 r ≡ None →
     replies_to t
     (change_to (PlaceAt (codes "a1") p) ∷ change_to (PlaceAt (codes "a2") q) ∷ change_to (PlaceAt (codes "a3") r)
-    ∷ change_to Undo ∷ change_to Undo ∷ change_to Undo ∷ where_is (codes "a1") ∷ where_is (codes "a2") ∷ where_is (codes "a3") ∷ [])
+    ∷ change_to Undo ∷ change_to Undo ∷ change_to Undo ∷ where_is (codes "a1") ∷ where_is (codes "a2")
+    ∷ where_is (codes "a3") ∷ [])
     (team_after 0 [] (three None None None))
-    ≡ (Revision 1 ∷ Revision 2 ∷ Revision 3 ∷ Revision 4 ∷ Revision 5 ∷ Refused NothingToUndo ∷ At p ∷ Refused (Unplaced 1) ∷ Refused (Unplaced 2) ∷ [])
+    ≡ (Revision 1 ∷ Revision 2 ∷ Revision 3 ∷ Revision 4 ∷ Revision 5 ∷ Refused NothingToUndo ∷ At p
+    ∷ Refused (Unplaced 1) ∷ Refused (Unplaced 2) ∷ [])
 
 -- at the revision limit no change is made, undo included
 abbrev pub SpentRow : Type 0
 SpentRow =
-    (t : TeamRules) (change : Change (List ℕ) Place) (entries : List (List (Option Place))) (cells : List Cell) → t.frame.limits.revisions ≡ 3 →
+    (t : TeamRules) (change : Change (List ℕ) Place) (entries : List (List (Option Place))) (cells : List Cell)
+    → t.frame.limits.revisions ≡ 3 →
     replies_to t (change_to change ∷ []) (team_after 3 entries cells) ≡ (Refused RevisionsSpent ∷ [])
 
 -- find changes nothing, and legalize moves the cell to the place that find returns
 abbrev pub BestRow : Type 0
 BestRow =
-    (t : TeamRules) (target : Point) (best : Place) → HasRoomForRows t → best_at t (three None None None) 0 target ≡ Some best →
+    (t : TeamRules) (target : Point) (best : Place) → HasRoomForRows t
+    → best_at t (three None None None) 0 target ≡ Some best →
     replies_to t
-    (Within 0 (Find (codes "a1") target) ∷ where_is (codes "a1") ∷ change_to (Legalize (codes "a1") target) ∷ where_is (codes "a1") ∷ [])
+    (Within 0 (Find (codes "a1") target) ∷ where_is (codes "a1") ∷ change_to (Legalize (codes "a1") target)
+    ∷ where_is (codes "a1") ∷ [])
     (team_after 0 [] (three None None None))
     ≡ (At best ∷ Refused (Unplaced 0) ∷ Legalized 1 best ∷ At best ∷ [])
 
@@ -103,15 +123,18 @@ NoPlaceRow =
     (t : TeamRules) (target : Point) → HasRoomForRows t → best_at t (three None None None) 2 target ≡ None →
     tidied t.legalizer t.frame t.number t.padding (map member_of (three None None None)) ≡ Stuck 2 →
     replies_to t
-    (Within 0 (Find (codes "a3") target) ∷ change_to (Legalize (codes "a3") target) ∷ change_to Tidy ∷ where_is (codes "a1") ∷ change_to Undo ∷ [])
+    (Within 0 (Find (codes "a3") target) ∷ change_to (Legalize (codes "a3") target) ∷ change_to Tidy
+    ∷ where_is (codes "a1") ∷ change_to Undo ∷ [])
     (team_after 0 [] (three None None None))
-    ≡ (Refused (NoPlace 2) ∷ Refused (NoPlace 2) ∷ Refused (NoPlace 2) ∷ Refused (Unplaced 0) ∷ Refused NothingToUndo ∷ [])
+    ≡ (Refused (NoPlace 2) ∷ Refused (NoPlace 2) ∷ Refused (NoPlace 2) ∷ Refused (Unplaced 0)
+    ∷ Refused NothingToUndo ∷ [])
 
 -- the reply to a tidy counts the cells moved to their best place
 abbrev pub TidyRow : Type 0
 TidyRow =
     (t : TeamRules) (p q r : Place) → HasRoomForRows t →
-    tidied t.legalizer t.frame t.number t.padding (map member_of (three None None None)) ≡ Going (map member_of (three (Some p) (Some q) (Some r))) 3 →
+    tidied t.legalizer t.frame t.number t.padding (map member_of (three None None None))
+    ≡ Going (map member_of (three (Some p) (Some q) (Some r))) 3 →
     replies_to t (change_to Tidy ∷ where_is (codes "a1") ∷ where_is (codes "a2") ∷ where_is (codes "a3") ∷ [])
     (team_after 0 [] (three None None None))
     ≡ (TidyDone 1 3 ∷ At p ∷ At q ∷ At r ∷ [])
@@ -120,9 +143,11 @@ TidyRow =
 abbrev pub TidyCommitRow : Type 0
 TidyCommitRow =
     (t : TeamRules) (p q r : Place) → HasRoomForRows t →
-    tidied t.legalizer t.frame t.number t.padding (map member_of (three None None None)) ≡ Going (map member_of (three (Some p) (Some q) (Some r))) 3 →
+    tidied t.legalizer t.frame t.number t.padding (map member_of (three None None None))
+    ≡ Going (map member_of (three (Some p) (Some q) (Some r))) 3 →
     broken_cells t (three (Some p) (Some q) (Some r)) ≡ [] →
-    replies_to t (change_to Tidy ∷ where_is (codes "a3") ∷ change_to Commit ∷ []) (team_after 0 [] (three None None None))
+    replies_to t (change_to Tidy ∷ where_is (codes "a3") ∷ change_to Commit ∷ [])
+    (team_after 0 [] (three None None None))
     ≡ (TidyDone 1 3 ∷ At r ∷ Revision 2 ∷ [])
 
 -- after a commit, revert restores the place of an unplaced cell
@@ -130,7 +155,8 @@ abbrev pub CommitRow : Type 0
 CommitRow =
     (t : TeamRules) (p q r : Place) → HasRoomForRows t → broken_cells t (three (Some p) (Some q) (Some r)) ≡ [] →
     replies_to t
-    (change_to Commit ∷ change_to (Unplace (codes "a1")) ∷ change_to (Unplace (codes "a1")) ∷ change_to Revert ∷ where_is (codes "a1") ∷ [])
+    (change_to Commit ∷ change_to (Unplace (codes "a1")) ∷ change_to (Unplace (codes "a1")) ∷ change_to Revert
+    ∷ where_is (codes "a1") ∷ [])
     (team_after 1 [] (three (Some p) (Some q) (Some r)))
     ≡ (Revision 2 ∷ Revision 3 ∷ Refused (Unplaced 0) ∷ Revision 4 ∷ At p ∷ [])
 
@@ -138,7 +164,8 @@ CommitRow =
 abbrev pub RefusedRow : Type 0
 RefusedRow =
     (t : TeamRules) (p q : Place) → HasRoomForRows t →
-    replies_to t (change_to Commit ∷ change_to (PlaceAt (codes "b1") q) ∷ change_to (Swap (codes "a2") (codes "b1")) ∷ change_to (Swap (codes "a2") (codes "a3")) ∷ [])
+    replies_to t (change_to Commit ∷ change_to (PlaceAt (codes "b1") q) ∷ change_to (Swap (codes "a2") (codes "b1"))
+    ∷ change_to (Swap (codes "a2") (codes "a3")) ∷ [])
     (team_after 1 [] (three (Some p) None None))
     ≡ (Refused (Unplaced 1) ∷ Refused NoCell ∷ Refused NoCell ∷ Refused (Unplaced 1) ∷ [])
 
@@ -149,18 +176,22 @@ SwapRow =
     (t : TeamRules) (p q r : Place) → HasRoomForRows t →
     let cells = three (Some p) (Some q) (Some r) in
     broken_where t (exchanged cells 0 1) 0 ≡ None → broken_where t (exchanged cells 0 1) 1 ≡ None →
-    broken_where t (exchanged cells 0 2) 0 ≡ None → broken_where t (exchanged cells 0 2) 2 ≡ Some (record { rule = Overlap; other = Some 1 }) →
+    broken_where t (exchanged cells 0 2) 0 ≡ None → broken_where t (exchanged cells 0 2) 2
+    ≡ Some (record { rule = Overlap; other = Some 1 }) →
     replies_to t
-    (change_to (Swap (codes "a1") (codes "a2")) ∷ where_is (codes "a1") ∷ change_to Undo ∷ change_to (Swap (codes "a1") (codes "a3")) ∷ [])
+    (change_to (Swap (codes "a1") (codes "a2")) ∷ where_is (codes "a1") ∷ change_to Undo
+    ∷ change_to (Swap (codes "a1") (codes "a3")) ∷ [])
     (team_after 3 [] cells)
     ≡ (Revision 4 ∷ At q ∷ Revision 5 ∷ Refused (Illegal Overlap 2 (Some 1)) ∷ [])
 
 -- pad moves no cell, and undo reverts the change before the pad and not the padding
 abbrev pub PadRow : Type 0
 PadRow =
-    (t : TeamRules) (padding : Padding) (p q : Place) → HasRoomForRows t → broken_at t (three (Some p) None None) 1 q ≡ None →
+    (t : TeamRules) (padding : Padding) (p q : Place) → HasRoomForRows t
+    → broken_at t (three (Some p) None None) 1 q ≡ None →
     replies_to t
-    (change_to (PlaceAt (codes "a2") q) ∷ change_to (Pad padding) ∷ where_is (codes "a2") ∷ change_to Undo ∷ where_is (codes "a2") ∷ [])
+    (change_to (PlaceAt (codes "a2") q) ∷ change_to (Pad padding) ∷ where_is (codes "a2") ∷ change_to Undo
+    ∷ where_is (codes "a2") ∷ [])
     (team_after 0 [] (three (Some p) None None))
     ≡ (Revision 1 ∷ Revision 2 ∷ At q ∷ Revision 3 ∷ Refused (Unplaced 1) ∷ [])
 

@@ -3,7 +3,7 @@ pub mod FirstIllegal
 pub mod Seeking
 pub mod Moves
 pub mod Fitting
-pub mod Judging
+pub mod BrokenRules
 pub mod Swaps
 pub mod Undoing
 pub mod Unplaced
@@ -13,5 +13,5 @@ pub mod Reverting
 pub mod Committing
 pub mod Sending
 pub mod Marking
-pub mod Standing
+pub mod IllegalCells
 pub mod Ends

@@ -21,10 +21,10 @@ use Rattle.lf_legalize.specs.Members.{IsSizedCell, member_of}
 use Rattle.lf_floor_model.specs.Teams.{TeamRules, broken_by, candidate_of_cell}
 use Rattle.lf_floor_model.specs.Queries.{query_of_cell}
 use Rattle.lf_floor_model.specs.Changes.{broken_where}
-use Rattle.lf_floor_model.proofs.Standing.{some_one, is_placed_where}
+use Rattle.lf_floor_model.proofs.LegalPlaces.{some_one, is_placed_where}
 use Rattle.lf_floor_verbs.specs.Marking.{AreMarked}
 use Rattle.lf_floor_verbs.specs.Tidying.{tidy_target_at}
-use Rattle.lf_floor_verbs.proofs.Judging.{sized_there}
+use Rattle.lf_floor_verbs.proofs.BrokenRules.{sized_there}
 
 -- ---- marks
 

@@ -16,7 +16,7 @@ use Rattle.lf_placement.proofs.Moves.{id_there}
 use Rattle.lf_floorplan.specs.Bounds.{IsDesignName}
 use Rattle.lf_floor_model.specs.Outcomes.{name_at}
 use Rattle.lf_floor_model.specs.Teams.{TeamRules}
-use Rattle.lf_floor_model.proofs.Standing.{some_one}
+use Rattle.lf_floor_model.proofs.LegalPlaces.{some_one}
 use Rattle.lf_floor_model.specs.Queries.{place_of_spot, query_of_cell, best_at}
 
 pub back : (q : Place) → place_of_spot (spot_of q) ≡ Some q

@@ -31,7 +31,7 @@ use Rattle.lf_floor_verbs.specs.declared.tidy.TidyStep.{TidyStep}
 use Rattle.lf_floor_verbs.specs.Tidying.{TidiesOneCell, TidiesCells, tidy_result_of, tidy_target_at}
 use Rattle.lf_floor_verbs.proofs.Moves.{restored_is}
 use Rattle.lf_floor_verbs.proofs.Seeking.{back}
-use Rattle.lf_floor_model.proofs.Standing.{some_one}
+use Rattle.lf_floor_model.proofs.LegalPlaces.{some_one}
 
 -- ---- one cell that is moved
 

@@ -17,7 +17,7 @@ use Rattle.lf_floor_model.specs.Outcomes.{may_be_short, refused}
 use Rattle.lf_floor_model.specs.Changes.{broken_where, exchanged, swapped, swapped_from, swapped_own, swapped_unless}
 use Rattle.lf_floor_verbs.specs.declared.swap.Exchange.{Exchange}
 use Rattle.lf_floor_verbs.specs.Swapping.{IsExchange, exchange_moves, first_refusal_of, illegal_by, swap_refusal, swapped_here}
-use Rattle.lf_floor_verbs.proofs.Judging.{first_broken}
+use Rattle.lf_floor_verbs.proofs.BrokenRules.{first_broken}
 
 some_same : {X : Type 0} {x y : X} → Some x ≡ Some y → x ≡ y
 some_same e = cc

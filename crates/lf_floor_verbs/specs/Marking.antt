@@ -7,4 +7,5 @@ use Rattle.lf_legalize.specs.Members.{member_of}
 
 -- each cell of the team with a mark is placed and team-legal
 abbrev pub AreMarked : Frame → ℕ → ℕ → List Cell → List Bool → Type 0
-AreMarked f number padding cells marks = (own : ℕ) → slice_get marks own ≡ Some true → IsLegalCell f number padding (map member_of cells) own
+AreMarked f number padding cells marks = (own : ℕ) → slice_get marks own ≡ Some true
+    → IsLegalCell f number padding (map member_of cells) own

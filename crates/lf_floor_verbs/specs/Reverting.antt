@@ -9,5 +9,6 @@ use Rattle.lf_placement.specs.Placements.{moves_applied}
 -- wherever the old moves have moved the other cells
 abbrev pub IsRevertMove : List Cell → ℕ → List Move → List Move → Type 0
 IsRevertMove cells own old new =
-    (now : List Cell) → moves_applied old cells ≡ now → working_at now own ≡ working_at cells own → committed_at now own ≡ committed_at cells own
+    (now : List Cell) → moves_applied old cells ≡ now → working_at now own ≡ working_at cells own
+    → committed_at now own ≡ committed_at cells own
     → moves_applied new cells ≡ moved now own (committed_at now own)

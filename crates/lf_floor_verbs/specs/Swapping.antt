@@ -45,7 +45,8 @@ first_refusal_of (Some refusal) other = Some refusal
 
 -- the refusal of two cells at their working places; the first is tested first
 abbrev pub swap_refusal : TeamRules → List Cell → ℕ → ℕ → Option Refusal
-swap_refusal t cells first second = first_refusal_of (illegal_by (broken_where t cells first) first) (illegal_by (broken_where t cells second) second)
+swap_refusal t cells first second =
+    first_refusal_of (illegal_by (broken_where t cells first) first) (illegal_by (broken_where t cells second) second)
 
 -- the swap of two placed cells
 abbrev pub swapped_here : TeamRules → ℕ → ℕ → ℕ → TeamState → Outcome

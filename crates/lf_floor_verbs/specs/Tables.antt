@@ -183,6 +183,7 @@ pub record AreInitial (design : Loaded) (tables : Tables) : Type 0 where
   pub components : tables.placement.cells.components ≡ initial_components design
   pub undo : tables.undo.lists ≡ replicate (length design.frame.teams + 1) []
   pub limit : tables.undo.limit ≡ design.frame.limits.undo
-  pub sessions : tables.sessions ≡ replicate (length design.frame.teams + 1) (replicate design.frame.limits.sessions None)
+  pub sessions : tables.sessions
+      ≡ replicate (length design.frame.teams + 1) (replicate design.frame.limits.sessions None)
   pub revisions : tables.revisions.items ≡ replicate (length design.frame.teams + 1) 0
   pub paddings : sites_in tables ≡ replicate (length design.frame.teams + 1) 0

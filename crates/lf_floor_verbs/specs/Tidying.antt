@@ -16,7 +16,8 @@ use Rattle.lf_floor_model.specs.Queries.{query_of_cell}
 -- the target to which the cell at that position is tidied; None if it stays
 abbrev pub tidy_target_at : TeamRules → List Cell → ℕ → Option Point
 tidy_target_at t cells own =
-    option_and_then (λ c. target_of t.legalizer (query_of_cell t cells own c) (option_map spot_of c.working)) (slice_get cells own)
+    option_and_then (λ c. target_of t.legalizer (query_of_cell t cells own c) (option_map spot_of c.working))
+    (slice_get cells own)
 
 -- the result for one cell, as tidying counts it
 abbrev pub tidy_result_of : TidyStep → List Cell → ℕ → ℕ → Tidied
@@ -27,7 +28,8 @@ tidy_result_of Nowhere cells moved own = Stuck own
 -- tidying the cell at that position turns the old cells into the new ones
 abbrev pub TidiesOneCell : TeamRules → ℕ → List Cell → List Cell → TidyStep → Type 0
 TidiesOneCell t own old new sent =
-    (moved : ℕ) → tidy_cell t.legalizer t.frame t.number t.padding (Going (map member_of old) moved) own ≡ tidy_result_of sent new moved own
+    (moved : ℕ) → tidy_cell t.legalizer t.frame t.number t.padding (Going (map member_of old) moved) own
+    ≡ tidy_result_of sent new moved own
 
 -- the result for all cells
 abbrev pub tidied_as : Tidy → List Cell → Tidied

@@ -14,7 +14,7 @@ pub(crate) struct ByPlace {
 }
 
 /// The cell with its working place.
-fn standing_cell(cells: &CellTable, id: CellId) -> ByPlace
+fn cell_by_place(cells: &CellTable, id: CellId) -> ByPlace
     ensures { result.own ≡ id.own }
 {
     match cells.working(id) {
@@ -34,7 +34,7 @@ fn standing_cell(cells: &CellTable, id: CellId) -> ByPlace
 /// The cells of these ids with their working places.
 ///
 /// `Err` if an allocation fails.
-fn all_standing(
+fn all_by_place(
     alloc: Global,
     cells: &CellTable,
     ids: &[CellId],
@@ -43,7 +43,7 @@ fn all_standing(
 {
     let mut list = Vec::with_capacity(alloc, ids.len())?;
     for id in ids {
-        list.push(standing_cell(cells, *id))?;
+        list.push(cell_by_place(cells, *id))?;
     }
     Ok(list)
 }
@@ -66,7 +66,7 @@ pub(crate) fn by_place(
 ) -> Result<Vec<ByPlace>, AllocError>
     ensures { IfOk result (λ list. IsPermutation (map (λ id. id.own) ids.now) (map (λ c. c.own) list.items)) }
 {
-    let mut list = all_standing(alloc, cells, ids)?;
+    let mut list = all_by_place(alloc, cells, ids)?;
     sort_by_place(&mut list);
     Ok(list)
 }

@@ -28,7 +28,8 @@ pub(crate) fn broken_at(
     padding: Padding,
 ) -> Option<Broken>
     ensures { (l : Legalizer) → result
-        ≡ broken_at (team_rules l placement.now.frame id.team padding.sites) (cells_of placement.now.cells id.team) id.own place.now }
+        ≡ broken_at (team_rules l placement.now.frame id.team padding.sites)
+        (cells_of placement.now.cells id.team) id.own place.now }
 {
     verdict_is_unique();
     placement.cells_are_sized();
@@ -40,7 +41,8 @@ pub(crate) fn broken_at(
 /// Does not allocate.
 pub(crate) fn broken_where(placement: &Placement, id: CellId, padding: Padding) -> Option<Broken>
     ensures { (l : Legalizer) → result
-        ≡ broken_where (team_rules l placement.now.frame id.team padding.sites) (cells_of placement.now.cells id.team) id.own }
+        ≡ broken_where (team_rules l placement.now.frame id.team padding.sites)
+        (cells_of placement.now.cells id.team) id.own }
 {
     let place = placement.cells().working(id)?;
     broken_at(placement, id, &place, padding)
@@ -57,9 +59,11 @@ pub(crate) fn best_place<S: Seeker>(
 ) -> Result<Option<Place>, AllocError>
     requires team { id.team ≡ around.now.number }
     ensures best { (l : Legalizer) → IfOk result (λ found. found
-        ≡ best_at (context_at l around.now placement.now) (cells_of placement.now.cells around.now.number) id.own target.now) }
+        ≡ best_at (context_at l around.now placement.now)
+        (cells_of placement.now.cells around.now.number) id.own target.now) }
     ensures spot { (l : Legalizer) → IfOk result (λ found. option_map spot_of found
-        ≡ best_of l placement.now.frame around.now.number around.now.padding.sites (cells_of placement.now.cells around.now.number) id.own target.now) }
+        ≡ best_of l placement.now.frame around.now.number around.now.padding.sites
+        (cells_of placement.now.cells around.now.number) id.own target.now) }
 {
     placement.best_place(around.alloc, around.seeker, id, target, around.padding)
 }

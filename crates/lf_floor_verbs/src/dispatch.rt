@@ -33,16 +33,19 @@ impl Tables {
         requires served { HasTeamRow around.now.number self.old }
         requires open { seen_at (slots_of self.old.sessions around.now.number) session ≡ Some seen }
         ensures ok { (l : Legalizer) → IfOk result (λ reply. IsOutcome
-            (unless_stale seen (context_in l around.now self.old) session (change_of change.now) (team_in around.now self.old))
+            (unless_stale seen (context_in l around.now self.old) session (change_of change.now)
+            (team_in around.now self.old))
             reply (team_in around.now self.new)) }
         ensures err { (l : Legalizer) → OnErr result (IsOutOfMemory
-            (unless_stale seen (context_in l around.now self.old) session (change_of change.now) (team_in around.now self.old))
+            (unless_stale seen (context_in l around.now self.old) session (change_of change.now)
+            (team_in around.now self.old))
             (team_in around.now self.old) (team_in around.now self.new)) }
         ensures others { KeepsOtherTeams around.now.number self.old self.new }
         ensures fit { EntriesFit around.now.number self.new }
         ensures takes { OnErr result (takes_memory (Within session (Changing (change_of change.now))) ≡ true) }
         ensures untested { (l : Legalizer) → OnErr result (is_tested (Within session (Changing (change_of change.now)))
-            (unless_stale seen (context_in l around.now self.old) session (change_of change.now) (team_in around.now self.old)).reply ≡ false) }
+            (unless_stale seen (context_in l around.now self.old) session (change_of change.now)
+            (team_in around.now self.old)).reply ≡ false) }
     {
         let revision = self.revision(around.number);
         if seen != revision {
@@ -67,16 +70,19 @@ impl Tables {
         requires served { HasTeamRow around.now.number self.old }
         requires open { seen_at (slots_of self.old.sessions around.now.number) session ≡ Some seen }
         ensures ok { (l : Legalizer) → IfOk result (λ reply. IsOutcome
-            (outcome_within seen (context_in l around.now self.old) session (action_of action.now) (team_in around.now self.old))
+            (outcome_within seen (context_in l around.now self.old) session (action_of action.now)
+            (team_in around.now self.old))
             reply (team_in around.now self.new)) }
         ensures err { (l : Legalizer) → OnErr result (IsOutOfMemory
-            (outcome_within seen (context_in l around.now self.old) session (action_of action.now) (team_in around.now self.old))
+            (outcome_within seen (context_in l around.now self.old) session (action_of action.now)
+            (team_in around.now self.old))
             (team_in around.now self.old) (team_in around.now self.new)) }
         ensures others { KeepsOtherTeams around.now.number self.old self.new }
         ensures fit { EntriesFit around.now.number self.new }
         ensures takes { OnErr result (takes_memory (Within session (action_of action.now)) ≡ true) }
         ensures untested { (l : Legalizer) → OnErr result (is_tested (Within session (action_of action.now))
-            (outcome_within seen (context_in l around.now self.old) session (action_of action.now) (team_in around.now self.old)).reply ≡ false) }
+            (outcome_within seen (context_in l around.now self.old) session (action_of action.now)
+            (team_in around.now self.old)).reply ≡ false) }
     {
         match action {
             Action::Close => Ok(self.close(around.number, session)),
@@ -109,7 +115,8 @@ impl Tables {
         ensures fit { EntriesFit around.now.number self.new }
         ensures takes { OnErr result (takes_memory (order_of order.now) ≡ true) }
         ensures untested { (l : Legalizer) → OnErr result (is_tested (order_of order.now)
-            (outcome_of (context_in l around.now self.old) (order_of order.now) (team_in around.now self.old)).reply ≡ false) }
+            (outcome_of (context_in l around.now self.old) (order_of order.now)
+            (team_in around.now self.old)).reply ≡ false) }
     {
         match order {
             TeamCommand::Open => Ok(self.open(around.number)),

@@ -38,7 +38,8 @@ impl Tables {
     ) -> Result<(), AllocError>
         requires { HasRows number self.old }
         ensures room { OnOk result (HasRoomForEntry self.new.undo number) }
-        ensures fits { OnOk result (Fits self.new.placement number (working_places_of (moves_applied moves.now (table_cells number self.old)))) }
+        ensures fits { OnOk result (Fits self.new.placement number
+            (working_places_of (moves_applied moves.now (table_cells number self.old)))) }
         ensures grown { OnlyGainRoom self.old self.new }
     {
         self.make_room(number)?;
@@ -69,9 +70,11 @@ impl Tables {
         requires rows { HasRows number self.old }
         requires current { IsCurrent number session self.old }
         requires room { HasRoomForEntry self.old.undo number }
-        requires fits { Fits self.old.placement number (working_places_of (moves_applied moves (table_cells number self.old))) }
+        requires fits { Fits self.old.placement number
+            (working_places_of (moves_applied moves (table_cells number self.old))) }
         ensures team { own_team number self.new
-            ≡ team_after_change number session (table_cells number self.old) (moves_applied moves (table_cells number self.old)) self.old }
+            ≡ team_after_change number session (table_cells number self.old)
+            (moves_applied moves (table_cells number self.old)) self.old }
         ensures revision { result ≡ revision_of self.old number + 1 }
         ensures others { KeepsOtherTeams number self.old self.new }
         ensures fit { EntriesFit number self.old → EntriesFit number self.new }
@@ -95,7 +98,8 @@ impl Tables {
     ) -> Result<u32, AllocError>
         requires rows { HasRows id.team self.old }
         requires current { IsCurrent id.team session self.old }
-        ensures ok { OnOk result (own_team id.team self.new ≡ team_after_change id.team session (table_cells id.team self.old)
+        ensures ok { OnOk result
+            (own_team id.team self.new ≡ team_after_change id.team session (table_cells id.team self.old)
             (moved (table_cells id.team self.old) id.own place) self.old) }
         ensures revision { IfOk result (λ revision. revision ≡ revision_of self.old id.team + 1) }
         ensures err { OnErr result (own_team id.team self.new ≡ own_team id.team self.old) }

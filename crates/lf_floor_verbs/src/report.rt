@@ -48,7 +48,8 @@ fn put_cells(
     padding: Padding,
     text: &mut Vec<u8>,
 ) -> Result<(), AllocError>
-    requires marked { AreMarked placement.now.frame number padding.sites (cells_of placement.now.cells number) marks.now }
+    requires marked { AreMarked placement.now.frame number padding.sites
+        (cells_of placement.now.cells number) marks.now }
     requires printed { All (λ c. IsDesignName c.name) (cells_of placement.now.cells number) }
     ensures { (l : Legalizer) → OnOk result (text.new.items ++ violations_text true []
         ≡ text.old.items ++ violations_text false (violations_in l placement.now.frame padding.sites
@@ -75,7 +76,8 @@ pub(crate) fn report_text<S>(
 ) -> Result<Text, AllocError>
     requires team { IsTeamOf (frame_of tables.now) (team_in around.now tables.now) }
     ensures { IfOk result (λ text. (l : Legalizer) → text ≡ report_text
-        (report_of l (frame_of tables.now) around.now.padding.sites (map (listed_of around.now.number) (table_cells around.now.number tables.now)))) }
+        (report_of l (frame_of tables.now) around.now.padding.sites
+        (map (listed_of around.now.number) (table_cells around.now.number tables.now)))) }
 {
     let marks = legal_marks(around, tables)?;
     let cells = tables.placement.cells();

@@ -33,16 +33,19 @@ impl Tables {
     ) -> Result<Reply, AllocError>
         requires change { CanChange around.now.number session self.old }
         ensures ok { (l : Legalizer) → IfOk result (λ reply. IsOutcome
-            (outcome_of_change (context_in l around.now self.old) session (change_of change.now) (team_in around.now self.old))
+            (outcome_of_change (context_in l around.now self.old) session (change_of change.now)
+            (team_in around.now self.old))
             reply (team_in around.now self.new)) }
         ensures err { (l : Legalizer) → OnErr result (IsOutOfMemory
-            (outcome_of_change (context_in l around.now self.old) session (change_of change.now) (team_in around.now self.old))
+            (outcome_of_change (context_in l around.now self.old) session (change_of change.now)
+            (team_in around.now self.old))
             (team_in around.now self.old) (team_in around.now self.new)) }
         ensures others { KeepsOtherTeams around.now.number self.old self.new }
         ensures fit { EntriesFit around.now.number self.new }
         ensures takes { OnErr result (takes_memory (Within session (Changing (change_of change.now))) ≡ true) }
         ensures untested { (l : Legalizer) → OnErr result (is_tested (Within session (Changing (change_of change.now)))
-            (outcome_of_change (context_in l around.now self.old) session (change_of change.now) (team_in around.now self.old)).reply ≡ false) }
+            (outcome_of_change (context_in l around.now self.old) session (change_of change.now)
+            (team_in around.now self.old)).reply ≡ false) }
     {
         match change {
             Change::Place { cell, place } => self.place(around, session, cell, place),
@@ -76,8 +79,10 @@ impl Tables {
         ensures err { (l : Legalizer) → OnErr result (IsOutOfMemory
             (placed (context_in l around.now self.old) session name.now place.now (team_in around.now self.old))
             (team_in around.now self.old) (team_in around.now self.new)) }
-        ensures untested { (l : Legalizer) → OnErr result (is_tested (Within session (Changing (PlaceAt name.now place.now)))
-            (placed (context_in l around.now self.old) session name.now place.now (team_in around.now self.old)).reply ≡ false) }
+        ensures untested { (l : Legalizer)
+            → OnErr result (is_tested (Within session (Changing (PlaceAt name.now place.now)))
+            (placed (context_in l around.now self.old) session name.now place.now
+            (team_in around.now self.old)).reply ≡ false) }
         ensures others { KeepsOtherTeams around.now.number self.old self.new }
         ensures fit { EntriesFit around.now.number self.new }
     {

@@ -88,7 +88,8 @@ fn refusal_at(
     requires alone { IsBrokenFrameRule placement.now id place.now alone }
     requires there { working_at (cells_of placement.now.cells id.team) id.own ≡ Some place.now }
     ensures { (l : Legalizer) → result ≡ illegal_by
-        (broken_where (team_rules l placement.now.frame id.team padding.sites) (cells_of placement.now.cells id.team) id.own) id.own }
+        (broken_where (team_rules l placement.now.frame id.team padding.sites)
+        (cells_of placement.now.cells id.team) id.own) id.own }
 {
     verdict_is_unique();
     placement.cells_are_sized();
@@ -105,7 +106,8 @@ fn refusal_of(
     padding: Padding,
 ) -> Option<Refusal>
     requires { IsExchanged placement.now exchange.now alone }
-    ensures { (l : Legalizer) → result ≡ swap_refusal (team_rules l placement.now.frame exchange.now.first.team padding.sites)
+    ensures { (l : Legalizer) → result
+        ≡ swap_refusal (team_rules l placement.now.frame exchange.now.first.team padding.sites)
         (cells_of placement.now.cells exchange.now.first.team) exchange.now.first.own exchange.now.second.own }
 {
     match refusal_at(placement, exchange.first, &exchange.to, None, padding) {
@@ -127,13 +129,15 @@ impl Tables {
     ) -> Reply
         requires change { CanChange exchange.now.first.team session self.old }
         requires room { HasRoomForEntry self.old.undo exchange.now.first.team }
-        requires fits { Fits self.old.placement exchange.now.first.team (working_places_of (moves_applied moves (table_cells exchange.now.first.team self.old))) }
+        requires fits { Fits self.old.placement exchange.now.first.team
+            (working_places_of (moves_applied moves (table_cells exchange.now.first.team self.old))) }
         requires are { IsExchange exchange.now.first.team (table_cells exchange.now.first.team self.old) exchange.now }
         requires moves { moves ≡ exchange_moves exchange.now }
         requires first { IsBrokenFrameRule self.old.placement exchange.now.first exchange.now.to None }
         requires second { IsBrokenFrameRule self.old.placement exchange.now.second exchange.now.from alone }
         ensures team { (l : Legalizer) → IsOutcome
-            (swapped_here (team_rules l (frame_of self.old) exchange.now.first.team padding.sites) session exchange.now.first.own exchange.now.second.own
+            (swapped_here (team_rules l (frame_of self.old) exchange.now.first.team padding.sites) session
+            exchange.now.first.own exchange.now.second.own
             (own_team exchange.now.first.team self.old)) result (own_team exchange.now.first.team self.new) }
         ensures others { KeepsOtherTeams exchange.now.first.team self.old self.new }
         ensures fit { EntriesFit exchange.now.first.team self.new }
@@ -165,7 +169,8 @@ impl Tables {
         requires change { CanChange around.now.number session self.old }
         requires are { IsExchange around.now.number (table_cells around.now.number self.old) exchange.now }
         ensures ok { (l : Legalizer) → IfOk result (λ reply. IsOutcome
-            (swapped_here (context_in l around.now self.old) session exchange.now.first.own exchange.now.second.own (team_in around.now self.old))
+            (swapped_here (context_in l around.now self.old) session exchange.now.first.own exchange.now.second.own
+            (team_in around.now self.old))
             reply (team_in around.now self.new)) }
         ensures err { OnErr result (team_in around.now self.new ≡ team_in around.now self.old) }
         ensures others { KeepsOtherTeams around.now.number self.old self.new }

@@ -27,9 +27,11 @@ const BATCH: usize = 65536;
 /// Returns true if the cell is placed and breaks no rule at its working place, among the other
 /// cells of its team with this padding. False if there is no such cell. Does not allocate.
 pub fn is_cell_legal(placement: &Placement, id: CellId, padding: Padding) -> bool
-    ensures legal { IsTrue result → IsLegalCell placement.now.frame id.team padding.sites (map member_of (cells_of placement.now.cells id.team)) id.own }
+    ensures legal { IsTrue result → IsLegalCell placement.now.frame id.team padding.sites
+        (map member_of (cells_of placement.now.cells id.team)) id.own }
     ensures reported { id.own < length (cells_of placement.now.cells id.team)
-        → IsLegalCell placement.now.frame id.team padding.sites (map member_of (cells_of placement.now.cells id.team)) id.own → IsTrue result }
+        → IsLegalCell placement.now.frame id.team padding.sites
+        (map member_of (cells_of placement.now.cells id.team)) id.own → IsTrue result }
 {
     legalizer_exists();
     verdict_is_unique();
@@ -53,8 +55,10 @@ fn mark(marks: &mut Vec<bool>, own: usize)
 
 /// Marks the team's cell at that position if it is placed and breaks no rule at its working place.
 fn mark_legal<S>(around: &TeamContext<'_, S>, tables: &Tables, own: usize, marks: &mut Vec<bool>)
-    ensures { AreMarked (frame_of tables.now) around.now.number around.now.padding.sites (table_cells around.now.number tables.now) marks.old.items
-        → AreMarked (frame_of tables.now) around.now.number around.now.padding.sites (table_cells around.now.number tables.now) marks.new.items }
+    ensures { AreMarked (frame_of tables.now) around.now.number around.now.padding.sites
+        (table_cells around.now.number tables.now) marks.old.items
+        → AreMarked (frame_of tables.now) around.now.number around.now.padding.sites
+        (table_cells around.now.number tables.now) marks.new.items }
 {
     let Some(id) = tables.cell_at(around.number, own) else {
         return;
@@ -78,8 +82,10 @@ fn mark_batch<S>(
     ids: &[CellId],
     marks: &mut Vec<bool>,
 ) -> Result<(), AllocError>
-    ensures { AreMarked (frame_of tables.now) around.now.number around.now.padding.sites (table_cells around.now.number tables.now) marks.old.items
-        → AreMarked (frame_of tables.now) around.now.number around.now.padding.sites (table_cells around.now.number tables.now) marks.new.items }
+    ensures { AreMarked (frame_of tables.now) around.now.number around.now.padding.sites
+        (table_cells around.now.number tables.now) marks.old.items
+        → AreMarked (frame_of tables.now) around.now.number around.now.padding.sites
+        (table_cells around.now.number tables.now) marks.new.items }
 {
     let order = by_place(around.alloc, tables.placement.cells(), ids)?;
     for cell in &order {
@@ -127,7 +133,8 @@ pub(crate) fn broken_unmarked(
 ) -> Option<Broken>
     requires { AreMarked placement.now.frame id.team padding.sites (cells_of placement.now.cells id.team) marks.now }
     ensures { (l : Legalizer) → result
-        ≡ broken_where (team_rules l placement.now.frame id.team padding.sites) (cells_of placement.now.cells id.team) id.own }
+        ≡ broken_where (team_rules l placement.now.frame id.team padding.sites)
+        (cells_of placement.now.cells id.team) id.own }
 {
     verdict_is_unique();
     placement.cells_are_sized();
@@ -147,7 +154,8 @@ fn first_broken(
 ) -> Option<BrokenCell>
     requires { AreMarked placement.now.frame number padding.sites (cells_of placement.now.cells number) marks.now }
     ensures { (l : Legalizer) → result
-        ≡ slice_get (broken_cells (team_rules l placement.now.frame number padding.sites) (cells_of placement.now.cells number)) 0 }
+        ≡ slice_get (broken_cells (team_rules l placement.now.frame number padding.sites)
+        (cells_of placement.now.cells number)) 0 }
 {
     for id in placement.cells().cells_of(number) {
         if let Some(broken) = broken_unmarked(placement, marks, *id, padding) {

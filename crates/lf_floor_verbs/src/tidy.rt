@@ -60,15 +60,16 @@ fn corner(place: &Place) -> Point
 /// corner if it breaks a rule. `None` if it stays, as each cell with a mark does.
 fn target_of(placement: &Placement, marks: &[bool], id: CellId, padding: Padding) -> Option<Point>
     requires { AreMarked placement.now.frame id.team padding.sites (cells_of placement.now.cells id.team) marks.now }
-    ensures { (l : Legalizer) → result ≡ tidy_target_at (team_rules l placement.now.frame id.team padding.sites) (cells_of placement.now.cells id.team) id.own }
+    ensures { (l : Legalizer) → result ≡ tidy_target_at (team_rules l placement.now.frame id.team padding.sites)
+        (cells_of placement.now.cells id.team) id.own }
 {
     verdict_is_unique();
     placement.cells_are_sized();
     if is_marked(marks, id.own as usize) {
         return None;
     }
-    let standing = placement.cells().placement_of(id)?;
-    let Some(place) = standing.working else {
+    let cell_placement = placement.cells().placement_of(id)?;
+    let Some(place) = cell_placement.working else {
         return Some(anchor(placement.frame(), id.team as usize));
     };
     match broken_at(placement, id, &place, padding) {
@@ -87,7 +88,8 @@ fn move_one(
     id: CellId,
     place: Option<Place>,
 ) -> Result<(), AllocError>
-    ensures own { OnOk result (cells_of placement.new.cells id.team ≡ moved (cells_of placement.old.cells id.team) id.own place) }
+    ensures own { OnOk result
+        (cells_of placement.new.cells id.team ≡ moved (cells_of placement.old.cells id.team) id.own place) }
     ensures moved { (before : List Cell) → HaveMoved before moves.old (cells_of placement.old.cells id.team) →
         HaveMoved before moves.new (cells_of placement.new.cells id.team) }
     ensures only { OnlyMovesTeam id.team placement.old placement.new }
@@ -111,7 +113,8 @@ fn tidy_cell<S: Seeker>(
     id: CellId,
 ) -> Result<TidyStep, AllocError>
     requires team { id.team ≡ around.now.number }
-    requires marked { AreMarked placement.old.frame around.now.number around.now.padding.sites (cells_of placement.old.cells around.now.number) marks.now }
+    requires marked { AreMarked placement.old.frame around.now.number around.now.padding.sites
+        (cells_of placement.old.cells around.now.number) marks.now }
     ensures ok { (l : Legalizer) → IfOk result (λ sent. TidiesOneCell (context_at l around.now placement.old) id.own
         (cells_of placement.old.cells around.now.number) (cells_of placement.new.cells around.now.number) sent) }
     ensures moved { (before : List Cell) → HaveMoved before moves.old (cells_of placement.old.cells around.now.number) →
@@ -142,7 +145,8 @@ fn tidy_cells<S: Seeker>(
     moves: &mut Moves,
     marks: &[bool],
 ) -> Result<Tidy, AllocError>
-    requires marked { AreMarked placement.old.frame around.now.number around.now.padding.sites (cells_of placement.old.cells around.now.number) marks.now }
+    requires marked { AreMarked placement.old.frame around.now.number around.now.padding.sites
+        (cells_of placement.old.cells around.now.number) marks.now }
     ensures ok { (l : Legalizer) → IfOk result (λ tidy. TidiesCells (context_at l around.now placement.old)
         (cells_of placement.old.cells around.now.number) (cells_of placement.new.cells around.now.number) tidy) }
     ensures moved { (before : List Cell) → HaveMoved before moves.old (cells_of placement.old.cells around.now.number) →

@@ -38,7 +38,8 @@ fn note_revert(cells: &CellTable, moves: &mut Moves, id: CellId) -> Result<(), A
 ///
 /// `Err` if an allocation fails.
 fn revert_moves(alloc: Global, cells: &CellTable, number: usize) -> Result<Moves, AllocError>
-    ensures { IfOk result (λ moves. moves_applied moves (cells_of cells.now number) ≡ map back_to_committed (cells_of cells.now number)) }
+    ensures { IfOk result
+        (λ moves. moves_applied moves (cells_of cells.now number) ≡ map back_to_committed (cells_of cells.now number)) }
 {
     let mut moves = Moves::new(alloc);
     for id in cells.cells_of(number) {
@@ -58,7 +59,8 @@ impl Tables {
     ) -> Result<Reply, AllocError>
         requires { CanChange around.now.number session self.old }
         ensures ok { (l : Legalizer) → IfOk result (λ reply. IsOutcome
-            (reverted (context_in l around.now self.old) session (team_in around.now self.old)) reply (team_in around.now self.new)) }
+            (reverted (context_in l around.now self.old) session (team_in around.now self.old)) reply
+            (team_in around.now self.new)) }
         ensures err { (l : Legalizer) → OnErr result (IsOutOfMemory
             (reverted (context_in l around.now self.old) session (team_in around.now self.old))
             (team_in around.now self.old) (team_in around.now self.new)) }
@@ -101,7 +103,8 @@ impl Tables {
     ) -> Result<Reply, AllocError>
         requires change { CanChange around.now.number session self.old }
         ensures ok { (l : Legalizer) → IfOk result (λ reply. IsOutcome
-            (committed (context_in l around.now self.old) session (team_in around.now self.old)) reply (team_in around.now self.new)) }
+            (committed (context_in l around.now self.old) session (team_in around.now self.old)) reply
+            (team_in around.now self.new)) }
         ensures err { (l : Legalizer) → OnErr result (IsOutOfMemory
             (committed (context_in l around.now self.old) session (team_in around.now self.old))
             (team_in around.now self.old) (team_in around.now self.new)) }

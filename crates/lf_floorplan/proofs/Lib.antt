@@ -1,5 +1,5 @@
 pub mod LengthLemmas
-pub mod StandingLemmas
+pub mod RowSupportLemmas
 pub mod GroundLemmas
 pub mod CellLemmas
 pub mod PlaceLemmas

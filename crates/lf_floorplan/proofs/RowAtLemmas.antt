@@ -7,7 +7,7 @@ use Rattle.lf_units.specs.Area.{SharesPoint}
 use Rattle.lf_floorplan.specs.declared.frame.Frame.{Frame}
 use Rattle.lf_floorplan.specs.declared.parts.Row.{Row}
 use Rattle.lf_floorplan.specs.Rows.{row_area}
-use Rattle.lf_floorplan.specs.Standing.{ExtendsOver}
+use Rattle.lf_floorplan.specs.RowSupport.{ExtendsOver}
 
 -- Two rows at one y that extend over one x share a point.
 shared : (f : Frame) (y x : ℤ) (r s : Row) → ExtendsOver f y x r → ExtendsOver f y x s → SharesPoint (row_area f.pitch r) (row_area f.pitch s)

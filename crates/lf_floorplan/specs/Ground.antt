@@ -36,7 +36,8 @@ pub record PointHasOneTeam : Type 0 where
 
 -- Boxes that stay in the grounds of different teams share no point.
 abbrev pub TeamsStayApart : Type 0
-TeamsStayApart = (f : Frame) (s t : ℕ) (a b : Rect) → s ≢ t → StaysInGround f s a → StaysInGround f t b → SharesPoint a b → ⊥
+TeamsStayApart = (f : Frame) (s t : ℕ) (a b : Rect) → s ≢ t → StaysInGround f s a → StaysInGround f t b
+    → SharesPoint a b → ⊥
 
 -- An obstacle has its lower left corner in the range of DEF coordinates, and reaches past the
 -- largest by at most a macro's largest size.

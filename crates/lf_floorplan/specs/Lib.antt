@@ -7,5 +7,5 @@ pub mod Sizes
 pub mod Obstacles
 pub mod Boxes
 pub mod Ground
-pub mod Standing
+pub mod RowSupport
 pub mod Design

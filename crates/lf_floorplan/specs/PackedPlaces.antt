@@ -9,7 +9,8 @@ use Rattle.lf_floorplan.specs.declared.packed_place.PackedPlace.TheInside.{Insid
 -- The place with these fields; `None` if there is no orientation.
 abbrev pub place_of_fields : (x y : ℤ) → Option Orient → negsuc 2147483647 <ℤ x → negsuc 2147483647 <ℤ y → Option Place
 place_of_fields x y None x_in_def y_in_def = None
-place_of_fields x y (Some o) x_in_def y_in_def = Some (record { x = x; y = y; orient = o; x_in_def = x_in_def; y_in_def = y_in_def })
+place_of_fields x y (Some o) x_in_def y_in_def =
+    Some (record { x = x; y = y; orient = o; x_in_def = x_in_def; y_in_def = y_in_def })
 
 abbrev pub packed_place_in : Inside → Option Place
 packed_place_in p = place_of_fields p.x p.y p.orient p.x_in_def p.y_in_def
@@ -32,13 +33,16 @@ from_nums : DefNumber → DefNumber → Option Orient → Inside
 from_nums x y o = record { x = x.0; y = y.0; orient = o; x_in_def = x.1; y_in_def = y.1 }
 
 at_0 : (x : ℤ) (k : negsuc 2147483647 <ℤ x) → x ≡ pos 0 → ◌≡◌ {A = DefNumber} (pos 0, lt_z_yes tt) (x, k)
-at_0 x k e = subst (λ z. (h : negsuc 2147483647 <ℤ z) → ◌≡◌ {A = DefNumber} (pos 0, lt_z_yes tt) (z, h)) (sym e) (λ h. refl) k
+at_0 x k e =
+    subst (λ z. (h : negsuc 2147483647 <ℤ z) → ◌≡◌ {A = DefNumber} (pos 0, lt_z_yes tt) (z, h)) (sym e) (λ h. refl) k
 
-back : (x y : ℤ) (o : Option Orient) (k : negsuc 2147483647 <ℤ x) (l : negsuc 2147483647 <ℤ y) → (o ≡ None → x ≡ pos 0) → (o ≡ None → y ≡ pos 0) →
+back : (x y : ℤ) (o : Option Orient) (k : negsuc 2147483647 <ℤ x) (l : negsuc 2147483647 <ℤ y) → (o ≡ None → x ≡ pos 0)
+    → (o ≡ None → y ≡ pos 0) →
     packed (place_of_fields x y o k l) ≡ from_nums (x, k) (y, l) o
 unfolding from_nums
 back x y (Some o) k l x_is y_is = refl
-back x y None k l x_is y_is = ap (λ (n : DefNumber). from_nums n (pos 0, lt_z_yes tt) None) (at_0 x k (x_is refl)) ∙ ap (λ (n : DefNumber). from_nums (x, k) n None) (at_0 y l (y_is refl))
+back x y None k l x_is y_is = ap (λ (n : DefNumber). from_nums n (pos 0, lt_z_yes tt) None) (at_0 x k (x_is refl))
+    ∙ ap (λ (n : DefNumber). from_nums (x, k) n None) (at_0 y l (y_is refl))
 
 -- The fields are those of their place.
 pub packed_back : (p : Inside) → IsPackedPlace p → packed (packed_place_in p) ≡ p

@@ -2,7 +2,7 @@
 
 ghost use Rattle.std.specs.Prelude.{◌≡◌, ◌↔◌, ◌<ℤ◌, IsTrue};
 ghost use Rattle.lf_floorplan.specs.Ground.{IsClear, StaysInGround};
-ghost use Rattle.lf_floorplan.specs.Standing.{IsRowAt, RestsOnRows};
+ghost use Rattle.lf_floorplan.specs.RowSupport.{IsRowAt, RestsOnRows};
 
 use crate::frame::Frame;
 use lf_units::Rect;

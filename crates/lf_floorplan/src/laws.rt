@@ -3,7 +3,7 @@
 ghost use Rattle.lf_floorplan.specs.Sizes.{TurningTwiceIsIdentity};
 ghost use Rattle.lf_floorplan.specs.Design.{CellIsSized};
 ghost use Rattle.lf_floorplan.specs.Ground.{ObstaclesAreBounded, PointHasOneTeam, TeamsStayApart};
-ghost use Rattle.lf_floorplan.specs.Standing.{RowAtIsUnique, BottomRowIsUnique};
+ghost use Rattle.lf_floorplan.specs.RowSupport.{RowAtIsUnique, BottomRowIsUnique};
 
 /// Turning a size twice by the same orientation gives the original size.
 pub fn turning_twice_is_identity()

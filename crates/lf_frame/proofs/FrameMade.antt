@@ -66,18 +66,18 @@ not_above x near =
 
 row_of_core : (pitch : Point) (r : RowStatement) → IsRow r → ((IsSome (rail_below r.orient) → ⊥) → ⊥) → (pos 2147483647 <ℤ (row_area pitch (frame_row r)).x2 → ⊥) →
     IsCoreRow pitch (frame_row r)
-row_of_core pitch r range standing near = record {
+row_of_core pitch r range none_sideways near = record {
   x_in_def = def_number r.x range.x;
   y_in_def = def_number r.y range.y;
   has_site = range.sites_x.some;
   ends = not_above (row_area pitch (frame_row r)).x2 near;
-  upright = upright (rail_below r.orient) standing;
+  upright = upright (rail_below r.orient) none_sideways;
 }
 
 rows_are_core : (core : Site) (pitch : Point) (rows : List RowStatement) → All IsRow rows → NoneBreaks (IsSideways core) rows → NoneBreaks (EndsTooFar core pitch) rows →
     All (λ r. IsCoreRow pitch r) (map frame_row (filter (is_core_row core) rows))
-rows_are_core core pitch rows range standing near =
-    all_kept (λ r. IsCoreRow pitch r) frame_row (is_core_row core) rows (λ k d within is. row_of_core pitch (get_or rows k d) (range k d within) (λ turned. standing k d within (is, turned)) (λ far. near k d within (is, far)))
+rows_are_core core pitch rows range none_sideways near =
+    all_kept (λ r. IsCoreRow pitch r) frame_row (is_core_row core) rows (λ k d within is. row_of_core pitch (get_or rows k d) (range k d within) (λ turned. none_sideways k d within (is, turned)) (λ far. near k d within (is, far)))
 
 rows_apart : (core : Site) (pitch : Point) (rows : List RowStatement) → NoneBreaks (OverlapsEarlierRow core pitch) rows →
     RowsApart pitch (map frame_row (filter (is_core_row core) rows))

@@ -13,7 +13,12 @@ use Rattle.lf_frame.specs.Loads.{IsLoadedFrom}
 -- The parts of a component that teams cannot change: all but the placement of a movable one. Its
 -- positions in the text are left out.
 abbrev pub without_movable_place : Component → Component
-without_movable_place c = record { name = c.name; mac = c.mac; placement = cond (is_movable c) None (option_map placement_without_places c.placement); semicolon = 0 }
+without_movable_place c = record {
+  name = c.name;
+  mac = c.mac;
+  placement = cond (is_movable c) None (option_map placement_without_places c.placement);
+  semicolon = 0;
+}
 
 -- Holds if the inputs differ only in the byte positions of components and of their placement
 -- clauses.
@@ -24,7 +29,8 @@ pub record AreAlike (i j : LoadInputs) : Type 0 where
 
 -- Every refusal finds the same on inputs that are alike.
 abbrev pub FindAlike : Type 0
-FindAlike = (i j : LoadInputs) → AreAlike i j → (n : FaultNumber) (found : Option (List ℕ)) → Finds i n found → Finds j n found
+FindAlike = (i j : LoadInputs) → AreAlike i j
+    → (n : FaultNumber) (found : Option (List ℕ)) → Finds i n found → Finds j n found
 
 -- If one of two inputs that are alike is accepted, so is the other.
 abbrev pub AcceptedAlike : Type 0

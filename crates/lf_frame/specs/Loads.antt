@@ -57,7 +57,8 @@ FixedIsSized library units c = is_fixed c ≡ true → IfSome (macro_named libra
 -- The box of a FIXED component: that of its macro at its place.
 abbrev pub fixed_box : Contents → ℕ → Component → Option Rect
 fixed_box library units c =
-    cond (is_fixed c) (option_and_then (λ p. option_map (λ m. box_at (turned (size_in_dbu units m.size) p.orient) p.x p.y) (macro_named library c.mac)) (location c)) None
+    cond (is_fixed c) (option_and_then (λ p. option_map (λ m.
+    box_at (turned (size_in_dbu units m.size) p.orient) p.x p.y) (macro_named library c.mac)) (location c)) None
 
 -- The rectangles of a placement blockage that is neither SOFT nor PARTIAL.
 abbrev pub blocked : Blockage → List Rect
@@ -69,7 +70,8 @@ softly_blocked b = cond (b.soft && not b.partial) b.rects []
 
 -- The obstacles: the boxes of FIXED components, and then the rectangles of blockages.
 abbrev pub obstacles_in : LoadInputs → List Rect
-obstacles_in i = filter_map (fixed_box i.library (units_in i)) i.document.components ++ flat_map blocked i.document.blockages
+obstacles_in i =
+    filter_map (fixed_box i.library (units_in i)) i.document.components ++ flat_map blocked i.document.blockages
 
 -- The rectangles of the soft blockages.
 abbrev pub soft_in : LoadInputs → List Rect

@@ -47,7 +47,8 @@ fn cell_of(team: usize, mac: usize, number: usize, component: &Component) -> Unn
     requires few_components { number < 4000000 }
     requires range { IsComponent component.now }
     ensures { (i : LoadInputs) → IsTeamOfComponent i.document.regions i.document.groups component.now.name team
-        → macro_number_of i.library component.now ≡ Some mac → IsCellOf i (number, component.now) (with_name component.now.name result) }
+        → macro_number_of i.library component.now ≡ Some mac
+        → IsCellOf i (number, component.now) (with_name component.now.name result) }
 {
     let own_team = in_32_bits(team);
     let own_macro = in_32_bits(mac);
@@ -76,8 +77,10 @@ pub(crate) fn movable_cells(
     requires macros { macros.now ≡ macros_of library.now document.now.components }
     requires differ { NoneBreaks HasEarlierName document.now.components }
     requires ranged { All IsComponent document.now.components }
-    requires able { All (λ c. is_movable_component c ≡ true → CanBeCell (inputs library.now document.now limits.now) c) document.now.components }
-    ensures { IfOk result (λ cells. AllZip (IsCellOf (inputs library.now document.now limits.now)) (movables document.now.components) cells) }
+    requires able { All (λ c. is_movable_component c ≡ true → CanBeCell (inputs library.now document.now limits.now) c)
+        document.now.components }
+    ensures { IfOk result (λ cells. AllZip (IsCellOf (inputs library.now document.now limits.now))
+        (movables document.now.components) cells) }
 {
     let _ = library.macros();
     let mut cells = LoadedCells::with_capacity(alloc, document.components.len())?;

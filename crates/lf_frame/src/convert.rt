@@ -66,7 +66,13 @@ pub(crate) fn copy_header(
     header: &DocumentHeader,
     units: u32,
 ) -> Result<Header, AllocError>
-    ensures { IfOk result (λ copy. copy ≡ record { version = header.now.version; divider = header.now.divider; brackets = header.now.brackets; design = header.now.design; units = units }) }
+    ensures { IfOk result (λ copy. copy ≡ record {
+      version = header.now.version;
+      divider = header.now.divider;
+      brackets = header.now.brackets;
+      design = header.now.design;
+      units = units;
+    }) }
 {
     Ok(Header {
         version: copy_name(alloc, &header.version)?,

@@ -112,7 +112,8 @@ fn accepted_design(
 /// Returns the claims on the names of all components, by all groups of the document. `Err` if an
 /// allocation fails.
 fn claims_of(alloc: Global, document: &DefDoc) -> Result<ClaimTable, AllocError>
-    ensures { IfOk result (λ claims. IsTableOf document.now.regions document.now.groups document.now.components claims) }
+    ensures { IfOk result
+        (λ claims. IsTableOf document.now.regions document.now.groups document.now.components claims) }
 {
     claim_table(
         alloc,
@@ -154,7 +155,8 @@ pub fn load<'d>(
     limits: Limits,
 ) -> Result<Loaded, LoadFault<'d>>
     ensures ok { IfOk result (λ loaded. IsLoadedFrom (inputs library.now document.now limits) loaded) }
-    ensures err { IfErr result (λ fault. (fault ≡ load_fault_of Memory) ⊎ IsLoadFault (inputs library.now document.now limits) fault) }
+    ensures err { IfErr result (λ fault. (fault ≡ load_fault_of Memory)
+        ⊎ IsLoadFault (inputs library.now document.now limits) fault) }
 {
     let Ok(claims) = claims_of(alloc, document) else {
         return Err(out_of_memory());

@@ -37,7 +37,8 @@ OverlapsFence fence earlier r = (is_fence r ≡ true) × (r.name ≢ fence.name)
 -- name.
 abbrev pub IsOverlappedBy : List Region → List ℕ → Option (List ℕ) → Type 0
 IsOverlappedBy regions name found =
-    MatchOption (fence_named regions name) (found ≡ None) (λ fence. NameOfFirst (λ r. r.name) (OverlapsFence fence) regions found)
+    MatchOption (fence_named regions name) (found ≡ None)
+    (λ fence. NameOfFirst (λ r. r.name) (OverlapsFence fence) regions found)
 
 -- Holds if the group is bound to a fence other than `reported`, and names the component.
 abbrev pub ClaimsBut : List Region → List ℕ → Option (List ℕ) → List Group → Group → Type 0
@@ -45,17 +46,20 @@ ClaimsBut regions name reported earlier g = (fence : List ℕ) × Claims regions
 
 -- The first fence that claims the component, and the first other fence that does, in the order of
 -- the groups.
-pub record AreClaimers (regions : List Region) (groups : List Group) (name : List ℕ) (overlapping_one : Conflict) : Type 0 where
+pub record AreClaimers (regions : List Region) (groups : List Group) (name : List ℕ)
+    (overlapping_one : Conflict) : Type 0 where
   pub first : NameOfFirst region_name (ClaimsBut regions name None) groups overlapping_one.first
   pub second : NameOfFirst region_name (ClaimsBut regions name overlapping_one.first) groups overlapping_one.second
 
 -- The fences with which the entry that this refusal finds conflicts: for FencesOverlap the fence
 -- that overlaps it, for TwoFences the fences that claim the component.
 abbrev pub ConflictsBy : List Region → List Group → FaultNumber → List ℕ → Conflict → Type 0
-ConflictsBy regions groups FencesOverlap name overlapping_one = IsOverlappedBy regions name overlapping_one.first × (overlapping_one.second ≡ None)
+ConflictsBy regions groups FencesOverlap name overlapping_one = IsOverlappedBy regions name overlapping_one.first
+    × (overlapping_one.second ≡ None)
 ConflictsBy regions groups TwoFences name overlapping_one = AreClaimers regions groups name overlapping_one
 ConflictsBy regions groups _ name overlapping_one = overlapping_one ≡ no_fence
 
 -- The fences with which the entry in a fault of loading conflicts.
 abbrev pub ConflictsWith : List Region → List Group → LoadFault → Conflict → Type 0
-ConflictsWith regions groups fault overlapping_one = MatchOption fault.name (overlapping_one ≡ no_fence) (λ name. ConflictsBy regions groups fault.number name.now overlapping_one)
+ConflictsWith regions groups fault overlapping_one = MatchOption fault.name (overlapping_one ≡ no_fence)
+    (λ name. ConflictsBy regions groups fault.number name.now overlapping_one)

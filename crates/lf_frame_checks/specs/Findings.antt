@@ -47,7 +47,8 @@ abbrev pub Finding : Type 1
 Finding = Option (List ℕ) → Type 0
 
 -- Holds if this is the name of the first entry that breaks the rule, or `None` if no entry does.
-pub record NameOfFirst {A : Type 0} (name_of : A → List ℕ) (breaks : List A → A → Type 0) (entries : List A) (found : Option (List ℕ)) : Type 0 where
+pub record NameOfFirst {A : Type 0} (name_of : A → List ℕ) (breaks : List A → A → Type 0) (entries : List A)
+    (found : Option (List ℕ)) : Type 0 where
   pub place : Option ℕ
   pub first : FirstIs breaks entries place
   pub name : found ≡ option_map name_of (at_place entries place)
@@ -89,16 +90,19 @@ Finds i NoRows = λ found. found ≡ cond (is_some (core_in i)) None (Some i.doc
 Finds i VerticalRow = OfCore i (λ core. NameOfFirst (λ r. r.name) (IsVertical core) i.document.rows)
 Finds i BadStep = OfPitch i (λ core pitch. NameOfFirst (λ r. r.name) (HasBadStep core pitch) i.document.rows)
 Finds i RowOrient = OfCore i (λ core. NameOfFirst (λ r. r.name) (IsSideways core) i.document.rows)
-Finds i RowsOverlap = OfPitch i (λ core pitch. NameOfFirst (λ r. r.name) (OverlapsEarlierRow core pitch) i.document.rows)
+Finds i RowsOverlap =
+    OfPitch i (λ core pitch. NameOfFirst (λ r. r.name) (OverlapsEarlierRow core pitch) i.document.rows)
 Finds i NoMacro = NameOfFirst (λ c. c.mac) (HasNoMacro i.library) i.document.components
 Finds i NoSize = NameOfFirst (λ c. c.mac) (HasNoSize i.library) i.document.components
-Finds i NotWhole = FirstOf (OfCore i (CoreHasPartUnits i)) (NameOfFirst (λ c. c.mac) (HasPartUnits i.library (units_in i)) i.document.components)
+Finds i NotWhole = FirstOf (OfCore i (CoreHasPartUnits i))
+    (NameOfFirst (λ c. c.mac) (HasPartUnits i.library (units_in i)) i.document.components)
 Finds i SecondName = NameOfFirst (λ c. c.name) HasEarlierName i.document.components
 Finds i SecondRegion = NameOfFirst (λ r. r.name) HasEarlierFenceName i.document.regions
 Finds i NoRegion = NameOfFirst region_name (HasNoRegion i.document.regions) i.document.groups
 Finds i TeamName = NameOfFirst (λ r. r.name) HasGroundName i.document.regions
 Finds i FencesOverlap = NameOfFirst (λ r. r.name) OverlapsEarlierFence i.document.regions
-Finds i TwoFences = NameOfFirst (λ c. c.name) (IsClaimedTwice i.document.regions i.document.groups) i.document.components
+Finds i TwoFences =
+    NameOfFirst (λ c. c.name) (IsClaimedTwice i.document.regions i.document.groups) i.document.components
 Finds i TooMany =
     FirstOf (OfCore i (λ core. NameOfFirst (λ r. r.name) (IsRowTooMany core i.limits.rows) i.document.rows))
     (FirstOf (NameOfFirst (λ r. r.name) (IsFenceTooMany i.limits.fences) i.document.regions)

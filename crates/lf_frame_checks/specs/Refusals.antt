@@ -29,7 +29,8 @@ IsVertical core earlier r = (is_core_row core r ≡ true) × (r.sites_y ≢ 1)
 
 -- BadStep: a core row of several sites has a step that is not the site's width.
 abbrev pub HasBadStep : Site → Point → List RowStatement → RowStatement → Type 0
-HasBadStep core pitch earlier r = (is_core_row core r ≡ true) × (1 < r.sites_x) × IsSomeAnd r.step (λ step. step.x ≢ pitch.x)
+HasBadStep core pitch earlier r = (is_core_row core r ≡ true) × (1 < r.sites_x)
+    × IsSomeAnd r.step (λ step. step.x ≢ pitch.x)
 
 -- RowOrient: a core row is not N, S, FN or FS.
 abbrev pub IsSideways : Site → List RowStatement → RowStatement → Type 0
@@ -38,7 +39,8 @@ IsSideways core earlier r = (is_core_row core r ≡ true) × (IsSome (rail_below
 -- RowsOverlap: a core row shares a point with an earlier one.
 abbrev pub OverlapsEarlierRow : Site → Point → List RowStatement → RowStatement → Type 0
 OverlapsEarlierRow core pitch earlier r =
-    (is_core_row core r ≡ true) × Any (λ e. (is_core_row core e ≡ true) × SharesPoint (row_area pitch (frame_row e)) (row_area pitch (frame_row r))) earlier
+    (is_core_row core r ≡ true) × Any (λ e. (is_core_row core e ≡ true)
+    × SharesPoint (row_area pitch (frame_row e)) (row_area pitch (frame_row r))) earlier
 
 -- NoMacro: no LEF text has the macro of a component other than COVER.
 abbrev pub HasNoMacro : Contents → List Component → Component → Type 0
@@ -46,14 +48,17 @@ HasNoMacro library earlier c = (is_cover c ≡ false) × (macro_named library c.
 
 -- NoSize: the macro of a component other than COVER has no SIZE with both lengths above 0.
 abbrev pub HasNoSize : Contents → List Component → Component → Type 0
-HasNoSize library earlier c = (is_cover c ≡ false) × IsSomeAnd (macro_named library c.mac) (λ m. has_size m.size ≡ false)
+HasNoSize library earlier c = (is_cover c ≡ false)
+    × IsSomeAnd (macro_named library c.mac) (λ m. has_size m.size ≡ false)
 
 -- NotWhole: the size of the macro of a component other than COVER is not whole in database units.
 abbrev pub HasPartUnits : Contents → ℕ → List Component → Component → Type 0
-HasPartUnits library units earlier c = (is_cover c ≡ false) × IsSomeAnd (macro_named library c.mac) (λ m. IsWholeSize units m.size → ⊥)
+HasPartUnits library units earlier c = (is_cover c ≡ false)
+    × IsSomeAnd (macro_named library c.mac) (λ m. IsWholeSize units m.size → ⊥)
 
 -- The first component of each of these three kinds.
-pub record AreMacroFaults (library : Contents) (units : ℕ) (components : List Component) (faults : MacroFaults) : Type 0 where
+pub record AreMacroFaults (library : Contents) (units : ℕ) (components : List Component)
+    (faults : MacroFaults) : Type 0 where
   pub unknown : FirstIs (HasNoMacro library) components faults.unknown
   pub sizeless : FirstIs (HasNoSize library) components faults.sizeless
   pub part_units : FirstIs (HasPartUnits library units) components faults.part_units
@@ -79,7 +84,8 @@ pub record SharePoint (first second : List Rect) : Type 0 where
 
 -- FencesOverlap: a fence shares a point with an earlier fence.
 abbrev pub OverlapsEarlierFence : List Region → Region → Type 0
-OverlapsEarlierFence earlier r = (is_fence r ≡ true) × Any (λ e. (is_fence e ≡ true) × SharePoint e.rects r.rects) earlier
+OverlapsEarlierFence earlier r = (is_fence r ≡ true)
+    × Any (λ e. (is_fence e ≡ true) × SharePoint e.rects r.rects) earlier
 
 -- TooMany, for core rows.
 abbrev pub IsRowTooMany : Site → ℕ → List RowStatement → RowStatement → Type 0

@@ -51,4 +51,5 @@ fence_pieces number r = if is_fence r then map (λ rect. piece_of number rect) r
 
 -- Holds if each piece of each entry is in the list.
 abbrev pub ArePiecesOf : {A : Type 0} → (ℕ → A → List SweepRect) → List A → List SweepRect → Type 0
-ArePiecesOf {A} own entries pieces = (k : ℕ) (d : A) → k < length entries → All (Contains pieces) (own k (slice_index_or entries k d))
+ArePiecesOf {A} own entries pieces = (k : ℕ) (d : A) → k < length entries
+    → All (Contains pieces) (own k (slice_index_or entries k d))

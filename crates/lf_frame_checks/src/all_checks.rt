@@ -70,7 +70,8 @@ fn finding<'d>(
     number: FaultNumber,
 ) -> Result<Option<&'d [u8]>, AllocError>
     requires claims { IsTableOf document.now.regions document.now.groups document.now.components claims.now }
-    requires faults { AreMacroFaults library.now (units_in (inputs library.now document.now limits.now)) document.now.components faults.now }
+    requires faults { AreMacroFaults library.now
+        (units_in (inputs library.now document.now limits.now)) document.now.components faults.now }
     requires order { number ≡ TwoFences → NoneBreaks HasEarlierName document.now.components }
     ensures { IfOk result (λ name. Finds (inputs library.now document.now limits.now) number (option_copied name)) }
 {

@@ -122,7 +122,8 @@ fn first_claiming(
 
 /// Returns the first fence other than `reported` to which a group binds the name, or `None`.
 fn claimer<'d>(document: &'d DefDoc, name: &[u8], reported: Option<&[u8]>) -> Option<&'d [u8]>
-    ensures { NameOfFirst region_name (ClaimsBut document.now.regions name.now (option_copied reported.entry)) document.now.groups (option_copied result) }
+    ensures { NameOfFirst region_name (ClaimsBut document.now.regions name.now (option_copied reported.entry))
+        document.now.groups (option_copied result) }
 {
     let groups = document.groups.as_slice();
     let first = first_claiming(document.regions.as_slice(), groups, name, reported);

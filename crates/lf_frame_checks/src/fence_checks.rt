@@ -20,8 +20,10 @@ use std::alloc::{AllocError, Global};
 /// Adds the name of a fence to the table. Returns true if the table has the name already. Returns
 /// false and adds nothing if the region is not a fence. `Err` if an allocation fails.
 fn is_second_fence(names: &mut NameTable, region: &Region) -> Result<bool, AllocError>
-    ensures second { IfOk result (λ second. IsTrue second → (is_fence_region region.now ≡ true) × Contains names.old region.now.name) }
-    ensures first { IfOk result (λ second. IsFalse second → is_fence_region region.now ≡ true → Contains names.old region.now.name → ⊥) }
+    ensures second { IfOk result (λ second. IsTrue second
+        → (is_fence_region region.now ≡ true) × Contains names.old region.now.name) }
+    ensures first { IfOk result (λ second. IsFalse second → is_fence_region region.now ≡ true
+        → Contains names.old region.now.name → ⊥) }
     ensures names { IfOk result (λ second. IsFalse second → names.new ≡ names.old ++ fence_names (region.now ∷ [])) }
 {
     if !is_fence(region) {

@@ -168,7 +168,8 @@ pub(crate) fn rows_overlap<'d>(
     document: &'d DefDoc,
     limits: &Limits,
 ) -> Result<Option<&'d [u8]>, AllocError>
-    ensures { IfOk result (λ name. Finds (inputs library.now document.now limits.now) RowsOverlap (option_copied name)) }
+    ensures { IfOk result
+        (λ name. Finds (inputs library.now document.now limits.now) RowsOverlap (option_copied name)) }
 {
     let rows = document.rows.as_slice();
     let Some(core) = sized_core_site(library, rows) else {
@@ -214,7 +215,8 @@ pub(crate) fn no_macro<'d>(
     document: &'d DefDoc,
     limits: &Limits,
 ) -> Option<&'d [u8]>
-    requires { AreMacroFaults library.now (units_in (inputs library.now document.now limits.now)) document.now.components faults.now }
+    requires { AreMacroFaults library.now
+        (units_in (inputs library.now document.now limits.now)) document.now.components faults.now }
     ensures { Finds (inputs library.now document.now limits.now) NoMacro (option_copied result) }
 {
     component_mac(document.components.as_slice(), faults.unknown)
@@ -227,7 +229,8 @@ pub(crate) fn no_size<'d>(
     document: &'d DefDoc,
     limits: &Limits,
 ) -> Option<&'d [u8]>
-    requires { AreMacroFaults library.now (units_in (inputs library.now document.now limits.now)) document.now.components faults.now }
+    requires { AreMacroFaults library.now
+        (units_in (inputs library.now document.now limits.now)) document.now.components faults.now }
     ensures { Finds (inputs library.now document.now limits.now) NoSize (option_copied result) }
 {
     component_mac(document.components.as_slice(), faults.sizeless)
@@ -235,7 +238,8 @@ pub(crate) fn no_size<'d>(
 
 /// Returns the core site's name, if its size is not whole in database units.
 fn core_not_whole<'d>(library: &'d Library, document: &DefDoc, limits: &Limits) -> Option<&'d [u8]>
-    ensures { OfCore (inputs library.now document.now limits.now) (CoreHasPartUnits (inputs library.now document.now limits.now)) (option_copied result) }
+    ensures { OfCore (inputs library.now document.now limits.now)
+        (CoreHasPartUnits (inputs library.now document.now limits.now)) (option_copied result) }
 {
     let Some(core) = sized_core_site(library, document.rows.as_slice()) else {
         return None;
@@ -255,7 +259,8 @@ pub(crate) fn not_whole<'d>(
     document: &'d DefDoc,
     limits: &Limits,
 ) -> Option<&'d [u8]>
-    requires { AreMacroFaults library.now (units_in (inputs library.now document.now limits.now)) document.now.components faults.now }
+    requires { AreMacroFaults library.now
+        (units_in (inputs library.now document.now limits.now)) document.now.components faults.now }
     ensures { Finds (inputs library.now document.now limits.now) NotWhole (option_copied result) }
 {
     if let Some(name) = core_not_whole(library, document, limits) {
@@ -321,7 +326,8 @@ pub(crate) fn second_region<'d>(
     document: &'d DefDoc,
     limits: &Limits,
 ) -> Result<Option<&'d [u8]>, AllocError>
-    ensures { IfOk result (λ name. Finds (inputs library.now document.now limits.now) SecondRegion (option_copied name)) }
+    ensures { IfOk result
+        (λ name. Finds (inputs library.now document.now limits.now) SecondRegion (option_copied name)) }
 {
     let regions = document.regions.as_slice();
     let first = first_second_fence(alloc, regions)?;
@@ -363,7 +369,8 @@ pub(crate) fn fences_overlap<'d>(
     document: &'d DefDoc,
     limits: &Limits,
 ) -> Result<Option<&'d [u8]>, AllocError>
-    ensures { IfOk result (λ name. Finds (inputs library.now document.now limits.now) FencesOverlap (option_copied name)) }
+    ensures { IfOk result
+        (λ name. Finds (inputs library.now document.now limits.now) FencesOverlap (option_copied name)) }
 {
     let regions = document.regions.as_slice();
     let first = first_fence_overlap(alloc, regions)?;
@@ -390,7 +397,8 @@ pub(crate) fn two_fences<'d>(
 /// Returns the name of the first core row beyond the limit.
 fn rows_too_many<'d>(library: &Library, document: &'d DefDoc, limits: &Limits) -> Option<&'d [u8]>
     ensures { OfCore (inputs library.now document.now limits.now)
-        (λ core. NameOfFirst (λ r. r.name) (IsRowTooMany core limits.now.rows) document.now.rows) (option_copied result) }
+        (λ core. NameOfFirst (λ r. r.name) (IsRowTooMany core limits.now.rows) document.now.rows)
+        (option_copied result) }
 {
     let rows = document.rows.as_slice();
     let Some(core) = core_site(library, rows) else {
@@ -412,7 +420,8 @@ fn fences_too_many<'d>(document: &'d DefDoc, limits: &Limits) -> Option<&'d [u8]
 
 /// Returns the name of the first component beyond the limit.
 fn components_too_many<'d>(document: &'d DefDoc, limits: &Limits) -> Option<&'d [u8]>
-    ensures { NameOfFirst (λ c. c.name) (IsComponentTooMany limits.now.components) document.now.components (option_copied result) }
+    ensures { NameOfFirst (λ c. c.name) (IsComponentTooMany limits.now.components) document.now.components
+        (option_copied result) }
 {
     let components = document.components.as_slice();
     component_name(

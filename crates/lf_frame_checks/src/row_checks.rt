@@ -196,7 +196,8 @@ fn ends_before(row: &RowStatement, other: &RowStatement, pitch: &Pitch) -> bool
 fn do_rows_meet(first: &RowStatement, second: &RowStatement, pitch: &Pitch) -> bool
     requires first { IsRow first.now }
     requires second { IsRow second.now }
-    ensures { IsTrue result ↔ SharesPoint (row_area pitch.now.size (frame_row first.now)) (row_area pitch.now.size (frame_row second.now)) }
+    ensures { IsTrue result
+        ↔ SharesPoint (row_area pitch.now.size (frame_row first.now)) (row_area pitch.now.size (frame_row second.now)) }
 {
     if is_below(second, first, pitch) {
         return false;
@@ -215,7 +216,8 @@ fn overlaps_one_of(row: &RowStatement, earlier: &[RowStatement], core: &Site, pi
     requires row { IsRow row.now }
     requires each { All IsRow earlier.now }
     ensures { IsTrue result ↔ Any (λ e. (row_is_core core.now e ≡ true)
-        × SharesPoint (row_area pitch.now.size (frame_row e)) (row_area pitch.now.size (frame_row row.now))) earlier.now }
+        × SharesPoint (row_area pitch.now.size (frame_row e)) (row_area pitch.now.size (frame_row row.now)))
+        earlier.now }
 {
     for other in earlier {
         if is_core_row(other, core) && do_rows_meet(other, row, pitch) {
@@ -262,7 +264,8 @@ fn push_row(
     pitch: &Pitch,
 ) -> Result<(), AllocError>
     requires row { IsRow row.now }
-    ensures { OnOk result (pieces.new.items ≡ pieces.old.items ++ row_pieces_of core.now pitch.now.size number row.now) }
+    ensures { OnOk result
+        (pieces.new.items ≡ pieces.old.items ++ row_pieces_of core.now pitch.now.size number row.now) }
 {
     if is_core_row(row, core) {
         pieces.push(row_piece(number, row, pitch))?;

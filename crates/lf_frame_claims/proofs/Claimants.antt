@@ -22,7 +22,7 @@ use Rattle.lf_frame_claims.specs.Refusals.{HasTwoFences}
 use Rattle.lf_frame_claims.specs.Claims.{CountsFences, ClaimsBy, NumbersNames, bound_to, group_bounds, all_bounds}
 use Rattle.lf_frame_claims.specs.ClaimTables.{IsClaimOf}
 use Rattle.lf_frame_claims.proofs.Named.{fence_known, fence_borne}
-use Rattle.lf_frame_claims.proofs.Tellings.{one_bound_more}
+use Rattle.lf_frame_claims.proofs.ClaimCounts.{one_bound_more}
 use Rattle.lf_frame_claims.proofs.MapLemmas.{one_at_place}
 use Rattle.lf_units.proofs.Any.{any_first, any_later, any_cases, none_of_nothing, any_parts, any_left, any_right, any_mapped, any_map}
 

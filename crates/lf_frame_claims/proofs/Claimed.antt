@@ -21,7 +21,7 @@ use Rattle.lf_frame_claims.specs.Claims.{claim_with, CountsFences, ClaimsBy, Lab
 use Rattle.lf_frame_claims.specs.ClaimTables.{IsClaimOf, claim_at, AreClaimsOf}
 use Rattle.lf_frame_claims.proofs.MapLemmas.{get_set, get_set_other}
 use Rattle.lf_frame_claims.proofs.Numbered.{numbered_has, numbered_is}
-use Rattle.lf_frame_claims.proofs.Tellings.{reports_joined, reports_same}
+use Rattle.lf_frame_claims.proofs.ClaimCounts.{reports_joined, reports_same}
 use Rattle.lf_frame_claims.proofs.Claimants.{claim_says}
 
 -- One more match: its fence is added to the claim at its number, and the other claims are

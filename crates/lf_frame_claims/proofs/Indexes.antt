@@ -9,7 +9,7 @@ use Rattle.lf_names.specs.Labels.{Labelled}
 use Rattle.lf_frame_claims.specs.declared.star_patterns.FencePattern.{FencePattern}
 use Rattle.lf_frame_claims.specs.declared.pattern_index.PatternIndex.{PatternIndex}
 use Rattle.lf_frame_claims.specs.Claims.{ClaimsBy, Labels, HasStarred, IndexesPatterns, ExtendsIndex}
-use Rattle.lf_frame_claims.proofs.Tellings.{claims_parts, claims_old, claims_new}
+use Rattle.lf_frame_claims.proofs.ClaimCounts.{claims_parts, claims_old, claims_new}
 use Rattle.lf_units.proofs.Any.{none_of_nothing}
 
 none_labelled : (name : List ℕ) (n : ℕ) → Labels [] name n → ⊥

@@ -18,7 +18,7 @@ use Rattle.lf_frame_claims.specs.Ends.{key_of, name_part_at}
 use Rattle.lf_frame_claims.specs.Claims.{merged, CountsFences, ClaimsBy, bounds_there, kept_under, ClaimsUnder, HasAtEnd, AddsUnderKey}
 use Rattle.lf_frame_claims.proofs.EndLemmas.{part_is_key}
 use Rattle.lf_frame_claims.proofs.MapLemmas.{new_there, new_others, old_there, old_others}
-use Rattle.lf_frame_claims.proofs.Tellings.{one_bound_more, claims_parts, claims_old, claims_new, reports_same, reports_merged}
+use Rattle.lf_frame_claims.proofs.ClaimCounts.{one_bound_more, claims_parts, claims_old, claims_new, reports_same, reports_merged}
 use Rattle.lf_units.proofs.Any.{any_first, none_of_nothing, any_parts, any_left, any_right, any_one, has_item, any_more}
 
 -- Parts become some bytes.

@@ -2,7 +2,7 @@ pub mod Firsts
 pub mod NameLemmas
 pub mod Named
 pub mod MapLemmas
-pub mod Tellings
+pub mod ClaimCounts
 pub mod EndLemmas
 pub mod KeyLemmas
 pub mod TwoEnds

@@ -7,7 +7,7 @@ use Rattle.lf_frame_claims.specs.declared.star_patterns.FencePattern.{FencePatte
 use Rattle.lf_frame_claims.specs.declared.star_patterns.StarredPatterns.{StarredPatterns}
 use Rattle.lf_frame_claims.specs.Claims.{merged, CountsFences, ClaimsBy, HasAtEnd, HasStarred}
 use Rattle.lf_frame_claims.proofs.KeyLemmas.{no_claim_no_pattern}
-use Rattle.lf_frame_claims.proofs.Tellings.{claims_parts, claims_old, claims_new, reports_same, reports_merged}
+use Rattle.lf_frame_claims.proofs.ClaimCounts.{claims_parts, claims_old, claims_new, reports_same, reports_merged}
 use Rattle.lf_units.proofs.Any.{none_of_nothing}
 
 claims_none : (bounds : List FencePattern) (name : List ℕ) (fence : ℕ) → bounds ≡ [] → ClaimsBy bounds name fence → ⊥

@@ -50,7 +50,8 @@ ClaimsBy bounds name fence = Any (λ b. (b.fence ≡ fence) × Matches b.pattern
 -- Holds if the pattern's fence is added to the claim when the name matches. Otherwise the claim is
 -- unchanged.
 abbrev pub AddsPattern : FencePattern → List ℕ → Claim → Claim → Type 0
-AddsPattern b name claim after = (Matches b.pattern name × (after ≡ claim_with claim b.fence)) ⊎ ((Matches b.pattern name → ⊥) × (after ≡ claim))
+AddsPattern b name claim after = (Matches b.pattern name × (after ≡ claim_with claim b.fence))
+    ⊎ ((Matches b.pattern name → ⊥) × (after ≡ claim))
 
 -- Holds if the name is in the list with this label.
 abbrev pub Labels : List Labelled → List ℕ → ℕ → Type 0
@@ -89,16 +90,19 @@ kept_under kept key = bounds_there (option_and_then (slice_get kept.bounds.items
 -- Holds if a pattern that is stored under this number of the name's bytes at this end claims the
 -- name.
 abbrev pub ClaimsUnder : PatternsAtEnd → List ℕ → ℕ → ℕ → Type 0
-ClaimsUnder kept name count fence = (count ≤ length name) × ClaimsBy (kept_under kept (name_part_at kept.end count name)) name fence
+ClaimsUnder kept name count fence = (count ≤ length name)
+    × ClaimsBy (kept_under kept (name_part_at kept.end count name)) name fence
 
 -- Holds if these patterns are stored. If one of them claims a name, some pattern that is stored
 -- under the name's bytes at this end, with one of the listed lengths, claims it. The stored
 -- patterns claim nothing else. Each length is that of a key.
 pub record HasAtEnd (kept : PatternsAtEnd) (bounds : List FencePattern) : Type 0 where
   pub whole : length kept.keys ≡ length kept.bounds.items
-  pub found : (name : List ℕ) (fence : ℕ) → ClaimsBy bounds name fence → Any (λ count. ClaimsUnder kept name count fence) kept.lengths.items
+  pub found : (name : List ℕ) (fence : ℕ) → ClaimsBy bounds name fence
+      → Any (λ count. ClaimsUnder kept name count fence) kept.lengths.items
   pub own : (key name : List ℕ) (fence : ℕ) → ClaimsBy (kept_under kept key) name fence → ClaimsBy bounds name fence
-  pub needed : (count : ℕ) → Contains kept.lengths.items count → Any (λ b. length (key_of kept.end b.pattern) ≡ count) bounds
+  pub needed : (count : ℕ) → Contains kept.lengths.items count
+      → Any (λ b. length (key_of kept.end b.pattern) ≡ count) bounds
 
 -- Holds if the pattern is appended to those at a place, if there is such a place. Patterns at other
 -- places are unchanged.
@@ -123,19 +127,23 @@ pub record HasStarred (starred : StarredPatterns) (bounds : List FencePattern) :
   pub backs : List FencePattern
   pub by_front : HasAtEnd starred.fronts fronts
   pub by_back : HasAtEnd starred.backs backs
-  pub together : (name : List ℕ) (fence : ℕ) → ClaimsBy bounds name fence ↔ (ClaimsBy fronts name fence ⊎ ClaimsBy backs name fence)
+  pub together : (name : List ℕ) (fence : ℕ) → ClaimsBy bounds name fence
+      ↔ (ClaimsBy fronts name fence ⊎ ClaimsBy backs name fence)
 
 -- Holds if the index has these patterns: literal ones as names, labelled with the fence's number,
 -- the others by the bytes of their names at an end.
 pub record IndexesPatterns (index : PatternIndex) (bounds : List FencePattern) : Type 0 where
   pub starred : List FencePattern
   pub tried : HasStarred index.starred starred
-  pub forth : (name : List ℕ) (fence : ℕ) → ClaimsBy bounds name fence → Labels index.literals name fence ⊎ ClaimsBy starred name fence
-  pub back : (name : List ℕ) (fence : ℕ) → Labels index.literals name fence ⊎ ClaimsBy starred name fence → ClaimsBy bounds name fence
+  pub forth : (name : List ℕ) (fence : ℕ) → ClaimsBy bounds name fence
+      → Labels index.literals name fence ⊎ ClaimsBy starred name fence
+  pub back : (name : List ℕ) (fence : ℕ) → Labels index.literals name fence ⊎ ClaimsBy starred name fence
+      → ClaimsBy bounds name fence
 
 -- Holds if the new index has the patterns of the old one and then these.
 abbrev pub ExtendsIndex : PatternIndex → PatternIndex → List FencePattern → Type 0
-ExtendsIndex old new more = (bounds : List FencePattern) → IndexesPatterns old bounds → IndexesPatterns new (bounds ++ more)
+ExtendsIndex old new more = (bounds : List FencePattern) → IndexesPatterns old bounds
+    → IndexesPatterns new (bounds ++ more)
 
 -- Holds if the map has the position of each name of the list. If a name is in the list twice, it
 -- has the first position.
@@ -145,16 +153,19 @@ NumbersNames names numbers = (name : List ℕ) → value_of_name numbers name �
 -- Holds if the new map numbers the names that the old map numbers, and then this name.
 pub record NumbersOneMore (old new : NameMap ℕ) (number : ℕ) (name : List ℕ) : Type 0 where
   pub whole : HasAllValues new
-  pub numbers : (names : List (List ℕ)) → number ≡ length names → NumbersNames names old → NumbersNames (names ++ name ∷ []) new
+  pub numbers : (names : List (List ℕ)) → number ≡ length names → NumbersNames names old
+      → NumbersNames (names ++ name ∷ []) new
 
 -- Holds if each component has the claim at its number, by the fences that its name determines.
 abbrev pub AreClaimsByName : (List ℕ → ℕ → Type 0) → List Component → List Claim → Type 0
-AreClaimsByName claims components reported = (k : ℕ) (d : Component) → k < length components → CountsFences (claims (slice_index_or components k d).name) (claim_at reported k)
+AreClaimsByName claims components reported = (k : ℕ) (d : Component) → k < length components
+    → CountsFences (claims (slice_index_or components k d).name) (claim_at reported k)
 
 -- Holds if each component has its claim when all names differ. There are no claims if and only if
 -- two components have the same name.
 abbrev pub AreClaimsWhereDistinct : (List ℕ → ℕ → Type 0) → List Component → Option (List Claim) → Type 0
-AreClaimsWhereDistinct claims components (Some reported) = NoneBreaks HasEarlierName components × AreClaimsByName claims components reported
+AreClaimsWhereDistinct claims components (Some reported) = NoneBreaks HasEarlierName components
+    × AreClaimsByName claims components reported
 AreClaimsWhereDistinct claims components None = NoneBreaks HasEarlierName components → ⊥
 
 -- Holds if the new claims add those of the starred patterns of the index to the old claims, which
@@ -162,4 +173,5 @@ AreClaimsWhereDistinct claims components None = NoneBreaks HasEarlierName compon
 abbrev pub AddStarred : StarredPatterns → List Component → List Claim → List Claim → Type 0
 AddStarred index components old new =
     (literals : List Labelled) (starred : List FencePattern) → HasStarred index starred → length old ≡ length components
-    → AreClaimsByName (Labels literals) components old → AreClaimsByName (λ name fence. Labels literals name fence ⊎ ClaimsBy starred name fence) components new
+    → AreClaimsByName (Labels literals) components old
+    → AreClaimsByName (λ name fence. Labels literals name fence ⊎ ClaimsBy starred name fence) components new

@@ -3,7 +3,8 @@ use Rattle.std.specs.Prelude.{ℕ, ◌<◌, Bool, true, false, List, length, tak
 
 -- Holds if no entry breaks the rule.
 abbrev pub NoneBreaks : {A : Type 0} → (List A → A → Type 0) → List A → Type 0
-NoneBreaks {A} breaks entries = (k : ℕ) (d : A) → k < length entries → breaks (take k entries) (slice_index_or entries k d) → ⊥
+NoneBreaks {A} breaks entries = (k : ℕ) (d : A) → k < length entries
+    → breaks (take k entries) (slice_index_or entries k d) → ⊥
 
 -- Holds if the entry at this place breaks the rule, and no earlier one does.
 pub record IsFirst {A : Type 0} (breaks : List A → A → Type 0) (entries : List A) (place : ℕ) : Type 0 where

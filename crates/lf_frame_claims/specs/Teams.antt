@@ -43,4 +43,5 @@ pub record IsClaimedBy (regions : List Region) (groups : List Group) (name : Lis
 -- The team of a movable component: the only fence that claims it, or the ground team, whose number
 -- is the number of fences.
 abbrev pub IsTeamOfComponent : List Region → List Group → List ℕ → ℕ → Type 0
-IsTeamOfComponent regions groups name team = IsClaimedBy regions groups name team ⊎ (IsUnclaimed regions groups name × (team ≡ length (fences regions)))
+IsTeamOfComponent regions groups name team = IsClaimedBy regions groups name team
+    ⊎ (IsUnclaimed regions groups name × (team ≡ length (fences regions)))

@@ -203,7 +203,8 @@ pub(crate) fn claims_by_match(
     matches: &[Match],
 ) -> Result<Claims, AllocError>
     ensures long { IfOk result (λ claims. length claims ≡ count) }
-    ensures reported { IfOk result (λ claims. (number : ℕ) → number < count → CountsFences (IsMatched matches.now number) (claim_at claims number)) }
+    ensures reported { IfOk result (λ claims. (number : ℕ) → number < count
+        → CountsFences (IsMatched matches.now number) (claim_at claims number)) }
 {
     let mut claims = Claims::unclaimed(alloc, count)?;
     for found in matches {

@@ -25,7 +25,8 @@ pub(crate) fn key_at(end: End, pattern: &[u8]) -> &[u8]
 
 /// Returns the first or last `count` bytes of the name, or `None` if it is shorter.
 pub(crate) fn part_at(end: End, name: &[u8], count: usize) -> Option<&[u8]>
-    ensures { MatchOption result (length name.now < count) (λ part. (count ≤ length name.now) × (part.now ≡ name_part_at end count name.now)) }
+    ensures { MatchOption result (length name.now < count)
+        (λ part. (count ≤ length name.now) × (part.now ≡ name_part_at end count name.now)) }
 {
     match end {
         End::Front => name.get(..count),

@@ -40,7 +40,8 @@ impl PatternIndex {
 
     /// Adds a pattern without a star.
     fn add_literal(&mut self, pattern: &[u8], fence: usize) -> Result<(), AllocError>
-        ensures { MatchesItselfAlone pattern.now → OnOk result (ExtendsIndex self.old self.new (record { pattern = pattern.now; fence = fence } ∷ [])) }
+        ensures { MatchesItselfAlone pattern.now
+            → OnOk result (ExtendsIndex self.old self.new (record { pattern = pattern.now; fence = fence } ∷ [])) }
     {
         self.literals.push(fence, pattern)?;
         Ok(())
@@ -155,7 +156,8 @@ impl PatternIndex {
         alloc: Global,
         components: &[Component],
     ) -> Result<Option<Claims>, AllocError>
-        ensures { (bounds : List FencePattern) → IndexesPatterns self.now bounds → IfOk result (AreClaimsWhereDistinct (ClaimsBy bounds) components.now) }
+        ensures { (bounds : List FencePattern) → IndexesPatterns self.now bounds
+            → IfOk result (AreClaimsWhereDistinct (ClaimsBy bounds) components.now) }
     {
         let Some(claims) = self.literal_claims(alloc, components)? else {
             return Ok(None);

@@ -113,7 +113,8 @@ impl PatternsAtEnd {
 
     /// Appends the pattern to those of the key.
     fn keep(&mut self, alloc: Global, key: &[u8], bound: FencePattern) -> Result<(), AllocError>
-        ensures { OnOk result (length self.old.keys ≡ length self.old.bounds.items → AddsUnderKey self.old self.new key.now bound) }
+        ensures { OnOk result (length self.old.keys ≡ length self.old.bounds.items
+            → AddsUnderKey self.old self.new key.now bound) }
     {
         match self.keys.add(key)? {
             Added::New(_) => self.bounds.push(one_bound(alloc, bound)?)?,
@@ -162,7 +163,8 @@ impl PatternsAtEnd {
     /// has at this end. The time depends on the number of different key lengths, not on the number
     /// of other patterns.
     fn claim_on(&self, name: &[u8]) -> Claim
-        ensures { (bounds : List FencePattern) → HasAtEnd self.now bounds → CountsFences (ClaimsBy bounds name.now) result }
+        ensures { (bounds : List FencePattern) → HasAtEnd self.now bounds
+            → CountsFences (ClaimsBy bounds name.now) result }
     {
         let mut claim = Claim::Unclaimed;
         for &count in &self.lengths {
@@ -208,7 +210,8 @@ impl StarredPatterns {
 
     /// Returns the claim of the patterns on the name.
     pub(crate) fn claim_on(&self, name: &[u8]) -> Claim
-        ensures { (bounds : List FencePattern) → HasStarred self.now bounds → CountsFences (ClaimsBy bounds name.now) result }
+        ensures { (bounds : List FencePattern) → HasStarred self.now bounds
+            → CountsFences (ClaimsBy bounds name.now) result }
     {
         let front = self.fronts.claim_on(name);
         if self.backs.is_empty() {

@@ -29,4 +29,5 @@ IsPast span best target = IsSomeAnd best (λ x. (y : ℤ) → span.lo ≤ℤ y �
 -- There is a best number so far, nearer than each number at which the width ends in the span or
 -- left of it.
 abbrev pub IsNearestSoFar : Span → Option ℤ → Target → Type 0
-IsNearestSoFar span best wanted = IsSomeAnd best (λ x. (y : ℤ) → (y +ℤ wanted.width) ≤ℤ span.hi → distance_to wanted.target x < distance_to wanted.target y)
+IsNearestSoFar span best wanted = IsSomeAnd best
+    (λ x. (y : ℤ) → (y +ℤ wanted.width) ≤ℤ span.hi → distance_to wanted.target x < distance_to wanted.target y)

@@ -156,7 +156,8 @@ pub fn best_in_row(
     requires wide { pos 0 <ℤ width }
     requires width { IsBounded width }
     requires target { IsBounded target }
-    ensures { IfOk result (λ found. let rows = map (λ list. list.items) lists.now in FindsNearest (λ x. FitsRows rows grid.now width x) target found) }
+    ensures { IfOk result (λ found. let rows = map (λ list. list.items) lists.now in
+        FindsNearest (λ x. FitsRows rows grid.now width x) target found) }
 {
     let wanted = wanted_of(width, target);
     if lists.len() == 1 {

@@ -95,7 +95,8 @@ fn store<T: Files + AllocGlobal, P: TextSource>(
     file: T::File,
     text: &P,
 ) -> io::Result<T::File>
-    ensures { IfOk result (λ new. Appends (⟦<T::File as Write>⟧.contents file) (⟦<T::File as Write>⟧.contents new) (P.text text.now)) }
+    ensures { IfOk result
+        (λ new. Appends (⟦<T::File as Write>⟧.contents file) (⟦<T::File as Write>⟧.contents new) (P.text text.now)) }
 {
     let mut file = with_buffer(rt.alloc(), file, text)?;
     file.sync_all()?;
@@ -128,7 +129,8 @@ fn fill<T: Files + AllocGlobal, P: TextSource>(
     file: T::File,
     text: &P,
 ) -> io::Result<T::File>
-    ensures { IfOk result (λ new. Appends (⟦<T::File as Write>⟧.contents file) (⟦<T::File as Write>⟧.contents new) (P.text text.now)) }
+    ensures { IfOk result
+        (λ new. Appends (⟦<T::File as Write>⟧.contents file) (⟦<T::File as Write>⟧.contents new) (P.text text.now)) }
 {
     let mut file = file;
     if let Some(older) = found(fs::metadata(rt, target))? {

@@ -20,7 +20,7 @@ use Rattle.lf_frame.specs.Alike.{without_movable_place}
 use Rattle.lf_frame.proofs.AlikeEntries.{movable_same, settled_without}
 use Rattle.lf_write.specs.Export.{PositionsRise, is_placed_at, placement_at, with_place, given_to, perhaps_with_place, given_places}
 use Rattle.lf_write.proofs.Reading.{reads_back, have_places}
-use Rattle.lf_write.proofs.Standing.{is_found_there}
+use Rattle.lf_write.proofs.WrittenLocations.{is_found_there}
 use Rattle.lf_laws_roundtrip.specs.Moved.{DifferInPlaces, document_but_movable_places, movable_locations}
 use Rattle.lf_laws_roundtrip.specs.Exports.{with_document, ExportsLoadAgain}
 use Rattle.lf_laws_roundtrip.proofs.Elsewhere.{positions_not_settled, accepted_elsewhere, loaded_elsewhere}

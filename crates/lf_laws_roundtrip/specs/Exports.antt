@@ -16,7 +16,8 @@ AreForCells l places = map (λ g. g.0) places ≡ map (λ c. c.component) l.cell
 
 -- The cells of a loaded design can be given places.
 abbrev pub LoadedIsExportable : Type 0
-LoadedIsExportable = (i : LoadInputs) (l : Loaded) (places : List (ℕ × Option Place)) → IsLoadedFrom i l → AreForCells l places
+LoadedIsExportable = (i : LoadInputs) (l : Loaded) (places : List (ℕ × Option Place)) → IsLoadedFrom i l
+    → AreForCells l places
     → AreExportable i.document.components places
 
 -- The inputs, with this document instead of theirs.
@@ -40,5 +41,7 @@ pub record LoadsAtPlaces (i : LoadInputs) (l : Loaded) (places : List (Option Pl
 -- A design that is exported with its cells at other places loads again as the design at these
 -- places.
 abbrev pub ExportsLoadAgain : Type 0
-ExportsLoadAgain = (text : List ℕ) (i : LoadInputs) (l : Loaded) (places : List (ℕ × Option Place)) → document_of text ≡ Ok i.document → IsLoadedFrom i l
-    → AreForCells l places → All (λ g. FitsText g.1) places → LoadsAtPlaces i l (map (λ g. g.1) places) (exported text i.document.components places)
+ExportsLoadAgain = (text : List ℕ) (i : LoadInputs) (l : Loaded) (places : List (ℕ × Option Place))
+    → document_of text ≡ Ok i.document → IsLoadedFrom i l
+    → AreForCells l places → All (λ g. FitsText g.1) places
+    → LoadsAtPlaces i l (map (λ g. g.1) places) (exported text i.document.components places)

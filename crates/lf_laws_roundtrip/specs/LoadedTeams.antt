@@ -42,9 +42,12 @@ pub record AreOwnCells (l : Loaded) (number : ℕ) (cells : List Cell) : Type 0 
 
 -- All cells of a team are cells of the team.
 abbrev pub OwnCellsAreTeamCells : Type 0
-OwnCellsAreTeamCells = (l : Loaded) (number : ℕ) (cells : List Cell) → AreOwnCells l number cells → AreTeamCells l number cells
+OwnCellsAreTeamCells = (l : Loaded) (number : ℕ) (cells : List Cell) → AreOwnCells l number cells
+    → AreTeamCells l number cells
 
 -- If a design is loaded from a text that was read, the text of a team reads back.
 abbrev pub LoadedTeamsReadBack : Type 0
-LoadedTeamsReadBack = (text : List ℕ) (i : LoadInputs) → document_of text ≡ Ok i.document → (l : Loaded) → IsLoadedFrom i l → (number : ℕ) (cells : List Cell)
-    → AreTeamCells l number cells → ReadsApartFromOffsets (team_text l.frame number cells) (team_document l.frame number cells)
+LoadedTeamsReadBack = (text : List ℕ) (i : LoadInputs) → document_of text ≡ Ok i.document
+    → (l : Loaded) → IsLoadedFrom i l → (number : ℕ) (cells : List Cell)
+    → AreTeamCells l number cells
+    → ReadsApartFromOffsets (team_text l.frame number cells) (team_document l.frame number cells)

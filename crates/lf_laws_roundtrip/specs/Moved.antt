@@ -39,7 +39,8 @@ pub record IsElsewhere (l m : Loaded) (places : List (Option Location)) : Type 0
 
 -- Documents that differ only in byte positions agree in the parts that teams cannot change.
 abbrev pub PositionsDoNotMatter : Type 0
-PositionsDoNotMatter = (a b : Document) → document_without_places a ≡ document_without_places b → document_but_movable_places a ≡ document_but_movable_places b
+PositionsDoNotMatter = (a b : Document) → document_without_places a ≡ document_without_places b
+    → document_but_movable_places a ≡ document_but_movable_places b
 
 -- If one of two inputs that differ only in places is accepted, so is the other.
 abbrev pub AcceptedElsewhere : Type 0
@@ -52,4 +53,5 @@ FrameStays = (i j : LoadInputs) → DifferInPlaces i j → (f : Frame) → IsFra
 -- If two inputs differ only in places, their designs have the same frame, and cells that differ
 -- only in their places, which are the document's.
 abbrev pub LoadedElsewhere : Type 0
-LoadedElsewhere = (i j : LoadInputs) → DifferInPlaces i j → (l m : Loaded) → IsLoadedFrom i l → IsLoadedFrom j m → IsElsewhere l m (movable_locations j.document)
+LoadedElsewhere = (i j : LoadInputs) → DifferInPlaces i j → (l m : Loaded) → IsLoadedFrom i l → IsLoadedFrom j m
+    → IsElsewhere l m (movable_locations j.document)

@@ -24,7 +24,8 @@ clause_of_place (Some p) = record { kind = Placed; place = Some (as_location p);
 
 -- The component of a cell at its working place.
 abbrev pub component_of : Frame → Cell → Component
-component_of f c = record { name = c.name; mac = (macro_of f c.mac).name; placement = Some (clause_of_place c.working); semicolon = 0 }
+component_of f c =
+    record { name = c.name; mac = (macro_of f c.mac).name; placement = Some (clause_of_place c.working); semicolon = 0 }
 
 -- The fence as a region.
 abbrev pub region_of : Team → Region

@@ -21,7 +21,7 @@ use Rattle.lf_server.specs.Exchanges.{Exchange, reply_cells}
 use Rattle.lf_server.specs.Endings.{WritesReplies}
 use Rattle.lf_server.specs.Laws.{commands, replies, reply_texts}
 use Rattle.lf_server.specs.declared.serve_loop.Ending.{Ending}
-use Rattle.lf_server.proofs.Telling.{acts_at, name_for, own_texts, reported_own, text_for}
+use Rattle.lf_server.proofs.OwnReplies.{acts_at, name_for, own_texts, reported_own, text_for}
 use Rattle.lf_laws_slices.specs.Alike.{AreFramesAlike, AreCellsAlike, AreTeamsAlike, AreFloorsAlike}
 use Rattle.lf_laws_slices.proofs.Cells.{zip_option}
 use Rattle.lf_laws_slices.proofs.Zips.{zip_get}

@@ -17,7 +17,7 @@ use Rattle.lf_floorplan.specs.Boxes.{IsSized, size_of}
 use Rattle.lf_floorplan.specs.Sizes.{size_in_dbu, turned, box_at}
 use Rattle.lf_floorplan.specs.Rows.{row_area}
 use Rattle.lf_floorplan.specs.Ground.{InGround, StaysInGround, IsClear, OverlapsSoft}
-use Rattle.lf_floorplan.specs.Standing.{IsSitesHigh, IsRowOfBox, IsBottomRow, Supports, HasHeight, HasBottomRow, IsSupported}
+use Rattle.lf_floorplan.specs.RowSupport.{IsSitesHigh, IsRowOfBox, IsBottomRow, Supports, HasHeight, HasBottomRow, IsSupported}
 use Rattle.lf_rules.specs.declared.rule.Rule.{Rule}
 use Rattle.lf_rules.specs.declared.rule.Rule.TheVariants.{Height, Row as RowRule, Stand, Orient as OrientRule, Rail as RailRule, Fence, Obstacle, Overlap}
 use Rattle.lf_rules.specs.Padding.{length_of, wider}

@@ -40,22 +40,27 @@ pub record IsCutFrom (number : ℕ) (whole slice : LoadInputs) : Type 0 where
   pub limits : whole.limits ≡ slice.limits
   pub obstacles : AreSameRects (obstacles_in whole) (obstacles_in slice)
   pub soft : AreSameRects (soft_in whole) (soft_in slice)
-  pub cells : KeepsOwn whole slice number (filter is_movable whole.document.components) (filter is_movable slice.document.components)
+  pub cells : KeepsOwn whole slice number (filter is_movable whole.document.components)
+      (filter is_movable slice.document.components)
 
 -- the whole design and its slice load as designs that are alike for the team
 abbrev pub SlicesLoadAlike : Type 0
 SlicesLoadAlike =
     (team : List ℕ) (number : ℕ) (whole slice : LoadInputs) (a b : Loaded)
-    → IsCutFrom number whole slice → IsLoadedFrom whole a → IsLoadedFrom slice b → team_number a.frame team ≡ Some number
+    → IsCutFrom number whole slice → IsLoadedFrom whole a → IsLoadedFrom slice b
+    → team_number a.frame team ≡ Some number
     → AreDesignsAlike team a b
 
 -- ---- slices exist
 
 -- the inputs without the movable components that do not pass the test
 abbrev pub without_others : (Component → Bool) → LoadInputs → LoadInputs
-without_others own i = record i { document = record i.document { components = filter (λ c. not (is_movable c) || own c) i.document.components } }
+without_others own i = record i {
+  document = record i.document { components = filter (λ c. not (is_movable c) || own c) i.document.components };
+}
 
 -- the inputs of each loaded design, without the components of other teams, are those of a slice
 abbrev pub CutsExist : Type 0
 CutsExist =
-    (number : ℕ) (whole : LoadInputs) (a : Loaded) → IsLoadedFrom whole a → (own : Component → Bool) × IsCutFrom number whole (without_others own whole)
+    (number : ℕ) (whole : LoadInputs) (a : Loaded) → IsLoadedFrom whole a
+    → (own : Component → Bool) × IsCutFrom number whole (without_others own whole)

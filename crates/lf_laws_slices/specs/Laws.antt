@@ -37,12 +37,14 @@ query_on g c = record c { frame = g }
 
 -- on alike frames each rule holds for a candidate on both or on neither
 abbrev pub RulesAreAlike : Type 0
-RulesAreAlike = (t : Candidate) (g : Frame) (r : Rule) → AreFramesAlike t.frame g → Holds t r ↔ Holds (candidate_on g t) r
+RulesAreAlike = (t : Candidate) (g : Frame) (r : Rule) → AreFramesAlike t.frame g
+    → Holds t r ↔ Holds (candidate_on g t) r
 
 -- on alike frames a candidate has one verdict, whatever the legalizers
 abbrev pub VerdictsAreAlike : Type 0
 VerdictsAreAlike =
-    (l m : Legalizer) (t : Candidate) (g : Frame) → AreFramesAlike t.frame g → IsSized t.frame t.mac → l.first_broken t ≡ m.first_broken (candidate_on g t)
+    (l m : Legalizer) (t : Candidate) (g : Frame) → AreFramesAlike t.frame g → IsSized t.frame t.mac
+    → l.first_broken t ≡ m.first_broken (candidate_on g t)
 
 -- on alike frames a cell has one best place for a target, whatever the legalizers
 abbrev pub BestPlacesAreAlike : Type 0
@@ -57,7 +59,8 @@ BestPlacesAreAlike =
 abbrev pub OutcomesAreAlike : Type 0
 OutcomesAreAlike =
     (l m : Legalizer) (f g : Frame) (number : ℕ) (order : TeamCommand (List ℕ) Place) (s t : TeamState)
-    → AreFramesAlike f g → AreTeamsAlike f g s t → AreOutcomesAlike f g (outcome_by_rules l f number order s) (outcome_by_rules m g number order t)
+    → AreFramesAlike f g → AreTeamsAlike f g s t
+    → AreOutcomesAlike f g (outcome_by_rules l f number order s) (outcome_by_rules m g number order t)
 
 -- ---- floors and designs
 
@@ -66,7 +69,8 @@ OutcomesAreAlike =
 -- commands with the reply OutOfMemory are left out
 abbrev pub RunsAreAlike : Type 0
 RunsAreAlike =
-    (l m : Legalizer) (team : List ℕ) (a a' b b' : FloorState) (commands others : List (Command (List ℕ) Place)) (replies answers : List Reply)
+    (l m : Legalizer) (team : List ℕ) (a a' b b' : FloorState) (commands others : List (Command (List ℕ) Place))
+    (replies answers : List Reply)
     → AreFloorsAlike team a b
     → Run l a commands replies a' → Run m b others answers b'
     → own_commands team commands replies ≡ own_commands team others answers
@@ -74,13 +78,15 @@ RunsAreAlike =
 
 -- the first floors of two loaded designs that are alike for a team are alike for it
 abbrev pub DesignsOpenAlike : Type 0
-DesignsOpenAlike = (team : List ℕ) (a b : Loaded) → AreDesignsAlike team a b → AreFloorsAlike team (initial_floor a) (initial_floor b)
+DesignsOpenAlike = (team : List ℕ) (a b : Loaded) → AreDesignsAlike team a b
+    → AreFloorsAlike team (initial_floor a) (initial_floor b)
 
 -- a team gets the same replies over its slice as over the whole design, and so over any two loaded
 -- designs that are alike for the team
 abbrev pub SlicesAnswerAlike : Type 0
 SlicesAnswerAlike =
-    (l m : Legalizer) (team : List ℕ) (a b : Loaded) (a' b' : FloorState) (commands others : List (Command (List ℕ) Place)) (replies answers : List Reply)
+    (l m : Legalizer) (team : List ℕ) (a b : Loaded) (a' b' : FloorState)
+    (commands others : List (Command (List ℕ) Place)) (replies answers : List Reply)
     → AreDesignsAlike team a b
     → Run l (initial_floor a) commands replies a' → Run m (initial_floor b) others answers b'
     → own_commands team commands replies ≡ own_commands team others answers
@@ -91,7 +97,8 @@ SlicesAnswerAlike =
 -- team, it gets the same replies and the floors are alike for the team afterwards
 abbrev pub PushesAnswerAlike : Type 0
 PushesAnswerAlike =
-    (l m : Legalizer) (team : List ℕ) (a a' b b' : FloorState) (commands pushed : List (Command (List ℕ) Place)) (replies answers : List Reply) →
+    (l m : Legalizer) (team : List ℕ) (a a' b b' : FloorState) (commands pushed : List (Command (List ℕ) Place))
+    (replies answers : List Reply) →
     let journal = lasting commands replies in
     let kept = lasting_replies commands replies in
     AreFloorsAlike team a b

@@ -17,7 +17,8 @@ use Rattle.lf_laws_slices.specs.Alike.{AreFloorsAlike, AreDesignsAlike}
 -- reply OutOfMemory are left out
 abbrev pub TextsAreAlike : Type 0
 TextsAreAlike =
-    (l m : Legalizer) (team : List ℕ) (end end' : Ending) (a a' b b' : FloorState) (v v' w w' : Writer) (done others : List Exchange)
+    (l m : Legalizer) (team : List ℕ) (end end' : Ending) (a a' b b' : FloorState) (v v' w w' : Writer)
+    (done others : List Exchange)
     → AreFloorsAlike team a b
     → WritesReplies end l a v done a' v' → WritesReplies end' m b w others b' w'
     → own_commands team (commands done) (replies done) ≡ own_commands team (commands others) (replies others)
@@ -26,7 +27,8 @@ TextsAreAlike =
 -- the same for two loaded designs that are alike for the team, as a design and its slice are
 abbrev pub SliceTextsAreAlike : Type 0
 SliceTextsAreAlike =
-    (l m : Legalizer) (team : List ℕ) (end end' : Ending) (a b : Loaded) (a' b' : FloorState) (v v' w w' : Writer) (done others : List Exchange)
+    (l m : Legalizer) (team : List ℕ) (end end' : Ending) (a b : Loaded) (a' b' : FloorState) (v v' w w' : Writer)
+    (done others : List Exchange)
     → AreDesignsAlike team a b
     → WritesReplies end l (initial_floor a) v done a' v' → WritesReplies end' m (initial_floor b) w others b' w'
     → own_commands team (commands done) (replies done) ≡ own_commands team (commands others) (replies others)

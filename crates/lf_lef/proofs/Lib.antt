@@ -6,5 +6,5 @@ pub mod PrintedLengths
 pub mod PrintedMacros
 pub mod PrintedSites
 pub mod Ranges
-pub mod Standing
+pub mod FirstStatements
 pub mod Whole

@@ -192,8 +192,8 @@ nothing_spelled : (q : List Lexeme) (k : Lexed) → Spells q [] → with_tokens 
 nothing_spelled [] k e = refl
 nothing_spelled (t ∷ q) k e = absurd cc
 
-pub passes_over : (c : Contents) → SkipsStatements c
-passes_over c ps p k h e = pass_all ps c [] p k (library c k) h e (λ q eq. ap (λ (z : Lexed). library c z) (nothing_spelled q k eq))
+pub skips_statements : (c : Contents) → SkipsStatements c
+skips_statements c ps p k h e = pass_all ps c [] p k (library c k) h e (λ q eq. ap (λ (z : Lexed). library c z) (nothing_spelled q k eq))
 
 -- X and Y, if the symmetry has them.
 abbrev said_words : Symmetry → List SymmetryWord

@@ -11,8 +11,10 @@ use Rattle.lf_lef.specs.Library.{library, library_after}
 -- Holds if any bytes may replace those from the first unread token on, when reading the text leaves
 -- tokens unread.
 abbrev pub UnreadLefBytesDoNotMatter : Contents → Contents → List ℕ → Type 0
-UnreadLefBytesDoNotMatter old new text = (read : List Lexeme) (t : Lexeme) (unread : List Lexeme) → (tokens_of text).tokens ≡ read ++ t ∷ unread
-    → library old (tokens_of text) ≡ taken new (lexed_after (t ∷ unread) (tokens_of text)) → (bytes : List ℕ) → library_after old (take t.start text ++ bytes) ≡ Ok new
+UnreadLefBytesDoNotMatter old new text = (read : List Lexeme) (t : Lexeme) (unread : List Lexeme)
+    → (tokens_of text).tokens ≡ read ++ t ∷ unread
+    → library old (tokens_of text) ≡ taken new (lexed_after (t ∷ unread) (tokens_of text))
+    → (bytes : List ℕ) → library_after old (take t.start text ++ bytes) ≡ Ok new
 
 -- Holds if the value of the first statement of a kind is kept.
 abbrev pub IsKept : {A : Type 0} → Option A → Option A → Type 0

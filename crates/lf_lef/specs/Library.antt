@@ -31,7 +31,10 @@ with_site c l = do
   n ← name l
   room ← room_for (position_of (site_names c.sites) n.value.text) (length c.sites) n.value
   parts ← site_parts n.value.text n.rest
-  taken (record c { sites = with_first (position_of (site_names c.sites) n.value.text) c.sites (site_of n.value.text parts.value) }) parts.rest
+  taken (record c {
+    sites = with_first (position_of (site_names c.sites) n.value.text) c.sites
+        (site_of n.value.text parts.value);
+  }) parts.rest
 
 -- MACRO name, its statements, END name; after its keyword.
 unfoldable pub with_macro : Contents → Reader Contents
@@ -39,18 +42,23 @@ with_macro c l = do
   n ← name l
   room ← room_for (position_of (macro_names c.macros) n.value.text) (length c.macros) n.value
   parts ← macro_parts n.value.text n.rest
-  taken (record c { macros = with_first (position_of (macro_names c.macros) n.value.text) c.macros (macro_from_parts n.value.text parts.value) }) parts.rest
+  taken (record c {
+    macros = with_first (position_of (macro_names c.macros) n.value.text) c.macros
+        (macro_from_parts n.value.text parts.value);
+  }) parts.rest
 
 -- True for what is skipped up to END and the name that follows the keyword (LEF LAYER, VIA,
 -- VIARULE, NONDEFAULTRULE, ARRAY).
 abbrev pub is_named : Lexeme → Bool
-is_named t = is (codes "LAYER") t || is (codes "VIA") t || is (codes "VIARULE") t || is (codes "NONDEFAULTRULE") t || is (codes "ARRAY") t
+is_named t = is (codes "LAYER") t || is (codes "VIA") t || is (codes "VIARULE") t || is (codes "NONDEFAULTRULE") t
+    || is (codes "ARRAY") t
 
 -- True for what is skipped up to END and its keyword (LEF UNITS, PROPERTYDEFINITIONS, SPACING, and
 -- groups of older texts).
 abbrev pub is_group : Lexeme → Bool
-is_group t = is (codes "UNITS") t || is (codes "PROPERTYDEFINITIONS") t || is (codes "SPACING") t || is (codes "IRDROP") t || is (codes "NOISETABLE") t || is
-    (codes "CORRECTIONTABLE") t
+is_group t = is (codes "UNITS") t || is (codes "PROPERTYDEFINITIONS") t || is (codes "SPACING") t
+    || is (codes "IRDROP") t || is (codes "NOISETABLE") t
+    || is (codes "CORRECTIONTABLE") t
 
 -- The name, and all tokens up to END and that name.
 unfoldable pub to_named_end : Reader (Unit {0})
@@ -96,4 +104,5 @@ library_after c text = value_of (library c (tokens_of text))
 
 -- Holds if the fault is that of the text, with its line, or a failed allocation.
 abbrev pub RefusesLef : LoadFault → Result Contents ReadFault → Type 0
-RefusesLef fault reading = (fault ≡ load_fault_of Memory) ⊎ ((first : ReadFault) × (reading ≡ Err first) × (fault ≡ load_fault_of (Fault first)))
+RefusesLef fault reading = (fault ≡ load_fault_of Memory)
+    ⊎ ((first : ReadFault) × (reading ≡ Err first) × (fault ≡ load_fault_of (Fault first)))

@@ -35,10 +35,14 @@ skip_lef_from t l =
 unfoldable pub macro_statement_from : List ℕ → MacroParts → Lexeme → Reader (Turn MacroParts)
 macro_statement_from name parts t l =
     if is (codes "END") t then (end_name name l >>= λ stop. finishes parts stop.rest)
-    else if is (codes "ORIGIN") t then (origin l >>= λ p. continues (record parts { origin = first_counts parts.origin p.value }) p.rest)
-    else if is (codes "SIZE") t then (size l >>= λ s. continues (record parts { size = first_counts parts.size s.value }) s.rest)
-    else if is (codes "SYMMETRY") t then (symmetry l >>= λ s. continues (record parts { symmetry = first_counts parts.symmetry s.value }) s.rest)
-    else if is (codes "PIN") t then (pin l >>= λ p. continues (record parts { pins = parts.pins ++ p.value ∷ [] }) p.rest)
+    else if is (codes "ORIGIN") t then
+    (origin l >>= λ p. continues (record parts { origin = first_counts parts.origin p.value }) p.rest)
+    else if is (codes "SIZE") t then
+    (size l >>= λ s. continues (record parts { size = first_counts parts.size s.value }) s.rest)
+    else if is (codes "SYMMETRY") t then
+    (symmetry l >>= λ s. continues (record parts { symmetry = first_counts parts.symmetry s.value }) s.rest)
+    else if is (codes "PIN") t then
+    (pin l >>= λ p. continues (record parts { pins = parts.pins ++ p.value ∷ [] }) p.rest)
     else (skip_lef_from t l >>= λ stop. continues parts stop.rest)
 
 unfoldable pub macro_statement : List ℕ → Statement MacroParts
@@ -59,4 +63,10 @@ origin_of parts = unwrap_or parts.origin no_point
 -- The macro that the statements describe.
 abbrev pub macro_from_parts : List ℕ → MacroParts → Macro
 macro_from_parts name parts =
-    record { name = name; size = unwrap_or parts.size no_point; origin = origin_of parts; symmetry = unwrap_or parts.symmetry no_symmetry; rail = rail_of (origin_of parts).y parts.pins }
+    record {
+      name = name;
+      size = unwrap_or parts.size no_point;
+      origin = origin_of parts;
+      symmetry = unwrap_or parts.symmetry no_symmetry;
+      rail = rail_of (origin_of parts).y parts.pins;
+    }

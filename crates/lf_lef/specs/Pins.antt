@@ -61,8 +61,10 @@ use_named w = if bytes_eq w (codes "POWER") then Power else if bytes_eq w (codes
 unfoldable pub pin_statement_from : List ℕ → Pin → Lexeme → Reader (Turn Pin)
 pin_statement_from name pin t l =
     if is (codes "END") t then (end_name name l >>= λ stop. finishes pin stop.rest)
-    else if is (codes "USE") t then (one_word l >>= λ w. continues (record pin { supply = first_counts pin.supply (use_named w.value) }) w.rest)
-    else if is (codes "PORT") t then (block port_statement pin.reaches l >>= λ r. continues (record pin { reaches = r.value }) r.rest)
+    else if is (codes "USE") t then
+    (one_word l >>= λ w. continues (record pin { supply = first_counts pin.supply (use_named w.value) }) w.rest)
+    else if is (codes "PORT") t then
+    (block port_statement pin.reaches l >>= λ r. continues (record pin { reaches = r.value }) r.rest)
     else if is (codes ";") t then continues pin l
     else (to_semicolon l >>= λ stop. continues pin stop.rest)
 
@@ -107,4 +109,5 @@ has_at_bottom supply origin pins = list_any (is_supply_at_bottom supply origin) 
 
 -- Power if a power pin reaches the bottom and no ground pin does. Otherwise ground.
 abbrev pub rail_of : ℤ → List Pin → Rail
-rail_of origin pins = if has_at_bottom Power origin pins && not (has_at_bottom Ground origin pins) then rail.Power else rail.Ground
+rail_of origin pins =
+    if has_at_bottom Power origin pins && not (has_at_bottom Ground origin pins) then rail.Power else rail.Ground

@@ -34,7 +34,8 @@ class_words class = codes "CLASS" ∷ class ∷ codes ";" ∷ []
 
 -- SYMMETRY {X | Y} .. ;
 abbrev pub symmetry_words : Symmetry → List (List ℕ)
-symmetry_words s = codes "SYMMETRY" ∷ ((if s.x then codes "X" ∷ [] else []) ++ ((if s.y then codes "Y" ∷ [] else []) ++ codes ";" ∷ []))
+symmetry_words s = codes "SYMMETRY"
+    ∷ ((if s.x then codes "X" ∷ [] else []) ++ ((if s.y then codes "Y" ∷ [] else []) ++ codes ";" ∷ []))
 
 -- SIZE w BY h ;
 abbrev pub size_words : List ℕ → List ℕ → List (List ℕ)
@@ -50,7 +51,8 @@ end_words name = codes "END" ∷ name ∷ []
 
 -- SITE name, its CLASS, SYMMETRY and SIZE, END name.
 abbrev pub site_words : List ℕ → List ℕ → Symmetry → List ℕ → List ℕ → List (List ℕ)
-site_words name class symmetry w h = codes "SITE" ∷ name ∷ (class_words class ++ (symmetry_words symmetry ++ (size_words w h ++ end_words name)))
+site_words name class symmetry w h =
+    codes "SITE" ∷ name ∷ (class_words class ++ (symmetry_words symmetry ++ (size_words w h ++ end_words name)))
 
 -- USE use ;
 abbrev pub use_words : List ℕ → List (List ℕ)
@@ -62,11 +64,13 @@ port_words x1 y1 x2 y2 = codes "PORT" ∷ codes "RECT" ∷ x1 ∷ y1 ∷ x2 ∷ 
 
 -- PIN name, its USE, one PORT of one RECT, END name.
 abbrev pub pin_words : List ℕ → List ℕ → List ℕ → List ℕ → List ℕ → List ℕ → List (List ℕ)
-pin_words name use_word x1 y1 x2 y2 = codes "PIN" ∷ name ∷ (use_words use_word ++ (port_words x1 y1 x2 y2 ++ end_words name))
+pin_words name use_word x1 y1 x2 y2 =
+    codes "PIN" ∷ name ∷ (use_words use_word ++ (port_words x1 y1 x2 y2 ++ end_words name))
 
 -- MACRO name, its ORIGIN, SIZE and SYMMETRY, one PIN, END name.
 abbrev pub macro_words : List ℕ → List ℕ → List ℕ → List ℕ → List ℕ → Symmetry → List (List ℕ) → List (List ℕ)
-macro_words name x y w h symmetry pin = codes "MACRO" ∷ name ∷ (origin_words x y ++ (size_words w h ++ (symmetry_words symmetry ++ (pin ++ end_words name))))
+macro_words name x y w h symmetry pin = codes "MACRO"
+    ∷ name ∷ (origin_words x y ++ (size_words w h ++ (symmetry_words symmetry ++ (pin ++ end_words name))))
 
 -- Statements that are skipped.
 
@@ -125,21 +129,27 @@ pub data SkippedStatement : Type 0 where
 
 abbrev pub skipped_statement_tokens : SkippedStatement → List PlainToken
 skipped_statement_tokens (plain_statement tokens) = with_semicolon tokens
-skipped_statement_tokens (named keyword name between) = plain_word (named_word keyword) ∷ plain_word name ∷ (between ++ map plain_word (end_words name))
-skipped_statement_tokens (grouped keyword between) = plain_word (group_word keyword) ∷ (between ++ map plain_word (end_words (group_word keyword)))
-skipped_statement_tokens (extension between) = plain_word (codes "BEGINEXT") ∷ (between ++ plain_word (codes "ENDEXT") ∷ [])
+skipped_statement_tokens (named keyword name between) =
+    plain_word (named_word keyword) ∷ plain_word name ∷ (between ++ map plain_word (end_words name))
+skipped_statement_tokens (grouped keyword between) =
+    plain_word (group_word keyword) ∷ (between ++ map plain_word (end_words (group_word keyword)))
+skipped_statement_tokens (extension between) =
+    plain_word (codes "BEGINEXT") ∷ (between ++ plain_word (codes "ENDEXT") ∷ [])
 
 -- The words that begin a statement that is not skipped up to a semicolon.
 abbrev pub other_statements : List (List ℕ)
 other_statements =
-    codes "END" ∷ codes "SITE" ∷ codes "MACRO" ∷ codes "LAYER" ∷ codes "VIA" ∷ codes "VIARULE" ∷ codes "NONDEFAULTRULE" ∷ codes "ARRAY"
-    ∷ codes "UNITS" ∷ codes "PROPERTYDEFINITIONS" ∷ codes "SPACING" ∷ codes "IRDROP" ∷ codes "NOISETABLE" ∷ codes "CORRECTIONTABLE" ∷ codes "BEGINEXT" ∷ []
+    codes "END" ∷ codes "SITE" ∷ codes "MACRO" ∷ codes "LAYER" ∷ codes "VIA" ∷ codes "VIARULE"
+    ∷ codes "NONDEFAULTRULE" ∷ codes "ARRAY"
+    ∷ codes "UNITS" ∷ codes "PROPERTYDEFINITIONS" ∷ codes "SPACING" ∷ codes "IRDROP" ∷ codes "NOISETABLE"
+    ∷ codes "CORRECTIONTABLE" ∷ codes "BEGINEXT" ∷ []
 
 -- Holds if the statement ends with its last word and not earlier: nowhere earlier does the name
 -- directly follow END.
 abbrev pub IsWhole : SkippedStatement → Type 0
 IsWhole (plain_statement tokens) = IsSkippedToSemicolon other_statements tokens
-IsWhole (named keyword name between) = IsPrintable name × OccurNowhere (codes "END" ∷ name ∷ []) (between ++ plain_word (codes "END") ∷ [])
+IsWhole (named keyword name between) = IsPrintable name
+    × OccurNowhere (codes "END" ∷ name ∷ []) (between ++ plain_word (codes "END") ∷ [])
 IsWhole (grouped keyword between) = OccurNowhere (codes "END" ∷ group_word keyword ∷ []) between
 IsWhole (extension between) = OccurNowhere (codes "ENDEXT" ∷ []) between
 
@@ -152,14 +162,16 @@ tokens_after (p ∷ ps) tokens = skipped_statement_tokens p ++ tokens_after ps t
 
 -- Holds if skipped statements have no effect, whatever follows.
 abbrev pub SkipsStatements : Contents → Type 0
-SkipsStatements c = (passed : List SkippedStatement) (tokens : List Lexeme) (after_it : Lexed) → All IsWhole passed → Spells tokens (tokens_after passed [])
+SkipsStatements c = (passed : List SkippedStatement) (tokens : List Lexeme) (after_it : Lexed) → All IsWhole passed
+    → Spells tokens (tokens_after passed [])
     → library c (with_tokens tokens after_it) ≡ library c after_it
 
 -- Holds if a printed site with a new name reads back, after skipped statements and with anything
 -- after it.
 abbrev pub ReadsSite : Contents → Site → Type 0
 ReadsSite c s = (passed : List SkippedStatement) (class w h : List ℕ) (tokens : List Lexeme) (after_it : Lexed)
-    → All IsWhole passed → IsPrintable s.name → class ≢ codes ";" → bytes_eq class (codes "CORE") ≡ s.core → Writes w s.size.x → Writes h s.size.y
+    → All IsWhole passed → IsPrintable s.name → class ≢ codes ";" → bytes_eq class (codes "CORE") ≡ s.core
+    → Writes w s.size.x → Writes h s.size.y
     → position_of (site_names c.sites) s.name ≡ None → length c.sites < 1000000
     → Spells tokens (tokens_after passed (map plain_word (site_words s.name class s.symmetry w h)))
     → library c (with_tokens tokens after_it) ≡ library (record c { sites = c.sites ++ s ∷ [] }) after_it
@@ -167,11 +179,14 @@ ReadsSite c s = (passed : List SkippedStatement) (class w h : List ℕ) (tokens 
 -- Holds if a printed macro with a new name reads back with the rail of its pin, after skipped
 -- statements and with anything after it.
 abbrev pub ReadsMacro : Contents → Macro → Type 0
-ReadsMacro c m = (passed : List SkippedStatement) (x y w h pin use_word x1 y1 x2 y2 : List ℕ) (low high left right : ℤ) (tokens : List Lexeme) (after_it : Lexed)
-    → All IsWhole passed → IsPrintable m.name → IsPrintable pin → use_word ≢ codes ";" → Writes x m.origin.x → Writes y m.origin.y → Writes w m.size.x
+ReadsMacro c m = (passed : List SkippedStatement) (x y w h pin use_word x1 y1 x2 y2 : List ℕ) (low high left right : ℤ)
+    (tokens : List Lexeme) (after_it : Lexed)
+    → All IsWhole passed → IsPrintable m.name → IsPrintable pin → use_word ≢ codes ";" → Writes x m.origin.x
+    → Writes y m.origin.y → Writes w m.size.x
     → Writes h m.size.y
     → Writes x1 left → Writes y1 low → Writes x2 right → Writes y2 high
     → m.rail ≡ rail_of m.origin.y (record { supply = Some (use_named use_word); reaches = reach_of low high ∷ [] } ∷ [])
     → position_of (macro_names c.macros) m.name ≡ None → length c.macros < 1000000
-    → Spells tokens (tokens_after passed (map plain_word (macro_words m.name x y w h m.symmetry (pin_words pin use_word x1 y1 x2 y2))))
+    → Spells tokens
+    (tokens_after passed (map plain_word (macro_words m.name x y w h m.symmetry (pin_words pin use_word x1 y1 x2 y2))))
     → library c (with_tokens tokens after_it) ≡ library (record c { macros = c.macros ++ m ∷ [] }) after_it

@@ -74,7 +74,8 @@ iterate_words iterate = if iterate then codes "ITERATE" ∷ [] else []
 abbrev pub rect_tokens : PrintedRect → List PlainToken
 rect_tokens r =
     plain_word (codes "RECT") ∷ (map plain_word (mask_words r.mask) ++
-    (map plain_word (iterate_words r.iterate) ++ (map plain_word (point_words r.corner) ++ (map plain_word (point_words r.opposite) ++ with_semicolon r.more))))
+    (map plain_word (iterate_words r.iterate) ++ (map plain_word (point_words r.corner)
+    ++ (map plain_word (point_words r.opposite) ++ with_semicolon r.more))))
 
 -- A statement of a PORT.
 pub data PortStatement : Type 0 where
@@ -195,12 +196,15 @@ pub data MacroStatement : Type 0 where
   macro_passed : List PlainToken → MacroStatement
 
 abbrev pub macro_statement_tokens : MacroStatement → List PlainToken
-macro_statement_tokens (macro_origin p) = plain_word (codes "ORIGIN") ∷ (map plain_word (point_words p) ++ plain_word (codes ";") ∷ [])
+macro_statement_tokens (macro_origin p) =
+    plain_word (codes "ORIGIN") ∷ (map plain_word (point_words p) ++ plain_word (codes ";") ∷ [])
 macro_statement_tokens (macro_size w h) = map plain_word (codes "SIZE" ∷ w.word ∷ codes "BY" ∷ h.word ∷ codes ";" ∷ [])
 macro_statement_tokens (macro_symmetry words) = plain_word (codes "SYMMETRY") ∷ symmetry_tokens words
-macro_statement_tokens (macro_pin name statements) = plain_word (codes "PIN") ∷ plain_word name ∷ pin_body_tokens name statements
+macro_statement_tokens (macro_pin name statements) =
+    plain_word (codes "PIN") ∷ plain_word name ∷ pin_body_tokens name statements
 macro_statement_tokens (macro_layers keyword statements) = plain_word (layers_word keyword) ∷ layers_tokens statements
-macro_statement_tokens (macro_timing between) = plain_word (codes "TIMING") ∷ (between ++ map plain_word (end_words (codes "TIMING")))
+macro_statement_tokens (macro_timing between) =
+    plain_word (codes "TIMING") ∷ (between ++ map plain_word (end_words (codes "TIMING")))
 macro_statement_tokens (macro_passed tokens) = with_semicolon tokens
 
 abbrev pub IsMacroStatement : MacroStatement → Type 0
@@ -211,7 +215,8 @@ IsMacroStatement (macro_pin name statements) = IsPrintable name × All IsPinStat
 IsMacroStatement (macro_layers keyword statements) = All (IsSkippedToSemicolon (codes "END" ∷ [])) statements
 IsMacroStatement (macro_timing between) = OccurNowhere (codes "END" ∷ codes "TIMING" ∷ []) between
 IsMacroStatement (macro_passed tokens) =
-    IsSkippedToSemicolon (codes "END" ∷ codes "ORIGIN" ∷ codes "SIZE" ∷ codes "SYMMETRY" ∷ codes "PIN" ∷ codes "OBS" ∷ codes "DENSITY" ∷ codes "TIMING" ∷ []) tokens
+    IsSkippedToSemicolon (codes "END" ∷ codes "ORIGIN" ∷ codes "SIZE" ∷ codes "SYMMETRY" ∷ codes "PIN" ∷ codes "OBS"
+    ∷ codes "DENSITY" ∷ codes "TIMING" ∷ []) tokens
 
 -- The statements in order, and END name.
 abbrev pub macro_body_tokens : List ℕ → List MacroStatement → List PlainToken
@@ -225,9 +230,15 @@ macro_tokens name statements = plain_word (codes "MACRO") ∷ plain_word name �
 -- The first ORIGIN, SIZE and SYMMETRY count, and every PIN. Skipped statements are ignored.
 abbrev pub with_statement : MacroParts → MacroStatement → MacroParts
 with_statement parts (macro_origin p) = record parts { origin = first_counts parts.origin (printed_point p) }
-with_statement parts (macro_size w h) = record parts { size = first_counts parts.size (record { x = w.length; y = h.length }) }
-with_statement parts (macro_symmetry words) = record parts { symmetry = first_counts parts.symmetry (with_symmetries no_symmetry words) }
-with_statement parts (macro_pin name statements) = record parts { pins = parts.pins ++ with_pin_statements no_pin statements ∷ [] }
+with_statement parts (macro_size w h) = record parts {
+  size = first_counts parts.size (record { x = w.length; y = h.length });
+}
+with_statement parts (macro_symmetry words) = record parts {
+  symmetry = first_counts parts.symmetry (with_symmetries no_symmetry words);
+}
+with_statement parts (macro_pin name statements) = record parts {
+  pins = parts.pins ++ with_pin_statements no_pin statements ∷ [];
+}
 with_statement parts (macro_layers keyword statements) = parts
 with_statement parts (macro_timing between) = parts
 with_statement parts (macro_passed tokens) = parts

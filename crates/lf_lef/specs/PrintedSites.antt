@@ -34,7 +34,8 @@ abbrev pub IsSiteStatement : SiteStatement → Type 0
 IsSiteStatement (site_class class) = class ≢ codes ";"
 IsSiteStatement (site_symmetry words) = Unit {0}
 IsSiteStatement (site_size w h) = IsPrintedLength w × IsPrintedLength h
-IsSiteStatement (site_passed tokens) = IsSkippedToSemicolon (codes "END" ∷ codes "CLASS" ∷ codes "SYMMETRY" ∷ codes "SIZE" ∷ []) tokens
+IsSiteStatement (site_passed tokens) =
+    IsSkippedToSemicolon (codes "END" ∷ codes "CLASS" ∷ codes "SYMMETRY" ∷ codes "SIZE" ∷ []) tokens
 
 -- The statements in order, and END name.
 abbrev pub site_body_tokens : List ℕ → List SiteStatement → List PlainToken
@@ -47,9 +48,15 @@ site_tokens name statements = plain_word (codes "SITE") ∷ plain_word name ∷ 
 
 -- The first CLASS, SYMMETRY and SIZE count. Skipped statements are ignored.
 abbrev pub with_site_statement : SiteParts → SiteStatement → SiteParts
-with_site_statement parts (site_class class) = record parts { core = first_counts parts.core (bytes_eq class (codes "CORE")) }
-with_site_statement parts (site_symmetry words) = record parts { symmetry = first_counts parts.symmetry (with_symmetries no_symmetry words) }
-with_site_statement parts (site_size w h) = record parts { size = first_counts parts.size (record { x = w.length; y = h.length }) }
+with_site_statement parts (site_class class) = record parts {
+  core = first_counts parts.core (bytes_eq class (codes "CORE"));
+}
+with_site_statement parts (site_symmetry words) = record parts {
+  symmetry = first_counts parts.symmetry (with_symmetries no_symmetry words);
+}
+with_site_statement parts (site_size w h) = record parts {
+  size = first_counts parts.size (record { x = w.length; y = h.length });
+}
 with_site_statement parts (site_passed tokens) = parts
 
 abbrev pub with_site_statements : SiteParts → List SiteStatement → SiteParts

@@ -39,9 +39,12 @@ symmetry l = block symmetry_word no_symmetry l
 unfoldable pub site_statement_from : List ℕ → SiteParts → Lexeme → Reader (Turn SiteParts)
 site_statement_from name parts t l =
     if is (codes "END") t then (end_name name l >>= λ stop. finishes parts stop.rest)
-    else if is (codes "CLASS") t then (one_word l >>= λ class. continues (record parts { core = first_counts parts.core (bytes_eq class.value (codes "CORE")) }) class.rest)
-    else if is (codes "SYMMETRY") t then (symmetry l >>= λ s. continues (record parts { symmetry = first_counts parts.symmetry s.value }) s.rest)
-    else if is (codes "SIZE") t then (size l >>= λ s. continues (record parts { size = first_counts parts.size s.value }) s.rest)
+    else if is (codes "CLASS") t then (one_word l >>= λ class.
+    continues (record parts { core = first_counts parts.core (bytes_eq class.value (codes "CORE")) }) class.rest)
+    else if is (codes "SYMMETRY") t then
+    (symmetry l >>= λ s. continues (record parts { symmetry = first_counts parts.symmetry s.value }) s.rest)
+    else if is (codes "SIZE") t then
+    (size l >>= λ s. continues (record parts { size = first_counts parts.size s.value }) s.rest)
     else if is (codes ";") t then continues parts l
     else (to_semicolon l >>= λ stop. continues parts stop.rest)
 
@@ -62,4 +65,9 @@ no_point = record { x = pos 0; y = pos 0 }
 
 -- The site that the statements describe.
 abbrev pub site_of : List ℕ → SiteParts → Site
-site_of name parts = record { name = name; core = unwrap_or parts.core false; size = unwrap_or parts.size no_point; symmetry = unwrap_or parts.symmetry no_symmetry }
+site_of name parts = record {
+  name = name;
+  core = unwrap_or parts.core false;
+  size = unwrap_or parts.size no_point;
+  symmetry = unwrap_or parts.symmetry no_symmetry;
+}

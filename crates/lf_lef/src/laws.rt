@@ -57,7 +57,7 @@ pub fn first_of_each_kind_counts()
 {}
 
 /// Statements that are skipped have no effect, however many there are.
-pub fn passed_over_statements_play_no_part()
+pub fn skipped_statements_play_no_part()
     ensures { (c : Contents) → SkipsStatements c }
 {}
 

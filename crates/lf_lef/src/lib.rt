@@ -39,7 +39,7 @@ pub use built_in::DEMO_LEF;
 pub use laws::{
     a_printed_macro_is_read_back, a_printed_site_is_read_back, first_of_each_kind_counts,
     lef_statements_read_alike, lef_statements_take_tokens, nothing_after_end_library_counts,
-    passed_over_statements_play_no_part,
+    skipped_statements_play_no_part,
 };
 pub use lf_floorplan::{Macro, Site};
 pub use library::Library;

@@ -16,14 +16,14 @@ use Rattle.lf_spans.proofs.Edges.{rising_nil, rising_tail, rising_after}
 use Rattle.lf_floorplan.specs.declared.frame.Frame.{Frame}
 use Rattle.lf_floorplan.specs.declared.parts.Row.{Row}
 use Rattle.lf_floorplan.specs.Rows.{row_area}
-use Rattle.lf_floorplan.specs.Standing.{rail_alternated}
+use Rattle.lf_floorplan.specs.RowSupport.{rail_alternated}
 use Rattle.lf_segments.specs.declared.segment.Segment.{Segment}
 use Rattle.lf_segments.specs.Segments.{IsCut, IsOf, IsOpen, IsSegment, LiesInSegment}
 use Rattle.lf_cells.specs.declared.cell.CellId.{CellId}
-use Rattle.lf_segments.specs.declared.strip.Strip.{Strip}
+use Rattle.lf_frame_index.specs.declared.strip.Strip.{Strip}
 use Rattle.lf_occupancy.specs.Views.{Occupied, IsFreeOver, IsStripOf}
-use Rattle.lf_segments.specs.Indexes.{IsIndexOf}
-use Rattle.lf_segments.specs.Strips.{strip_of}
+use Rattle.lf_frame_index.specs.Indexes.{IsIndexOf}
+use Rattle.lf_frame_index.specs.Strips.{strip_of}
 use Rattle.lf_legalize.specs.declared.row_search.RowSearch.{RowSearch}
 use Rattle.lf_legalize.specs.RowSearches.{padding_in}
 use Rattle.lf_legalize.specs.Levels.{AddsLevel, AreFreeOn, AreLevels, HasBareLevel, IsFreeOnOne, IsFreeOnRow, IsLevel, IsLevelRow, AreOpenInRow, IsRailed}

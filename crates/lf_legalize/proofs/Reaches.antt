@@ -10,14 +10,14 @@ use Rattle.lf_floorplan.specs.declared.parts.Row.{Row}
 use Rattle.lf_floorplan.specs.Boxes.{macro_of}
 use Rattle.lf_floorplan.specs.Rows.{row_area}
 use Rattle.lf_floorplan.specs.Sizes.{box_at}
-use Rattle.lf_floorplan.specs.Standing.{IsBottomRow}
+use Rattle.lf_floorplan.specs.RowSupport.{IsBottomRow}
 use Rattle.lf_floorplan.proofs.SizeBounds.{IsSmall, small_pitch, sized_pitch}
 use Rattle.lf_rules.specs.Choice.{SpotPlace, PlacementQuery, IsAllowedPlace, Precedes, distance}
 use Rattle.lf_rules.specs.Scanning.{ScansPlaces, IsAsGood}
 use Rattle.lf_rules.proofs.Looking.{taken_first, taken, left}
 use Rattle.lf_rules.proofs.Order.{through}
-use Rattle.lf_segments.specs.declared.rows_by_y.RowEntry.{RowEntry}
-use Rattle.lf_segments.specs.RowsByY.{IsEntryOf}
+use Rattle.lf_frame_index.specs.declared.rows_by_y.RowEntry.{RowEntry}
+use Rattle.lf_frame_index.specs.RowsByY.{IsEntryOf}
 use Rattle.lf_legalize.specs.Extents.{IsWithin, IsOnRow, IsBetter, ScansPlacesWithin, search_limit}
 use Rattle.lf_legalize.specs.RowSearches.{IsOnRowIn, IsBestAmong, IsChoiceAmong}
 use Rattle.lf_legalize.specs.declared.row_search.RowSearch.{RowSearch}

@@ -13,15 +13,15 @@ use Rattle.lf_floorplan.specs.declared.frame.Frame.{Frame}
 use Rattle.lf_floorplan.specs.declared.place.Place.{Place}
 use Rattle.lf_floorplan.specs.Boxes.{macro_of, size_of}
 use Rattle.lf_floorplan.specs.Sizes.{box_at, turned}
-use Rattle.lf_floorplan.specs.Standing.{IsBottomRow}
+use Rattle.lf_floorplan.specs.RowSupport.{IsBottomRow}
 use Rattle.lf_rules.specs.declared.rule.Rule.TheVariants.{Row as RowRule}
 use Rattle.lf_rules.specs.Legality.{Holds}
 use Rattle.lf_rules.specs.Choice.{SpotPlace, PlacementQuery, IsLegalAt, IsAllowedPlace, IsChoice, IsBest, distance, spot_of, candidate_at}
 use Rattle.lf_rules.proofs.Looking.{onward}
 use Rattle.lf_rules.proofs.Order.{compared}
 use Rattle.lf_rules.proofs.SiteLemmas.{OneOfFour, legal_upright, rank_decides}
-use Rattle.lf_segments.specs.declared.rows_by_y.RowEntry.{RowEntry}
-use Rattle.lf_segments.specs.RowsByY.{IsRowsByY, IsRunBetween, RunBetweenHasRows}
+use Rattle.lf_frame_index.specs.declared.rows_by_y.RowEntry.{RowEntry}
+use Rattle.lf_frame_index.specs.RowsByY.{IsRowsByY, IsRunBetween, RunBetweenHasRows}
 use Rattle.lf_legalize.specs.Extents.{IsWithin, IsOnRow, ScansPlacesWithin}
 use Rattle.lf_legalize.specs.RowSearches.{IsBestAmong, IsChoiceAmong, query_of_search}
 use Rattle.lf_legalize.specs.declared.row_search.RowSearch.{RowSearch}

@@ -20,8 +20,8 @@ use Rattle.lf_floorplan.specs.declared.parts.Row.{Row}
 use Rattle.lf_floorplan.specs.Rows.{row_area}
 use Rattle.lf_floorplan.specs.Boxes.{macro_of}
 use Rattle.lf_floorplan.specs.Ground.{StaysInGround, IsClear, OverlapsSoft}
-use Rattle.lf_floorplan.specs.Standing.{Supports, IsBottomRow, IsSupported, IsSitesHigh, RestsOnRows, rail_alternated}
-use Rattle.lf_floorplan.proofs.StandingLemmas.{height_one, bottom_one}
+use Rattle.lf_floorplan.specs.RowSupport.{Supports, IsBottomRow, IsSupported, IsSitesHigh, RestsOnRows, rail_alternated}
+use Rattle.lf_floorplan.proofs.RowSupportLemmas.{height_one, bottom_one}
 use Rattle.lf_segments.specs.declared.segment.Segment.{Segment}
 use Rattle.lf_segments.specs.Segments.{IsOpen}
 use Rattle.lf_gaps.specs.Gaps.{FitsRows}
@@ -33,9 +33,9 @@ use Rattle.lf_rules.proofs.BesideLemmas.{beside_hold}
 use Rattle.lf_rules.proofs.LegalParts.{frame_kept, legal_by_parts}
 use Rattle.lf_rules.proofs.SiteLemmas.{one_of_four}
 use Rattle.lf_cells.specs.Cells.{cells_of}
-use Rattle.lf_segments.specs.declared.strip.Strip.{Strip}
+use Rattle.lf_frame_index.specs.declared.strip.Strip.{Strip}
 use Rattle.lf_occupancy.specs.Views.{IsFreeOver, IsOther, IsStripOf}
-use Rattle.lf_segments.specs.Strips.{IsNear, row_y, strip_of}
+use Rattle.lf_frame_index.specs.Strips.{IsNear, row_y, strip_of}
 use Rattle.lf_occupancy.specs.Floorplans.{IsOccupancyOf}
 use Rattle.lf_legalize.specs.declared.row_search.RowSearch.{RowSearch}
 use Rattle.lf_legalize.specs.Members.{member_of}

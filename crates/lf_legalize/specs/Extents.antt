@@ -7,7 +7,7 @@ use Rattle.lf_units.specs.declared.geometry.Rect.{Rect}
 use Rattle.lf_floorplan.specs.declared.frame.Frame.{Frame}
 use Rattle.lf_floorplan.specs.declared.parts.Row.{Row}
 use Rattle.lf_floorplan.specs.Sizes.{box_at}
-use Rattle.lf_floorplan.specs.Standing.{IsBottomRow}
+use Rattle.lf_floorplan.specs.RowSupport.{IsBottomRow}
 use Rattle.lf_rules.specs.Choice.{SpotPlace, PlacementQuery, Precedes, distance}
 use Rattle.lf_rules.specs.Scanning.{ScansPlaces, IsAsGood}
 
@@ -16,7 +16,8 @@ use Rattle.lf_rules.specs.Scanning.{ScansPlaces, IsAsGood}
 pub record IsNearestIn (lo hi value nearest : ℤ) : Type 0 where
   pub low : lo ≤ℤ nearest
   pub high : nearest ≤ℤ hi
-  pub apart : (v : ℤ) → lo ≤ℤ v → v ≤ℤ hi → unsigned_abs (v -ℤ value) ≡ unsigned_abs (v -ℤ nearest) + unsigned_abs (nearest -ℤ value)
+  pub apart : (v : ℤ) → lo ≤ℤ v → v ≤ℤ hi
+      → unsigned_abs (v -ℤ value) ≡ unsigned_abs (v -ℤ nearest) + unsigned_abs (nearest -ℤ value)
 
 -- the point of the rectangle that is nearest to another
 pub record IsNearestPoint (extent : Rect) (target nearest : Point) : Type 0 where
@@ -50,11 +51,13 @@ pub record IsOnRow (f : Frame) (size : Point) (number : ℕ) (p : SpotPlace) : T
 
 -- from the best place so far to the one after comparison with the seen places within `reach`; if
 -- the old one is within `reach`, so is the new one
-pub record ScansPlacesWithin (Seen : SpotPlace → Type 0) (cell : PlacementQuery) (target : Point) (reach : ℕ) (old new : Option SpotPlace) : Type 0 where
+pub record ScansPlacesWithin (Seen : SpotPlace → Type 0) (cell : PlacementQuery) (target : Point) (reach : ℕ)
+    (old new : Option SpotPlace) : Type 0 where
   pub looked : ScansPlaces (λ p. IsWithin target reach p × Seen p) cell target old new
   pub near : IfSome old (IsWithin target reach) → IfSome new (IsWithin target reach)
 
 -- the better of the best place so far and this one: this one if it precedes, or if there is no best
 -- place so far
 abbrev pub IsBetter : Point → Option SpotPlace → SpotPlace → Option SpotPlace → Type 0
-IsBetter target best p new = ((new ≡ Some p) × IfSome best (λ b. Precedes target p b)) ⊎ ((new ≡ best) × IsAsGood target best p)
+IsBetter target best p new = ((new ≡ Some p) × IfSome best (λ b. Precedes target p b))
+    ⊎ ((new ≡ best) × IsAsGood target best p)

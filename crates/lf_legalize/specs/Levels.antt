@@ -12,9 +12,9 @@ use Rattle.lf_floorplan.specs.declared.frame.Frame.{Frame}
 use Rattle.lf_floorplan.specs.declared.parts.Row.{Row}
 use Rattle.lf_floorplan.specs.Bounds.{IsDefNumber}
 use Rattle.lf_floorplan.specs.Boxes.{macro_of}
-use Rattle.lf_floorplan.specs.Standing.{rail_alternated}
-use Rattle.lf_segments.specs.declared.strip.Strip.{Strip}
-use Rattle.lf_segments.specs.Strips.{IsNear}
+use Rattle.lf_floorplan.specs.RowSupport.{rail_alternated}
+use Rattle.lf_frame_index.specs.declared.strip.Strip.{Strip}
+use Rattle.lf_frame_index.specs.Strips.{IsNear}
 use Rattle.lf_rules.specs.Choice.{rank}
 use Rattle.lf_cells.specs.declared.cell.CellId.{CellId}
 use Rattle.lf_occupancy.specs.Views.{Occupied, IsFreeOver, IsStripOf}
@@ -46,11 +46,13 @@ IsRowOfLevel f own bottom (suc j) n = IsLevelRow f bottom (suc j) n
 pub record IsFreeOnRow (o : Occupied) (id : CellId) (window : Span) (padding : ℤ) (n : ℕ) (s : Span) : Type 0 where
   pub within : LiesIn s window
   pub in_strip : Any (λ g. IsStripOf n id.team g × IsFreeOver o id padding g s) o.index.strips
-  pub off_soft : (k : ℕ) (g : Strip) → slice_get o.index.strips k ≡ Some g → IsNear n id.team window.lo window.hi g → IsDisjointFrom (slice_index_or o.index.soft k []) s
+  pub off_soft : (k : ℕ) (g : Strip) → slice_get o.index.strips k ≡ Some g → IsNear n id.team window.lo window.hi g
+      → IsDisjointFrom (slice_index_or o.index.soft k []) s
 
 -- the spans of a row that are free in this sense: a span that holds a number lies in one of them if
 -- and only if it is free
-pub record AreOpenInRow (o : Occupied) (row : ℕ) (id : CellId) (window : Span) (padding : ℤ) (open_spans : List Span) : Type 0 where
+pub record AreOpenInRow (o : Occupied) (row : ℕ) (id : CellId) (window : Span) (padding : ℤ)
+    (open_spans : List Span) : Type 0 where
   pub rising : IsRising open_spans
   pub exact : (s : Span) → IsFilled s → (LiesInOneOf open_spans s ↔ IsFreeOnRow o id window padding row s)
 
@@ -58,17 +60,20 @@ pub record AreOpenInRow (o : Occupied) (row : ℕ) (id : CellId) (window : Span)
 pub record AreWithoutSoft (soft : List (List Span)) (start end : ℕ) (free left : List Span) : Type 0 where
   pub rising : IsRising left
   pub exact : (s : Span) → IsFilled s →
-      (LiesInOneOf left s ↔ (LiesInOneOf free s × ((k : ℕ) → start ≤ k → k < end → IsDisjointFrom (slice_index_or soft k []) s)))
+      (LiesInOneOf left s
+      ↔ (LiesInOneOf free s × ((k : ℕ) → start ≤ k → k < end → IsDisjointFrom (slice_index_or soft k []) s)))
 
 -- the span is free, in the same sense, on one of the rows
-pub record IsFreeOnOne (Rows : ℕ → Type 0) (o : Occupied) (id : CellId) (window : Span) (padding : ℤ) (s : Span) : Type 0 where
+pub record IsFreeOnOne (Rows : ℕ → Type 0) (o : Occupied) (id : CellId) (window : Span) (padding : ℤ)
+    (s : Span) : Type 0 where
   pub number : ℕ
   pub among : Rows number
   pub free : IsFreeOnRow o id window padding number s
 
 -- the free spans in the window on the rows: a span that holds a number lies in one of them if and
 -- only if it is free on one of the rows
-pub record AreFreeOn (Rows : ℕ → Type 0) (o : Occupied) (id : CellId) (window : Span) (padding : ℤ) (free : List Span) : Type 0 where
+pub record AreFreeOn (Rows : ℕ → Type 0) (o : Occupied) (id : CellId) (window : Span) (padding : ℤ)
+    (free : List Span) : Type 0 where
   pub rising : IsRising free
   pub exact : (s : Span) → IsFilled s → (LiesInOneOf free s ↔ IsFreeOnOne Rows o id window padding s)
 
@@ -81,10 +86,12 @@ pub record AddsLevel (s : RowSearch) (bottom : Row) (j n : ℕ) (window : Span) 
 
 -- the free spans on the rows of level j
 abbrev pub IsLevel : RowSearch → ℕ → Row → Span → ℕ → List Span → Type 0
-IsLevel s own bottom window j free = AreFreeOn (λ n. IsRowOfLevel s.frame.now own bottom j n) s.occupancy.now s.id window (padding_in s) free
+IsLevel s own bottom window j free =
+    AreFreeOn (λ n. IsRowOfLevel s.frame.now own bottom j n) s.occupancy.now s.id window (padding_in s) free
 
 -- the free spans on the rows of each of the first levels
-pub record AreLevels (s : RowSearch) (own : ℕ) (bottom : Row) (window : Span) (count : ℕ) (lists : List (List Span)) : Type 0 where
+pub record AreLevels (s : RowSearch) (own : ℕ) (bottom : Row) (window : Span) (count : ℕ)
+    (lists : List (List Span)) : Type 0 where
   pub number : length lists ≡ count
   pub each : (j : ℕ) → j < count → IsLevel s own bottom window j (slice_index_or lists j [])
 

@@ -22,4 +22,5 @@ IsSizedCell f c = HasSize f c
 -- such cell
 abbrev pub best_of : Legalizer → Frame → ℕ → ℕ → List Cell → ℕ → Point → Option SpotPlace
 best_of l f team padding cells own target =
-    option_and_then (λ c. l.best_place (query_from f team padding (map member_of cells) own c.mac) target) (slice_get cells own)
+    option_and_then (λ c. l.best_place (query_from f team padding (map member_of cells) own c.mac) target)
+    (slice_get cells own)

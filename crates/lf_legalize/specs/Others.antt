@@ -10,4 +10,5 @@ use Rattle.lf_cells.specs.declared.cell.Cell.{Cell}
 -- the box of the cell of this number if it is placed and not the cell `own`; otherwise no box
 abbrev pub beside_one : Frame → ℕ → ℕ → Option Cell → List Placed
 beside_one f own n None = []
-beside_one f own n (Some c) = filter (λ box. not (box.own == own)) (with_box f n c.mac (option_map spot_of c.working) [])
+beside_one f own n (Some c) =
+    filter (λ box. not (box.own == own)) (with_box f n c.mac (option_map spot_of c.working) [])

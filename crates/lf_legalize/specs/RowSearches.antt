@@ -5,7 +5,7 @@ use Rattle.lf_spans.specs.declared.span.Span.{Span}
 use Rattle.lf_floorplan.specs.declared.frame.Frame.{Frame}
 use Rattle.lf_floorplan.specs.declared.parts.Row.{Row}
 use Rattle.lf_floorplan.specs.Sizes.{box_at}
-use Rattle.lf_floorplan.specs.Standing.{IsBottomRow}
+use Rattle.lf_floorplan.specs.RowSupport.{IsBottomRow}
 use Rattle.lf_rules.specs.Choice.{SpotPlace, PlacementQuery, IsAllowedPlace, Precedes}
 use Rattle.lf_rules.specs.Padding.{length_of}
 use Rattle.lf_rules.specs.Team.{query_from}
@@ -16,7 +16,8 @@ use Rattle.lf_legalize.specs.declared.row_search.RowSearch.{RowSearch}
 -- the cell whose best place is searched for, regarded as unplaced among its team's cells, under the
 -- team's padding
 abbrev pub query_of_search : RowSearch → PlacementQuery
-query_of_search s = query_from s.frame.now s.id.team s.padding.sites (map member_of (cells_of s.cells.now s.id.team)) s.id.own s.mac
+query_of_search s =
+    query_from s.frame.now s.id.team s.padding.sites (map member_of (cells_of s.cells.now s.id.team)) s.id.own s.mac
 
 -- the padding of the search as a length
 abbrev pub padding_in : RowSearch → ℤ
@@ -29,7 +30,8 @@ pub record IsOnRowIn (f : Frame) (size : Point) (r : Row) (window : Span) (p : S
   pub right : (p.x +ℤ size.x) ≤ℤ window.hi
 
 -- an allowed place among the seen ones that no other allowed seen place precedes
-pub record IsBestAmong (Seen : SpotPlace → Type 0) (c : PlacementQuery) (target : Point) (best : SpotPlace) : Type 0 where
+pub record IsBestAmong (Seen : SpotPlace → Type 0) (c : PlacementQuery) (target : Point)
+    (best : SpotPlace) : Type 0 where
   pub seen : Seen best
   pub may_go : IsAllowedPlace c best
   pub least : (p : SpotPlace) → Seen p → IsAllowedPlace c p → (p ≡ best) ⊎ Precedes target best p
@@ -37,4 +39,5 @@ pub record IsBestAmong (Seen : SpotPlace → Type 0) (c : PlacementQuery) (targe
 -- the result of comparing the seen places: the best of them, or None only if the cell is allowed at
 -- no seen place
 abbrev pub IsChoiceAmong : (SpotPlace → Type 0) → PlacementQuery → Point → Option SpotPlace → Type 0
-IsChoiceAmong Seen c target found = MatchOption found ((p : SpotPlace) → Seen p → IsAllowedPlace c p → ⊥) (λ best. IsBestAmong Seen c target best)
+IsChoiceAmong Seen c target found =
+    MatchOption found ((p : SpotPlace) → Seen p → IsAllowedPlace c p → ⊥) (λ best. IsBestAmong Seen c target best)

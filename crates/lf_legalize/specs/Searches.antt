@@ -13,4 +13,5 @@ searched_cell s = query_without s.frame.now s.team s.padding.sites s.mac.now s.o
 
 -- from the best place so far to the one after comparison with the seen places
 abbrev pub SearchScansPlaces : (SpotPlace → Type 0) → Search → Option Place → Option Place → Type 0
-SearchScansPlaces Seen s old new = LooksAtSpots Seen (searched_cell s) s.target.now (option_map spot_of old) (option_map spot_of new)
+SearchScansPlaces Seen s old new =
+    LooksAtSpots Seen (searched_cell s) s.target.now (option_map spot_of old) (option_map spot_of new)

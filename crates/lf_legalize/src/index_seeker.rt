@@ -70,7 +70,8 @@ fn best_for(
     requires known { mac < length frame.now.macros }
     requires sized { IsSized frame.now (macro_of frame.now mac) }
     ensures { IfOk result (λ found.
-        IsChoice (query_from frame.now id.team padding.sites (map member_of (cells_of cells.now id.team)) id.own mac) target.now (option_map spot_of found)) }
+        IsChoice (query_from frame.now id.team padding.sites (map member_of (cells_of cells.now id.team)) id.own mac)
+        target.now (option_map spot_of found)) }
 {
     let of_cell = mac_at(frame, mac);
     let Some(height) = height_of(frame, of_cell) else {
@@ -103,10 +104,10 @@ impl Seeker for IndexSeeker {
         target: &Point,
         padding: Padding,
     ) -> Result<Option<Place>, AllocError> {
-        let Some(standing) = cells.placement_of(cell) else {
+        let Some(cell_placement) = cells.placement_of(cell) else {
             return Ok(None);
         };
-        let mac = standing.mac;
+        let mac = cell_placement.mac;
         best_for(alloc, frame, cells, occupancy, cell, mac, target, padding)
     }
 }

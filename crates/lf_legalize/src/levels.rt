@@ -4,8 +4,8 @@ ghost use Rattle.std.specs.Prelude.{◌≡◌, ◌↔◌, ◌<◌, ◌≤◌, �
 ghost use Rattle.std.specs.Option.{option_map};
 ghost use Rattle.lf_orient.specs.Orientation.{rail_below};
 ghost use Rattle.lf_floorplan.specs.Rows.{IsCoreRow};
-ghost use Rattle.lf_floorplan.specs.Standing.{rail_alternated};
-ghost use Rattle.lf_segments.specs.RowsByY.{IsRunAt};
+ghost use Rattle.lf_floorplan.specs.RowSupport.{rail_alternated};
+ghost use Rattle.lf_frame_index.specs.RowsByY.{IsRunAt};
 ghost use Rattle.lf_occupancy.specs.Floorplans.{IsOccupancyOf};
 ghost use Rattle.lf_legalize.specs.Levels.{AddsLevel, AreFreeOn, AreLevels, HasBareLevel, IsLevel, IsLevelRow};
 ghost use Rattle.lf_legalize.specs.RowSearches.{padding_in};
@@ -13,8 +13,8 @@ ghost use Rattle.lf_legalize.specs.RowSearches.{padding_in};
 use crate::open_spans::open_in_row;
 use crate::row_search::{RowSearch, rows_of};
 use lf_floorplan::Row;
+use lf_frame_index::RowEntry;
 use lf_orient::{Rail, opposite, row_rail};
-use lf_segments::RowEntry;
 use lf_units::{Point, Span};
 use std::alloc::{AllocError, Global};
 
@@ -52,14 +52,16 @@ fn y_at(bottom: &Row, pitch: &Point, level: u32) -> i64
 /// The rows `level` levels above the bottom row, in the order of their x.
 fn rows_above<'a>(search: &RowSearch<'a>, bottom: &Row, level: u32) -> &'a [RowEntry]
     requires { level ≤ 8 }
-    ensures { IsRunAt search.now.occupancy.now.index.rows (bottom.now.y +ℤ (pos level *ℤ search.now.frame.now.pitch.y)) result.now }
+    ensures { IsRunAt search.now.occupancy.now.index.rows
+        (bottom.now.y +ℤ (pos level *ℤ search.now.frame.now.pitch.y)) result.now }
 {
     rows_of(search).at(y_at(bottom, &search.frame.pitch, level))
 }
 
 /// Whether the row has the rail of a row `level` levels above the bottom row.
 fn is_railed(bottom: &Row, level: u32, row: &Row) -> bool
-    ensures { IsTrue result ↔ (rail_below row.now.orient ≡ option_map (rail_alternated level) (rail_below bottom.now.orient)) }
+    ensures { IsTrue result
+        ↔ (rail_below row.now.orient ≡ option_map (rail_alternated level) (rail_below bottom.now.orient)) }
 {
     row_rail(row.orient) == rail_at(bottom, level)
 }
@@ -77,7 +79,8 @@ fn push_row(
     requires held { IsOccupancyOf search.now.frame.now search.now.cells.now search.now.occupancy.now }
     requires within { number < length search.now.frame.now.rows }
     requires low { negsuc 4611686018427387903 ≤ℤ bottom.now.window.now.lo }
-    ensures { OnOk result (AddsLevel search.now bottom.now.row.now level number bottom.now.window.now spans.old.items spans.new.items) }
+    ensures { OnOk result
+        (AddsLevel search.now bottom.now.row.now level number bottom.now.window.now spans.old.items spans.new.items) }
 {
     let row = &search.frame.rows.as_slice()[number];
     if !is_railed(bottom.row, level, row) {
@@ -100,7 +103,8 @@ fn free_above(
     requires few { level ≤ 8 }
     requires low { negsuc 4611686018427387903 ≤ℤ bottom.now.window.now.lo }
     ensures { IfOk result (λ free.
-        AreFreeOn (IsLevelRow search.now.frame.now bottom.now.row.now level) search.now.occupancy.now search.now.id bottom.now.window.now (padding_in search.now) free.items) }
+        AreFreeOn (IsLevelRow search.now.frame.now bottom.now.row.now level) search.now.occupancy.now search.now.id
+        bottom.now.window.now (padding_in search.now) free.items) }
 {
     let mut spans = Vec::new(alloc);
     for entry in rows_above(search, bottom.row, level) {
@@ -119,7 +123,8 @@ fn free_at(
     requires held { IsOccupancyOf search.now.frame.now search.now.cells.now search.now.occupancy.now }
     requires few { level ≤ 8 }
     requires low { negsuc 4611686018427387903 ≤ℤ bottom.now.window.now.lo }
-    ensures { IfOk result (λ free. IsLevel search.now bottom.now.number bottom.now.row.now bottom.now.window.now level free.items) }
+    ensures { IfOk result
+        (λ free. IsLevel search.now bottom.now.number bottom.now.row.now bottom.now.window.now level free.items) }
 {
     if level == 0 {
         return open_in_row(alloc, search, bottom.number, bottom.window);
@@ -136,8 +141,10 @@ pub(crate) fn free_by_level(
 ) -> Result<Option<Vec<Vec<Span>>>, AllocError>
     requires held { IsOccupancyOf search.now.frame.now search.now.cells.now search.now.occupancy.now }
     requires low { negsuc 4611686018427387903 ≤ℤ bottom.now.window.now.lo }
-    ensures { IfOk result (λ found. MatchOption found (HasBareLevel search.now bottom.now.number bottom.now.row.now bottom.now.window.now)
-        (λ lists. AreLevels search.now bottom.now.number bottom.now.row.now bottom.now.window.now search.now.height (map (λ list. list.items) lists.items))) }
+    ensures { IfOk result
+        (λ found. MatchOption found (HasBareLevel search.now bottom.now.number bottom.now.row.now bottom.now.window.now)
+        (λ lists. AreLevels search.now bottom.now.number bottom.now.row.now bottom.now.window.now search.now.height
+        (map (λ list. list.items) lists.items))) }
 {
     let mut lists = Vec::new(alloc);
     for level in 0..search.height {

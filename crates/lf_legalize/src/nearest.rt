@@ -4,7 +4,7 @@ ghost use Rattle.std.specs.Prelude.{◌≡◌, ◌↔◌, ◌⊎◌, ◌≤◌, 
 ghost use Rattle.lf_floorplan.specs.declared.parts.Row.{Row};
 ghost use Rattle.lf_floorplan.specs.Rows.{IsCoreRow, row_area};
 ghost use Rattle.lf_rules.specs.Choice.{IsChoice, IsAllowedPlace, SpotPlace, spot_of};
-ghost use Rattle.lf_segments.specs.RowsByY.{IsEntryOf};
+ghost use Rattle.lf_frame_index.specs.RowsByY.{IsEntryOf};
 ghost use Rattle.lf_occupancy.specs.Floorplans.{IsOccupancyOf};
 ghost use Rattle.lf_legalize.specs.Extents.{IsNearDefPoint, IsOnRow, IsWithin, ScansPlacesWithin};
 ghost use Rattle.lf_legalize.specs.RowSearches.{IsChoiceAmong, IsOnRowIn, query_of_search};
@@ -14,7 +14,7 @@ use crate::limits::{better, limit, window};
 use crate::on_row::best_on_row;
 use crate::row_search::{RowSearch, rows_of};
 use lf_floorplan::{Place, Row};
-use lf_segments::{RowEntry, runs_have_rows};
+use lf_frame_index::{RowEntry, runs_have_rows};
 use lf_units::{Point, Span};
 use std::alloc::{AllocError, Global};
 
@@ -38,7 +38,8 @@ fn best_in_window(
     requires within { number < length search.now.frame.now.rows }
     requires low { negsuc 4611686018427387903 ≤ℤ window.now.lo }
     ensures { (r : Row) → slice_get search.now.frame.now.rows number ≡ Some r → IfOk result (λ found.
-        IsChoiceAmong (IsOnRowIn search.now.frame.now search.now.size r window.now) (query_of_search search.now) search.now.target.now (option_map spot_of found)) }
+        IsChoiceAmong (IsOnRowIn search.now.frame.now search.now.size r window.now)
+        (query_of_search search.now) search.now.target.now (option_map spot_of found)) }
 {
     let row = &search.frame.rows.as_slice()[number];
     if is_beside(&search.frame.pitch, row, window) {
@@ -86,7 +87,8 @@ fn best_within(
     requires near { IsNearDefPoint search.now.target.now }
     requires small { reach ≤ 68719476736 }
     ensures { IfOk result (λ found.
-        IsChoiceAmong (IsWithin search.now.target.now reach) (query_of_search search.now) search.now.target.now (option_map spot_of found)) }
+        IsChoiceAmong (IsWithin search.now.target.now reach) (query_of_search search.now) search.now.target.now
+        (option_map spot_of found)) }
 {
     runs_have_rows();
     let y = search.target.y;
@@ -111,8 +113,10 @@ pub(crate) fn nearest(
     requires held { IsOccupancyOf search.now.frame.now search.now.cells.now search.now.occupancy.now }
     requires near { IsNearDefPoint search.now.target.now }
     requires small { farthest ≤ 68719476736 }
-    requires all { (p : SpotPlace) → IsAllowedPlace (query_of_search search.now) p → IsWithin search.now.target.now farthest p }
-    ensures { IfOk result (λ found. IsChoice (query_of_search search.now) search.now.target.now (option_map spot_of found)) }
+    requires all { (p : SpotPlace) → IsAllowedPlace (query_of_search search.now) p
+        → IsWithin search.now.target.now farthest p }
+    ensures { IfOk result
+        (λ found. IsChoice (query_of_search search.now) search.now.target.now (option_map spot_of found)) }
 {
     let mut reach = (search.frame.pitch.y as u64).max(2) - 1;
     while reach < farthest {

@@ -17,15 +17,16 @@ use std::alloc::{AllocError, Global};
 fn push_box(
     others: &mut Vec<Placed>,
     frame: &Frame,
-    standing: &CellPlacement,
+    cell_placement: &CellPlacement,
     own: u32,
 ) -> Result<(), AllocError>
-    requires known { standing.now.mac < length frame.now.macros }
-    requires sized { IsSized frame.now (macro_of frame.now standing.now.mac) }
-    ensures { OnOk result (others.new.items ≡ others.old.items ++ with_box frame.now own standing.now.mac (option_map spot_of standing.now.working) []) }
+    requires known { cell_placement.now.mac < length frame.now.macros }
+    requires sized { IsSized frame.now (macro_of frame.now cell_placement.now.mac) }
+    ensures { OnOk result (others.new.items ≡ others.old.items ++ with_box frame.now own cell_placement.now.mac
+        (option_map spot_of cell_placement.now.working) []) }
 {
-    if let Some(place) = standing.working {
-        let mac = &frame.macros.as_slice()[standing.mac];
+    if let Some(place) = cell_placement.working {
+        let mac = &frame.macros.as_slice()[cell_placement.mac];
         others.push(Placed {
             own,
             rect: box_of(frame, mac, &place),
@@ -44,15 +45,16 @@ fn push_other(
 ) -> Result<(), AllocError>
     requires { All (IsSizedCell frame.now) (cells_of cells.now other.now.team) }
     ensures { OnOk result (others.new.items ≡ others.old.items
-        ++ beside_one frame.now id.now.own other.now.own (slice_get (cells_of cells.now other.now.team) other.now.own)) }
+        ++ beside_one frame.now id.now.own other.now.own
+        (slice_get (cells_of cells.now other.now.team) other.now.own)) }
 {
     if other.own == id.own {
         return Ok(());
     }
-    let Some(standing) = cells.placement_of(*other) else {
+    let Some(cell_placement) = cells.placement_of(*other) else {
         return Ok(());
     };
-    push_box(others, frame, &standing, other.own)
+    push_box(others, frame, &cell_placement, other.own)
 }
 
 /// The boxes of the placed cells of the cell's team, except the cell itself, in loading order. The
@@ -64,7 +66,8 @@ pub fn other_boxes(
     id: CellId,
 ) -> Result<Vec<Placed>, AllocError>
     requires { All (IsSizedCell frame.now) (cells_of cells.now id.team) }
-    ensures { IfOk result (λ others. others.items ≡ boxes_beside frame.now (map member_of (cells_of cells.now id.team)) id.own) }
+    ensures { IfOk result
+        (λ others. others.items ≡ boxes_beside frame.now (map member_of (cells_of cells.now id.team)) id.own) }
 {
     let mut others = Vec::new(alloc);
     for other in cells.cells_of(id.team as usize) {

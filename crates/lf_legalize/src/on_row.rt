@@ -102,7 +102,8 @@ fn nearest_fit(
     requires wide { pos 0 <ℤ width.now }
     requires width { IsBounded width.now }
     requires target { IsBounded target.now }
-    ensures { IfOk result (λ found. let rows = map (λ list. list.items) lists.now in FindsNearest (λ x. FitsRows rows grid.now width.now x) target.now found) }
+    ensures { IfOk result (λ found. let rows = map (λ list. list.items) lists.now in
+        FindsNearest (λ x. FitsRows rows grid.now width.now x) target.now found) }
 {
     best_in_row(alloc, lists, grid, *width, *target)
 }
@@ -117,9 +118,11 @@ fn nearest_x(
 ) -> Result<Option<i64>, AllocError>
     requires held { IsOccupancyOf search.now.frame.now search.now.cells.now search.now.occupancy.now }
     requires is_in_place { slice_get search.now.frame.now.rows bottom.now.number ≡ Some bottom.now.row.now }
-    requires levels { AreLevels search.now bottom.now.number bottom.now.row.now bottom.now.window.now search.now.height (map (λ list. list.items) lists.now) }
+    requires levels { AreLevels search.now bottom.now.number bottom.now.row.now bottom.now.window.now search.now.height
+        (map (λ list. list.items) lists.now) }
     ensures { IfOk result (λ found. let rows = map (λ list. list.items) lists.now in
-        FindsNearest (λ x. FitsRows rows (grid_of bottom.now.row.now.x search.now.frame.now.pitch.x) search.now.size.x x) search.now.target.now.x found) }
+        FindsNearest (λ x. FitsRows rows (grid_of bottom.now.row.now.x search.now.frame.now.pitch.x) search.now.size.x
+        x) search.now.target.now.x found) }
 {
     let grid = grid_on(bottom.row, &search.frame.pitch);
     let target = equivalent_target(&search.target.x);
@@ -147,9 +150,11 @@ fn best_at(
     requires held { IsOccupancyOf search.now.frame.now search.now.cells.now search.now.occupancy.now }
     requires is_in_place { slice_get search.now.frame.now.rows bottom.now.number ≡ Some bottom.now.row.now }
     requires first { IsFirstOrient search.now bottom.now.row.now orient }
-    requires levels { AreLevels search.now bottom.now.number bottom.now.row.now bottom.now.window.now search.now.height (map (λ list. list.items) lists.now) }
+    requires levels { AreLevels search.now bottom.now.number bottom.now.row.now bottom.now.window.now search.now.height
+        (map (λ list. list.items) lists.now) }
     ensures { IfOk result (λ found.
-        IsChoiceAmong (IsOnRowIn search.now.frame.now search.now.size bottom.now.row.now bottom.now.window.now) (query_of_search search.now) search.now.target.now
+        IsChoiceAmong (IsOnRowIn search.now.frame.now search.now.size bottom.now.row.now bottom.now.window.now)
+        (query_of_search search.now) search.now.target.now
         (option_map spot_of found)) }
 {
     let Some(x) = nearest_x(alloc, search, bottom, lists)? else {
@@ -171,7 +176,8 @@ fn best_of_one(
     requires low { negsuc 4611686018427387903 ≤ℤ bottom.now.window.now.lo }
     requires one { search.now.height ≡ 1 }
     ensures { IfOk result (λ found.
-        IsChoiceAmong (IsOnRowIn search.now.frame.now search.now.size bottom.now.row.now bottom.now.window.now) (query_of_search search.now) search.now.target.now
+        IsChoiceAmong (IsOnRowIn search.now.frame.now search.now.size bottom.now.row.now bottom.now.window.now)
+        (query_of_search search.now) search.now.target.now
         (option_map spot_of found)) }
 {
     let free = open_in_row(alloc, search, bottom.number, bottom.window)?;
@@ -193,7 +199,8 @@ pub(crate) fn best_on_row(
     requires within { number < length search.now.frame.now.rows }
     requires low { negsuc 4611686018427387903 ≤ℤ window.now.lo }
     ensures { (r : Row) → slice_get search.now.frame.now.rows number ≡ Some r → IfOk result (λ found.
-        IsChoiceAmong (IsOnRowIn search.now.frame.now search.now.size r window.now) (query_of_search search.now) search.now.target.now (option_map spot_of found)) }
+        IsChoiceAmong (IsOnRowIn search.now.frame.now search.now.size r window.now)
+        (query_of_search search.now) search.now.target.now (option_map spot_of found)) }
 {
     let row = row_at(search.frame, number);
     let Some(orient) = first_orient(search, row) else {

@@ -8,7 +8,7 @@ ghost use Rattle.lf_legalize.specs.Levels.{AreWithoutSoft, AreOpenInRow};
 ghost use Rattle.lf_legalize.specs.RowSearches.{padding_in};
 
 use crate::row_search::RowSearch;
-use lf_segments::{FrameIndex, StripRange};
+use lf_frame_index::{FrameIndex, StripRange};
 use lf_spans::spans_minus;
 use lf_units::Span;
 use std::alloc::{AllocError, Global};
@@ -62,7 +62,8 @@ pub(crate) fn open_in_row(
 ) -> Result<Vec<Span>, AllocError>
     requires held { IsOccupancyOf search.now.frame.now search.now.cells.now search.now.occupancy.now }
     requires low { negsuc 4611686018427387903 ≤ℤ window.now.lo }
-    ensures { IfOk result (λ left. AreOpenInRow search.now.occupancy.now number search.now.id window.now (padding_in search.now) left.items) }
+    ensures { IfOk result (λ left. AreOpenInRow search.now.occupancy.now number search.now.id window.now
+        (padding_in search.now) left.items) }
 {
     let padding = padding_length(search);
     let free = search

@@ -127,8 +127,10 @@ pub fn best_place(
     padding: Padding,
 ) -> Option<Place>
     requires { IsSized frame.now mac.now }
-    ensures best { IsChoice (query_without frame.now team padding.sites mac.now others.now) target.now (option_map spot_of result) }
-    ensures one { (l : Legalizer) → option_map spot_of result ≡ l.best_place (query_without frame.now team padding.sites mac.now others.now) target.now }
+    ensures best { IsChoice (query_without frame.now team padding.sites mac.now others.now) target.now
+        (option_map spot_of result) }
+    ensures one { (l : Legalizer) → option_map spot_of result
+        ≡ l.best_place (query_without frame.now team padding.sites mac.now others.now) target.now }
 {
     let search = Search {
         frame,

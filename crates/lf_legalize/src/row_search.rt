@@ -5,9 +5,9 @@ ghost use Rattle.lf_floorplan.specs.Boxes.{IsSized, macro_of, size_of};
 
 use lf_cells::{CellId, CellTable};
 use lf_floorplan::Frame;
+use lf_frame_index::RowsByY;
 use lf_occupancy::OccupancyView;
 use lf_rules::Padding;
-use lf_segments::RowsByY;
 use lf_units::Point;
 
 /// A cell that is regarded as unplaced, the target for its best place, and its team's padding.

@@ -46,7 +46,8 @@ pub trait Seeker {
         requires held { IsOccupancyOf frame.now cells.now occupancy.now }
         requires sized { All (IsSizedCell frame.now) (cells_of cells.now cell.team) }
         requires few { length (cells_of cells.now cell.team) ≤ 4000000 }
-        ensures best { (l : Legalizer) → IfOk result (λ found. option_map spot_of found ≡ best_of l frame.now cell.team padding.sites (cells_of cells.now cell.team) cell.own target.now) };
+        ensures best { (l : Legalizer) → IfOk result (λ found. option_map spot_of found
+            ≡ best_of l frame.now cell.team padding.sites (cells_of cells.now cell.team) cell.own target.now) };
 }
 
 /// Tries each orientation on every site of every row, as in the definition of the best place.
@@ -65,11 +66,11 @@ impl Seeker for PlainSeeker {
         target: &Point,
         padding: Padding,
     ) -> Result<Option<Place>, AllocError> {
-        let Some(standing) = cells.placement_of(cell) else {
+        let Some(cell_placement) = cells.placement_of(cell) else {
             return Ok(None);
         };
         let others = other_boxes(alloc, frame, cells, cell)?;
-        let mac = &frame.macros.as_slice()[standing.mac];
+        let mac = &frame.macros.as_slice()[cell_placement.mac];
         let team = cell.team as usize;
         Ok(best_place(frame, team, mac, &others, target, padding))
     }

@@ -49,7 +49,8 @@ ReplacesTokens s ws [] [] = ⊥
 ReplacesTokens s ws [] (t ∷ after) = (s.start ≡ t.start) × (s.stop ≡ t.start) × (s.new ≡ joined_words ws ++ 32 ∷ [])
 ReplacesTokens s ws (t ∷ middle) after = (s.start ≡ t.start) × LastIs s.stop t middle × (s.new ≡ joined_words ws)
 
-pub record SpliceStep (s : Splice) (p : List Lexeme) (q : List PlainToken) (Then : List Lexeme → List PlainToken → Type 0) : Type 0 where
+pub record SpliceStep (s : Splice) (p : List Lexeme) (q : List PlainToken)
+    (Then : List Lexeme → List PlainToken → Type 0) : Type 0 where
   pub before : List Lexeme
   pub middle : List Lexeme
   pub after : List Lexeme
@@ -69,4 +70,5 @@ AreEdited (s ∷ ss) p q = SpliceStep s p q (AreEdited ss)
 -- Holds if splices in the text make the same splices among its tokens, except for offsets and
 -- lines.
 abbrev pub SplicesTokens : List ℕ → Type 0
-SplicesTokens text = (ss : List Splice) (q : List PlainToken) → AreEdited ss (tokens_of text).tokens q → map plain (tokens_of (spliced 0 ss text)).tokens ≡ q
+SplicesTokens text = (ss : List Splice) (q : List PlainToken) → AreEdited ss (tokens_of text).tokens q
+    → map plain (tokens_of (spliced 0 ss text)).tokens ≡ q

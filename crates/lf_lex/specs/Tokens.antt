@@ -60,19 +60,29 @@ stopped fault end_line = record { tokens = []; fault = Some fault; end_line = en
 
 -- The token whose first byte is b, followed by this many of the bytes after b.
 abbrev pub token_at : TokenKind → ℕ → ℕ → ℕ → List ℕ → ℕ → Lexeme
-token_at kind at line b bytes more = record { text = b ∷ take more bytes; kind = kind; start = at; stop = at + 1 + more; line = line }
+token_at kind at line b bytes more = record {
+  text = b ∷ take more bytes;
+  kind = kind;
+  start = at;
+  stop = at + 1 + more;
+  line = line;
+}
 
 -- The tokens of the rest of a text, from an offset and a line on. The first `before` bytes belong
 -- to an earlier token and are skipped.
 unfoldable pub tokens_from : ℕ → ℕ → ℕ → List ℕ → Lexed
 tokens_from before at line [] = record { tokens = []; fault = None; end_line = line }
-tokens_from (suc before) at line (b ∷ bytes) = tokens_from before (at + 1) (if is_line_feed b then line + 1 else line) bytes
+tokens_from (suc before) at line (b ∷ bytes) =
+    tokens_from before (at + 1) (if is_line_feed b then line + 1 else line) bytes
 tokens_from zero at line (b ∷ bytes) =
     if is_line_feed b then tokens_from 0 (at + 1) (line + 1) bytes
     else if is_white b then tokens_from 0 (at + 1) line bytes
     else if b == 35 then tokens_from (comment_len bytes) (at + 1) line bytes
-    else if b == 34 then option_map_or (λ more. with_token (token_at Quoted at line b bytes more) (tokens_from more (at + 1) line bytes)) (quoted_len false bytes) (stopped (UnexpectedEnd (line + line_feeds bytes)) (line + line_feeds bytes))
-    else if list_all is_word_byte (b ∷ take (word_len bytes) bytes) then with_token (token_at Word at line b bytes (word_len bytes)) (tokens_from (word_len bytes) (at + 1) line bytes)
+    else if b == 34 then
+    option_map_or (λ more. with_token (token_at Quoted at line b bytes more) (tokens_from more (at + 1) line bytes))
+    (quoted_len false bytes) (stopped (UnexpectedEnd (line + line_feeds bytes)) (line + line_feeds bytes))
+    else if list_all is_word_byte (b ∷ take (word_len bytes) bytes) then
+    with_token (token_at Word at line b bytes (word_len bytes)) (tokens_from (word_len bytes) (at + 1) line bytes)
     else stopped (BadToken line) (line + line_feeds bytes)
 
 -- The tokens of a text.
@@ -99,13 +109,16 @@ BeginsToken (b ∷ bytes) = (is_white b ≡ false) × ((b == 35) ≡ false)
 abbrev pub ReadsToken : List ℕ → ℕ → ℕ → Result (TokenOf (Bor (List ℕ))) LexFault → Type 0
 ReadsToken text at line (Ok t) =
     (at + length t.text.now ≡ t.stop) × (at < t.stop) × (t.stop ≤ length text)
-    × (tokens_from 0 at line (drop at text) ≡ with_token (lexeme t) (tokens_from 0 t.stop (line + line_feeds t.text.now) (drop t.stop text)))
-ReadsToken text at line (Err fault) = tokens_from 0 at line (drop at text) ≡ stopped fault (line + line_feeds (drop at text))
+    × (tokens_from 0 at line (drop at text)
+    ≡ with_token (lexeme t) (tokens_from 0 t.stop (line + line_feeds t.text.now) (drop t.stop text)))
+ReadsToken text at line (Err fault) =
+    tokens_from 0 at line (drop at text) ≡ stopped fault (line + line_feeds (drop at text))
 
 -- Holds if the tokens are slices of the text from an offset on, in order and without overlap.
 abbrev pub AreSlices : List ℕ → ℕ → List Lexeme → Type 0
 AreSlices text from [] = Unit {0}
-AreSlices text from (t ∷ ts) = (from ≤ t.start) × (t.start < t.stop) × (t.text ≡ take (t.stop - t.start) (drop t.start text)) × AreSlices text t.stop ts
+AreSlices text from (t ∷ ts) = (from ≤ t.start) × (t.start < t.stop)
+    × (t.text ≡ take (t.stop - t.start) (drop t.start text)) × AreSlices text t.stop ts
 
 -- Holds if the tokens end within the text.
 abbrev pub AreWithin : List ℕ → List Lexeme → Type 0
@@ -127,7 +140,8 @@ plain t = record { text = t.text; kind = t.kind }
 -- Holds if replacing a token and all that follows leaves the tokens in front of it unchanged, with
 -- their offsets.
 abbrev pub CutsAtTokens : List ℕ → Type 0
-CutsAtTokens text = (new : List ℕ) (before : List Lexeme) (t : Lexeme) (after : List Lexeme) → (tokens_of text).tokens ≡ before ++ t ∷ after
+CutsAtTokens text = (new : List ℕ) (before : List Lexeme) (t : Lexeme) (after : List Lexeme)
+    → (tokens_of text).tokens ≡ before ++ t ∷ after
     → tokens_of (take t.start text ++ new) ≡ with_tokens before (tokens_from 0 t.start t.line new)
 
 -- The kind of a token with these bytes. A quotation mark begins a quoted text.

@@ -43,7 +43,8 @@ fn other_len(text: &[u8]) -> usize
 /// Returns the number of bytes up to the next white space. `None` if one of them is not a word's.
 /// Reads each byte once.
 fn word_len(text: &[u8]) -> Option<usize>
-    ensures len { MatchOption result (list_all is_word_byte (take (word_len text.now) text.now) ≡ false) (λ n. n ≡ word_len text.now) }
+    ensures len { MatchOption result (list_all is_word_byte (take (word_len text.now) text.now) ≡ false)
+        (λ n. n ≡ word_len text.now) }
     ensures bytes { IfSome result (λ n. list_all is_word_byte (take n text.now) ≡ true) }
     ensures within { IfSome result (λ n. n ≤ length text.now) }
 {

@@ -27,7 +27,8 @@ AreMatches names requested matches = (m : Match) → Contains matches m ↔ IsMa
 -- The label that a name has in this list, if it is in the list. The first label if the name is in
 -- the list twice.
 abbrev pub label_in : List Labelled → List ℕ → Option ℕ
-label_in names name = option_and_then (λ at. option_map (λ n. n.label) (slice_get names at)) (position_of (map (λ n. n.name) names) name)
+label_in names name =
+    option_and_then (λ at. option_map (λ n. n.label) (slice_get names at)) (position_of (map (λ n. n.name) names) name)
 
 -- The label of a name in the list, with its label among the requested names.
 abbrev pub labels_of : ℕ → ℕ → Match

@@ -39,7 +39,10 @@ names_of_part part names = filter (λ n. part_of n.name == part) names
 -- The names that the entries cut from the bytes, in order.
 abbrev pub cut_names : List Entry → List ℕ → List Labelled
 cut_names [] bytes = []
-cut_names (e ∷ entries) bytes = record { label = e.label; name = take e.len bytes } ∷ cut_names entries (drop e.len bytes)
+cut_names (e ∷ entries) bytes = record {
+  label = e.label;
+  name = take e.len bytes;
+} ∷ cut_names entries (drop e.len bytes)
 
 -- The names of all parts, part by part.
 abbrev pub names_of_parts : List LabelledNames → List Labelled
@@ -48,7 +51,8 @@ names_of_parts parts = flat_map (λ p. cut_names p.entries p.bytes.items) parts
 -- Holds if the parts together have these names, each part its own.
 pub record ArePartsOf (names : List Labelled) (parts : List LabelledNames) : Type 0 where
   pub many : length parts ≡ part_count
-  pub each : (part : ℕ) (d : LabelledNames) → part < part_count → StoresNames (slice_index_or parts part d) (names_of_part part names)
+  pub each : (part : ℕ) (d : LabelledNames) → part < part_count
+      → StoresNames (slice_index_or parts part d) (names_of_part part names)
 
 -- Holds if each part has only names of its own, with all their bytes.
 abbrev pub AreParted : List LabelledNames → Type 0

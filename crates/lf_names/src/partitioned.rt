@@ -88,7 +88,8 @@ impl LabelledNames {
 
     /// Appends a name with its label. `Err` if an allocation fails; the names are then unchanged.
     fn push(&mut self, label: usize, name: &[u8]) -> Result<(), AllocError>
-        ensures ok { (names : List Labelled) → StoresNames self.old names → OnOk result (StoresNames self.new (names ++ record { label = label; name = name.now } ∷ [])) }
+        ensures ok { (names : List Labelled) → StoresNames self.old names
+            → OnOk result (StoresNames self.new (names ++ record { label = label; name = name.now } ∷ [])) }
         ensures err { (names : List Labelled) → StoresNames self.old names → OnErr result (StoresNames self.new names) }
     {
         let len = name.len();
@@ -105,9 +106,12 @@ impl LabelledNames {
 /// Returns the table of the names, or `None` if a name is in the list twice. `Err` if an allocation
 /// fails.
 fn table_of(alloc: Global, names: &LabelledNames) -> Result<Option<BorrowedNames<'_>>, AllocError>
-    ensures names { (own : List Labelled) → StoresNames names.now own → IfOk result (λ answer. IfSome answer (λ table. table ≡ map (λ n. n.name) own)) }
-    ensures differ { (own : List Labelled) → StoresNames names.now own → IfOk result (λ answer. IfSome answer (λ table. Differ own)) }
-    ensures none { (own : List Labelled) → StoresNames names.now own → IfOk result (λ answer. IfNone answer (Differ own → ⊥)) }
+    ensures names { (own : List Labelled) → StoresNames names.now own
+        → IfOk result (λ answer. IfSome answer (λ table. table ≡ map (λ n. n.name) own)) }
+    ensures differ { (own : List Labelled) → StoresNames names.now own
+        → IfOk result (λ answer. IfSome answer (λ table. Differ own)) }
+    ensures none { (own : List Labelled) → StoresNames names.now own
+        → IfOk result (λ answer. IfNone answer (Differ own → ⊥)) }
 {
     let mut table = BorrowedNames::with_capacity(alloc, names.entries.len())?;
     let mut remaining = names.bytes.as_slice();
@@ -125,7 +129,8 @@ fn table_of(alloc: Global, names: &LabelledNames) -> Result<Option<BorrowedNames
 /// Returns the label of the name, by its position in the table. `None` if the table does not have
 /// it.
 fn label_of(names: &LabelledNames, table: &BorrowedNames, name: &[u8]) -> Option<usize>
-    ensures { (own : List Labelled) → StoresNames names.now own → table.now ≡ map (λ n. n.name) own → result ≡ label_in own name.now }
+    ensures { (own : List Labelled) → StoresNames names.now own → table.now ≡ map (λ n. n.name) own
+        → result ≡ label_in own name.now }
 {
     let entry = names.entries.get(table.find(name)?)?;
     Some(entry.label)
@@ -137,7 +142,8 @@ fn add_match(
     own: Option<usize>,
     requested: usize,
 ) -> Result<(), AllocError>
-    ensures { OnOk result (matches.new.items ≡ matches.old.items ++ option_to_list (option_map (labels_of requested) own)) }
+    ensures { OnOk result
+        (matches.new.items ≡ matches.old.items ++ option_to_list (option_map (labels_of requested) own)) }
 {
     if let Some(own) = own {
         matches.push(Match { own, requested })?;
@@ -152,7 +158,9 @@ fn match_names(
     requested: &LabelledNames,
     matches: &mut Vec<Match>,
 ) -> Result<(), AllocError>
-    ensures { (own questions : List Labelled) → StoresNames names.now own → table.now ≡ map (λ n. n.name) own → StoresNames requested.now questions → OnOk result (matches.new.items ≡ matches.old.items ++ matches_of own questions) }
+    ensures { (own questions : List Labelled) → StoresNames names.now own → table.now ≡ map (λ n. n.name) own
+        → StoresNames requested.now questions
+        → OnOk result (matches.new.items ≡ matches.old.items ++ matches_of own questions) }
 {
     let mut remaining = requested.bytes.as_slice();
     for position in 0..requested.entries.len() {
@@ -172,8 +180,10 @@ fn match_part(
     requested: &LabelledNames,
     matches: &mut Vec<Match>,
 ) -> Result<bool, AllocError>
-    ensures differ { (own : List Labelled) → StoresNames names.now own → IfOk result (λ differ. IsTrue differ ↔ Differ own) }
-    ensures matches { (own questions : List Labelled) → StoresNames names.now own → StoresNames requested.now questions → IfOk result (λ differ. IsTrue differ → matches.new.items ≡ matches.old.items ++ matches_of own questions) }
+    ensures differ { (own : List Labelled) → StoresNames names.now own
+        → IfOk result (λ differ. IsTrue differ ↔ Differ own) }
+    ensures matches { (own questions : List Labelled) → StoresNames names.now own → StoresNames requested.now questions
+        → IfOk result (λ differ. IsTrue differ → matches.new.items ≡ matches.old.items ++ matches_of own questions) }
 {
     let Some(table) = table_of(alloc, names)? else {
         return Ok(false);
@@ -195,8 +205,10 @@ fn empty_parts(alloc: Global) -> Result<Vec<LabelledNames>, AllocError>
 
 /// Appends the name to its part. `Err` if an allocation fails; the names are then unchanged.
 fn push_in_part(parts: &mut Vec<LabelledNames>, label: usize, name: &[u8]) -> Result<(), AllocError>
-    ensures ok { (names : List Labelled) → ArePartsOf names parts.old.items → OnOk result (ArePartsOf (names ++ record { label = label; name = name.now } ∷ []) parts.new.items) }
-    ensures err { (names : List Labelled) → ArePartsOf names parts.old.items → OnErr result (ArePartsOf names parts.new.items) }
+    ensures ok { (names : List Labelled) → ArePartsOf names parts.old.items
+        → OnOk result (ArePartsOf (names ++ record { label = label; name = name.now } ∷ []) parts.new.items) }
+    ensures err { (names : List Labelled) → ArePartsOf names parts.old.items
+        → OnErr result (ArePartsOf names parts.new.items) }
 {
     let Some(part) = parts.get_mut(part_of(name)) else {
         return Ok(());
@@ -212,10 +224,14 @@ fn match_parts(
     own: &[LabelledNames],
     requested: &[LabelledNames],
 ) -> Result<Option<Vec<Match>>, AllocError>
-    ensures differ { (names questions : List Labelled) → ArePartsOf names own.now → ArePartsOf questions requested.now → IfOk result (λ answer. IfSome answer (λ matches. Differ names)) }
-    ensures matches { (names questions : List Labelled) → ArePartsOf names own.now → ArePartsOf questions requested.now → IfOk result (λ answer. IfSome answer (λ matches. AreMatches names questions matches.items)) }
-    ensures many { (names questions : List Labelled) → ArePartsOf names own.now → ArePartsOf questions requested.now → IfOk result (λ answer. IfSome answer (λ matches. IsPermutation (matches_of names questions) matches.items)) }
-    ensures none { (names questions : List Labelled) → ArePartsOf names own.now → ArePartsOf questions requested.now → IfOk result (λ answer. IfNone answer (Differ names → ⊥)) }
+    ensures differ { (names questions : List Labelled) → ArePartsOf names own.now → ArePartsOf questions requested.now
+        → IfOk result (λ answer. IfSome answer (λ matches. Differ names)) }
+    ensures matches { (names questions : List Labelled) → ArePartsOf names own.now → ArePartsOf questions requested.now
+        → IfOk result (λ answer. IfSome answer (λ matches. AreMatches names questions matches.items)) }
+    ensures many { (names questions : List Labelled) → ArePartsOf names own.now → ArePartsOf questions requested.now
+        → IfOk result (λ answer. IfSome answer (λ matches. IsPermutation (matches_of names questions) matches.items)) }
+    ensures none { (names questions : List Labelled) → ArePartsOf names own.now → ArePartsOf questions requested.now
+        → IfOk result (λ answer. IfNone answer (Differ names → ⊥)) }
 {
     let mut matches = Vec::new(alloc);
     for (part, names) in own.iter().enumerate() {
@@ -258,8 +274,10 @@ impl PartitionedNames {
         requested: &PartitionedNames,
     ) -> Result<Option<Vec<Match>>, AllocError>
         ensures differ { IfOk result (λ answer. IfSome answer (λ matches. Differ self.now)) }
-        ensures matches { IfOk result (λ answer. IfSome answer (λ matches. AreMatches self.now requested.now matches.items)) }
-        ensures many { IfOk result (λ answer. IfSome answer (λ matches. IsPermutation (matches_of self.now requested.now) matches.items)) }
+        ensures matches { IfOk result
+            (λ answer. IfSome answer (λ matches. AreMatches self.now requested.now matches.items)) }
+        ensures many { IfOk result
+            (λ answer. IfSome answer (λ matches. IsPermutation (matches_of self.now requested.now) matches.items)) }
         ensures none { IfOk result (λ answer. IfNone answer (Differ self.now → ⊥)) }
     {
         match_parts(alloc, &self.parts, &requested.parts)

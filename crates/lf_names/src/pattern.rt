@@ -102,7 +102,8 @@ fn denotes_an_end(pattern: &[u8], name: &[u8]) -> bool
 /// Returns the bytes in front of the pattern's first star, and the pattern after it. `None` if
 /// there is no star.
 fn split_at_star(pattern: &[u8]) -> Option<(&[u8], &[u8])>
-    ensures parts { MatchOption result (IsLiteral pattern.now) (λ p. parts_of pattern.now ≡ map byte p.0.now ++ star ∷ parts_of p.1.now) }
+    ensures parts { MatchOption result (IsLiteral pattern.now)
+        (λ p. parts_of pattern.now ≡ map byte p.0.now ++ star ∷ parts_of p.1.now) }
     ensures shorter { IfSome result (λ p. length p.1.now < length pattern.now) }
 {
     let mut escaped = false;
@@ -129,7 +130,8 @@ fn after_last_star(pattern: &[u8]) -> &[u8]
 /// Returns the rest of the name after the first occurrence of the piece. `None` if the piece does
 /// not occur.
 fn after_the_first<'x>(name: &'x [u8], piece: &[u8]) -> Option<&'x [u8]>
-    ensures { MatchOption result ((before rest : List ℕ) → name.now ≢ before ++ (piece.now ++ rest)) (λ rest. IsAfterFirst name.now piece.now rest.now) }
+    ensures { MatchOption result ((before rest : List ℕ) → name.now ≢ before ++ (piece.now ++ rest))
+        (λ rest. IsAfterFirst name.now piece.now rest.now) }
 {
     let mut end = name;
     loop {

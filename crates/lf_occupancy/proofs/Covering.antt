@@ -11,14 +11,14 @@ use Rattle.lf_floorplan.specs.declared.frame.Frame.{Frame}
 use Rattle.lf_floorplan.specs.declared.parts.Row.{Row}
 use Rattle.lf_floorplan.specs.Rows.{row_area}
 use Rattle.lf_floorplan.specs.Ground.{StaysInGround, IsClear}
-use Rattle.lf_floorplan.specs.Standing.{RestsOnRows}
+use Rattle.lf_floorplan.specs.RowSupport.{RestsOnRows}
 use Rattle.lf_segments.specs.declared.segment.Segment.{Segment}
 use Rattle.lf_segments.specs.Segments.{IsOf}
 use Rattle.lf_segments.specs.Boxes.{x_extent}
-use Rattle.lf_segments.specs.Indexes.{IsIndexOf}
-use Rattle.lf_segments.specs.Strips.{row_y, strip_of}
-use Rattle.lf_segments.proofs.LawLemmas.{InSegment, in_segment, segments_hold}
-use Rattle.lf_segments.specs.declared.strip.Strip.{Strip}
+use Rattle.lf_frame_index.specs.Indexes.{IsIndexOf}
+use Rattle.lf_frame_index.specs.Strips.{row_y, strip_of}
+use Rattle.lf_frame_index.proofs.LawLemmas.{InSegment, in_segment, segments_hold}
+use Rattle.lf_frame_index.specs.declared.strip.Strip.{Strip}
 use Rattle.lf_rules.specs.Padding.{wider}
 use Rattle.lf_occupancy.specs.Views.{Occupied, reach}
 use Rattle.lf_occupancy.proofs.Lists.{any_made}

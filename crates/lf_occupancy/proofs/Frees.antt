@@ -8,10 +8,10 @@ use Rattle.lf_spans.specs.declared.span.Span.{Span}
 use Rattle.lf_spans.specs.Spans.{IsDisjointFrom, IsFilled, IsFreeIn, IsRising, LiesIn, LiesInOneOf}
 use Rattle.lf_spans.proofs.Anys.{any_left, any_split}
 use Rattle.lf_spans.proofs.Edges.{in_of_lies}
-use Rattle.lf_segments.specs.declared.strip.Strip.{Strip}
+use Rattle.lf_frame_index.specs.declared.strip.Strip.{Strip}
 use Rattle.lf_occupancy.specs.MarkLists.{StripView, all_padded, others_in, spans_in, x_range}
 use Rattle.lf_occupancy.specs.Views.{strip_extent}
-use Rattle.lf_segments.specs.Strips.{AreNear, LiesBefore, IsNear}
+use Rattle.lf_frame_index.specs.Strips.{AreNear, LiesBefore, IsNear}
 use Rattle.lf_cells.specs.declared.cell.CellId.{CellId}
 use Rattle.lf_occupancy.specs.Strips.{AreFreeTo, AreFreeSpansOfStrip, LiesFree}
 use Rattle.lf_occupancy.proofs.Lists.{pairs_append, any_right}

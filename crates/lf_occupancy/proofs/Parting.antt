@@ -25,13 +25,13 @@ part_read most from start count ids begins many =
     let rest = drop start ids in
     let long = length-drop start ids in
     let all : take (length ids - start) rest ≡ rest = take_all (length ids - start) rest (omega (arith, long)) in
-    let so_many : count ≡ min most (length rest) = many ∙ ap (λ (xs : List CellId). min most (length xs)) all in
-    ap (take count) all ∙ taken rest so_many ∙ ap (take most) (dropped (one_or_past from (length ids)))
+    let many_left : count ≡ min most (length rest) = many ∙ ap (λ (xs : List CellId). min most (length xs)) all in
+    ap (take count) all ∙ taken rest many_left ∙ ap (take most) (dropped (one_or_past from (length ids)))
   where
     taken : (rest : List CellId) → count ≡ min most (length rest) → take count rest ≡ take most rest
-    taken rest so_many = elim (one_or_past most (length rest)) [
-      | inl less ↦ ap (λ (n : ℕ). take n rest) (omega (arith, less, so_many))
-      | inr past ↦ take_all count rest (omega (arith, past, so_many)) ∙ sym (take_all most rest past)
+    taken rest many_left = elim (one_or_past most (length rest)) [
+      | inl less ↦ ap (λ (n : ℕ). take n rest) (omega (arith, less, many_left))
+      | inr past ↦ take_all count rest (omega (arith, past, many_left)) ∙ sym (take_all most rest past)
     ]
 
     dropped : (from < length ids) ⊎ (length ids ≤ from) → drop start ids ≡ drop from ids

@@ -6,7 +6,7 @@ use Rattle.lf_cells.specs.declared.cell.Cell.{Cell}
 use Rattle.lf_cells.specs.declared.cell.CellId.{CellId}
 use Rattle.lf_cells.specs.Cells.{Cells, cells_of, cell_at}
 use Rattle.lf_occupancy.specs.declared.strip_marks.StripMarks.{StripMarks}
-use Rattle.lf_segments.specs.declared.strip.Strip.{Strip}
+use Rattle.lf_frame_index.specs.declared.strip.Strip.{Strip}
 use Rattle.lf_occupancy.specs.Floorplans.{working_box_of}
 use Rattle.lf_occupancy.specs.Views.{cell_box}
 use Rattle.lf_occupancy.specs.Strips.{ShowAllBoxes}
@@ -31,13 +31,17 @@ PrecedesCell team own id = (id.team < team) ⊎ ((id.team ≡ team) × (id.own <
 
 -- each team has a list with an element for each of its cells: the box of the cell if it is done,
 -- otherwise None
-pub record AreFilled (f : Frame) (cells : Cells) (Done : CellId → Type 0) (boxes : List (List (Option Rect))) : Type 0 where
+pub record AreFilled (f : Frame) (cells : Cells) (Done : CellId → Type 0)
+    (boxes : List (List (Option Rect))) : Type 0 where
   pub many : (team : ℕ) → length (slice_index_or boxes team []) ≡ length (cells_of cells team)
-  pub done : (id : CellId) (c : Cell) → cell_at cells id ≡ Some c → Done id → cell_box (slice_index_or boxes id.team []) id.own ≡ working_box_of f c
-  pub rest : (id : CellId) (c : Cell) → cell_at cells id ≡ Some c → (Done id → ⊥) → cell_box (slice_index_or boxes id.team []) id.own ≡ None
+  pub done : (id : CellId) (c : Cell) → cell_at cells id ≡ Some c → Done id
+      → cell_box (slice_index_or boxes id.team []) id.own ≡ working_box_of f c
+  pub rest : (id : CellId) (c : Cell) → cell_at cells id ≡ Some c → (Done id → ⊥)
+      → cell_box (slice_index_or boxes id.team []) id.own ≡ None
 
 -- the marks of the strips are those of the cells that are done
-pub record AreFilledIn (f : Frame) (cells : Cells) (strips : List Strip) (Done : CellId → Type 0) (mark_lists : List StripMarks) : Type 0 where
+pub record AreFilledIn (f : Frame) (cells : Cells) (strips : List Strip) (Done : CellId → Type 0)
+    (mark_lists : List StripMarks) : Type 0 where
   pub boxes : List (List (Option Rect))
   pub filled : AreFilled f cells Done boxes
   pub marked : ShowAllBoxes strips boxes mark_lists

@@ -6,8 +6,8 @@ use Rattle.lf_units.specs.Area.{Covers}
 use Rattle.lf_floorplan.specs.declared.frame.Frame.{Frame}
 use Rattle.lf_floorplan.specs.Boxes.{IsSized, macro_of}
 use Rattle.lf_floorplan.specs.Ground.{StaysInGround, IsClear}
-use Rattle.lf_floorplan.specs.Standing.{RestsOnRows}
-use Rattle.lf_segments.specs.Indexes.{IsIndexOf}
+use Rattle.lf_floorplan.specs.RowSupport.{RestsOnRows}
+use Rattle.lf_frame_index.specs.Indexes.{IsIndexOf}
 use Rattle.lf_rules.specs.Choice.{spot_of}
 use Rattle.lf_rules.specs.Padding.{wider}
 use Rattle.lf_rules.specs.Team.{box_in}
@@ -53,13 +53,16 @@ pub record IsMarkedBy (f : Frame) (cells : Cells) (m : Marked) : Type 0 where
 -- in one of the team's strips
 abbrev pub StripsCover : Type 0
 StripsCover =
-    (f : Frame) (o : Occupied) (team : ℕ) (box : Rect) → IsIndexOf f o.index → RestsOnRows f box → StaysInGround f team box → IsClear f box →
+    (f : Frame) (o : Occupied) (team : ℕ) (box : Rect) → IsIndexOf f o.index → RestsOnRows f box
+    → StaysInGround f team box → IsClear f box →
     (x y : ℤ) → Covers box x y → Any (λ g. (g.team ≡ team) × Covers g.area x y) o.index.strips
 
 -- each point of a box that also has points, widened by no more than the reach, lies in one of the
 -- team's strips widened by the reach
 abbrev pub WidenedStripsCover : Type 0
 WidenedStripsCover =
-    (f : Frame) (o : Occupied) (team : ℕ) (box : Rect) (by : ℤ) → IsIndexOf f o.index → o.site ≡ f.pitch.x → RestsOnRows f box →
+    (f : Frame) (o : Occupied) (team : ℕ) (box : Rect) (by : ℤ) → IsIndexOf f o.index → o.site ≡ f.pitch.x
+    → RestsOnRows f box →
     StaysInGround f team box → IsClear f box → box.x1 <ℤ box.x2 → pos 0 ≤ℤ by → by ≤ℤ reach o →
-    (x y : ℤ) → Covers (wider by box) x y → Any (λ g. (g.team ≡ team) × Covers (wider (reach o) g.area) x y) o.index.strips
+    (x y : ℤ) → Covers (wider by box) x y
+    → Any (λ g. (g.team ≡ team) × Covers (wider (reach o) g.area) x y) o.index.strips

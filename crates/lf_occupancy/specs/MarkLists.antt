@@ -227,7 +227,8 @@ pub record IsJoined (m : Mark) (width : ℤ) (old new : StripMarks) : Type 0 whe
   pub bound : at ≤ length old.marks.items
   pub marks : new.marks.items ≡ insert old.marks.items at m
   pub before : (k : ℕ) (d : Mark) → k < at → (slice_index_or old.marks.items k d).left <ℤ m.left
-  pub after_it : (k : ℕ) (d : Mark) → at ≤ k → k < length old.marks.items → m.left ≤ℤ (slice_index_or old.marks.items k d).left
+  pub after_it : (k : ℕ) (d : Mark) → at ≤ k → k < length old.marks.items
+      → m.left ≤ℤ (slice_index_or old.marks.items k d).left
   pub widest : new.widest ≡ int_max old.widest width
   pub more : vec_len new.marks ≡ vec_len old.marks + 1
   pub room : vec_capacity new.marks ≡ vec_capacity old.marks

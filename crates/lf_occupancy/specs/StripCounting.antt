@@ -2,7 +2,7 @@
 use Rattle.std.specs.Prelude.{◌≡◌, ◌≢◌, ℕ, ◌+◌, ◌<◌, ◌≤◌, List, [], ◌∷◌, length, Option, Some, slice_index_or}
 use Rattle.std.specs.Int.{int_max, int_min}
 use Rattle.lf_units.specs.declared.geometry.Rect.{Rect}
-use Rattle.lf_segments.specs.declared.strip.Strip.{Strip}
+use Rattle.lf_frame_index.specs.declared.strip.Strip.{Strip}
 use Rattle.lf_occupancy.specs.MarkLists.{HasPoints, part_in}
 use Rattle.lf_occupancy.specs.declared.strip_counts.BoxChange.{BoxChange}
 use Rattle.lf_occupancy.specs.Views.{count_in}
@@ -29,7 +29,8 @@ pub record IsLower (strips : List Strip) (team : ℕ) (from : Option Rect) (old 
   pub most : (n : ℕ) → slice_index_or new n 0 ≤ slice_index_or old n 0
   pub least : (n : ℕ) (d : Strip) → n < length strips →
       slice_index_or old n 0 ≤ slice_index_or new n 0 + count_in (slice_index_or strips n d) (from ∷ [])
-  pub others : (n : ℕ) (d : Strip) → n < length strips → (slice_index_or strips n d).team ≢ team → slice_index_or new n 0 ≡ slice_index_or old n 0
+  pub others : (n : ℕ) (d : Strip) → n < length strips → (slice_index_or strips n d).team ≢ team
+      → slice_index_or new n 0 ≡ slice_index_or old n 0
 
 -- no strip counts less, and those of the team that share a point with the box count at least one
 -- more
@@ -72,4 +73,5 @@ pub record AreShifted (strips : List Strip) (team : ℕ) (shift : BoxChange) (ol
   pub own : (n : ℕ) (d : Strip) → n < length strips → (slice_index_or strips n d).team ≡ team →
       (slice_index_or old n 0 + count_in (slice_index_or strips n d) (Some shift.to ∷ [])) ≤
       slice_index_or new n 0 + count_in (slice_index_or strips n d) (Some shift.from ∷ [])
-  pub others : (n : ℕ) (d : Strip) → n < length strips → (slice_index_or strips n d).team ≢ team → slice_index_or new n 0 ≡ slice_index_or old n 0
+  pub others : (n : ℕ) (d : Strip) → n < length strips → (slice_index_or strips n d).team ≢ team
+      → slice_index_or new n 0 ≡ slice_index_or old n 0

@@ -6,8 +6,8 @@ use Rattle.lf_units.specs.declared.geometry.Rect.{Rect}
 use Rattle.lf_units.specs.Area.{Covers, SharesPoint}
 use Rattle.lf_spans.specs.declared.span.Span.{Span}
 use Rattle.lf_spans.specs.Spans.{IsFilled, IsRising, LiesIn, LiesInOneOf}
-use Rattle.lf_segments.specs.declared.strip.Strip.{Strip}
-use Rattle.lf_segments.specs.Indexes.{FrameIndexView}
+use Rattle.lf_frame_index.specs.declared.strip.Strip.{Strip}
+use Rattle.lf_frame_index.specs.Indexes.{FrameIndexView}
 use Rattle.lf_rules.specs.Padding.{wider}
 use Rattle.lf_cells.specs.declared.cell.CellId.{CellId}
 
@@ -79,10 +79,12 @@ pub record IsFreeOver (o : Occupied) (id : CellId) (padding : ℤ) (g : Strip) (
 -- the spans of a row, within a window, that are free for a cell, as if the cell itself were
 -- unplaced: a span that holds a number lies in one of them if and only if it lies in the window and
 -- is free in one strip of the row and the cell's team
-pub record IsFreeInRow (o : Occupied) (row : ℕ) (id : CellId) (window : Span) (padding : ℤ) (free : List Span) : Type 0 where
+pub record IsFreeInRow (o : Occupied) (row : ℕ) (id : CellId) (window : Span) (padding : ℤ)
+    (free : List Span) : Type 0 where
   pub rising : IsRising free
   pub exact : (s : Span) → IsFilled s →
-      (LiesInOneOf free s ↔ (LiesIn s window × Any (λ g. IsStripOf row id.team g × IsFreeOver o id padding g s) o.index.strips))
+      (LiesInOneOf free s
+      ↔ (LiesIn s window × Any (λ g. IsStripOf row id.team g × IsFreeOver o id padding g s) o.index.strips))
 
 -- the team's cell at this position, which is not `without`, has this box
 pub record HasBoxExcept (o : Occupied) (without : CellId) (team own : ℕ) (box : Rect) : Type 0 where
@@ -93,7 +95,8 @@ pub record HasBoxExcept (o : Occupied) (without : CellId) (team own : ℕ) (box 
 -- to it than the padding
 pub record IsLeftOver (o : Occupied) (without : CellId) (padding : ℤ) (g : Strip) (s : Span) : Type 0 where
   pub within : LiesIn s (strip_extent g)
-  pub clear : (own : ℕ) (box : Rect) → HasBoxExcept o without g.team own box → SharesPoint (wider padding (part_over g s)) box → ⊥
+  pub clear : (own : ℕ) (box : Rect) → HasBoxExcept o without g.team own box
+      → SharesPoint (wider padding (part_over g s)) box → ⊥
 
 -- the free spans of one strip, without one cell: a span that holds a number lies in one of them if
 -- and only if it lies in the strip and no other cell of the strip's team is over it or nearer to it
@@ -134,20 +137,23 @@ count_in g boxes = count_by (does_overlap g) boxes
 -- point with it, widened by the reach
 abbrev pub FitIn : Occupied → ℕ → List (Option Rect) → Type 0
 FitIn o team boxes =
-    (n : ℕ) (g : Strip) → slice_get o.index.strips n ≡ Some g → g.team ≡ team → count_in (widened (reach o) g) boxes ≤ slice_index_or o.rooms n 0
+    (n : ℕ) (g : Strip) → slice_get o.index.strips n ≡ Some g → g.team ≡ team
+    → count_in (widened (reach o) g) boxes ≤ slice_index_or o.rooms n 0
 
 -- the counts, a number for each strip, bound these boxes of the team's cells: for no strip of the
 -- team is the count less than the number of boxes that share a point with the strip, widened by the
 -- reach
 abbrev pub Bounds : Occupied → ℕ → List (Option Rect) → List ℕ → Type 0
 Bounds o team boxes tally =
-    (n : ℕ) (g : Strip) → slice_get o.index.strips n ≡ Some g → g.team ≡ team → count_in (widened (reach o) g) boxes ≤ slice_index_or tally n 0
+    (n : ℕ) (g : Strip) → slice_get o.index.strips n ≡ Some g → g.team ≡ team
+    → count_in (widened (reach o) g) boxes ≤ slice_index_or tally n 0
 
 -- each strip of the team that, widened by the reach, shares a point with the rectangle has room for
 -- its boxes and `more` others
 abbrev pub HasRoomFor : Occupied → ℕ → Rect → ℕ → Type 0
 HasRoomFor o team rect more =
-    (n : ℕ) (g : Strip) → slice_get o.index.strips n ≡ Some g → g.team ≡ team → SharesPoint (widened (reach o) g).area rect →
+    (n : ℕ) (g : Strip) → slice_get o.index.strips n ≡ Some g → g.team ≡ team
+    → SharesPoint (widened (reach o) g).area rect →
     (count_in (widened (reach o) g) (boxes_of o team) + more) ≤ slice_index_or o.rooms n 0
 
 -- the first boxes are part of the others: each is None or equal to the other list's box

@@ -39,9 +39,9 @@ fn box_in_table(frame: &Frame, cells: &CellTable, id: CellId) -> Option<Rect>
     ensures is { result ≡ option_and_then (working_box_of frame.now) (cell_at cells.now id) }
     ensures edge { IfSome result (λ rect. IsPlaceX rect.x1) }
 {
-    let standing = cells.placement_of(id)?;
-    let place = standing.working?;
-    let mac = &frame.macros.as_slice()[standing.mac];
+    let cell_placement = cells.placement_of(id)?;
+    let place = cell_placement.working?;
+    let mac = &frame.macros.as_slice()[cell_placement.mac];
     Some(box_with_points(frame, mac, &place))
 }
 

@@ -13,7 +13,7 @@ use crate::marking::reserve_and_mark;
 use crate::strip_marks::StripMarks;
 use lf_cells::{CellId, CellTable};
 use lf_floorplan::Frame;
-use lf_segments::FrameIndex;
+use lf_frame_index::FrameIndex;
 use lf_units::Rect;
 use std::alloc::{AllocError, Global};
 
@@ -121,9 +121,11 @@ fn mark_cell(
     requires sized { HaveSize frame.now cells.now }
     requires many { length mark_lists.old.items ≡ length (widened_strips frame.now.pitch.x index.now.strips) }
     requires rising { All (λ l. AreRising l.marks.items) mark_lists.old.items }
-    ensures { (boxes : List (List (Option Rect))) → HasNoBox boxes id.now → ShowAllBoxes (widened_strips frame.now.pitch.x index.now.strips) boxes mark_lists.old.items
+    ensures { (boxes : List (List (Option Rect))) → HasNoBox boxes id.now
+        → ShowAllBoxes (widened_strips frame.now.pitch.x index.now.strips) boxes mark_lists.old.items
         → OnOk result (ShowAllBoxes (widened_strips frame.now.pitch.x index.now.strips)
-        (boxes_set boxes id.now (cell_box (slice_index_or (boxes_in frame.now cells.now) id.now.team []) id.now.own)) mark_lists.new.items) }
+        (boxes_set boxes id.now (cell_box (slice_index_or (boxes_in frame.now cells.now) id.now.team []) id.now.own))
+        mark_lists.new.items) }
 {
     let Some(rect) = box_at_work(frame, cells, id) else {
         return Ok(());
@@ -152,8 +154,10 @@ fn fill_in(
     from: usize,
 ) -> Result<(), AllocError>
     requires sized { HaveSize frame.now cells.now }
-    requires before { AreFilledIn frame.now cells.now (widened_strips frame.now.pitch.x index.now.strips) (PrecedesCell team from) mark_lists.old.items }
-    ensures { OnOk result (AreFilledIn frame.now cells.now (widened_strips frame.now.pitch.x index.now.strips) (PrecedesCell team (from + 65536)) mark_lists.new.items) }
+    requires before { AreFilledIn frame.now cells.now (widened_strips frame.now.pitch.x index.now.strips)
+        (PrecedesCell team from) mark_lists.old.items }
+    ensures { OnOk result (AreFilledIn frame.now cells.now (widened_strips frame.now.pitch.x index.now.strips)
+        (PrecedesCell team (from + 65536)) mark_lists.new.items) }
 {
     let ids = part_of(cells.cells_of(team), from);
     let order = by_place(alloc, cells, ids)?;
@@ -173,8 +177,10 @@ fn fill_team(
     team: usize,
 ) -> Result<(), AllocError>
     requires sized { HaveSize frame.now cells.now }
-    requires before { AreFilledIn frame.now cells.now (widened_strips frame.now.pitch.x index.now.strips) (PrecedesCell team 0) mark_lists.old.items }
-    ensures { OnOk result (AreFilledIn frame.now cells.now (widened_strips frame.now.pitch.x index.now.strips) (PrecedesCell (team + 1) 0) mark_lists.new.items) }
+    requires before { AreFilledIn frame.now cells.now (widened_strips frame.now.pitch.x index.now.strips)
+        (PrecedesCell team 0) mark_lists.old.items }
+    ensures { OnOk result (AreFilledIn frame.now cells.now (widened_strips frame.now.pitch.x index.now.strips)
+        (PrecedesCell (team + 1) 0) mark_lists.new.items) }
 {
     for part in 0..cells.cells_of(team).len() / PART + 1 {
         fill_in(alloc, mark_lists, index, frame, cells, team, part * PART)?;
@@ -202,7 +208,8 @@ pub(crate) fn marks_of_strips(
     cells: &CellTable,
 ) -> Result<Vec<StripMarks>, AllocError>
     requires { HaveSize frame.now cells.now }
-    ensures { IfOk result (λ mark_lists. ShowAllBoxes (widened_strips frame.now.pitch.x index.now.strips) (boxes_in frame.now cells.now) mark_lists.items) }
+    ensures { IfOk result (λ mark_lists. ShowAllBoxes (widened_strips frame.now.pitch.x index.now.strips)
+        (boxes_in frame.now cells.now) mark_lists.items) }
 {
     let mut mark_lists = empty_marks(alloc, index.strips().len())?;
     for team in 0..team_count(cells.cell_ids()) {

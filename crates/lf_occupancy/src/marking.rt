@@ -12,7 +12,7 @@ ghost use Rattle.lf_occupancy.specs.Strips.{HasOneMarkInRows, boxes_set, widened
 use crate::strip_marks::{StripMarks, make_room, put_in, unmark};
 use crate::widened::{widened_area, widened_strips};
 use lf_cells::CellId;
-use lf_segments::{FrameIndex, RowEntry, StripRange};
+use lf_frame_index::{FrameIndex, RowEntry, StripRange};
 use lf_units::Rect;
 use std::alloc::AllocError;
 
@@ -33,7 +33,8 @@ fn make_room_in_row(
     requires site { IsSiteWidth site.now }
     requires many { length mark_lists.old.items ≡ length (widened_strips site.now index.now.strips) }
     ensures kept { KeepMarksOf mark_lists.old.items mark_lists.new.items }
-    ensures ok { OnOk result (HaveRoom (IsReachedIn (widened_strips site.now index.now.strips) row id.now.team rect.now) more mark_lists.new.items) }
+    ensures ok { OnOk result (HaveRoom (IsReachedIn (widened_strips site.now index.now.strips) row id.now.team rect.now)
+        more mark_lists.new.items) }
 {
     let near = widened_strips(index, site, row, id.team as usize, rect);
     for n in near.start..near.end {
@@ -55,7 +56,8 @@ fn make_room_in_rows(
     requires site { IsSiteWidth site.now }
     requires many { length mark_lists.old.items ≡ length (widened_strips site.now index.now.strips) }
     ensures kept { KeepMarksOf mark_lists.old.items mark_lists.new.items }
-    ensures ok { OnOk result (HaveRoom (IsReached (widened_strips site.now index.now.strips) rows.now id.now.team rect.now) more mark_lists.new.items) }
+    ensures ok { OnOk result (HaveRoom (IsReached (widened_strips site.now index.now.strips) rows.now id.now.team
+        rect.now) more mark_lists.new.items) }
 {
     for entry in rows {
         make_room_in_row(mark_lists, index, site, entry.row, id, rect, more)?;
@@ -75,7 +77,8 @@ fn prune_row(
     requires site { IsSiteWidth site.now }
     requires many { length mark_lists.old.items ≡ length (widened_strips site.now index.now.strips) }
     requires one { HasOneMarkInRow (widened_strips site.now index.now.strips) row id.now rect.now mark_lists.old.items }
-    ensures { PruneInRow (widened_strips site.now index.now.strips) row id.now rect.now mark_lists.old.items mark_lists.new.items }
+    ensures { PruneInRow (widened_strips site.now index.now.strips) row id.now rect.now mark_lists.old.items
+        mark_lists.new.items }
 {
     let near = widened_strips(index, site, row, id.team as usize, rect);
     for n in near.start..near.end {
@@ -99,8 +102,10 @@ fn prune_rows(
     requires site { IsSiteWidth site.now }
     requires many { length mark_lists.old.items ≡ length (widened_strips site.now index.now.strips) }
     requires once { AllPairs (λ a b. a.row ≢ b.row) rows.now }
-    requires one { HasOneMarkInRows (widened_strips site.now index.now.strips) rows.now id.now rect.now mark_lists.old.items }
-    ensures { PruneInRows (widened_strips site.now index.now.strips) rows.now id.now rect.now mark_lists.old.items mark_lists.new.items }
+    requires one { HasOneMarkInRows (widened_strips site.now index.now.strips) rows.now id.now rect.now
+        mark_lists.old.items }
+    ensures { PruneInRows (widened_strips site.now index.now.strips) rows.now id.now rect.now mark_lists.old.items
+        mark_lists.new.items }
 {
     for entry in rows {
         prune_row(mark_lists, index, site, entry.row, id, rect);
@@ -120,8 +125,10 @@ fn put_in_run(
     requires many { length mark_lists.old.items ≡ length (widened_strips site.now index.now.strips) }
     requires within { near.now.end ≤ length (widened_strips site.now index.now.strips) }
     requires edge { IsPlaceX rect.now.x1 }
-    requires room { CanTake (widened_strips site.now index.now.strips) rect.now (IsOneOf near.now) mark_lists.old.items }
-    ensures { AreChanged (IsOneOf near.now) (PutsIn (widened_strips site.now index.now.strips) own rect.now) mark_lists.old.items mark_lists.new.items }
+    requires room { CanTake (widened_strips site.now index.now.strips) rect.now
+        (IsOneOf near.now) mark_lists.old.items }
+    ensures { AreChanged (IsOneOf near.now)
+        (PutsIn (widened_strips site.now index.now.strips) own rect.now) mark_lists.old.items mark_lists.new.items }
 {
     for n in near.start..near.end {
         put_in(&mut mark_lists[n], &widened_area(index, site, n), own, rect);
@@ -141,7 +148,8 @@ fn put_in_row(
     requires many { length mark_lists.old.items ≡ length (widened_strips site.now index.now.strips) }
     requires edge { IsPlaceX rect.now.x1 }
     requires room { CanTakeInRow (widened_strips site.now index.now.strips) row id.now rect.now mark_lists.old.items }
-    ensures { PutInRow (widened_strips site.now index.now.strips) row id.now rect.now mark_lists.old.items mark_lists.new.items }
+    ensures { PutInRow (widened_strips site.now index.now.strips) row id.now rect.now mark_lists.old.items
+        mark_lists.new.items }
 {
     let near = widened_strips(index, site, row, id.team as usize, rect);
     put_in_run(mark_lists, index, site, &near, id.own, rect);
@@ -160,8 +168,10 @@ fn put_in_rows(
     requires many { length mark_lists.old.items ≡ length (widened_strips site.now index.now.strips) }
     requires once { AllPairs (λ a b. a.row ≢ b.row) rows.now }
     requires edge { IsPlaceX rect.now.x1 }
-    requires room { CanTakeInRows (widened_strips site.now index.now.strips) rows.now id.now rect.now mark_lists.old.items }
-    ensures { PutInRows (widened_strips site.now index.now.strips) rows.now id.now rect.now mark_lists.old.items mark_lists.new.items }
+    requires room { CanTakeInRows (widened_strips site.now index.now.strips) rows.now id.now rect.now
+        mark_lists.old.items }
+    ensures { PutInRows (widened_strips site.now index.now.strips) rows.now id.now rect.now mark_lists.old.items
+        mark_lists.new.items }
 {
     for entry in rows {
         put_in_row(mark_lists, index, site, entry.row, id, rect);
@@ -180,7 +190,8 @@ pub(crate) fn take_out(
     requires site { IsSiteWidth site.now }
     requires many { length mark_lists.old.items ≡ length (widened_strips site.now index.now.strips) }
     requires one { HasOneMark (widened_strips site.now index.now.strips) id.now rect.now mark_lists.old.items }
-    ensures mark_lists { (boxes : List (List (Option Rect))) → HasBoxOrNone boxes id.now rect.now → ShowAllBoxes (widened_strips site.now index.now.strips) boxes mark_lists.old.items
+    ensures mark_lists { (boxes : List (List (Option Rect))) → HasBoxOrNone boxes id.now rect.now
+        → ShowAllBoxes (widened_strips site.now index.now.strips) boxes mark_lists.old.items
         → ShowAllBoxes (widened_strips site.now index.now.strips) (boxes_set boxes id.now None) mark_lists.new.items }
     ensures rooms { capacities_in mark_lists.new.items ≡ capacities_in mark_lists.old.items }
 {
@@ -200,9 +211,12 @@ pub(crate) fn take_in(
     requires many { length mark_lists.old.items ≡ length (widened_strips site.now index.now.strips) }
     requires edge { IsPlaceX rect.now.x1 }
     requires rising { All (λ l. AreRising l.marks.items) mark_lists.old.items }
-    requires room { HaveRoom (OverlapsStrip (widened_strips site.now index.now.strips) id.now.team rect.now) 1 mark_lists.old.items }
-    ensures mark_lists { (boxes : List (List (Option Rect))) → HasNoBox boxes id.now → ShowAllBoxes (widened_strips site.now index.now.strips) boxes mark_lists.old.items
-        → ShowAllBoxes (widened_strips site.now index.now.strips) (boxes_set boxes id.now (Some rect.now)) mark_lists.new.items }
+    requires room { HaveRoom (OverlapsStrip (widened_strips site.now index.now.strips) id.now.team rect.now) 1
+        mark_lists.old.items }
+    ensures mark_lists { (boxes : List (List (Option Rect))) → HasNoBox boxes id.now
+        → ShowAllBoxes (widened_strips site.now index.now.strips) boxes mark_lists.old.items
+        → ShowAllBoxes (widened_strips site.now index.now.strips)
+        (boxes_set boxes id.now (Some rect.now)) mark_lists.new.items }
     ensures rooms { capacities_in mark_lists.new.items ≡ capacities_in mark_lists.old.items }
 {
     index.strips_are_placed();
@@ -222,7 +236,8 @@ fn reserve_box(
     requires site { IsSiteWidth site.now }
     requires many { length mark_lists.old.items ≡ length (widened_strips site.now index.now.strips) }
     ensures kept { KeepMarksOf mark_lists.old.items mark_lists.new.items }
-    ensures ok { OnOk result (IfSome to.now (λ rect. HaveRoom (OverlapsStrip (widened_strips site.now index.now.strips) id.now.team rect) more mark_lists.new.items)) }
+    ensures ok { OnOk result (IfSome to.now (λ rect. HaveRoom
+        (OverlapsStrip (widened_strips site.now index.now.strips) id.now.team rect) more mark_lists.new.items)) }
 {
     index.strips_are_placed();
     if let Some(rect) = to {
@@ -250,7 +265,8 @@ pub(crate) fn reserve_moves(
     requires site { IsSiteWidth site.now }
     requires many { length mark_lists.old.items ≡ length (widened_strips site.now index.now.strips) }
     ensures kept { KeepMarksOf mark_lists.old.items mark_lists.new.items }
-    ensures ok { OnOk result (HaveRoomForAll (widened_strips site.now index.now.strips) moves.now (length moves.now) mark_lists.new.items) }
+    ensures ok { OnOk result
+        (HaveRoomForAll (widened_strips site.now index.now.strips) moves.now (length moves.now) mark_lists.new.items) }
 {
     for (id, to) in moves {
         reserve_box(mark_lists, index, site, id, to, moves.len())?;
@@ -288,7 +304,8 @@ fn settle_in_few(
     requires edge { IsPlaceX rect.now.x1 }
     requires rising { All (λ l. AreRising l.marks.items) mark_lists.old.items }
     ensures ok { OnOk result (AreReservedAndMarked (widened_strips site.now index.now.strips) id.now.own rect.now
-        (IsReached (widened_strips site.now index.now.strips) rows.now id.now.team rect.now) mark_lists.old.items mark_lists.new.items) }
+        (IsReached (widened_strips site.now index.now.strips) rows.now id.now.team rect.now) mark_lists.old.items
+        mark_lists.new.items) }
     ensures err { OnErr result (KeepMarksOf mark_lists.old.items mark_lists.new.items) }
 {
     if rows.len() == 0 {
@@ -317,7 +334,8 @@ fn settle_in_rows(
     requires edge { IsPlaceX rect.now.x1 }
     requires rising { All (λ l. AreRising l.marks.items) mark_lists.old.items }
     ensures ok { OnOk result (AreReservedAndMarked (widened_strips site.now index.now.strips) id.now.own rect.now
-        (IsReached (widened_strips site.now index.now.strips) rows.now id.now.team rect.now) mark_lists.old.items mark_lists.new.items) }
+        (IsReached (widened_strips site.now index.now.strips) rows.now id.now.team rect.now) mark_lists.old.items
+        mark_lists.new.items) }
     ensures err { OnErr result (KeepMarksOf mark_lists.old.items mark_lists.new.items) }
 {
     if rows.len() <= FEW {
@@ -341,8 +359,10 @@ pub(crate) fn reserve_and_mark(
     requires many { length mark_lists.old.items ≡ length (widened_strips site.now index.now.strips) }
     requires edge { IsPlaceX rect.now.x1 }
     requires rising { All (λ l. AreRising l.marks.items) mark_lists.old.items }
-    ensures ok { (boxes : List (List (Option Rect))) → HasNoBox boxes id.now → ShowAllBoxes (widened_strips site.now index.now.strips) boxes mark_lists.old.items
-        → OnOk result (ShowAllBoxes (widened_strips site.now index.now.strips) (boxes_set boxes id.now (Some rect.now)) mark_lists.new.items) }
+    ensures ok { (boxes : List (List (Option Rect))) → HasNoBox boxes id.now
+        → ShowAllBoxes (widened_strips site.now index.now.strips) boxes mark_lists.old.items
+        → OnOk result (ShowAllBoxes (widened_strips site.now index.now.strips)
+        (boxes_set boxes id.now (Some rect.now)) mark_lists.new.items) }
     ensures err { OnErr result (KeepMarksOf mark_lists.old.items mark_lists.new.items) }
 {
     index.strips_are_placed();

@@ -3,7 +3,7 @@
 ghost use Rattle.std.specs.Prelude.{◌≡◌, ◌≢◌, ◌≤ℤ◌, ◌*ℤ◌, [], All, IfOk, IfSome, List, None, OnOk, Option, Some, length, map, pos, slice_index_or, slice_set, ℕ};
 ghost use Rattle.std.specs.Vec.{vec_len};
 ghost use Rattle.lf_units.specs.declared.geometry.Rect.{Rect};
-ghost use Rattle.lf_segments.specs.Indexes.{IsIndexOf};
+ghost use Rattle.lf_frame_index.specs.Indexes.{IsIndexOf};
 ghost use Rattle.lf_occupancy.specs.Floorplans.{HaveSize, IsMarkedBy, boxes_in};
 ghost use Rattle.lf_occupancy.specs.MarkLists.{IsPlaceX};
 ghost use Rattle.lf_occupancy.specs.Views.{AreFreeSpans, Bounds, FitIn, HasRoomFor, IsPaddingOf, KeepsCapacities, cell_box};
@@ -17,7 +17,7 @@ use crate::strip_counts::{StripCounts, lower, marks_of, near_shift, raise, shift
 use crate::strip_marks::StripMarks;
 use lf_cells::{CellId, CellTable};
 use lf_floorplan::Frame;
-use lf_segments::FrameIndex;
+use lf_frame_index::FrameIndex;
 use lf_units::{Rect, Span};
 use std::alloc::{AllocError, Global};
 use std::marker::Model;
@@ -128,7 +128,8 @@ impl Occupancy {
         requires sized { HaveSize frame.now cells.now }
         requires holds { MarksBoxes self.now (boxes_in frame.now cells.now) }
         requires padding { IsPaddingOf (with_boxes self.now (boxes_in frame.now cells.now)) padding }
-        ensures { IfOk result (λ free. AreFreeSpans (with_boxes self.now (boxes_in frame.now cells.now)) segment without padding free.items) }
+        ensures { IfOk result (λ free.
+            AreFreeSpans (with_boxes self.now (boxes_in frame.now cells.now)) segment without padding free.items) }
     {
         self.with_boxes(frame, cells)
             .free_spans(alloc, segment, without, padding)
@@ -139,7 +140,8 @@ impl Occupancy {
     /// Does not allocate. Each strip keeps its capacity.
     pub fn remove(&mut self, id: CellId, rect: &Rect)
         requires { CanLeave self.old id rect.now }
-        ensures holds { (boxes : List (List (Option Rect))) → HasBoxOrNone boxes id rect.now → MarksBoxes self.old boxes → MarksBoxes self.new (boxes_set boxes id None) }
+        ensures holds { (boxes : List (List (Option Rect))) → HasBoxOrNone boxes id rect.now → MarksBoxes self.old boxes
+            → MarksBoxes self.new (boxes_set boxes id None) }
         ensures index { self.new.index ≡ self.old.index }
         ensures site { self.new.site ≡ self.old.site }
         ensures rooms { capacities_in self.new.mark_lists ≡ capacities_in self.old.mark_lists }
@@ -173,7 +175,8 @@ impl Occupancy {
     /// `Err` if an allocation fails: then strips may have gained room, and nothing else is changed.
     pub fn reserve_for(&mut self, moves: &[(CellId, Option<Rect>)]) -> Result<(), AllocError>
         ensures ok { (boxes : List (List (Option Rect))) → MarksBoxes self.old boxes
-            → OnOk result (All (λ m. IfSome m.1 (λ rect. HasRoomFor (with_boxes self.new boxes) m.0.team rect (length moves.now))) moves.now) }
+            → OnOk result (All (λ m. IfSome m.1
+            (λ rect. HasRoomFor (with_boxes self.new boxes) m.0.team rect (length moves.now))) moves.now) }
         ensures holds { (boxes : List (List (Option Rect))) → MarksBoxes self.old boxes → MarksBoxes self.new boxes }
         ensures index { self.new.index ≡ self.old.index }
         ensures site { self.new.site ≡ self.old.site }
@@ -211,9 +214,11 @@ impl Occupancy {
     ) -> Result<(), AllocError>
         requires { KeepsCapacities tally.old (capacities_in self.old.mark_lists) }
         ensures room { OnOk result (KeepsCapacities tally.new (capacities_in self.new.mark_lists)) }
-        ensures own { (boxes : List (Option Rect)) → (own : ℕ) → cell_box boxes own ≡ from.now → Bounds (with_boxes self.old []) team boxes tally.old
+        ensures own { (boxes : List (Option Rect)) → (own : ℕ) → cell_box boxes own ≡ from.now
+            → Bounds (with_boxes self.old []) team boxes tally.old
             → OnOk result (Bounds (with_boxes self.new []) team (slice_set boxes own to.now) tally.new) }
-        ensures others { (boxes : List (Option Rect)) → (other : ℕ) → other ≢ team → Bounds (with_boxes self.old []) other boxes tally.old
+        ensures others { (boxes : List (Option Rect)) → (other : ℕ) → other ≢ team
+            → Bounds (with_boxes self.old []) other boxes tally.old
             → OnOk result (Bounds (with_boxes self.new []) other boxes tally.new) }
         ensures holds { (boxes : List (List (Option Rect))) → MarksBoxes self.old boxes → MarksBoxes self.new boxes }
         ensures index { self.new.index ≡ self.old.index }
@@ -244,7 +249,8 @@ impl Occupancy {
     /// A law: the boxes that the strips hold fit. Each strip, widened by 16 core sites, has room
     /// for all boxes of its team that share a point with it.
     pub fn boxes_fit(&self)
-        ensures { (boxes : List (List (Option Rect))) → MarksBoxes self.now boxes → (team : ℕ) → FitIn (with_boxes self.now boxes) team (slice_index_or boxes team []) }
+        ensures { (boxes : List (List (Option Rect))) → MarksBoxes self.now boxes
+            → (team : ℕ) → FitIn (with_boxes self.now boxes) team (slice_index_or boxes team []) }
     {
         let _ = &self.mark_lists;
     }

@@ -8,7 +8,7 @@ use crate::boxes::Boxes;
 use crate::occupancy::Occupancy;
 use crate::queries::{free_in_one, free_in_strips, least_overlapped};
 use lf_cells::CellId;
-use lf_segments::FrameIndex;
+use lf_frame_index::FrameIndex;
 use lf_units::{Rect, Span};
 use std::alloc::{AllocError, Global};
 use std::marker::Model;

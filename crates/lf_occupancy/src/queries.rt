@@ -11,7 +11,7 @@ use crate::strip_marks::{
 };
 use crate::widened::{widened_area, widened_strips};
 use lf_cells::CellId;
-use lf_segments::FrameIndex;
+use lf_frame_index::FrameIndex;
 use lf_units::{Rect, Span};
 use std::alloc::{AllocError, Global};
 
@@ -29,7 +29,8 @@ fn least_in_row(
 ) -> Option<u32>
     requires site { IsSiteWidth site.now }
     requires mark_lists { ShowAllBoxes (widened_strips site.now index.now.strips) boxes.now mark_lists.now }
-    ensures { IsLeast (OverlapsInRow (widened_strips site.now index.now.strips) (strip_views (widened_strips site.now index.now.strips) boxes.now mark_lists.now) row
+    ensures { IsLeast (OverlapsInRow (widened_strips site.now index.now.strips)
+        (strip_views (widened_strips site.now index.now.strips) boxes.now mark_lists.now) row
         id.now.team rect.now id.now.own) so_far result }
 {
     let near = widened_strips(index, site, row, id.team as usize, rect);
@@ -60,7 +61,8 @@ pub(crate) fn least_overlapped(
 ) -> Option<u32>
     requires site { IsSiteWidth site.now }
     requires mark_lists { ShowAllBoxes (widened_strips site.now index.now.strips) boxes.now mark_lists.now }
-    ensures { IsLeast (OverlapsInOne (widened_strips site.now index.now.strips) (strip_views (widened_strips site.now index.now.strips) boxes.now mark_lists.now)
+    ensures { IsLeast (OverlapsInOne (widened_strips site.now index.now.strips)
+        (strip_views (widened_strips site.now index.now.strips) boxes.now mark_lists.now)
         id.now.team rect.now id.now.own) None result }
 {
     index.strips_are_placed();
@@ -101,7 +103,8 @@ pub(crate) fn free_in_strips(
     requires mark_lists { ShowAllBoxes (widened_strips site.now index.now.strips) boxes.now mark_lists.now }
     requires short { IsShort padding.now }
     requires low { negsuc 4611686018427387903 ≤ℤ window.now.lo }
-    ensures { IfOk result (λ free. AreFreeTo index.now.strips (strip_views (widened_strips site.now index.now.strips) boxes.now mark_lists.now) row id.now.team
+    ensures { IfOk result (λ free. AreFreeTo index.now.strips
+        (strip_views (widened_strips site.now index.now.strips) boxes.now mark_lists.now) row id.now.team
         id.now.own window.now padding.now (length index.now.strips) free.items) }
 {
     index.strips_are_placed();
@@ -141,7 +144,8 @@ pub(crate) fn free_in_one(
     requires site { IsSiteWidth site.now }
     requires mark_lists { ShowAllBoxes (widened_strips site.now index.now.strips) boxes.now mark_lists.now }
     requires short { IsShort padding.now }
-    ensures { IfOk result (λ free. AreFreeSpansOfStrip index.now.strips (strip_views (widened_strips site.now index.now.strips) boxes.now mark_lists.now) without.now
+    ensures { IfOk result (λ free. AreFreeSpansOfStrip index.now.strips
+        (strip_views (widened_strips site.now index.now.strips) boxes.now mark_lists.now) without.now
         padding.now number free.items) }
 {
     index.strips_are_placed();

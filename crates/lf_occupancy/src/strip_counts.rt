@@ -10,7 +10,7 @@ ghost use Rattle.lf_occupancy.specs.StripCounting.{AreShifted, IsHigher, IsLess,
 
 use crate::strip_marks::{StripMarks, has_points, make_room, part_of};
 use crate::widened::{widened_area, widened_strips};
-use lf_segments::{FrameIndex, RowEntry, StripRange};
+use lf_frame_index::{FrameIndex, RowEntry, StripRange};
 use lf_units::Rect;
 use std::alloc::{AllocError, Global};
 use std::marker::Model;
@@ -61,7 +61,8 @@ fn lower_run(
     requires site { IsSiteWidth site.now }
     requires many { length counts.old.items ≡ length (widened_strips site.now index.now.strips) }
     requires within { near.now.end ≤ length (widened_strips site.now index.now.strips) }
-    ensures { AreChanged (IsOneOf near.now) (IsLessAt (widened_strips site.now index.now.strips) rect.now) counts.old.items counts.new.items }
+    ensures { AreChanged (IsOneOf near.now)
+        (IsLessAt (widened_strips site.now index.now.strips) rect.now) counts.old.items counts.new.items }
 {
     for n in near.start..near.end {
         count_less(&mut counts[n], &widened_area(index, site, n), rect);
@@ -80,7 +81,8 @@ fn lower_rows(
     requires site { IsSiteWidth site.now }
     requires many { length counts.old.items ≡ length (widened_strips site.now index.now.strips) }
     requires once { AllPairs (λ a b. a.row ≢ b.row) rows.now }
-    ensures { AreChanged (IsReached (widened_strips site.now index.now.strips) rows.now team rect.now) (IsLessAt (widened_strips site.now index.now.strips) rect.now)
+    ensures { AreChanged (IsReached (widened_strips site.now index.now.strips) rows.now team rect.now)
+        (IsLessAt (widened_strips site.now index.now.strips) rect.now)
         counts.old.items counts.new.items }
 {
     for entry in rows {
@@ -156,7 +158,8 @@ fn raise_rows(
     requires many { length mark_lists.old.items ≡ length (widened_strips site.now index.now.strips) }
     requires room { KeepsCapacities counts.old.items (capacities_in mark_lists.old.items) }
     ensures kept { KeepMarksOf mark_lists.old.items mark_lists.new.items }
-    ensures more { OnOk result (IsHigher (widened_strips site.now index.now.strips) team (Some rect.now) counts.old.items counts.new.items) }
+    ensures more { OnOk result
+        (IsHigher (widened_strips site.now index.now.strips) team (Some rect.now) counts.old.items counts.new.items) }
     ensures room { OnOk result (KeepsCapacities counts.new.items (capacities_in mark_lists.new.items)) }
 {
     index.strips_are_placed();
@@ -181,7 +184,8 @@ pub(crate) fn raise(
     requires many { length mark_lists.old.items ≡ length (widened_strips site.now index.now.strips) }
     requires room { KeepsCapacities counts.old.items (capacities_in mark_lists.old.items) }
     ensures kept { KeepMarksOf mark_lists.old.items mark_lists.new.items }
-    ensures more { OnOk result (IsHigher (widened_strips site.now index.now.strips) team to.now counts.old.items counts.new.items) }
+    ensures more { OnOk result
+        (IsHigher (widened_strips site.now index.now.strips) team to.now counts.old.items counts.new.items) }
     ensures room { OnOk result (KeepsCapacities counts.new.items (capacities_in mark_lists.new.items)) }
 {
     match to {
@@ -261,7 +265,8 @@ fn shift_run(
     requires room { KeepsCapacities counts.old.items (capacities_in mark_lists.old.items) }
     requires within { near.now.end ≤ length mark_lists.old.items }
     ensures kept { KeepMarksOf mark_lists.old.items mark_lists.new.items }
-    ensures shifted { OnOk result (AreChanged (IsOneOf near.now) (IsShiftedAt (widened_strips site.now index.now.strips) shift.now)
+    ensures shifted { OnOk result
+        (AreChanged (IsOneOf near.now) (IsShiftedAt (widened_strips site.now index.now.strips) shift.now)
         counts.old.items counts.new.items) }
     ensures room { OnOk result (KeepsCapacities counts.new.items (capacities_in mark_lists.new.items)) }
 {
@@ -286,7 +291,8 @@ pub(crate) fn shift_rows(
     requires many { length mark_lists.old.items ≡ length (widened_strips site.now index.now.strips) }
     requires room { KeepsCapacities counts.old.items (capacities_in mark_lists.old.items) }
     ensures kept { KeepMarksOf mark_lists.old.items mark_lists.new.items }
-    ensures shifted { OnOk result (AreShifted (widened_strips site.now index.now.strips) team shift.now counts.old.items counts.new.items) }
+    ensures shifted { OnOk result
+        (AreShifted (widened_strips site.now index.now.strips) team shift.now counts.old.items counts.new.items) }
     ensures room { OnOk result (KeepsCapacities counts.new.items (capacities_in mark_lists.new.items)) }
 {
     index.strips_are_placed();

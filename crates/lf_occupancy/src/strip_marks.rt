@@ -149,7 +149,8 @@ pub(crate) fn count_before(marks: &[Mark], x: &i64) -> usize
     requires { AreRising marks.now }
     ensures within { result ≤ length marks.now }
     ensures below { (k : ℕ) → (d : Mark) → k < result → (slice_index_or marks.now k d).left <ℤ x.now }
-    ensures rest { (k : ℕ) → (d : Mark) → result ≤ k → k < length marks.now → x.now ≤ℤ (slice_index_or marks.now k d).left }
+    ensures rest { (k : ℕ) → (d : Mark) → result ≤ k → k < length marks.now
+        → x.now ≤ℤ (slice_index_or marks.now k d).left }
 {
     let many = marks.len();
     if 0 < many && i64::from(marks[many - 1].left) < *x {
@@ -165,8 +166,10 @@ pub(crate) fn near_marks<'a>(mark_list: &'a StripMarks, lo: &i64, hi: &i64) -> &
     requires most { mark_list.now.widest ≤ℤ pos 1099511627776 }
     requires low { negsuc 4611686018427387903 ≤ℤ lo.now }
     ensures near { (cells : List (Option Rect)) → (area : Rect) → IsMarked cells area mark_list.now →
-        IsNearRun (marked_entries cells area mark_list.now.marks.items) lo.now hi.now (marked_entries cells area result.now) }
-    ensures reported { (cells : List (Option Rect)) → (area : Rect) → IsMarked cells area mark_list.now → MarksAreOf cells area result.now }
+        IsNearRun (marked_entries cells area mark_list.now.marks.items) lo.now hi.now
+        (marked_entries cells area result.now) }
+    ensures reported { (cells : List (Option Rect)) → (area : Rect) → IsMarked cells area mark_list.now
+        → MarksAreOf cells area result.now }
 {
     let marks = mark_list.marks.as_slice();
     let from = *lo - mark_list.widest;
@@ -193,7 +196,8 @@ fn lesser(
     so_far: Option<u32>,
 ) -> Option<u32>
     requires { MarkIsOf (marked_entry (slice_index_or boxes.now team []) area.now mark.now) mark.now }
-    ensures { IsLeast (λ own. OverlapsEntry rect.now but own (marked_entry (slice_index_or boxes.now team []) area.now mark.now)) so_far result }
+    ensures { IsLeast (λ own. OverlapsEntry rect.now but own
+        (marked_entry (slice_index_or boxes.now team []) area.now mark.now)) so_far result }
 {
     if mark.own == but {
         return so_far;
@@ -223,7 +227,8 @@ fn least_in(
     so_far: Option<u32>,
 ) -> Option<u32>
     requires { MarksAreOf (slice_index_or boxes.now team []) area.now marks.now }
-    ensures { IsLeast (OverlapsOne (marked_entries (slice_index_or boxes.now team []) area.now marks.now) rect.now but) so_far result }
+    ensures { IsLeast (OverlapsOne (marked_entries (slice_index_or boxes.now team []) area.now marks.now) rect.now
+        but) so_far result }
 {
     let mut least = so_far;
     for mark in marks {
@@ -245,7 +250,8 @@ pub(crate) fn least_in_mark_list(
 ) -> Option<u32>
     requires marked { IsMarked (slice_index_or boxes.now team []) area.now mark_list.now }
     requires near { IsNearZero area.now }
-    ensures { IsLeast (OverlapsOne (marked_entries (slice_index_or boxes.now team []) area.now mark_list.now.marks.items) rect.now but) so_far result }
+    ensures { IsLeast (OverlapsOne (marked_entries (slice_index_or boxes.now team []) area.now
+        mark_list.now.marks.items) rect.now but) so_far result }
 {
     let lo = rect.x1.max(area.x1);
     let near = near_marks(mark_list, &lo, &rect.x2);
@@ -277,8 +283,10 @@ fn padded_of(
 ) -> Result<Vec<Span>, AllocError>
     requires short { IsShort padding.now }
     requires reported { MarksAreOf (slice_index_or boxes.now team []) area.now marks.now }
-    requires around { All (λ e. HasRoomAround e.area) (marked_entries (slice_index_or boxes.now team []) area.now marks.now) }
-    ensures { IfOk result (λ list. list.items ≡ spans_in (all_padded padding.now (marked_entries (slice_index_or boxes.now team []) area.now marks.now))) }
+    requires around { All (λ e. HasRoomAround e.area)
+        (marked_entries (slice_index_or boxes.now team []) area.now marks.now) }
+    ensures { IfOk result (λ list. list.items
+        ≡ spans_in (all_padded padding.now (marked_entries (slice_index_or boxes.now team []) area.now marks.now))) }
 {
     let mut list = Vec::with_capacity(alloc, marks.len())?;
     for mark in marks {
@@ -301,12 +309,16 @@ fn free_beside(
 ) -> Result<Vec<Span>, AllocError>
     requires short { IsShort padding.now }
     requires reported { MarksAreOf (slice_index_or boxes.now id.now.team []) area.now marks.now }
-    requires around { All (λ e. HasRoomAround e.area) (marked_entries (slice_index_or boxes.now id.now.team []) area.now marks.now) }
-    requires whole { All (λ e. HasPoints e.area) (marked_entries (slice_index_or boxes.now id.now.team []) area.now marks.now) }
+    requires around { All (λ e. HasRoomAround e.area)
+        (marked_entries (slice_index_or boxes.now id.now.team []) area.now marks.now) }
+    requires whole { All (λ e. HasPoints e.area)
+        (marked_entries (slice_index_or boxes.now id.now.team []) area.now marks.now) }
     requires order { IsInOrder
-        (spans_in (others_in (all_padded padding.now (marked_entries (slice_index_or boxes.now id.now.team []) area.now marks.now)) id.now.own)) }
+        (spans_in (others_in (all_padded padding.now
+        (marked_entries (slice_index_or boxes.now id.now.team []) area.now marks.now)) id.now.own)) }
     ensures { IfOk result (λ free. IsFree range.now
-        (spans_in (others_in (all_padded padding.now (marked_entries (slice_index_or boxes.now id.now.team []) area.now marks.now)) id.now.own)) free.items) }
+        (spans_in (others_in (all_padded padding.now
+        (marked_entries (slice_index_or boxes.now id.now.team []) area.now marks.now)) id.now.own)) free.items) }
 {
     let mut free = Vec::with_capacity(alloc, marks.len().saturating_add(1))?;
     let mut rest = *range;
@@ -353,7 +365,8 @@ pub(crate) fn free_in_mark_list(
     requires right { strip.now.hi ≤ℤ pos 2147483647 }
     requires low { negsuc 4611686018427387903 ≤ℤ window.now.lo }
     ensures { IfOk result (λ free. IsFreeIn strip.now
-        (spans_in (others_in (all_padded padding.now (marked_entries (slice_index_or boxes.now id.now.team []) area.now mark_list.now.marks.items)) id.now.own))
+        (spans_in (others_in (all_padded padding.now
+        (marked_entries (slice_index_or boxes.now id.now.team []) area.now mark_list.now.marks.items)) id.now.own))
         window.now free.items) }
 {
     let range = common_range(window, strip);
@@ -379,7 +392,8 @@ pub(crate) fn free_of_all(
     requires short { IsShort padding.now }
     requires low { negsuc 4611686018427387903 ≤ℤ strip.now.lo }
     ensures { IfOk result (λ free. IsFreeIn strip.now
-        (spans_in (all_padded padding.now (marked_entries (slice_index_or boxes.now team []) area.now mark_list.now.marks.items))) strip.now free.items) }
+        (spans_in (all_padded padding.now (marked_entries (slice_index_or boxes.now team []) area.now
+        mark_list.now.marks.items))) strip.now free.items) }
 {
     let all = padded_of(
         alloc,

@@ -8,7 +8,7 @@ use Rattle.lf_floorplan.specs.declared.frame.Frame.{Frame}
 use Rattle.lf_cells.specs.declared.cell.Cell.{Cell}
 use Rattle.lf_cells.specs.declared.cell.CellId.{CellId}
 use Rattle.lf_cells.specs.Cells.{Cells, id_in, id_of, working_at}
-use Rattle.lf_segments.specs.Indexes.{FrameIndexView}
+use Rattle.lf_frame_index.specs.Indexes.{FrameIndexView}
 use Rattle.lf_occupancy.specs.Views.{FitIn, HasRoomFor, Occupied, box_in_team, boxes_of, boxes_with, cell_box, widened, reach}
 use Rattle.lf_occupancy.specs.Strips.{HasCell}
 use Rattle.lf_occupancy.specs.Floorplans.{working_box_of}
@@ -201,20 +201,20 @@ pub nowhere_now : (id : CellId) (a b : Occupied) → b.boxes ≡ boxes_with a id
 nowhere_now id a b is = rw (box_put id None a b is) (none_here (boxes_of a id.team) id.own)
 
 -- the cells that the remaining moves do not name have their boxes
-pub record AreStanding (f : Frame) (cells : Cells) (team : ℕ) (named : List ℕ) (n : ℕ) (o : Occupied) : Type 0 where
+pub record AreInserted (f : Frame) (cells : Cells) (team : ℕ) (named : List ℕ) (n : ℕ) (o : Occupied) : Type 0 where
   pub may : BoxesMayBeInserted team (working_boxes f cells team) o
   pub rest : (own : ℕ) → ((k : ℕ) → n ≤ k → k < length named → get_or named k 0 ≢ own) → cell_box (boxes_of o team) own ≡ cell_box (working_boxes f cells team) own
   pub others : OthersAreInserted f cells team o
 
-pub standing_next : (f : Frame) (cells : Cells) (team : ℕ) (named : List ℕ) (n own : ℕ) (b c : Occupied) → own ≡ get_or named n 0
-    → boxes_of c team ≡ set (boxes_of b team) own (cell_box (working_boxes f cells team) own) → KeepsStrips team b c → AreStanding f cells team named n b
-    → AreStanding f cells team named (n + 1) c
-standing_next f cells team named n own b c is put kept standing = record {
-  may = may_with team own boxes b c put kept standing.may;
-  rest = λ k never. ⊎_elim (λ (same : k ≡ own). rw (put, same) (box_here (boxes_of b team) boxes own standing.may.many))
+pub inserted_next : (f : Frame) (cells : Cells) (team : ℕ) (named : List ℕ) (n own : ℕ) (b c : Occupied) → own ≡ get_or named n 0
+    → boxes_of c team ≡ set (boxes_of b team) own (cell_box (working_boxes f cells team) own) → KeepsStrips team b c → AreInserted f cells team named n b
+    → AreInserted f cells team named (n + 1) c
+inserted_next f cells team named n own b c is put kept inserted = record {
+  may = may_with team own boxes b c put kept inserted.may;
+  rest = λ k never. ⊎_elim (λ (same : k ≡ own). rw (put, same) (box_here (boxes_of b team) boxes own inserted.may.many))
       (λ (differ : k ≢ own). rw put (there_still (boxes_of b team) own k (cell_box boxes own) differ
-      ∙ standing.rest k (λ i from within. at_or_after k differ never i from within (cases_eq i n)))) (cases_eq k own);
-  others = λ other differ. kept.boxes other differ ∙ standing.others other differ;
+      ∙ inserted.rest k (λ i from within. at_or_after k differ never i from within (cases_eq i n)))) (cases_eq k own);
+  others = λ other differ. kept.boxes other differ ∙ inserted.others other differ;
 }
   where
     boxes : Boxes
@@ -225,11 +225,11 @@ standing_next f cells team named n own b c is put kept standing = record {
     at_or_after k differ never i from within (inl same) = λ here. differ (sym here ∙ ap (λ (j : ℕ). get_or named j 0) same ∙ sym is)
     at_or_after k differ never i from within (inr other) = never i (omega (arith, from, other)) within
 
-pub all_are_placed : (f : Frame) (cells : Cells) (team : ℕ) (named : List ℕ) (n : ℕ) (o : Occupied) → length named ≤ n → AreStanding f cells team named n o
+pub all_are_placed : (f : Frame) (cells : Cells) (team : ℕ) (named : List ℕ) (n : ℕ) (o : Occupied) → length named ≤ n → AreInserted f cells team named n o
     → boxes_of o team ≡ working_boxes f cells team
-all_are_placed f cells team named n o past standing =
-    boxes_alike (boxes_of o team) (working_boxes f cells team) standing.may.many
-    (λ own. standing.rest own (λ k from within. absurd (omega (arith, past, from, within))))
+all_are_placed f cells team named n o past inserted =
+    boxes_alike (boxes_of o team) (working_boxes f cells team) inserted.may.many
+    (λ own. inserted.rest own (λ k from within. absurd (omega (arith, past, from, within))))
 
 -- ---- by a team's number and a position
 

@@ -4,6 +4,6 @@ pub mod Marks
 pub mod Changing
 pub mod Keeping
 pub mod Overlapping
-pub mod Judging
+pub mod FirstBroken
 pub mod Counts
 pub mod Tallying

@@ -8,7 +8,7 @@ use Rattle.lf_floorplan.specs.declared.frame.Frame.{Frame}
 use Rattle.lf_cells.specs.declared.cell.Cell.{Cell}
 use Rattle.lf_cells.specs.declared.cell.CellId.{CellId}
 use Rattle.lf_cells.specs.Cells.{Cells, cells_of, id_in, id_of}
-use Rattle.lf_segments.specs.Indexes.{IsIndexOf, FrameIndexView}
+use Rattle.lf_frame_index.specs.Indexes.{IsIndexOf, FrameIndexView}
 use Rattle.lf_occupancy.specs.Views.{HasRoomFor, Occupied, boxes_of, cell_box}
 use Rattle.lf_occupancy.specs.Floorplans.{IsMarkedBy, IsOccupancyOf, working_box_of, boxes_in}
 use Rattle.lf_occupancy.specs.Strips.{CanEnter, CanLeave, MarksBoxes, HasBoxOrNone, HasNoBox, Marked, widened_strips, with_boxes, capacities_in}
@@ -16,8 +16,8 @@ use Rattle.lf_occupancy.proofs.Building.{boxes_there, mark_lists_of_same}
 use Rattle.lf_occupancy.proofs.Knowing.{known_still, has_no_place}
 use Rattle.lf_placement.specs.Placements.{OtherCellsStay}
 use Rattle.lf_placement.specs.Steps.{AreRemoved, MovedMayBeInserted, MarksSome, IsRemovedOrUnchanged, IsPartly, KeepsStripRooms, CellMayBeInserted, BoxMayBeInserted, BoxesMayBeInserted, AreInsertedExcept, RemovesFirst, box_set, working_boxes}
-use Rattle.lf_placement.proofs.Boxes.{AreStanding, all_are_placed, box_put, has_cell, has_room, keeps, keeps_put, may_without, none_put, nowhere_now, out_next}
-use Rattle.lf_placement.proofs.Boxes.{set_none, standing_next, team_is}
+use Rattle.lf_placement.proofs.Boxes.{AreInserted, all_are_placed, box_put, has_cell, has_room, keeps, keeps_put, may_without, none_put, nowhere_now, out_next}
+use Rattle.lf_placement.proofs.Boxes.{set_none, inserted_next, team_is}
 
 abbrev AllBoxes : Type 0
 AllBoxes = List (List (Option Rect))
@@ -224,24 +224,24 @@ one_out team named n own old mid new is kept was holds =
           (keeps_put id None a b refl kept.index kept.site kept.rooms) was.is;
     }
 
-standing_so_far : (f : Frame) (cells : Cells) (team : ℕ) (named : List ℕ) (o : Occupied) → MovedMayBeInserted f cells team named o → AreStanding f cells team named 0 o
-standing_so_far f cells team named o can = record {
+none_inserted : (f : Frame) (cells : Cells) (team : ℕ) (named : List ℕ) (o : Occupied) → MovedMayBeInserted f cells team named o → AreInserted f cells team named 0 o
+none_inserted f cells team named o can = record {
   may = can.may;
   rest = λ own never. can.rest own (λ k less. never k (omega arith) less);
   others = can.others;
 }
 
 pub none_are_placed : (f : Frame) (cells : Cells) (team : ℕ) (named : List ℕ) (m : Marked) → MarksSome (MovedMayBeInserted f cells team named) m →
-    MarksSome (AreStanding f cells team named 0) m
+    MarksSome (AreInserted f cells team named 0) m
 none_are_placed f cells team named m can = record {
   boxes = can.boxes;
   holds = can.holds;
-  is = standing_so_far f cells team named (with_boxes m can.boxes) can.is;
+  is = none_inserted f cells team named (with_boxes m can.boxes) can.is;
 }
 
 pub one_is_placed : (f : Frame) (cells : Cells) (team : ℕ) (named : List ℕ) (n own : ℕ) (mid new : Marked) → own ≡ get_or named n 0 → KeepsStripRooms mid new →
-    (was : MarksSome (AreStanding f cells team named n) mid) → MarksBoxes new (box_set was.boxes team own (cell_box (working_boxes f cells team) own)) →
-    MarksSome (AreStanding f cells team named (n + 1)) new
+    (was : MarksSome (AreInserted f cells team named n) mid) → MarksBoxes new (box_set was.boxes team own (cell_box (working_boxes f cells team) own)) →
+    MarksSome (AreInserted f cells team named (n + 1)) new
 one_is_placed f cells team named n own mid new is kept was holds =
     let id : CellId = record { team = team; own = own } in
     let x : Option Rect = cell_box (working_boxes f cells team) own in
@@ -250,15 +250,15 @@ one_is_placed f cells team named n own mid new is kept was holds =
     record {
       boxes = box_set was.boxes team own x;
       holds = holds;
-      is = standing_next f cells team named n own a b is (kept_strips team own x mid new was.boxes kept)
+      is = inserted_next f cells team named n own a b is (kept_strips team own x mid new was.boxes kept)
           (keeps_put id x a b refl kept.index kept.site kept.rooms) was.is;
     }
 
-pub may_of : (f : Frame) (cells : Cells) (team : ℕ) (named : List ℕ) (n : ℕ) (m : Marked) → MarksSome (AreStanding f cells team named n) m →
+pub may_of : (f : Frame) (cells : Cells) (team : ℕ) (named : List ℕ) (n : ℕ) (m : Marked) → MarksSome (AreInserted f cells team named n) m →
     MarksSome (BoxesMayBeInserted team (working_boxes f cells team)) m
 may_of f cells team named n m was = record { boxes = was.boxes; holds = was.holds; is = was.is.may }
 
-pub all_hold : (f : Frame) (cells : Cells) (team : ℕ) (named : List ℕ) (n : ℕ) (m : Marked) → length named ≤ n → MarksSome (AreStanding f cells team named n) m →
+pub all_hold : (f : Frame) (cells : Cells) (team : ℕ) (named : List ℕ) (n : ℕ) (m : Marked) → length named ≤ n → MarksSome (AreInserted f cells team named n) m →
     MarksBoxes m (boxes_in f cells)
 all_hold f cells team named n m past was = mark_lists_of_same (widened_strips m.site m.index.strips) was.boxes (boxes_in f cells) m.mark_lists same was.holds
   where
@@ -272,8 +272,8 @@ pub one_enters : (f : Frame) (cells : Cells) (team : ℕ) (named : List ℕ) (ow
     KeepsStripRooms old new → (can : MarksSome (MovedMayBeInserted f cells team named) old) →
     MarksBoxes new (box_set can.boxes team own (cell_box (working_boxes f cells team) own)) → MarksBoxes new (boxes_in f cells)
 one_enters f cells team named own old new one is kept can holds =
-    let begun : MarksSome (AreStanding f cells team named 0) old =
-    record { boxes = can.boxes; holds = can.holds; is = standing_so_far f cells team named (with_boxes old can.boxes) can.is } in
+    let begun : MarksSome (AreInserted f cells team named 0) old =
+    record { boxes = can.boxes; holds = can.holds; is = none_inserted f cells team named (with_boxes old can.boxes) can.is } in
     all_hold f cells team named 1 new (omega (arith, one)) (one_is_placed f cells team named 0 own old new is kept begun holds)
 
 -- the cells that are removed can be inserted at their new places

@@ -29,7 +29,7 @@ use Rattle.lf_cells.specs.declared.cell.Cell.{Cell}
 use Rattle.lf_cells.specs.declared.cell.CellId.{CellId}
 use Rattle.lf_cells.specs.Cells.{Cells, cells_of}
 use Rattle.lf_legalize.specs.Members.{member_of}
-use Rattle.lf_segments.specs.declared.strip.Strip.{Strip}
+use Rattle.lf_frame_index.specs.declared.strip.Strip.{Strip}
 use Rattle.lf_occupancy.specs.Views.{IsFirstOverlappingCell, OverlapsInStrips, Occupied, box_in_team, reach}
 use Rattle.lf_occupancy.specs.Floorplans.{IsOccupancyOf, WidenedStripsCover, working_box_of}
 

@@ -26,7 +26,8 @@ FittingIsStable =
 abbrev pub FrameRuleIsStable : Type 0
 FrameRuleIsStable =
     (old new : Placing) (id : CellId) (place : Place) (broken : Option Rule) → new.frame ≡ old.frame →
-    SameMacros (cells_of old.cells id.team) (cells_of new.cells id.team) → IsBrokenFrameRule old id place broken → IsBrokenFrameRule new id place broken
+    SameMacros (cells_of old.cells id.team) (cells_of new.cells id.team) → IsBrokenFrameRule old id place broken
+    → IsBrokenFrameRule new id place broken
 
 -- cells keep their macros if only their places differ, or if their places are committed
 pub record KeepsMacros : Type 0 where

@@ -127,15 +127,18 @@ pub record MatchesPlaces (f : Frame) (cells : Cells) (m : Marked) : Type 0 where
 -- padding
 abbrev pub candidate_is_at : Placing → ℕ → CellId → Place → Cell → Candidate
 candidate_is_at p padding id place c =
-    candidate_of p.frame id.team padding (macro_of p.frame c.mac) place (boxes_beside p.frame (map member_of (cells_of p.cells id.team)) id.own)
+    candidate_of p.frame id.team padding (macro_of p.frame c.mac) place
+    (boxes_beside p.frame (map member_of (cells_of p.cells id.team)) id.own)
 
 -- the first rule that the cell breaks there; None also if there is no such cell
 abbrev pub IsBrokenAt : Placing → ℕ → CellId → Place → Option Broken → Type 0
-IsBrokenAt p padding id place broken = MatchOption (cell_at p.cells id) (broken ≡ None) (λ c. IsVerdict (candidate_is_at p padding id place c) broken)
+IsBrokenAt p padding id place broken =
+    MatchOption (cell_at p.cells id) (broken ≡ None) (λ c. IsVerdict (candidate_is_at p padding id place c) broken)
 
 -- the first rule except overlap that the cell breaks there, whatever else is placed and whatever
 -- the padding is; None also if there is no such cell
 abbrev pub IsBrokenFrameRule : Placing → CellId → Place → Option Rule → Type 0
 IsBrokenFrameRule p id place broken =
     MatchOption (cell_at p.cells id) (broken ≡ None)
-    (λ c. (padding : ℕ) (others : List Placed) → IsFrameRuleVerdict (candidate_of p.frame id.team padding (macro_of p.frame c.mac) place others) broken)
+    (λ c. (padding : ℕ) (others : List Placed)
+    → IsFrameRuleVerdict (candidate_of p.frame id.team padding (macro_of p.frame c.mac) place others) broken)

@@ -39,7 +39,8 @@ DoNotMove named count own = (k : ℕ) → k < count → slice_index named k ≢ 
 -- a named cell has no box, and any other has its old box
 abbrev pub IsRemovedOrUnchanged : List ℕ → ℕ → List (Option Rect) → List (Option Rect) → ℕ → Type 0
 IsRemovedOrUnchanged named count old new own =
-    ((DoNotMove named count own → ⊥) × (cell_box new own ≡ None)) ⊎ (DoNotMove named count own × (cell_box new own ≡ cell_box old own))
+    ((DoNotMove named count own → ⊥) × (cell_box new own ≡ None))
+    ⊎ (DoNotMove named count own × (cell_box new own ≡ cell_box old own))
 
 -- only boxes of this team may differ, and their number is unchanged
 pub record KeepsStrips (team : ℕ) (old new : Occupied) : Type 0 where
@@ -101,11 +102,17 @@ pub record CellMayBeInserted (team : ℕ) (boxes : List (Option Rect)) (own : �
 -- one
 pub record BoxMayBeInserted (id : CellId) (rect : Rect) (o : Occupied) : Type 0 where
   pub at : HasBoxOrNone o.boxes id rect
-  pub room : HasRoomFor record { index = o.index; site = o.site; boxes = box_set o.boxes id.team id.own None; rooms = o.rooms } id.team rect 1
+  pub room : HasRoomFor record {
+    index = o.index;
+    site = o.site;
+    boxes = box_set o.boxes id.team id.own None;
+    rooms = o.rooms;
+  } id.team rect 1
 
 -- each cell of the team that is not named has its given box
 abbrev pub AreInsertedExcept : ℕ → List (Option Rect) → List ℕ → Occupied → Type 0
-AreInsertedExcept team boxes named o = (own : ℕ) → DoNotMove named (length named) own → cell_box (boxes_of o team) own ≡ cell_box boxes own
+AreInsertedExcept team boxes named o = (own : ℕ) → DoNotMove named (length named) own
+    → cell_box (boxes_of o team) own ≡ cell_box boxes own
 
 -- no named cell has a box
 abbrev pub AreRemoved : ℕ → List ℕ → Occupied → Type 0
@@ -121,4 +128,5 @@ pub record MovedMayBeInserted (f : Frame) (cells : Cells) (team : ℕ) (named : 
 
 -- the cell that a move names, and its box at the move's place; no box if there is no such cell
 abbrev pub requested_box : Frame → ℕ → List Cell → Move → CellId × Option Rect
-requested_box f team cells m = (unwrap_or (id_in cells team m.own) record { team = 0; own = 0 }, box_moved f (slice_get cells m.own) m.old)
+requested_box f team cells m =
+    (unwrap_or (id_in cells team m.own) record { team = 0; own = 0 }, box_moved f (slice_get cells m.own) m.old)

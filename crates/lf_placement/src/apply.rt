@@ -42,9 +42,11 @@ pub(crate) fn apply_moves(
 )
     requires sized { All (IsSizedCell frame.now) (cells_of cells.old team) }
     requires holds { MarksBoxes occupancy.old (boxes_in frame.now cells.old) }
-    requires fits { FitIn (with_boxes occupancy.old (boxes_in frame.now cells.old)) team (map (working_box_of frame.now) (moves_applied (drop from moves.old) (cells_of cells.old team))) }
+    requires fits { FitIn (with_boxes occupancy.old (boxes_in frame.now cells.old)) team
+        (map (working_box_of frame.now) (moves_applied (drop from moves.old) (cells_of cells.old team))) }
     ensures own { cells_of cells.new team ≡ moves_applied (drop from moves.old) (cells_of cells.old team) }
-    ensures moved { (before : List Cell) → HaveMoved before (take from moves.old) (cells_of cells.old team) → HaveMoved before moves.new (cells_of cells.new team) }
+    ensures moved { (before : List Cell) → HaveMoved before (take from moves.old) (cells_of cells.old team)
+        → HaveMoved before moves.new (cells_of cells.new team) }
     ensures others { OtherCellsStay team cells.old cells.new }
     ensures holds { MarksBoxes occupancy.new (boxes_in frame.now cells.new) }
     ensures rooms { KeepsStripRooms occupancy.old occupancy.new }
@@ -76,7 +78,8 @@ pub(crate) fn revert_moves(
 )
     requires sized { All (IsSizedCell frame.now) (cells_of cells.old team) }
     requires holds { MarksBoxes occupancy.old (boxes_in frame.now cells.old) }
-    requires fits { FitIn (with_boxes occupancy.old (boxes_in frame.now cells.old)) team (map (working_box_of frame.now) (moves_reverted moves.now (cells_of cells.old team))) }
+    requires fits { FitIn (with_boxes occupancy.old (boxes_in frame.now cells.old)) team
+        (map (working_box_of frame.now) (moves_reverted moves.now (cells_of cells.old team))) }
     ensures own { cells_of cells.new team ≡ moves_reverted moves.now (cells_of cells.old team) }
     ensures others { OtherCellsStay team cells.old cells.new }
     ensures holds { MarksBoxes occupancy.new (boxes_in frame.now cells.new) }

@@ -10,8 +10,8 @@ ghost use Rattle.lf_placement.specs.Placements.{AreSized, IsPlacing, placing_of}
 use crate::counted_capacity::fit_all_committed;
 use lf_cells::CellTable;
 use lf_floorplan::{Frame, Loaded};
+use lf_frame_index::FrameIndex;
 use lf_occupancy::Occupancy;
-use lf_segments::FrameIndex;
 use std::alloc::{AllocError, Global};
 
 /// The frame, the cells of all teams, and the marks of the placed cells.

@@ -43,7 +43,8 @@ fn requested_boxes(
     moves: &[Move],
 ) -> Result<Vec<(CellId, Option<Rect>)>, AllocError>
     requires { All (IsSizedCell frame.now) (cells_of cells.now team) }
-    ensures { IfOk result (λ list. list.items ≡ map (requested_box frame.now team (cells_of cells.now team)) moves.now) }
+    ensures { IfOk result
+        (λ list. list.items ≡ map (requested_box frame.now team (cells_of cells.now team)) moves.now) }
 {
     let mut list = Vec::with_capacity(alloc, moves.len())?;
     for next in moves {
@@ -63,7 +64,8 @@ fn make_room_for(
 ) -> Result<(), AllocError>
     requires sized { All (IsSizedCell frame.now) (cells_of cells.now team) }
     requires holds { MarksBoxes occupancy.old (boxes_in frame.now cells.now) }
-    ensures ok { OnOk result (FitIn (with_boxes occupancy.new (boxes_in frame.now cells.now)) team (map (working_box_of frame.now) (moves_applied (next.now ∷ []) (cells_of cells.now team)))) }
+    ensures ok { OnOk result (FitIn (with_boxes occupancy.new (boxes_in frame.now cells.now)) team
+        (map (working_box_of frame.now) (moves_applied (next.now ∷ []) (cells_of cells.now team)))) }
     ensures holds { MarksBoxes occupancy.new (boxes_in frame.now cells.now) }
     ensures index { occupancy.new.index ≡ occupancy.old.index }
     ensures site { occupancy.new.site ≡ occupancy.old.site }
@@ -87,7 +89,8 @@ pub(crate) fn reserve_moves(
 ) -> Result<(), AllocError>
     requires sized { All (IsSizedCell frame.now) (cells_of cells.now team) }
     requires holds { MarksBoxes occupancy.old (boxes_in frame.now cells.now) }
-    ensures ok { OnOk result (FitIn (with_boxes occupancy.new (boxes_in frame.now cells.now)) team (map (working_box_of frame.now) (moves_applied moves.now (cells_of cells.now team)))) }
+    ensures ok { OnOk result (FitIn (with_boxes occupancy.new (boxes_in frame.now cells.now)) team
+        (map (working_box_of frame.now) (moves_applied moves.now (cells_of cells.now team)))) }
     ensures holds { MarksBoxes occupancy.new (boxes_in frame.now cells.now) }
     ensures index { occupancy.new.index ≡ occupancy.old.index }
     ensures site { occupancy.new.site ≡ occupancy.old.site }

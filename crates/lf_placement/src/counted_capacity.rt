@@ -51,10 +51,10 @@ fn boxes_of_change(
     let Some(id) = cells.cell_of(team, change.own as usize) else {
         return (None, None);
     };
-    let Some(standing) = cells.placement_of(id) else {
+    let Some(cell_placement) = cells.placement_of(id) else {
         return (None, None);
     };
-    let mac = &frame.macros.as_slice()[standing.mac];
+    let mac = &frame.macros.as_slice()[cell_placement.mac];
     let from = box_of_macro(frame, mac, change.from.place());
     let to = box_of_macro(frame, mac, change.to.place());
     (from, to)
@@ -77,7 +77,8 @@ pub(crate) fn reserve_change(
         → Bounds (with_boxes occupancy.old []) team (boxes_at frame.now (cells_of cells.now team) places) tally.old
         → OnOk result (Bounds (with_boxes occupancy.new []) team
         (boxes_at frame.now (cells_of cells.now team) (slice_set places change.now.own change.now.to)) tally.new) }
-    ensures others { (boxes : List (Option Rect)) → (other : ℕ) → other ≢ team → Bounds (with_boxes occupancy.old []) other boxes tally.old
+    ensures others { (boxes : List (Option Rect)) → (other : ℕ) → other ≢ team
+        → Bounds (with_boxes occupancy.old []) other boxes tally.old
         → OnOk result (Bounds (with_boxes occupancy.new []) other boxes tally.new) }
     ensures gains { KeepsMarks occupancy.old occupancy.new }
 {
@@ -96,11 +97,15 @@ fn fit_committed(
     requires sized { All (IsSizedCell frame.now) (cells_of cells.now id.now.team) }
     requires room { KeepsCapacities tally.old (capacities_in occupancy.old.mark_lists) }
     ensures room { OnOk result (KeepsCapacities tally.new (capacities_in occupancy.new.mark_lists)) }
-    ensures own { (places : Places) → slice_get places id.now.own ≡ Some (working_at (cells_of cells.now id.now.team) id.now.own)
-        → Bounds (with_boxes occupancy.old []) id.now.team (boxes_at frame.now (cells_of cells.now id.now.team) places) tally.old
-        → OnOk result (Bounds (with_boxes occupancy.new []) id.now.team (boxes_at frame.now (cells_of cells.now id.now.team)
+    ensures own { (places : Places)
+        → slice_get places id.now.own ≡ Some (working_at (cells_of cells.now id.now.team) id.now.own)
+        → Bounds (with_boxes occupancy.old []) id.now.team
+        (boxes_at frame.now (cells_of cells.now id.now.team) places) tally.old
+        → OnOk result
+        (Bounds (with_boxes occupancy.new []) id.now.team (boxes_at frame.now (cells_of cells.now id.now.team)
         (slice_set places id.now.own (committed_at (cells_of cells.now id.now.team) id.now.own))) tally.new) }
-    ensures others { (boxes : List (Option Rect)) → (other : ℕ) → other ≢ id.now.team → Bounds (with_boxes occupancy.old []) other boxes tally.old
+    ensures others { (boxes : List (Option Rect)) → (other : ℕ) → other ≢ id.now.team
+        → Bounds (with_boxes occupancy.old []) other boxes tally.old
         → OnOk result (Bounds (with_boxes occupancy.new []) other boxes tally.new) }
     ensures gains { KeepsMarks occupancy.old occupancy.new }
 {
@@ -129,10 +134,12 @@ fn fit_team(
     requires sized { All (IsSizedCell frame.now) (cells_of cells.now team) }
     requires room { KeepsCapacities tally.old (capacities_in occupancy.old.mark_lists) }
     ensures room { OnOk result (KeepsCapacities tally.new (capacities_in occupancy.new.mark_lists)) }
-    ensures own { Bounds (with_boxes occupancy.old []) team (boxes_at frame.now (cells_of cells.now team) (working_places_of (cells_of cells.now team))) tally.old
+    ensures own { Bounds (with_boxes occupancy.old []) team
+        (boxes_at frame.now (cells_of cells.now team) (working_places_of (cells_of cells.now team))) tally.old
         → OnOk result (Bounds (with_boxes occupancy.new []) team
         (boxes_at frame.now (cells_of cells.now team) (committed_of (cells_of cells.now team))) tally.new) }
-    ensures others { (boxes : List (Option Rect)) → (other : ℕ) → other ≢ team → Bounds (with_boxes occupancy.old []) other boxes tally.old
+    ensures others { (boxes : List (Option Rect)) → (other : ℕ) → other ≢ team
+        → Bounds (with_boxes occupancy.old []) other boxes tally.old
         → OnOk result (Bounds (with_boxes occupancy.new []) other boxes tally.new) }
     ensures gains { KeepsMarks occupancy.old occupancy.new }
 {

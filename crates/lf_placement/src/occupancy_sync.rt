@@ -28,9 +28,9 @@ pub(crate) fn box_at(
     ensures is { result ≡ box_moved frame.now (cell_at cells.now id) place }
     ensures edge { IfSome result (λ rect. IsPlaceX rect.x1) }
 {
-    let standing = cells.placement_of(id)?;
+    let cell_placement = cells.placement_of(id)?;
     let place = place?;
-    let mac = &frame.macros.as_slice()[standing.mac];
+    let mac = &frame.macros.as_slice()[cell_placement.mac];
     Some(box_of(frame, mac, &place))
 }
 
@@ -48,7 +48,8 @@ fn working_box(frame: &Frame, cells: &CellTable, id: CellId) -> Option<Rect>
 fn remove_cell(frame: &Frame, occupancy: &mut Occupancy, cells: &CellTable, team: usize, own: u32)
     requires sized { All (IsSizedCell frame.now) (cells_of cells.now team) }
     requires part { MarksSome (IsPartly team (working_boxes frame.now cells.now team)) occupancy.old }
-    ensures holds { (boxes : List (List (Option Rect))) → IsPartly team (working_boxes frame.now cells.now team) (with_boxes occupancy.old boxes)
+    ensures holds { (boxes : List (List (Option Rect)))
+        → IsPartly team (working_boxes frame.now cells.now team) (with_boxes occupancy.old boxes)
         → MarksBoxes occupancy.old boxes → MarksBoxes occupancy.new (box_set boxes team own None) }
     ensures rooms { KeepsStripRooms occupancy.old occupancy.new }
 {
@@ -71,7 +72,8 @@ pub(crate) fn remove_moved(
 )
     requires sized { All (IsSizedCell frame.now) (cells_of cells.now team) }
     requires holds { MarksBoxes occupancy.old (boxes_in frame.now cells.now) }
-    ensures out { MarksSome (RemovesFirst team (moved_positions moves.now) (length moves.now) (with_boxes occupancy.old (boxes_in frame.now cells.now))) occupancy.new }
+    ensures out { MarksSome (RemovesFirst team (moved_positions moves.now) (length moves.now)
+        (with_boxes occupancy.old (boxes_in frame.now cells.now))) occupancy.new }
     ensures rooms { KeepsStripRooms occupancy.old occupancy.new }
 {
     for next in moves {
@@ -83,7 +85,8 @@ pub(crate) fn remove_moved(
 fn replace_box(occupancy: &mut Occupancy, id: CellId, rect: &Rect)
     requires edge { IsPlaceX rect.now.x1 }
     requires may { MarksSome (BoxMayBeInserted id rect.now) occupancy.old }
-    ensures holds { (boxes : List (List (Option Rect))) → HasBoxOrNone boxes id rect.now → MarksBoxes occupancy.old boxes
+    ensures holds { (boxes : List (List (Option Rect))) → HasBoxOrNone boxes id rect.now
+        → MarksBoxes occupancy.old boxes
         → MarksBoxes occupancy.new (box_set boxes id.team id.own (Some rect.now)) }
     ensures rooms { KeepsStripRooms occupancy.old occupancy.new }
 {
@@ -102,8 +105,10 @@ fn replace_at_working(
 )
     requires sized { All (IsSizedCell frame.now) (cells_of cells.now team) }
     requires may { MarksSome (BoxesMayBeInserted team (working_boxes frame.now cells.now team)) occupancy.old }
-    ensures holds { (boxes : List (List (Option Rect))) → IsPartly team (working_boxes frame.now cells.now team) (with_boxes occupancy.old boxes)
-        → MarksBoxes occupancy.old boxes → MarksBoxes occupancy.new (box_set boxes team own (cell_box (working_boxes frame.now cells.now team) own)) }
+    ensures holds { (boxes : List (List (Option Rect)))
+        → IsPartly team (working_boxes frame.now cells.now team) (with_boxes occupancy.old boxes)
+        → MarksBoxes occupancy.old boxes
+        → MarksBoxes occupancy.new (box_set boxes team own (cell_box (working_boxes frame.now cells.now team) own)) }
     ensures rooms { KeepsStripRooms occupancy.old occupancy.new }
 {
     let Some(id) = cells.cell_of(team, own as usize) else {
@@ -122,7 +127,8 @@ fn insert_absent(frame: &Frame, occupancy: &mut Occupancy, cells: &CellTable, te
     requires may { MarksSome (CellMayBeInserted team (working_boxes frame.now cells.now team) own) occupancy.old }
     ensures holds { (boxes : List (List (Option Rect))) → cell_box (slice_index_or boxes team []) own ≡ None
         → IsPartly team (working_boxes frame.now cells.now team) (with_boxes occupancy.old boxes)
-        → MarksBoxes occupancy.old boxes → MarksBoxes occupancy.new (box_set boxes team own (cell_box (working_boxes frame.now cells.now team) own)) }
+        → MarksBoxes occupancy.old boxes
+        → MarksBoxes occupancy.new (box_set boxes team own (cell_box (working_boxes frame.now cells.now team) own)) }
     ensures rooms { KeepsStripRooms occupancy.old occupancy.new }
 {
     let Some(id) = cells.cell_of(team, own as usize) else {

@@ -20,10 +20,10 @@ use crate::counted_capacity::{Change, reserve_change};
 use crate::undo_capacity::fit_moves_back;
 use lf_cells::{CellId, CellTable};
 use lf_floorplan::{Frame, Loaded, PackedPlace, Place};
+use lf_frame_index::IndexedFrame;
 use lf_legalize::Seeker;
 use lf_occupancy::{Occupancy, StripCounts, widened_strips_cover};
 use lf_rules::{Broken, Padding, Rule, broken_frame_rule, overlap_of, padded_box};
-use lf_segments::IndexedFrame;
 use lf_undo::{Move, Moves};
 use lf_units::Point;
 use std::alloc::{AllocError, Global};
@@ -128,8 +128,8 @@ impl Placement {
     pub fn broken_frame_rule(&self, id: CellId, place: &Place) -> Option<Rule>
         ensures { IsBrokenFrameRule self.now id place.now result }
     {
-        let standing = self.cells.placement_of(id)?;
-        let mac = &self.frame.macros.as_slice()[standing.mac];
+        let cell_placement = self.cells.placement_of(id)?;
+        let mac = &self.frame.macros.as_slice()[cell_placement.mac];
         broken_frame_rule(&self.indexed_frame(), id.team as usize, mac, place)
     }
 
@@ -139,10 +139,11 @@ impl Placement {
     /// or there is no such cell. Does not allocate.
     pub fn first_overlapping(&self, id: CellId, place: &Place, padding: Padding) -> Option<u32>
         requires { IsBrokenFrameRule self.now id place.now None }
-        ensures { IsBrokenAt self.now padding.sites id place.now (option_map (λ own. record { rule = Overlap; other = Some own }) result) }
+        ensures { IsBrokenAt self.now padding.sites id place.now
+            (option_map (λ own. record { rule = Overlap; other = Some own }) result) }
     {
-        let standing = self.cells.placement_of(id)?;
-        let mac = &self.frame.macros.as_slice()[standing.mac];
+        let cell_placement = self.cells.placement_of(id)?;
+        let mac = &self.frame.macros.as_slice()[cell_placement.mac];
         let rect = padded_box(&self.frame, mac, place, padding);
         widened_strips_cover();
         self.occupancy
@@ -189,7 +190,8 @@ impl Placement {
     /// after the moves fit. Cells and boxes are unchanged, and no strip has less room. `Err` if an
     /// allocation fails: then some room may have been made, and nothing else is changed.
     pub fn reserve(&mut self, alloc: Global, team: usize, moves: &[Move]) -> Result<(), AllocError>
-        ensures ok { OnOk result (Fits self.new team (working_places_of (moves_applied moves.now (cells_of self.old.cells team)))) }
+        ensures ok { OnOk result
+            (Fits self.new team (working_places_of (moves_applied moves.now (cells_of self.old.cells team)))) }
         ensures same { SameButRooms self.old self.new }
     {
         reserve_moves(
@@ -206,7 +208,8 @@ impl Placement {
     /// team. `reserve_undo` changes them to counts of earlier places. `Err` if an allocation fails.
     pub fn strip_counts(&self, alloc: Global) -> Result<StripCounts, AllocError>
         ensures room { IfOk result (λ tally. KeepsCapacities tally self.now.held.rooms) }
-        ensures bounds { (team : ℕ) → IfOk result (λ tally. BoundsAt self.now team (working_places_of (cells_of self.now.cells team)) tally) }
+        ensures bounds { (team : ℕ)
+            → IfOk result (λ tally. BoundsAt self.now team (working_places_of (cells_of self.now.cells team)) tally) }
     {
         self.occupancy.strip_counts(alloc)
     }
@@ -222,7 +225,8 @@ impl Placement {
     ) -> Result<(), AllocError>
         requires { KeepsCapacities tally.old self.old.held.rooms }
         ensures room { OnOk result (KeepsCapacities tally.new self.new.held.rooms) }
-        ensures own { (places : Places) → slice_get places change.now.own ≡ Some change.now.from → BoundsAt self.old team places tally.old
+        ensures own { (places : Places) → slice_get places change.now.own ≡ Some change.now.from
+            → BoundsAt self.old team places tally.old
             → OnOk result (BoundsAt self.new team (slice_set places change.now.own change.now.to) tally.new) }
         ensures others { (places : Places) → (other : ℕ) → other ≢ team → BoundsAt self.old other places tally.old
             → OnOk result (BoundsAt self.new other places tally.new) }
@@ -275,8 +279,10 @@ impl Placement {
     /// the same cells. The places after the moves must fit. Other teams, the frame, the positions
     /// of components and the capacities of the strips are unchanged. Does not allocate.
     pub fn apply(&mut self, team: usize, moves: &mut Moves, from: usize)
-        requires { Fits self.old team (working_places_of (moves_applied (drop from moves.old) (cells_of self.old.cells team))) }
-        ensures own { cells_of self.new.cells team ≡ moves_applied (drop from moves.old) (cells_of self.old.cells team) }
+        requires { Fits self.old team
+            (working_places_of (moves_applied (drop from moves.old) (cells_of self.old.cells team))) }
+        ensures own { cells_of self.new.cells team
+            ≡ moves_applied (drop from moves.old) (cells_of self.old.cells team) }
         ensures moved { (before : List Cell) → HaveMoved before (take from moves.old) (cells_of self.old.cells team)
             → HaveMoved before moves.new (cells_of self.new.cells team) }
         ensures others { OtherCellsStay team self.old.cells self.new.cells }
@@ -299,7 +305,8 @@ impl Placement {
     /// the strips are unchanged. Does not allocate.
     pub fn undo_moves(&mut self, team: usize, moves: &Moves)
         requires { Fits self.old team (moves_taken_back moves.now (working_places_of (cells_of self.old.cells team))) }
-        ensures own { (before : List Cell) → HaveMoved before moves.now (cells_of self.old.cells team) → cells_of self.new.cells team ≡ before }
+        ensures own { (before : List Cell) → HaveMoved before moves.now (cells_of self.old.cells team)
+            → cells_of self.new.cells team ≡ before }
         ensures others { OtherCellsStay team self.old.cells self.new.cells }
         ensures rest { KeepsRest self.old self.new }
     {

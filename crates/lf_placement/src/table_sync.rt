@@ -41,7 +41,8 @@ fn put_at(cells: &mut CellTable, team: usize, own: u32, place: Option<Place>)
 /// its cell.
 pub(crate) fn apply_in_table(cells: &mut CellTable, team: usize, moves: &mut Moves, from: usize)
     ensures own { cells_of cells.new team ≡ moves_applied (drop from moves.old) (cells_of cells.old team) }
-    ensures moved { (before : List Cell) → HaveMoved before (take from moves.old) (cells_of cells.old team) → HaveMoved before moves.new (cells_of cells.new team) }
+    ensures moved { (before : List Cell) → HaveMoved before (take from moves.old) (cells_of cells.old team)
+        → HaveMoved before moves.new (cells_of cells.new team) }
     ensures owns { moved_positions moves.new ≡ moved_positions moves.old }
     ensures others { OtherCellsStay team cells.old cells.new }
 {

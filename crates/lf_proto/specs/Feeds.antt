@@ -18,8 +18,10 @@ without_return_of (Some bytes) = Some (without_return bytes)
 -- the result for a piece, given the index of its first line feed: without one, all of the piece is
 -- kept; with one, the line ends there
 abbrev pub FeedsAt : Option ℕ → Framing → List ℕ → Fed → Framing → Type 0
-FeedsAt None old piece fed new = (fed.used ≡ length piece) × (fed.got ≡ More) × (new.pending ≡ with_more old.pending piece)
-FeedsAt (Some at) old piece fed new = (fed.used ≡ at + 1) × (new.pending ≡ Some []) × EndsLine (without_return_of (with_more old.pending (take at piece))) fed.got new.line
+FeedsAt None old piece fed new = (fed.used ≡ length piece) × (fed.got ≡ More)
+    × (new.pending ≡ with_more old.pending piece)
+FeedsAt (Some at) old piece fed new = (fed.used ≡ at + 1) × (new.pending ≡ Some [])
+    × EndsLine (without_return_of (with_more old.pending (take at piece))) fed.got new.line
 
 abbrev pub Feeds : Framing → List ℕ → Fed → Framing → Type 0
 Feeds old piece fed new = FeedsAt (position is_end_of_line piece) old piece fed new
@@ -39,8 +41,12 @@ given_line TooLong line = None ∷ []
 -- feed used are removed
 pub data TakesBytes : Framing → List ℕ → List (Option (List ℕ)) → Framing → Type 0 where
   none_left : (framing : Framing) → TakesBytes framing [] [] framing
-  next_piece : (old middle new : Framing) (piece rest : List ℕ) (fed : Fed) (lines : List (Option (List ℕ))) → Feeds old piece fed middle → TakesBytes middle (drop fed.used piece ++ rest) lines new → TakesBytes old (piece ++ rest) (given_line fed.got middle.line ++ lines) new
+  next_piece : (old middle new : Framing) (piece rest : List ℕ) (fed : Fed) (lines : List (Option (List ℕ)))
+      → Feeds old piece fed middle → TakesBytes middle (drop fed.used piece ++ rest) lines new
+      → TakesBytes old (piece ++ rest) (given_line fed.got middle.line ++ lines) new
 
 -- however a stream is cut, a new framer that takes it and then finishes finds the stream's lines
 abbrev pub FramingKeepsLines : Type 0
-FramingKeepsLines = (fresh full end : Framing) (stream : List ℕ) (lines : List (Option (List ℕ))) (got : Got) → fresh.pending ≡ Some [] → TakesBytes fresh stream lines full → FinishesAt full.pending got end.line → lines ++ given_line got end.line ≡ lines_of stream
+FramingKeepsLines = (fresh full end : Framing) (stream : List ℕ) (lines : List (Option (List ℕ))) (got : Got)
+    → fresh.pending ≡ Some [] → TakesBytes fresh stream lines full → FinishesAt full.pending got end.line
+    → lines ++ given_line got end.line ≡ lines_of stream

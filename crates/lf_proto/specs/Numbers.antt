@@ -14,7 +14,8 @@ o >>= f = option_and_then f o
 
 -- the value of 1 to 10 digits
 abbrev pub digits : List ℕ → Option ℕ
-digits text = cond (list_all is_ascii_digit text && nat_lt 0 (length text) && nat_le (length text) 10) (Some (digits_value 10 text)) None
+digits text = cond (list_all is_ascii_digit text && nat_lt 0 (length text) && nat_le (length text) 10)
+    (Some (digits_value 10 text)) None
 
 -- a number below a limit
 abbrev pub below : ℕ → ℕ → Option ℕ

@@ -36,7 +36,8 @@ action_words action = (verb_name (parts_of action).0, operand_words (parts_of ac
 abbrev pub printed_fields : Command (List ℕ) Place → List (List ℕ)
 printed_fields Bye = codes "bye" ∷ []
 printed_fields (To team Open) = codes "open" ∷ team ∷ []
-printed_fields (To team (Within session action)) = (action_words action).0 ∷ team ∷ decimal session ∷ (action_words action).1
+printed_fields (To team (Within session action)) =
+    (action_words action).0 ∷ team ∷ decimal session ∷ (action_words action).1
 
 -- the line that prints a request: its fields with one space between each two
 abbrev pub printed : Command (List ℕ) Place → List ℕ
@@ -52,8 +53,10 @@ RequestReadsBack = (command : Command (List ℕ) Place) → IsPlain command → 
 
 -- a blank at either end of a line does not matter
 abbrev pub PassesBlanksAround : Type 0
-PassesBlanksAround = (blank : ℕ) (line : List ℕ) → is_blank blank ≡ true → (command_on (blank ∷ line) ≡ command_on line) × (command_on (line ++ blank ∷ []) ≡ command_on line)
+PassesBlanksAround = (blank : ℕ) (line : List ℕ) → is_blank blank ≡ true
+    → (command_on (blank ∷ line) ≡ command_on line) × (command_on (line ++ blank ∷ []) ≡ command_on line)
 
 -- two blanks in a row are equivalent to one, and a tab is equivalent to a space
 abbrev pub PassesBlanksBetween : Type 0
-PassesBlanksBetween = (a b c : ℕ) (front rest : List ℕ) → is_blank a ≡ true → is_blank b ≡ true → is_blank c ≡ true → command_on (front ++ a ∷ b ∷ rest) ≡ command_on (front ++ c ∷ rest)
+PassesBlanksBetween = (a b c : ℕ) (front rest : List ℕ) → is_blank a ≡ true → is_blank b ≡ true → is_blank c ≡ true
+    → command_on (front ++ a ∷ b ∷ rest) ≡ command_on (front ++ c ∷ rest)

@@ -26,7 +26,8 @@ other_words (Some other) other_name = other_name ∷ []
 
 -- a broken rule, the cell, and the other cell if there is one
 abbrev pub illegal_words : Rule → Option ℕ → List ℕ → List ℕ → List (List ℕ)
-illegal_words rule other cell_name other_name = codes "7" ∷ codes "Illegal" ∷ decimal (number_of rule) ∷ cell_name ∷ other_words other other_name
+illegal_words rule other cell_name other_name =
+    codes "7" ∷ codes "Illegal" ∷ decimal (number_of rule) ∷ cell_name ∷ other_words other other_name
 
 -- a refusal: its number, its name, and its details
 abbrev pub refusal_words : Refusal → List ℕ → List ℕ → List (List ℕ)

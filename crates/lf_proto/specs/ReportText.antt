@@ -21,9 +21,11 @@ violation_in names own b = option_map (violation_named names b) (slice_get names
 
 -- the cell, the other cell if there is one, and the number of the rule
 abbrev pub violation_object : List ℕ → Option (List ℕ) → Rule → Data
-violation_object cell None rule = object (member (codes "cell") (string cell) (member (codes "rule") (number (unsigned (number_of rule))) no_members))
+violation_object cell None rule =
+    object (member (codes "cell") (string cell) (member (codes "rule") (number (unsigned (number_of rule))) no_members))
 violation_object cell (Some other) rule =
-    object (member (codes "cell") (string cell) (member (codes "other") (string other) (member (codes "rule") (number (unsigned (number_of rule))) no_members)))
+    object (member (codes "cell") (string cell)
+    (member (codes "other") (string other) (member (codes "rule") (number (unsigned (number_of rule))) no_members)))
 
 -- a violation
 abbrev pub violation_data : Violation → Data
@@ -32,14 +34,16 @@ violation_data v = violation_object v.cell v.other v.rule
 -- a report: the number of cells, the number of unplaced cells, and the violations
 abbrev pub report_by : ℕ → ℕ → Items → Data
 report_by cells unplaced violations =
-    object (member (codes "cells") (number (unsigned cells)) (member (codes "unplaced") (number (unsigned unplaced)) (member (codes "violations") (array violations) no_members)))
+    object (member (codes "cells") (number (unsigned cells)) (member (codes "unplaced") (number (unsigned unplaced))
+    (member (codes "violations") (array violations) no_members)))
 
 abbrev pub report_data : Report → Data
 report_data r = report_by r.cells r.unplaced (items_of (map violation_data r.violations))
 
 -- the text up to the first violation
 abbrev pub report_front : ℕ → ℕ → List ℕ
-report_front cells unplaced = codes "{\"cells\":" ++ (decimal cells ++ (codes ",\"unplaced\":" ++ (decimal unplaced ++ codes ",\"violations\":[")))
+report_front cells unplaced = codes "{\"cells\":"
+    ++ (decimal cells ++ (codes ",\"unplaced\":" ++ (decimal unplaced ++ codes ",\"violations\":[")))
 
 -- the text of these violations, with a comma in front if there are earlier ones, and the bracket
 -- that closes their list

@@ -140,7 +140,8 @@ within_of verb _ = None
 
 -- the command of bye or open, from that word and the fields after it
 abbrev pub outside_of : List ℕ → List (List ℕ) → Option (Command (List ℕ) Place)
-outside_of word arguments = cond (bytes_eq word (codes "bye")) (bye_of arguments) (cond (bytes_eq word (codes "open")) (open_of arguments) None)
+outside_of word arguments =
+    cond (bytes_eq word (codes "bye")) (bye_of arguments) (cond (bytes_eq word (codes "open")) (open_of arguments) None)
 
 -- the command of a line, given the verb named by its first word, if there is one, that word and the
 -- fields after it

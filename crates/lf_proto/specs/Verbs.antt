@@ -142,8 +142,10 @@ NamesReadBack = (v : Verb) → (verb_named (verb_name v) ≡ Some v) × IsLineNa
 -- an action that is split has fields of its verb's shape, and joined again it is the same; N is the
 -- type of names
 abbrev pub PartsJoin : Type 0 → Type 0
-PartsJoin N = (a : Action N Placed) → (shape_of (parts_of a).0 ≡ shape_in (parts_of a).1) × (joined (parts_of a).0 (parts_of a).1 ≡ Some a)
+PartsJoin N = (a : Action N Placed) → (shape_of (parts_of a).0 ≡ shape_in (parts_of a).1)
+    × (joined (parts_of a).0 (parts_of a).1 ≡ Some a)
 
 -- copying the names and joining a verb with its fields can be done in either order
 abbrev pub CopiesJoin : Type 0
-CopiesJoin = (v : Verb) (o : Operands (Bor (List ℕ)) Placed) → option_map action_of (joined v o) ≡ joined v (operands_of o)
+CopiesJoin = (v : Verb) (o : Operands (Bor (List ℕ)) Placed)
+    → option_map action_of (joined v o) ≡ joined v (operands_of o)

@@ -45,7 +45,10 @@ impl Model for LineFramer {
 
     ghost Value = { Framing };
 
-    ghost view = { λ f. record { pending = cond f.ended (Some []) (held_of f.too_long f.buffer.items); line = f.buffer.items } };
+    ghost view = { λ f. record {
+      pending = cond f.ended (Some []) (held_of f.too_long f.buffer.items);
+      line = f.buffer.items;
+    } };
 
     ghost invariant = { λ f. (line_limit ≤ vec_capacity f.buffer) × (vec_len f.buffer ≤ line_limit) };
 }

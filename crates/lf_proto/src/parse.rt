@@ -248,7 +248,8 @@ fn fields_of<'a>(line: &'a [u8]) -> Fields<'a>
 ///
 /// `Err(BadRequest)` if and only if the line is not a request.
 pub fn parse_line<'a>(line: &'a [u8]) -> Result<Request<'a>, BadRequest>
-    ensures { MatchResult result (λ request. command_on line.now ≡ Some (command_with_names request)) (λ _. command_on line.now ≡ None) }
+    ensures { MatchResult result (λ request. command_on line.now ≡ Some (command_with_names request))
+        (λ _. command_on line.now ≡ None) }
 {
     if !is_line(line) {
         return Err(BadRequest);

@@ -13,7 +13,8 @@ use std::alloc::AllocError;
 fn put_plain<'x>(out: &mut Vec<u8>, number: &'x [u8], name: &'x [u8]) -> Result<(), AllocError>
     ensures ok { OnOk result (out.new.items ≡ out.old.items ++ spaced_line (codes "no" ∷ number.now ∷ name.now ∷ [])) }
     ensures kept { take (vec_len out.old) out.new.items ≡ out.old.items }
-    ensures full { OnErr result (vec_capacity out.old < vec_len out.old + length (spaced_line (codes "no" ∷ number.now ∷ name.now ∷ []))) }
+    ensures full { OnErr result
+        (vec_capacity out.old < vec_len out.old + length (spaced_line (codes "no" ∷ number.now ∷ name.now ∷ []))) }
     ensures capacity { vec_capacity out.old ≤ vec_capacity out.new }
 {
     put_line(out, b"no", &[Word::Text(number), Word::Text(name)])
@@ -28,9 +29,11 @@ fn put_illegal<'x>(
     other_name: &'x [u8],
     out: &mut Vec<u8>,
 ) -> Result<(), AllocError>
-    ensures ok { OnOk result (out.new.items ≡ out.old.items ++ spaced_line (codes "no" ∷ illegal_words rule other cell_name.now other_name.now)) }
+    ensures ok { OnOk result (out.new.items
+        ≡ out.old.items ++ spaced_line (codes "no" ∷ illegal_words rule other cell_name.now other_name.now)) }
     ensures kept { take (vec_len out.old) out.new.items ≡ out.old.items }
-    ensures full { OnErr result (vec_capacity out.old < vec_len out.old + length (spaced_line (codes "no" ∷ illegal_words rule other cell_name.now other_name.now))) }
+    ensures full { OnErr result (vec_capacity out.old
+        < vec_len out.old + length (spaced_line (codes "no" ∷ illegal_words rule other cell_name.now other_name.now))) }
     ensures capacity { vec_capacity out.old ≤ vec_capacity out.new }
 {
     let number = Word::Number(rule.number());
@@ -66,9 +69,11 @@ fn put_refusal<'x>(
     other_name: &'x [u8],
     out: &mut Vec<u8>,
 ) -> Result<(), AllocError>
-    ensures ok { OnOk result (out.new.items ≡ out.old.items ++ spaced_line (codes "no" ∷ refusal_words refusal.now cell_name.now other_name.now)) }
+    ensures ok { OnOk result (out.new.items
+        ≡ out.old.items ++ spaced_line (codes "no" ∷ refusal_words refusal.now cell_name.now other_name.now)) }
     ensures kept { take (vec_len out.old) out.new.items ≡ out.old.items }
-    ensures full { OnErr result (vec_capacity out.old < vec_len out.old + length (spaced_line (codes "no" ∷ refusal_words refusal.now cell_name.now other_name.now))) }
+    ensures full { OnErr result (vec_capacity out.old < vec_len out.old
+        + length (spaced_line (codes "no" ∷ refusal_words refusal.now cell_name.now other_name.now))) }
     ensures capacity { vec_capacity out.old ≤ vec_capacity out.new }
 {
     match refusal {
@@ -122,7 +127,8 @@ fn put_reply_line(
 ) -> Result<(), AllocError>
     ensures ok { OnOk result (out.new.items ≡ out.old.items ++ reply_line reply.now cell_name.now other_name.now) }
     ensures kept { take (vec_len out.old) out.new.items ≡ out.old.items }
-    ensures full { OnErr result (vec_capacity out.old < vec_len out.old + length (reply_line reply.now cell_name.now other_name.now)) }
+    ensures full { OnErr result
+        (vec_capacity out.old < vec_len out.old + length (reply_line reply.now cell_name.now other_name.now)) }
     ensures capacity { vec_capacity out.old ≤ vec_capacity out.new }
 {
     match reply {
@@ -185,7 +191,8 @@ fn put_reply(
 ) -> Result<(), AllocError>
     ensures ok { OnOk result (out.new.items ≡ out.old.items ++ reply_text reply.now cell_name.now other_name.now) }
     ensures kept { take (vec_len out.old) out.new.items ≡ out.old.items }
-    ensures full { OnErr result (vec_capacity out.old < vec_len out.old + length (reply_text reply.now cell_name.now other_name.now)) }
+    ensures full { OnErr result
+        (vec_capacity out.old < vec_len out.old + length (reply_text reply.now cell_name.now other_name.now)) }
     ensures capacity { vec_capacity out.old ≤ vec_capacity out.new }
 {
     put_reply_line(reply, cell_name, other_name, out)?;
@@ -206,7 +213,8 @@ pub fn reply_text(
 ) -> Result<(), AllocError>
     ensures ok { OnOk result (out.new.items ≡ out.old.items ++ reply_text reply.now cell_name.now other_name.now) }
     ensures err { OnErr result (out.new.items ≡ out.old.items) }
-    ensures succeeds { vec_len out.old + length (reply_text reply.now cell_name.now other_name.now) ≤ vec_capacity out.old → IsOk result }
+    ensures succeeds { vec_len out.old + length (reply_text reply.now cell_name.now other_name.now)
+        ≤ vec_capacity out.old → IsOk result }
     ensures capacity { vec_capacity out.old ≤ vec_capacity out.new }
 {
     let before = out.len();

@@ -66,7 +66,8 @@ pub fn put_violation(
     violation: &Violation,
 ) -> Result<(), AllocError>
     requires { HasPrintableNames violation.now }
-    ensures { (rest : List Violation) → OnOk result (text.new.items ++ violations_text true rest ≡ text.old.items ++ violations_text later (violation.now ∷ rest)) }
+    ensures { (rest : List Violation) → OnOk result
+        (text.new.items ++ violations_text true rest ≡ text.old.items ++ violations_text later (violation.now ∷ rest)) }
 {
     if later {
         text.push(b',')?;
@@ -85,7 +86,8 @@ fn put_violations(
     violations: &[Violation],
 ) -> Result<(), AllocError>
     requires { All HasPrintableNames violations.now }
-    ensures { OnOk result (text.new.items ++ violations_text true [] ≡ text.old.items ++ violations_text false violations.now) }
+    ensures { OnOk result
+        (text.new.items ++ violations_text true [] ≡ text.old.items ++ violations_text false violations.now) }
 {
     let mut later = false;
     for violation in violations {

@@ -105,7 +105,8 @@ pub fn put_verdict<N: Names>(
 ) -> Result<bool, AllocError>
     requires { All IsDesignName (N.names names.now) }
     ensures { (rest : List Violation) → IfOk result (λ now. text.new.items ++ violations_text now rest
-        ≡ text.old.items ++ violations_text later (cons_option (option_and_then (violation_in (N.names names.now) own) verdict) rest)) }
+        ≡ text.old.items ++ violations_text later
+        (cons_option (option_and_then (violation_in (N.names names.now) own) verdict) rest)) }
 {
     let Some(violation) = violation_by(alloc, names, own, verdict)? else {
         return Ok(later);

@@ -80,7 +80,8 @@ pub(crate) fn put_line(
 ) -> Result<(), AllocError>
     ensures ok { OnOk result (out.new.items ≡ out.old.items ++ spaced_line (first.now ∷ map word_text words.now)) }
     ensures kept { take (vec_len out.old) out.new.items ≡ out.old.items }
-    ensures full { OnErr result (vec_capacity out.old < vec_len out.old + length (spaced_line (first.now ∷ map word_text words.now))) }
+    ensures full { OnErr result
+        (vec_capacity out.old < vec_len out.old + length (spaced_line (first.now ∷ map word_text words.now))) }
     ensures capacity { vec_capacity out.old ≤ vec_capacity out.new }
 {
     put(out, first)?;

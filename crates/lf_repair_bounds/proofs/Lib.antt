@@ -1,4 +1,4 @@
 pub mod Copying
 pub mod Keeping
-pub mod Standing
+pub mod EmptyFloorPlaces
 pub mod Ways

@@ -11,7 +11,13 @@ use Rattle.lf_rules.specs.Choice.{PlacementQuery, IsAllowedPlace, SpotPlace, dis
 
 -- the cell, regarded as unplaced, with these other cells of its team, which has this padding
 abbrev pub query_beside : Frame → LoadedCell → ℕ → List Placed → PlacementQuery
-query_beside f c padding others = record { frame = f; team = c.team; padding = padding; mac = macro_of f c.mac; others = others }
+query_beside f c padding others = record {
+  frame = f;
+  team = c.team;
+  padding = padding;
+  mac = macro_of f c.mac;
+  others = others;
+}
 
 -- the cell alone: no other cell is on the floor
 abbrev pub query_alone : Frame → LoadedCell → PlacementQuery
@@ -31,11 +37,13 @@ pub record IsNearestDisplacement (c : PlacementQuery) (from : Point) (way : ℕ)
 -- the cell has a place, and its least displacement is this one: the distance to the nearest place
 -- that is allowed for it alone
 abbrev pub IsMinDisplacement : Frame → LoadedCell → ℕ → Type 0
-IsMinDisplacement f c way = MatchOption c.place ⊥ (λ wanted_place. IsNearestDisplacement (query_alone f c) (corner wanted_place) way)
+IsMinDisplacement f c way =
+    MatchOption c.place ⊥ (λ wanted_place. IsNearestDisplacement (query_alone f c) (corner wanted_place) way)
 
 -- the cell's least displacement, or None if it is unplaced or no place is allowed for it
 abbrev pub IsMinDisplacementOrNone : Frame → LoadedCell → Option ℕ → Type 0
-IsMinDisplacementOrNone f c found = MatchOption found ((way : ℕ) → IsMinDisplacement f c way → ⊥) (λ way. IsMinDisplacement f c way)
+IsMinDisplacementOrNone f c found =
+    MatchOption found ((way : ℕ) → IsMinDisplacement f c way → ⊥) (λ way. IsMinDisplacement f c way)
 
 -- the largest of the least displacements of the team's cells in the list; 0 if no cell has one
 pub record IsMaxMinDisplacement (f : Frame) (cells : List LoadedCell) (team largest : ℕ) : Type 0 where
@@ -44,13 +52,15 @@ pub record IsMaxMinDisplacement (f : Frame) (cells : List LoadedCell) (team larg
 
 -- the same for each team
 abbrev pub AreMaxMinDisplacements : Frame → List LoadedCell → List ℕ → Type 0
-AreMaxMinDisplacements f cells list = (team largest : ℕ) → slice_get list team ≡ Some largest → IsMaxMinDisplacement f cells team largest
+AreMaxMinDisplacements f cells list = (team largest : ℕ) → slice_get list team ≡ Some largest
+    → IsMaxMinDisplacement f cells team largest
 
 -- wherever the cell is allowed to move from its place, with any other cells, it moves at least as
 -- far
 abbrev pub IsDisplacedAsFar : Frame → LoadedCell → ℕ → Type 0
 IsDisplacedAsFar f c way =
-    MatchOption c.place ⊥ (λ wanted_place. (padding : ℕ) (others : List Placed) (p : SpotPlace) → IsAllowedPlace (query_beside f c padding others) p
+    MatchOption c.place ⊥ (λ wanted_place. (padding : ℕ) (others : List Placed) (p : SpotPlace)
+    → IsAllowedPlace (query_beside f c padding others) p
     → way ≤ distance (corner wanted_place) p)
 
 -- one of the team's cells moves at least as far as the largest of the least displacements, wherever

@@ -10,8 +10,8 @@ ghost use Rattle.lf_repair_bounds.specs.EmptyFloors.{AreUnplaced, IsEmptyFloorOf
 use crate::frame_copy::clone_frame;
 use lf_cells::{CellId, CellTable};
 use lf_floorplan::{CellRef, Frame, Loaded, LoadedCells, PackedPlace, UnnamedCell};
+use lf_frame_index::FrameIndex;
 use lf_occupancy::Occupancy;
-use lf_segments::FrameIndex;
 use std::alloc::{AllocError, Global};
 
 /// The first cell of a macro in a team, and its position among the team's cells on the floor
@@ -64,7 +64,8 @@ fn is_new(firsts: &mut Firsts, team: usize, mac: usize) -> Result<bool, AllocErr
 /// The cell, unplaced, as the entry at position `at`. `None` if a number of it exceeds the limits
 /// of a design.
 fn plain_of(cell: &CellRef<'_>, at: usize) -> Option<UnnamedCell>
-    ensures { IfSome result (λ plain. with_name cell.now.name.now plain ≡ unplaced_cell_at at (borrowed_cell cell.now)) }
+    ensures { IfSome result
+        (λ plain. with_name cell.now.name.now plain ≡ unplaced_cell_at at (borrowed_cell cell.now)) }
 {
     Some(UnnamedCell {
         team: u32::try_from(cell.team).ok()?,
@@ -168,8 +169,8 @@ pub(crate) fn id_of(bare: &EmptyFloor, team: usize, mac: usize) -> Option<CellId
 {
     let own = own_of(bare.firsts.get(team)?, mac)?;
     let id = bare.table.cell_of(team, own)?;
-    let standing = bare.table.placement_of(id)?;
-    if standing.mac == mac {
+    let cell_placement = bare.table.placement_of(id)?;
+    if cell_placement.mac == mac {
         return Some(id);
     }
     None

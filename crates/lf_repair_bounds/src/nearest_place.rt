@@ -13,9 +13,9 @@ ghost use Rattle.lf_repair_bounds.specs.EmptyFloors.{IsEmptyFloorOf};
 use crate::empty_floor::{EmptyFloor, id_of};
 use lf_cells::CellId;
 use lf_floorplan::{CellRef, Frame, Place, mac_at};
+use lf_frame_index::IndexedFrame;
 use lf_legalize::{IndexSeeker, Seeker, best_place};
 use lf_rules::{Padding, broken_frame_rule, legalizer_exists};
-use lf_segments::IndexedFrame;
 use lf_units::Point;
 use std::alloc::{AllocError, Global};
 
@@ -32,7 +32,8 @@ fn nearest_of(
     requires sized { IsSized frame.now (macro_of frame.now cell.now.mac) }
     requires team { id.team ≡ cell.now.team }
     requires mac { option_map (λ c. c.mac) (cell_at bare.now.table id) ≡ Some cell.now.mac }
-    ensures { IfOk result (λ found. IsChoice (query_alone frame.now (borrowed_cell cell.now)) target.now (option_map spot_of found)) }
+    ensures { IfOk result
+        (λ found. IsChoice (query_alone frame.now (borrowed_cell cell.now)) target.now (option_map spot_of found)) }
 {
     legalizer_exists();
     let filled = bare.occupancy.with_boxes(frame, &bare.table);
@@ -58,7 +59,8 @@ pub(crate) fn nearest(
 ) -> Result<Option<Place>, AllocError>
     requires bare { IsEmptyFloorOf frame.now bare.now }
     requires cell { IsCell frame.now (borrowed_cell cell.now) }
-    ensures { IfOk result (λ found. IsChoice (query_alone frame.now (borrowed_cell cell.now)) target.now (option_map spot_of found)) }
+    ensures { IfOk result
+        (λ found. IsChoice (query_alone frame.now (borrowed_cell cell.now)) target.now (option_map spot_of found)) }
 {
     if let Some(id) = id_of(bare, cell.team, cell.mac) {
         return nearest_of(alloc, frame, bare, id, cell, target);
@@ -78,7 +80,8 @@ fn has_no_soft(frame: &Frame) -> bool
 fn keeps_rules(frame: &Frame, bare: &EmptyFloor, cell: &CellRef<'_>, wanted_place: &Place) -> bool
     requires bare { IsEmptyFloorOf frame.now bare.now }
     requires cell { IsCell frame.now (borrowed_cell cell.now) }
-    ensures { IsTrue result → IsFrameRuleVerdict (candidate_of frame.now cell.now.team 0 (macro_of frame.now cell.now.mac) wanted_place.now []) None }
+    ensures { IsTrue result → IsFrameRuleVerdict
+        (candidate_of frame.now cell.now.team 0 (macro_of frame.now cell.now.mac) wanted_place.now []) None }
 {
     let plan = IndexedFrame::new(frame, bare.occupancy.index());
     let mac = mac_at(frame, cell.mac);
@@ -98,7 +101,8 @@ pub(crate) fn is_legal_alone(
 ) -> bool
     requires bare { IsEmptyFloorOf frame.now bare.now }
     requires cell { IsCell frame.now (borrowed_cell cell.now) }
-    ensures { IsTrue result → IsAllowedPlace (query_alone frame.now (borrowed_cell cell.now)) (spot_of wanted_place.now) }
+    ensures { IsTrue result
+        → IsAllowedPlace (query_alone frame.now (borrowed_cell cell.now)) (spot_of wanted_place.now) }
 {
     if !has_no_soft(frame) {
         return false;

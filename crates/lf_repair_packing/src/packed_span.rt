@@ -116,7 +116,8 @@ impl PackedSpan {
     /// when it is `None`.
     pub fn find(&self, number: u32, near: u32) -> Option<usize>
         ensures within { IfSome result (λ own. own < length self.now.cells) }
-        ensures number { (d : PackedCell) → IfSome result (λ own. (slice_index_or self.now.cells own d).number ≡ number) }
+        ensures number { (d : PackedCell)
+            → IfSome result (λ own. (slice_index_or self.now.cells own d).number ≡ number) }
     {
         find_near(self.cells.as_slice(), number, near)
     }
@@ -161,8 +162,10 @@ impl PackedSpan {
         requires fits { total_width self.old.cells + cell.width ≤ self.old.room }
         ensures room { self.new.room ≡ self.old.room }
         ensures cells { OnOk result (AreSameCells (insert self.old.cells gap cell) self.new.cells) }
-        ensures free { OnOk result (IsPacked self.old.room (insert self.old.cells gap cell) → self.new.cells ≡ insert self.old.cells gap cell) }
-        ensures cost { IfOk result (λ cost. pos (total_site_displacement self.new.cells) ≡ (pos (total_site_displacement self.old.cells) +ℤ cost)) }
+        ensures free { OnOk result (IsPacked self.old.room (insert self.old.cells gap cell)
+            → self.new.cells ≡ insert self.old.cells gap cell) }
+        ensures cost { IfOk result (λ cost. pos (total_site_displacement self.new.cells)
+            ≡ (pos (total_site_displacement self.old.cells) +ℤ cost)) }
         ensures failed { OnErr result (self.new ≡ self.old) }
     {
         let cost = insert_cell(&mut self.cells, gap, cell, self.room)?;
@@ -187,7 +190,8 @@ impl PackedSpan {
         requires own { own < length self.old.cells }
         requires width { (slice_index_or self.old.cells own cell).width ≡ cell.width }
         ensures room { self.new.room ≡ self.old.room }
-        ensures cells { self.new.cells ≡ set self.old.cells own (at_place_of (slice_index_or self.old.cells own cell) cell) }
+        ensures cells { self.new.cells
+            ≡ set self.old.cells own (at_place_of (slice_index_or self.old.cells own cell) cell) }
     {
         replace_cell(&mut self.cells, own, cell);
     }

@@ -122,7 +122,12 @@ fn window_at(cells: &[PackedCell], gap: usize, cell: &PackedCell, room: u32) -> 
 /// The window after one more cell is inserted in it.
 fn with_one_more(window: &Window) -> Window
     requires { window.now.last < 2 ^ 63 }
-    ensures { result ≡ record { first = window.now.first; last = window.now.last + 1; start = window.now.start; end = window.now.end } }
+    ensures { result ≡ record {
+      first = window.now.first;
+      last = window.now.last + 1;
+      start = window.now.start;
+      end = window.now.end;
+    } }
 {
     Window {
         last: window.last + 1,
@@ -145,7 +150,8 @@ fn move_cells(cells: &mut [PackedCell], own: usize, window: &Window)
     requires first { window.now.first ≤ own }
     requires own { own < window.now.last }
     requires last { window.now.last ≤ length cells.old }
-    requires fits { window.now.start + total_width (between window.now.first window.now.last cells.old) ≤ window.now.end }
+    requires fits { window.now.start
+        + total_width (between window.now.first window.now.last cells.old) ≤ window.now.end }
     ensures { MovesWithin window.now cells.old cells.new }
 {
     settle_around(
@@ -161,7 +167,8 @@ fn move_list(cells: &mut Vec<PackedCell>, own: usize, window: &Window)
     requires first { window.now.first ≤ own }
     requires own { own < window.now.last }
     requires last { window.now.last ≤ vec_len cells.old }
-    requires fits { window.now.start + total_width (between window.now.first window.now.last cells.old.items) ≤ window.now.end }
+    requires fits { window.now.start
+        + total_width (between window.now.first window.now.last cells.old.items) ≤ window.now.end }
     ensures moved { MovesWithin window.now cells.old.items cells.new.items }
     ensures len { vec_len cells.new ≡ vec_len cells.old }
 {
@@ -183,8 +190,10 @@ pub(crate) fn insert_cell(
     requires fits { total_width cells.old.items + cell.width ≤ room }
     ensures packed { OnOk result (IsPacked room cells.new.items) }
     ensures same { OnOk result (AreSameCells (insert cells.old.items gap cell) cells.new.items) }
-    ensures free { OnOk result (IsPacked room (insert cells.old.items gap cell) → cells.new.items ≡ insert cells.old.items gap cell) }
-    ensures cost { IfOk result (λ cost. pos (total_site_displacement cells.new.items) ≡ (pos (total_site_displacement cells.old.items) +ℤ cost)) }
+    ensures free { OnOk result (IsPacked room (insert cells.old.items gap cell)
+        → cells.new.items ≡ insert cells.old.items gap cell) }
+    ensures cost { IfOk result (λ cost. pos (total_site_displacement cells.new.items)
+        ≡ (pos (total_site_displacement cells.old.items) +ℤ cost)) }
     ensures failed { OnErr result (cells.new.items ≡ cells.old.items) }
 {
     let window = window_at(cells.as_slice(), gap, &cell, room);

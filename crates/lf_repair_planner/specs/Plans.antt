@@ -19,13 +19,16 @@ end_at spans wishes own spot = start_at spans spot + slice_index_or (map (λ w. 
 -- each cell that has a spot lies there within the span, and two cells of one span lie apart
 pub record IsPlan (spans : List FreeSpan) (wishes : List PlannerCell) (spots : List (Option PlannedSite)) : Type 0 where
   pub spanned : (own : ℕ) (spot : PlannedSite) → slice_get spots own ≡ Some (Some spot) → spot.span < length spans
-  pub within : (own : ℕ) (spot : PlannedSite) → slice_get spots own ≡ Some (Some spot) → end_at spans wishes own spot ≤ room_at spans spot
+  pub within : (own : ℕ) (spot : PlannedSite) → slice_get spots own ≡ Some (Some spot)
+      → end_at spans wishes own spot ≤ room_at spans spot
   pub apart :
-      (a b : ℕ) (spot other : PlannedSite) → a ≢ b → slice_get spots a ≡ Some (Some spot) → slice_get spots b ≡ Some (Some other) → spot.span ≡ other.span
+      (a b : ℕ) (spot other : PlannedSite) → a ≢ b → slice_get spots a ≡ Some (Some spot)
+      → slice_get spots b ≡ Some (Some other) → spot.span ≡ other.span
       → (end_at spans wishes a spot ≤ start_at spans other) ⊎ (end_at spans wishes b other ≤ start_at spans spot)
 
 -- a plan so far, whose spots lie in earlier spans, or in this one and end no later than `free`
-pub record IsFilledTo (spans : List FreeSpan) (wishes : List PlannerCell) (span free : ℕ) (spots : List (Option PlannedSite)) : Type 0 where
+pub record IsFilledTo (spans : List FreeSpan) (wishes : List PlannerCell) (span free : ℕ)
+    (spots : List (Option PlannedSite)) : Type 0 where
   pub plan : IsPlan spans wishes spots
   pub before :
       (own : ℕ) (spot : PlannedSite) → slice_get spots own ≡ Some (Some spot)

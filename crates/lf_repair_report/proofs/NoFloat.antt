@@ -21,4 +21,4 @@ pub team_has_none : (floor : FloorState) (team : List ℕ) (r : RepairStats) (le
     → has_float line ≡ false
 team_has_none floor team r least line is =
     subst (λ (d : Data). has_float d ≡ false) (sym is.1)
-    (neither _ _ (counts is.0) (neither _ _ (names (cell_names floor team r.left.items)) (neither _ _ (text team) refl)))
+    (neither _ _ (counts is.0) (neither _ _ (names (cell_names floor team r.unrepaired.items)) (neither _ _ (text team) refl)))

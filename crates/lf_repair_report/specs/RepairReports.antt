@@ -28,7 +28,8 @@ report_line_text = text_of_line
 
 -- the name of the team's cell at this position, if there is one
 abbrev pub name_of_cell : FloorState → List ℕ → ℕ → List (List ℕ)
-name_of_cell floor team own = option_map_or (λ name. name ∷ []) (option_and_then (λ s. name_at s.cells own) (state_of floor team)) []
+name_of_cell floor team own =
+    option_map_or (λ name. name ∷ []) (option_and_then (λ s. name_at s.cells own) (state_of floor team)) []
 
 -- the names of the team's cells at these positions
 abbrev pub cell_names : FloorState → List ℕ → List ℕ → List (List ℕ)
@@ -47,15 +48,15 @@ team_data name left gaps least r =
     object (member (codes "cells") (report_number r.cells)
     (member (codes "gaps") gaps
     (member (codes "kept") (report_number r.kept)
-    (member (codes "largest") (report_number r.largest)
+    (member (codes "largest") (report_number r.max_displacement)
     (member (codes "least_largest") (report_number least)
     (member (codes "left") left
-    (member (codes "mean") (report_number (mean_displacement r.total r.moved))
+    (member (codes "mean") (report_number (mean_displacement r.total_displacement r.moved))
     (member (codes "moved") (report_number r.moved)
     (member (codes "placed") (report_number r.placed)
-    (member (codes "pushed") (report_number r.pushed)
+    (member (codes "pushed") (report_number r.displaced_legal)
     (member (codes "team") name
-    (member (codes "total") (report_number r.total)
+    (member (codes "total") (report_number r.total_displacement)
     (member (codes "turned") (report_number r.turned) no_members)))))))))))))
 
 -- the names, and the numbers, in their order
@@ -67,7 +68,8 @@ counts_data counts = array (items_of (map report_number counts))
 
 -- the line of a team whose unrepaired cells have these names and gaps
 abbrev pub team_line : List ℕ → List (List ℕ) → List ℕ → ℕ → RepairStats → List ℕ
-team_line name left gaps least r = report_line_text (team_data (report_text_value name) (names_data left) (counts_data gaps) least r)
+team_line name left gaps least r =
+    report_line_text (team_data (report_text_value name) (names_data left) (counts_data gaps) least r)
 
 -- the number for this team; 0 if there is no number for it
 abbrev pub least_for : List ℕ → Option ℕ → ℕ
@@ -76,7 +78,8 @@ least_for least number = option_map_or (λ n. option_map_or (λ way. way) (slice
 -- the JSON of the team on this floor
 abbrev pub IsTeamData : FloorState → List ℕ → RepairStats → ℕ → Data → Type 0
 IsTeamData floor team r least line =
-    (gaps : List ℕ) × (line ≡ team_data (report_text_value team) (names_data (cell_names floor team r.left.items)) (counts_data gaps) least r)
+    (gaps : List ℕ) × (line ≡ team_data (report_text_value team) (names_data (cell_names floor team r.unrepaired.items))
+    (counts_data gaps) least r)
 
 -- ---- all teams
 
@@ -92,11 +95,11 @@ no_sums = record {
   kept = 0;
   moved = 0;
   placed = 0;
-  pushed = 0;
+  displaced_legal = 0;
   turned = 0;
-  left = 0;
-  total = 0;
-  largest = 0;
+  unrepaired = 0;
+  total_displacement = 0;
+  max_displacement = 0;
   least_largest = 0;
 }
 
@@ -108,11 +111,11 @@ totals_with_team s r least = record {
   kept = saturating_sum s.kept r.kept;
   moved = saturating_sum s.moved r.moved;
   placed = saturating_sum s.placed r.placed;
-  pushed = saturating_sum s.pushed r.pushed;
+  displaced_legal = saturating_sum s.displaced_legal r.displaced_legal;
   turned = saturating_sum s.turned r.turned;
-  left = saturating_sum s.left (length r.left.items);
-  total = saturating_sum s.total r.total;
-  largest = max s.largest r.largest;
+  unrepaired = saturating_sum s.unrepaired (length r.unrepaired.items);
+  total_displacement = saturating_sum s.total_displacement r.total_displacement;
+  max_displacement = max s.max_displacement r.max_displacement;
   least_largest = max s.least_largest least;
 }
 
@@ -120,16 +123,16 @@ abbrev pub all_data : Totals → Bool → Data
 all_data s legal =
     object (member (codes "cells") (report_number s.cells)
     (member (codes "kept") (report_number s.kept)
-    (member (codes "largest") (report_number s.largest)
+    (member (codes "largest") (report_number s.max_displacement)
     (member (codes "least_largest") (report_number s.least_largest)
-    (member (codes "left_cells") (report_number s.left)
+    (member (codes "left_cells") (report_number s.unrepaired)
     (member (codes "legal") (boolean legal)
-    (member (codes "mean") (report_number (mean_displacement s.total s.moved))
+    (member (codes "mean") (report_number (mean_displacement s.total_displacement s.moved))
     (member (codes "moved") (report_number s.moved)
     (member (codes "placed") (report_number s.placed)
-    (member (codes "pushed") (report_number s.pushed)
+    (member (codes "pushed") (report_number s.displaced_legal)
     (member (codes "teams") (report_number s.teams)
-    (member (codes "total") (report_number s.total)
+    (member (codes "total") (report_number s.total_displacement)
     (member (codes "turned") (report_number s.turned) no_members)))))))))))))
 
 -- the line of all teams
@@ -141,6 +144,7 @@ all_line s legal = report_line_text (all_data s legal)
 -- the line of one more team is appended, given the result of its repair on this floor
 pub record IsOneMore (floor : FloorState) (team : List ℕ) (r : RepairStats) (old new : RepairReport) : Type 0 where
   pub gaps : List ℕ
-  pub text : new.text.items ≡ old.text.items ++ team_line team (cell_names floor team r.left.items) gaps (least_for old.least.items (team_number floor.frame team)) r
+  pub text : new.text.items ≡ old.text.items ++ team_line team (cell_names floor team r.unrepaired.items) gaps
+      (least_for old.least.items (team_number floor.frame team)) r
   pub sums : new.sums ≡ totals_with_team old.sums r (least_for old.least.items (team_number floor.frame team))
   pub least : new.least ≡ old.least

@@ -21,7 +21,8 @@ fn push_name<S: Seeker + Drop>(
     own: u32,
     names: &mut Vec<Value>,
 ) -> Result<(), AllocError>
-    ensures { OnOk result (map view names.new.items ≡ map view names.old.items ++ map report_text_value (name_of_cell floor.now team.now own)) }
+    ensures { OnOk result (map view names.new.items
+        ≡ map view names.old.items ++ map report_text_value (name_of_cell floor.now team.now own)) }
 {
     let Some(name) = floor.name_of(team, own as usize) else {
         return Ok(());
@@ -38,7 +39,8 @@ pub(crate) fn name_values<S: Seeker + Drop>(
     team: &[u8],
     owns: &[u32],
 ) -> Result<Vec<Value>, AllocError>
-    ensures { IfOk result (λ values. map view values.items ≡ map report_text_value (cell_names floor.now team.now owns.now)) }
+    ensures { IfOk result
+        (λ values. map view values.items ≡ map report_text_value (cell_names floor.now team.now owns.now)) }
 {
     let mut names = Vec::with_capacity(alloc, owns.len())?;
     for own in owns {
@@ -84,10 +86,10 @@ pub(crate) fn team_value(
 ) -> Result<Value, AllocError>
     ensures { IfOk result (λ v. view v ≡ team_data (view name) (view left) (view gaps) least repaired.now) }
 {
-    let mean = mean_displacement(repaired.total, u64::from(repaired.moved));
-    let (cells, kept, largest) = (repaired.cells, repaired.kept, repaired.largest);
-    let (moved, placed, pushed) = (repaired.moved, repaired.placed, repaired.pushed);
-    let (total, turned) = (repaired.total, repaired.turned);
+    let mean = mean_displacement(repaired.total_displacement, u64::from(repaired.moved));
+    let (cells, kept, largest) = (repaired.cells, repaired.kept, repaired.max_displacement);
+    let (moved, placed, pushed) = (repaired.moved, repaired.placed, repaired.displaced_legal);
+    let (total, turned) = (repaired.total_displacement, repaired.turned);
     json!(in alloc; {
         "cells": cells, "gaps": gaps, "kept": kept, "largest": largest, "least_largest": least, "left": left, "mean": mean,
         "moved": moved, "placed": placed, "pushed": pushed, "team": name, "total": total, "turned": turned
@@ -98,11 +100,16 @@ pub(crate) fn team_value(
 pub(crate) fn all_value(alloc: Global, sums: &Totals, legal: bool) -> Result<Value, AllocError>
     ensures { IfOk result (λ v. view v ≡ all_data sums.now legal) }
 {
-    let mean = mean_displacement(sums.total, sums.moved);
-    let (cells, kept, largest, left) = (sums.cells, sums.kept, sums.largest, sums.left);
+    let mean = mean_displacement(sums.total_displacement, sums.moved);
+    let (cells, kept, largest, left) = (
+        sums.cells,
+        sums.kept,
+        sums.max_displacement,
+        sums.unrepaired,
+    );
     let least = sums.least_largest;
-    let (moved, placed, pushed) = (sums.moved, sums.placed, sums.pushed);
-    let (teams, total, turned) = (sums.teams, sums.total, sums.turned);
+    let (moved, placed, pushed) = (sums.moved, sums.placed, sums.displaced_legal);
+    let (teams, total, turned) = (sums.teams, sums.total_displacement, sums.turned);
     json!(in alloc; {
         "cells": cells, "kept": kept, "largest": largest, "least_largest": least, "left_cells": left, "legal": legal, "mean": mean,
         "moved": moved, "placed": placed, "pushed": pushed, "teams": teams, "total": total, "turned": turned

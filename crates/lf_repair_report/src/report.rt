@@ -62,9 +62,9 @@ fn line_of<S: Seeker + Drop>(
 ) -> Result<Value, AllocError>
     ensures { IfOk result (λ v. IsTeamData floor.now team.now repaired.now least (view v)) }
 {
-    let found = gaps_near(alloc, floor, team, &repaired.left)?;
+    let found = gaps_near(alloc, floor, team, &repaired.unrepaired)?;
     let gaps = array_value(count_values(alloc, &found)?);
-    let left = array_value(name_values(alloc, floor, team, &repaired.left)?);
+    let left = array_value(name_values(alloc, floor, team, &repaired.unrepaired)?);
     let name = name_value(alloc, team)?;
     team_value(alloc, name, left, gaps, least, repaired)
 }

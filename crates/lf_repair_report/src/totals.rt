@@ -20,15 +20,15 @@ pub struct Totals {
     /// The number of cells that had no place and have one now.
     pub placed: u64,
     /// The number of legal cells whose place or orientation changed.
-    pub pushed: u64,
+    pub displaced_legal: u64,
     /// The number of cells that had a place and now have another orientation.
     pub turned: u64,
     /// The number of unrepaired cells: those that are unplaced or break a rule.
-    pub left: u64,
+    pub unrepaired: u64,
     /// The total displacement of all cells.
-    pub total: u64,
+    pub total_displacement: u64,
     /// The longest displacement.
-    pub largest: u64,
+    pub max_displacement: u64,
     /// The largest of the least displacements of all teams' cells.
     pub least_largest: u64,
 }
@@ -43,11 +43,11 @@ pub(crate) fn none() -> Totals
         kept: 0,
         moved: 0,
         placed: 0,
-        pushed: 0,
+        displaced_legal: 0,
         turned: 0,
-        left: 0,
-        total: 0,
-        largest: 0,
+        unrepaired: 0,
+        total_displacement: 0,
+        max_displacement: 0,
         least_largest: 0,
     }
 }
@@ -62,11 +62,17 @@ pub(crate) fn with_one(sums: &Totals, repaired: &RepairStats, least: u64) -> Tot
         kept: sums.kept.saturating_add(u64::from(repaired.kept)),
         moved: sums.moved.saturating_add(u64::from(repaired.moved)),
         placed: sums.placed.saturating_add(u64::from(repaired.placed)),
-        pushed: sums.pushed.saturating_add(u64::from(repaired.pushed)),
+        displaced_legal: sums
+            .displaced_legal
+            .saturating_add(u64::from(repaired.displaced_legal)),
         turned: sums.turned.saturating_add(u64::from(repaired.turned)),
-        left: sums.left.saturating_add(repaired.left.len() as u64),
-        total: sums.total.saturating_add(repaired.total),
-        largest: sums.largest.max(repaired.largest),
+        unrepaired: sums
+            .unrepaired
+            .saturating_add(repaired.unrepaired.len() as u64),
+        total_displacement: sums
+            .total_displacement
+            .saturating_add(repaired.total_displacement),
+        max_displacement: sums.max_displacement.max(repaired.max_displacement),
         least_largest: sums.least_largest.max(least),
     }
 }

@@ -402,7 +402,7 @@ pub fn plan_local_pass(
     let before = working_places(alloc, placement, number)?;
     Ok(Some(LocalPass {
         pass: Pass {
-            marks,
+            locked: marks,
             wanted_places,
         },
         before,
@@ -463,11 +463,11 @@ fn push_undo(
     own: u32,
     now: Option<Place>,
     before: Option<Place>,
-    lifts: &mut Vec<CellEdit>,
+    unplaced: &mut Vec<CellEdit>,
     places: &mut Vec<CellEdit>,
 ) -> Result<(), AllocError> {
     if now.is_some() {
-        lifts.push(CellEdit {
+        unplaced.push(CellEdit {
             own,
             step: Edit::Unplace,
         })?;

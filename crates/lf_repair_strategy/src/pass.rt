@@ -3,7 +3,7 @@
 ghost use Rattle.std.specs.Prelude.{◌≡◌, IfOk};
 ghost use Rattle.lf_cells.specs.Cells.{cells_of};
 ghost use Rattle.lf_repair_strategy.specs.WantedPlaces.{AreWorkingPlaces};
-ghost use Rattle.lf_repair_strategy.specs.declared.pass.MovePolicy.TheVariants.{Keep};
+ghost use Rattle.lf_repair_strategy.specs.declared.pass.MovePolicy.TheVariants.{KeepLegal};
 
 use lf_cells::CellId;
 use lf_floorplan::Place;
@@ -14,19 +14,19 @@ use std::alloc::{AllocError, Global};
 #[derive(Clone, Copy, Debug, PartialEq, Eq)]
 pub enum MovePolicy {
     /// Those that break a rule or have no place.
-    Keep,
+    KeepLegal,
     /// Those that break a rule or have no place. Other cells of one row's height may move if one of
     /// the former would otherwise have no place or a long displacement.
-    AsNeeded,
+    MoveAsNeeded,
     /// Those that break a rule or have no place, and all others of one row's height.
-    All,
+    MoveAll,
 }
 
-/// One pass over a team. `marks` says whether each cell is locked, and `wanted_places` has its
+/// One pass over a team. `locked` says whether each cell is locked, and `wanted_places` has its
 /// target. Both lists are indexed by the cell's position in loading order.
 #[derive(Drop)]
 pub struct Pass {
-    pub marks: Vec<bool>,
+    pub locked: Vec<bool>,
     pub wanted_places: Vec<Option<Place>>,
 }
 
@@ -74,8 +74,9 @@ fn tall_of(
     Ok(marks)
 }
 
-/// The cells locked in the first pass. `Keep`, `AsNeeded`: all legal cells. `All`: the legal cells
-/// that cover several rows, or every cell if all are legal. `Err` if an allocation fails.
+/// The cells locked in the first pass. `KeepLegal`, `MoveAsNeeded`: all legal cells. `MoveAll`: the
+/// legal cells that cover several rows, or every cell if all are legal. `Err` if an allocation
+/// fails.
 pub fn initial_locks(
     alloc: Global,
     placement: &Placement,
@@ -83,13 +84,13 @@ pub fn initial_locks(
     legal: &[bool],
     how: MovePolicy,
 ) -> Result<Vec<bool>, AllocError>
-    ensures { how ≡ Keep → IfOk result (λ marks. marks.items ≡ legal.now) }
+    ensures { how ≡ KeepLegal → IfOk result (λ marks. marks.items ≡ legal.now) }
 {
     match how {
-        MovePolicy::Keep => copied(alloc, legal),
-        MovePolicy::AsNeeded => copied(alloc, legal),
-        MovePolicy::All if legal.contains(&false) => tall_of(alloc, placement, number, legal),
-        MovePolicy::All => copied(alloc, legal),
+        MovePolicy::KeepLegal => copied(alloc, legal),
+        MovePolicy::MoveAsNeeded => copied(alloc, legal),
+        MovePolicy::MoveAll if legal.contains(&false) => tall_of(alloc, placement, number, legal),
+        MovePolicy::MoveAll => copied(alloc, legal),
     }
 }
 
@@ -99,7 +100,8 @@ pub fn working_places(
     placement: &Placement,
     number: usize,
 ) -> Result<Vec<Option<Place>>, AllocError>
-    ensures { IfOk result (λ wanted_places. AreWorkingPlaces (cells_of placement.now.cells number) wanted_places.items) }
+    ensures { IfOk result
+        (λ wanted_places. AreWorkingPlaces (cells_of placement.now.cells number) wanted_places.items) }
 {
     let mut wanted_places = Vec::new(alloc);
     for id in placement.cells().cells_of(number) {

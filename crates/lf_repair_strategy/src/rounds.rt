@@ -70,7 +70,7 @@ pub(crate) fn width_of(placement: &Placement, id: CellId) -> i64 {
 /// The cell as one that may move. `None` if it is locked, or there is no such cell.
 fn movable_cell<'a>(placement: &'a Placement, pass: &Pass, id: CellId) -> Option<MovableCell<'a>> {
     let frame = placement.frame();
-    if *pass.marks.get(id.own as usize)? {
+    if *pass.locked.get(id.own as usize)? {
         return None;
     }
     let wanted_place = *pass.wanted_places.get(id.own as usize)?;
@@ -88,7 +88,7 @@ fn movable_cell<'a>(placement: &'a Placement, pass: &Pass, id: CellId) -> Option
 /// The number of cells that may move.
 fn movable_count(pass: &Pass) -> usize {
     let mut count = 0usize;
-    for held in &pass.marks {
+    for held in &pass.locked {
         if !*held {
             count = count.saturating_add(1);
         }

@@ -13,15 +13,15 @@ pub struct RepairStats {
     /// The number of cells that had no place and have one now.
     pub placed: u32,
     /// The number of legal cells whose place or orientation changed.
-    pub pushed: u32,
+    pub displaced_legal: u32,
     /// The number of cells that had a place and now have another orientation.
     pub turned: u32,
     /// The total displacement of all cells.
-    pub total: u64,
+    pub total_displacement: u64,
     /// The longest displacement.
-    pub largest: u64,
+    pub max_displacement: u64,
     /// The positions in the team, in loading order from 0, of the cells whose place changed.
     pub changed: Vec<u32>,
     /// The positions of the unrepaired cells: those that are unplaced or break a rule.
-    pub left: Vec<u32>,
+    pub unrepaired: Vec<u32>,
 }

@@ -27,7 +27,7 @@ use Rattle.lf_floor_model.specs.Queries.{best_at}
 use Rattle.lf_floor_model.specs.Changes.{placed, placed_own, placed_unless, unplaced, unplaced_own, unplaced_from, legalized, legalized_own, legalized_at, committed, committed_unless, first_unplaced, broken_cells, outcome_of_change}
 use Rattle.lf_floor_model.specs.Verbs.{unless_spent, outcome_by_slot}
 use Rattle.lf_floor_model.specs.VerbLaws.{is_commit, outcome_of_asking}
-use Rattle.lf_floor_model.proofs.Standing.{moved_there}
+use Rattle.lf_floor_model.proofs.LegalPlaces.{moved_there}
 use Rattle.lf_repair_team.specs.CellEdits.{IsUnchangedOrStepped, IsOfCell, KeepsPlaces}
 use Rattle.lf_repair_team.specs.TeamRepairs.{place_of_cell_in}
 use Rattle.lf_repair_team.proofs.Steps.{place_stays}

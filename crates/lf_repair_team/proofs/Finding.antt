@@ -14,7 +14,7 @@ use Rattle.lf_cells.specs.Cells.{id_of, working_at}
 use Rattle.lf_legalize.specs.Members.{member_of}
 use Rattle.lf_floor_model.specs.States.{FloorState, TeamState}
 use Rattle.lf_floor_model.specs.Teams.{state_of, team_number}
-use Rattle.lf_floor_model.proofs.Standing.{some_one}
+use Rattle.lf_floor_model.proofs.LegalPlaces.{some_one}
 use Rattle.lf_repair_strategy.specs.WantedPlaces.{AreWorkingPlaces, target_at}
 use Rattle.lf_repair_team.specs.CellEdits.{AreAtTargetsExcept, HaveLeftTargets, IsLegalOrListed, HoldsOrIsListed, KeepsPlaces, TeamHasLeftTargets, TeamIsAtTargetsExcept}
 use Rattle.lf_repair_team.specs.TeamRepairs.{AllListedMove, AreLegalExcept, IsIllegalIn, IsLegalIn, OnlyListedMove, team_cell_names, place_of_cell_in}

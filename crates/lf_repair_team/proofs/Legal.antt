@@ -15,7 +15,7 @@ use Rattle.lf_floor_model.specs.Teams.{team_rules, state_at, state_of, team_numb
 use Rattle.lf_floor_model.specs.Outcomes.{places_of}
 use Rattle.lf_floor_model.specs.Steps.{AllCommittedIn}
 use Rattle.lf_floor_model.specs.VerbLaws.{AreLegal, KeepsCells, committed_places}
-use Rattle.lf_floor_model.proofs.Standing.{some_one}
+use Rattle.lf_floor_model.proofs.LegalPlaces.{some_one}
 use Rattle.lf_repair_team.specs.CellEdits.{AreLegalFlags, KeepsCommittedPlaces, KeepsLockedPlaces, KeepsPlaces, SameCells}
 use Rattle.lf_repair_team.specs.TeamRepairs.{AreLegalExcept, IsIllegalIn, IsLegalIn, KeepsLegalPlaces}
 

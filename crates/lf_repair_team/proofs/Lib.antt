@@ -6,6 +6,6 @@ mod Lists
 mod Legal
 mod Ids
 mod Marking
-mod Telling
+mod StatsLemmas
 mod Finding
 mod Results

@@ -9,7 +9,7 @@ use Rattle.lf_cells.specs.Cells.{id_of}
 use Rattle.lf_legalize.specs.Members.{member_of}
 use Rattle.lf_floor_model.specs.States.{FloorState, TeamState}
 use Rattle.lf_floor_model.specs.Teams.{state_of, team_number}
-use Rattle.lf_floor_model.proofs.Standing.{some_one}
+use Rattle.lf_floor_model.proofs.LegalPlaces.{some_one}
 use Rattle.lf_repair_team.specs.CellEdits.{AreLegalFlags, AddsLegalFlag}
 use Rattle.lf_repair_team.specs.TeamRepairs.{IsLegalIn}
 use Rattle.lf_repair_team.proofs.Legal.{state_there, reported_legal}

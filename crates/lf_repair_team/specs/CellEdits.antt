@@ -51,7 +51,8 @@ KeepsPlaces team old new = (own : ℕ) → place_of_cell_in new team own ≡ pla
 
 -- the locked cells are at the same places
 abbrev pub KeepsLockedPlaces : List ℕ → List Bool → FloorState → FloorState → Type 0
-KeepsLockedPlaces team marks old new = (own : ℕ) → slice_get marks own ≡ Some true → place_of_cell_in new team own ≡ place_of_cell_in old team own
+KeepsLockedPlaces team marks old new = (own : ℕ) → slice_get marks own ≡ Some true
+    → place_of_cell_in new team own ≡ place_of_cell_in old team own
 
 -- the committed places are unchanged
 abbrev pub KeepsCommittedPlaces : List ℕ → FloorState → FloorState → Type 0
@@ -62,7 +63,8 @@ KeepsCommittedPlaces team old new = committed_in new team ≡ committed_in old t
 -- the flags are true exactly at the legal cells
 pub record AreLegalFlags (team : List ℕ) (floor : FloorState) (marks : List Bool) : Type 0 where
   pub legal : (own : ℕ) → IsLegalIn floor team own → slice_get marks own ≡ Some true
-  pub only : (s : TeamState) → state_of floor team ≡ Some s → (own : ℕ) → slice_get marks own ≡ Some true → IsLegalIn floor team own
+  pub only : (s : TeamState) → state_of floor team ≡ Some s → (own : ℕ) → slice_get marks own ≡ Some true
+      → IsLegalIn floor team own
 
 -- one flag more, which is true if the cell at this position is legal in the team of this number
 pub record AddsLegalFlag (floor : FloorState) (number own : ℕ) (old new : List Bool) : Type 0 where
@@ -82,16 +84,19 @@ HoldsOrIsListed So Not own old new = ((new ≡ old) × So) ⊎ ((new ≡ old ++ 
 -- the cell at this position is legal, if it exists, or it is listed and is not legal
 abbrev pub IsLegalOrListed : List ℕ → FloorState → ℕ → List ℕ → List ℕ → Type 0
 IsLegalOrListed team floor own old new =
-    HoldsOrIsListed ((s : TeamState) → state_of floor team ≡ Some s → own < length s.cells → IsLegalIn floor team own) (IsLegalIn floor team own → ⊥) own old new
+    HoldsOrIsListed ((s : TeamState) → state_of floor team ≡ Some s → own < length s.cells → IsLegalIn floor team own)
+    (IsLegalIn floor team own → ⊥) own old new
 
 -- each of the cells has its place in `wanted_places`, or is listed
 abbrev pub AreAtTargetsExcept : List Cell → List (Option Place) → List ℕ → Type 0
-AreAtTargetsExcept cells wanted_places changed = (own : ℕ) → own < length cells → (working_at cells own ≡ target_at wanted_places own) ⊎ Contains changed own
+AreAtTargetsExcept cells wanted_places changed = (own : ℕ) → own < length cells
+    → (working_at cells own ≡ target_at wanted_places own) ⊎ Contains changed own
 
 -- the same for the team's cells
 abbrev pub TeamIsAtTargetsExcept : List ℕ → List (Option Place) → FloorState → List ℕ → Type 0
 TeamIsAtTargetsExcept team wanted_places floor changed =
-    (names : List (List ℕ)) → team_cell_names floor team ≡ Some names → (own : ℕ) → own < length names → (place_of_cell_in floor team own ≡ target_at wanted_places own) ⊎ Contains changed own
+    (names : List (List ℕ)) → team_cell_names floor team ≡ Some names → (own : ℕ) → own < length names
+    → (place_of_cell_in floor team own ≡ target_at wanted_places own) ⊎ Contains changed own
 
 -- each of the listed cells has another place than in `wanted_places`
 abbrev pub HaveLeftTargets : List Cell → List (Option Place) → List ℕ → Type 0
@@ -100,7 +105,8 @@ HaveLeftTargets cells wanted_places changed = All (λ own. working_at cells own 
 -- the same for the team's cells
 abbrev pub TeamHasLeftTargets : List ℕ → List (Option Place) → FloorState → List ℕ → Type 0
 TeamHasLeftTargets team wanted_places floor changed =
-    (s : TeamState) → state_of floor team ≡ Some s → All (λ own. place_of_cell_in floor team own ≢ target_at wanted_places own) changed
+    (s : TeamState) → state_of floor team ≡ Some s
+    → All (λ own. place_of_cell_in floor team own ≢ target_at wanted_places own) changed
 
 -- ---- the statistics
 
@@ -112,14 +118,16 @@ CountsIf So old new = (So × (new ≡ min (old + 1) 4294967295)) ⊎ ((So → �
 pub record CountsOneCell (wanted_place now : Option Place) (WasAtPlace : Type 0) (old new : RepairStats) : Type 0 where
   pub cells : CountsIf (WasAtPlace → ⊥) old.cells new.cells
   pub kept : CountsIf (WasAtPlace × (now ≡ wanted_place)) old.kept new.kept
-  pub pushed : CountsIf (WasAtPlace × (now ≢ wanted_place)) old.pushed new.pushed
+  pub displaced_legal : CountsIf (WasAtPlace × (now ≢ wanted_place)) old.displaced_legal new.displaced_legal
   pub moved : CountsIf (0 < displacement wanted_place now) old.moved new.moved
   pub placed : CountsIf ((wanted_place ≡ None) × IsSome now) old.placed new.placed
   pub turned : CountsIf (AreTurned wanted_place now) old.turned new.turned
   pub short : displacement wanted_place now ≤ 8589934590
-  pub total : new.total ≡ min (old.total + displacement wanted_place now) 18446744073709551615
-  pub largest : new.largest ≡ max old.largest (displacement wanted_place now)
+  pub total_displacement : new.total_displacement
+      ≡ min (old.total_displacement + displacement wanted_place now) 18446744073709551615
+  pub max_displacement : new.max_displacement ≡ max old.max_displacement (displacement wanted_place now)
 
 -- the statistics of the first `all` cells, given these lists of original places and of legal cells
 abbrev pub AreStatsOfFirst : List (Option Place) → List Bool → List Cell → ℕ → RepairStats → Type 0
-AreStatsOfFirst wanted_places marks cells all reported = AreStatsOf (target_at wanted_places) (working_at cells) (λ own. slice_get marks own ≡ Some true) all reported
+AreStatsOfFirst wanted_places marks cells all reported =
+    AreStatsOf (target_at wanted_places) (working_at cells) (λ own. slice_get marks own ≡ Some true) all reported

@@ -20,7 +20,8 @@ request_lines commands = flat_map request_line commands
 
 -- the commands lead the floor from `old` to `new`, all of them are to this team, and all are
 -- accepted; if the team's name is of visible bytes, a line can contain each command and reads as it
-pub record IsRunBy (commands : List (Command (List ℕ) Place)) (l : Legalizer) (team : List ℕ) (old new : FloorState) : Type 0 where
+pub record IsRunBy (commands : List (Command (List ℕ) Place)) (l : Legalizer) (team : List ℕ)
+    (old new : FloorState) : Type 0 where
   pub replies : List Reply
   pub run : Run l old commands replies new
   pub granted : All (λ reply. is_ok reply ≡ true) replies
@@ -31,7 +32,8 @@ pub record IsRunBy (commands : List (Command (List ℕ) Place)) (l : Legalizer) 
 -- the writer's bytes are known
 abbrev pub IsWrittenRun : Legalizer → List ℕ → FloorState → Option (List ℕ) → Option (List ℕ) → FloorState → Type 0
 IsWrittenRun l team old before after new =
-    (commands : List (Command (List ℕ) Place)) × IsRunBy commands l team old new × Appends before after (request_lines commands)
+    (commands : List (Command (List ℕ) Place)) × IsRunBy commands l team old new
+    × Appends before after (request_lines commands)
 
 -- a prefix of the bytes has been written, as far as the writer's bytes are known: perhaps no byte,
 -- perhaps all
@@ -40,7 +42,8 @@ AppendsSomeOf before after bytes = (count : ℕ) × Appends before after (take c
 
 -- some commands and at most one more lead the floor from `old` to `new`; written are the lines of
 -- the former and a prefix of the last one's
-pub record IsRunWithCutLine (l : Legalizer) (team : List ℕ) (old : FloorState) (before after : Option (List ℕ)) (new : FloorState) : Type 0 where
+pub record IsRunWithCutLine (l : Legalizer) (team : List ℕ) (old : FloorState) (before after : Option (List ℕ))
+    (new : FloorState) : Type 0 where
   pub commands : List (Command (List ℕ) Place)
   pub last : List (Command (List ℕ) Place)
   pub one : length last ≤ 1

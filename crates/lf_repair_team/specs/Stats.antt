@@ -28,23 +28,25 @@ pub record HowMany (all : ℕ) (So : ℕ → Type 0) (count : ℕ) : Type 0 wher
   pub many : length which ≡ count
 
 -- the displacements of the first `all` cells
-abbrev pub total_displacement : (ℕ → Option Place) → (ℕ → Option Place) → ℕ → List ℕ
-total_displacement wanted_place now all = map (λ own. displacement (wanted_place own) (now own)) (range_with_len 0 all)
+abbrev pub all_displacements : (ℕ → Option Place) → (ℕ → Option Place) → ℕ → List ℕ
+all_displacements wanted_place now all = map (λ own. displacement (wanted_place own) (now own)) (range_with_len 0 all)
 
 -- the statistics of `all` cells, given the original and the present place of each and which of them
 -- were legal: how many were not legal, are at the same place, were legal and moved, have another
 -- corner, have a place now, and have another orientation; the total displacement, and the longest
-pub record AreStatsOf (wanted_place now : ℕ → Option Place) (WasAtPlace : ℕ → Type 0) (all : ℕ) (reported : RepairStats) : Type 0 where
+pub record AreStatsOf (wanted_place now : ℕ → Option Place) (WasAtPlace : ℕ → Type 0) (all : ℕ)
+    (reported : RepairStats) : Type 0 where
   pub cells : HowMany all (λ own. WasAtPlace own → ⊥) reported.cells
   pub kept : HowMany all (λ own. WasAtPlace own × (now own ≡ wanted_place own)) reported.kept
-  pub pushed : HowMany all (λ own. WasAtPlace own × (now own ≢ wanted_place own)) reported.pushed
+  pub displaced_legal : HowMany all (λ own. WasAtPlace own × (now own ≢ wanted_place own)) reported.displaced_legal
   pub moved : HowMany all (λ own. 0 < displacement (wanted_place own) (now own)) reported.moved
   pub placed : HowMany all (λ own. (wanted_place own ≡ None) × IsSome (now own)) reported.placed
   pub turned : HowMany all (λ own. AreTurned (wanted_place own) (now own)) reported.turned
-  pub total : reported.total ≡ sum (total_displacement wanted_place now all)
-  pub largest : reported.largest ≡ fold max 0 (total_displacement wanted_place now all)
+  pub total_displacement : reported.total_displacement ≡ sum (all_displacements wanted_place now all)
+  pub max_displacement : reported.max_displacement ≡ fold max 0 (all_displacements wanted_place now all)
 
 -- the statistics of the team's cells, from one floor to the other
 abbrev pub AreTeamStats : List ℕ → FloorState → FloorState → RepairStats → Type 0
 AreTeamStats team old new reported =
-    (s : TeamState) → state_of old team ≡ Some s → AreStatsOf (place_of_cell_in old team) (place_of_cell_in new team) (IsLegalIn old team) (length s.cells) reported
+    (s : TeamState) → state_of old team ≡ Some s
+    → AreStatsOf (place_of_cell_in old team) (place_of_cell_in new team) (IsLegalIn old team) (length s.cells) reported

@@ -41,19 +41,23 @@ pub record IsLegalIn (floor : FloorState) (team : List ℕ) (own : ℕ) : Type 0
 
 -- the legal cells are at the same places
 abbrev pub KeepsLegalPlaces : List ℕ → FloorState → FloorState → Type 0
-KeepsLegalPlaces team old new = (own : ℕ) → IsLegalIn old team own → place_of_cell_in new team own ≡ place_of_cell_in old team own
+KeepsLegalPlaces team old new = (own : ℕ) → IsLegalIn old team own
+    → place_of_cell_in new team own ≡ place_of_cell_in old team own
 
 -- each cell of the team is at the same place, or its position is listed
 abbrev pub OnlyListedMove : List ℕ → FloorState → FloorState → List ℕ → Type 0
-OnlyListedMove team old new changed = (own : ℕ) → (place_of_cell_in new team own ≡ place_of_cell_in old team own) ⊎ Contains changed own
+OnlyListedMove team old new changed = (own : ℕ) → (place_of_cell_in new team own ≡ place_of_cell_in old team own)
+    ⊎ Contains changed own
 
 -- each cell at a listed position is at another place
 abbrev pub AllListedMove : List ℕ → FloorState → FloorState → List ℕ → Type 0
-AllListedMove team old new changed = (s : TeamState) → state_of old team ≡ Some s → All (λ own. place_of_cell_in new team own ≢ place_of_cell_in old team own) changed
+AllListedMove team old new changed = (s : TeamState) → state_of old team ≡ Some s
+    → All (λ own. place_of_cell_in new team own ≢ place_of_cell_in old team own) changed
 
 -- each cell of the team is legal, or its position is listed
 abbrev pub AreLegalExcept : List ℕ → FloorState → List ℕ → Type 0
-AreLegalExcept team floor left = (s : TeamState) → state_of floor team ≡ Some s → (own : ℕ) → own < length s.cells → IsLegalIn floor team own ⊎ Contains left own
+AreLegalExcept team floor left = (s : TeamState) → state_of floor team ≡ Some s → (own : ℕ) → own < length s.cells
+    → IsLegalIn floor team own ⊎ Contains left own
 
 -- the position is that of a cell of the team, which is not legal
 pub record IsIllegalIn (floor : FloorState) (team : List ℕ) (own : ℕ) : Type 0 where

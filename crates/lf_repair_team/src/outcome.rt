@@ -38,7 +38,8 @@ fn name_changed(
     own: u32,
     changed: &mut Vec<u32>,
 ) -> Result<(), AllocError>
-    ensures { OnOk result (HoldsOrIsListed (now ≡ wanted_place) (now ≡ wanted_place → ⊥) own changed.old.items changed.new.items) }
+    ensures { OnOk result
+        (HoldsOrIsListed (now ≡ wanted_place) (now ≡ wanted_place → ⊥) own changed.old.items changed.new.items) }
 {
     if same_place(now, wanted_place) {
         return Ok(());
@@ -54,8 +55,10 @@ fn changed_cells(
     number: usize,
     wanted_places: &[Option<Place>],
 ) -> Result<Vec<u32>, AllocError>
-    ensures changed { IfOk result (λ changed. AreAtTargetsExcept (cells_of placement.now.cells number) wanted_places.now changed.items) }
-    ensures moved { IfOk result (λ changed. HaveLeftTargets (cells_of placement.now.cells number) wanted_places.now changed.items) }
+    ensures changed { IfOk result
+        (λ changed. AreAtTargetsExcept (cells_of placement.now.cells number) wanted_places.now changed.items) }
+    ensures moved { IfOk result
+        (λ changed. HaveLeftTargets (cells_of placement.now.cells number) wanted_places.now changed.items) }
 {
     let mut changed = Vec::new(alloc);
     for id in placement.cells().cells_of(number) {
@@ -108,8 +111,10 @@ pub(crate) fn found_of<S: Seeker + Drop>(
     wanted_places: &[Option<Place>],
 ) -> Result<RepairOutcome, AllocError>
     requires { team_number floor.now.frame seat.now.team.now ≡ Some seat.now.number }
-    ensures changed { IfOk result (λ found. TeamIsAtTargetsExcept seat.now.team.now wanted_places.now floor.now found.changed.items) }
-    ensures moved { IfOk result (λ found. TeamHasLeftTargets seat.now.team.now wanted_places.now floor.now found.changed.items) }
+    ensures changed { IfOk result
+        (λ found. TeamIsAtTargetsExcept seat.now.team.now wanted_places.now floor.now found.changed.items) }
+    ensures moved { IfOk result
+        (λ found. TeamHasLeftTargets seat.now.team.now wanted_places.now floor.now found.changed.items) }
     ensures named { IfOk result (λ found. AreLegalExcept seat.now.team.now floor.now found.left.items) }
     ensures illegal { IfOk result (λ found. All (λ own. IsIllegalIn floor.now seat.now.team.now own) found.left.items) }
 {

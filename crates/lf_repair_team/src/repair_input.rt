@@ -4,7 +4,7 @@ ghost use Rattle.std.specs.Prelude.{◌≡◌, [], List, ℕ, IfOk, IsTrue, OnOk
 ghost use Rattle.lf_floor_model.specs.States.{TeamState};
 ghost use Rattle.lf_floor_model.specs.Teams.{state_of, team_number};
 ghost use Rattle.lf_repair_strategy.specs.WantedPlaces.{AreWorkingPlaces};
-ghost use Rattle.lf_repair_strategy.specs.declared.pass.MovePolicy.TheVariants.{Keep};
+ghost use Rattle.lf_repair_strategy.specs.declared.pass.MovePolicy.TheVariants.{KeepLegal};
 ghost use Rattle.lf_repair_team.specs.CellEdits.{AreLegalFlags, AddsLegalFlag};
 ghost use Rattle.lf_repair_team.specs.TeamRepairs.{AreLegalExcept};
 
@@ -18,7 +18,8 @@ use std::alloc::{AllocError, Global};
 /// no such team. Does not allocate.
 pub fn is_team_legal<S: Seeker + Drop>(floor: &Floor<S>, team: &[u8]) -> bool
     ensures whole { IsTrue result → AreLegalExcept team.now floor.now [] }
-    ensures reported { (s : TeamState) → state_of floor.now team.now ≡ Some s → AreLegalExcept team.now floor.now [] → IsTrue result }
+    ensures reported { (s : TeamState) → state_of floor.now team.now ≡ Some s
+        → AreLegalExcept team.now floor.now [] → IsTrue result }
 {
     let Some(number) = floor.team_number(team) else {
         return false;
@@ -50,7 +51,8 @@ fn legal_of<S: Seeker + Drop>(
     floor: &Floor<S>,
     number: usize,
 ) -> Result<Vec<bool>, AllocError>
-    ensures { (team : List ℕ) → team_number floor.now.frame team ≡ Some number → IfOk result (λ legal. AreLegalFlags team floor.now legal.items) }
+    ensures { (team : List ℕ) → team_number floor.now.frame team ≡ Some number
+        → IfOk result (λ legal. AreLegalFlags team floor.now legal.items) }
 {
     let mut legal = Vec::new(alloc);
     for id in floor.placement().cells().cells_of(number) {
@@ -66,10 +68,12 @@ pub(crate) fn repair_input<S: Seeker + Drop>(
     number: usize,
     how: MovePolicy,
 ) -> Result<RepairInput, AllocError>
-    ensures marked { (team : List ℕ) → how ≡ Keep → team_number floor.now.frame team ≡ Some number
-        → IfOk result (λ start. AreLegalFlags team floor.now start.pass.marks.items) }
-    ensures legal { (team : List ℕ) → team_number floor.now.frame team ≡ Some number → IfOk result (λ start. AreLegalFlags team floor.now start.legal.items) }
-    ensures wanted_places { (s : TeamState) → slice_get floor.now.teams number ≡ Some s → IfOk result (λ start. AreWorkingPlaces s.cells start.pass.wanted_places.items) }
+    ensures marked { (team : List ℕ) → how ≡ KeepLegal → team_number floor.now.frame team ≡ Some number
+        → IfOk result (λ start. AreLegalFlags team floor.now start.pass.locked.items) }
+    ensures legal { (team : List ℕ) → team_number floor.now.frame team ≡ Some number
+        → IfOk result (λ start. AreLegalFlags team floor.now start.legal.items) }
+    ensures wanted_places { (s : TeamState) → slice_get floor.now.teams number ≡ Some s
+        → IfOk result (λ start. AreWorkingPlaces s.cells start.pass.wanted_places.items) }
     ensures how { IfOk result (λ start. start.how ≡ how) }
 {
     let legal = legal_of(alloc, floor, number)?;
@@ -79,7 +83,7 @@ pub(crate) fn repair_input<S: Seeker + Drop>(
         how,
         legal,
         pass: Pass {
-            marks,
+            locked: marks,
             wanted_places,
         },
     })

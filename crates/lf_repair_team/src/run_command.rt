@@ -59,13 +59,16 @@ pub(crate) fn run_command<S: Seeker + Drop, K: Sink>(
     line: &mut Vec<u8>,
     lines: &mut K,
 ) -> Result<Reply, RepairFault>
-    ensures run { (l : Legalizer) (team : List ℕ) → IsTo team (command_with_names request.now) → (IsLineName team → IsPlain (command_with_names request.now))
+    ensures run { (l : Legalizer) (team : List ℕ) → IsTo team (command_with_names request.now)
+        → (IsLineName team → IsPlain (command_with_names request.now))
         → IfOk result (λ _. IsWrittenRun l team floor.old (K.contents lines.old) (K.contents lines.new) floor.new) }
-    ensures err { (l : Legalizer) (team : List ℕ) → IsTo team (command_with_names request.now) → (IsLineName team → IsPlain (command_with_names request.now))
+    ensures err { (l : Legalizer) (team : List ℕ) → IsTo team (command_with_names request.now)
+        → (IsLineName team → IsPlain (command_with_names request.now))
         → OnErr result (IsRunWithCutLine l team floor.old (K.contents lines.old) (K.contents lines.new) floor.new) }
     ensures only { (team : List ℕ) → IsTo team (command_with_names request.now) → ChangesOnly team floor.old floor.new }
     ensures requested { (l : Legalizer) → IsUnchangedOrStepped l floor.old (command_with_names request.now) floor.new }
-    ensures committed { (l : Legalizer) → IfOk result (λ reply. CommitsLegally l (command_with_names request.now) reply floor.new) }
+    ensures committed { (l : Legalizer)
+        → IfOk result (λ reply. CommitsLegally l (command_with_names request.now) reply floor.new) }
 {
     legalizer_exists();
     line.clear();

@@ -105,10 +105,13 @@ fn run_edit_of<S: Seeker + Drop, K: Sink>(
     lines: &mut K,
 ) -> Result<(), RepairFault>
     requires { IsLineName cell.now }
-    ensures run { (l : Legalizer) → IfOk result (λ _. IsWrittenRun l seat.now.team.now floor.old (K.contents lines.old) (K.contents lines.new) floor.new) }
-    ensures err { (l : Legalizer) → OnErr result (IsRunWithCutLine l seat.now.team.now floor.old (K.contents lines.old) (K.contents lines.new) floor.new) }
+    ensures run { (l : Legalizer) → IfOk result
+        (λ _. IsWrittenRun l seat.now.team.now floor.old (K.contents lines.old) (K.contents lines.new) floor.new) }
+    ensures err { (l : Legalizer) → OnErr result
+        (IsRunWithCutLine l seat.now.team.now floor.old (K.contents lines.old) (K.contents lines.new) floor.new) }
     ensures only { ChangesOnly seat.now.team.now floor.old floor.new }
-    ensures cells { (other : ℕ) → ((s : TeamState) → state_of floor.old seat.now.team.now ≡ Some s → cell_named cell.now s.cells ≡ Some other → ⊥)
+    ensures cells { (other : ℕ) → ((s : TeamState) → state_of floor.old seat.now.team.now ≡ Some s
+        → cell_named cell.now s.cells ≡ Some other → ⊥)
         → place_of_cell_in floor.new seat.now.team.now other ≡ place_of_cell_in floor.old seat.now.team.now other }
     ensures committed { KeepsCommittedPlaces seat.now.team.now floor.old floor.new }
 {
@@ -134,7 +137,8 @@ fn copy_name<S: Seeker + Drop>(
     own: usize,
     name: &mut Vec<u8>,
 ) -> Result<bool, AllocError>
-    ensures name { (s : TeamState) → IfOk result (λ there. IsTrue there → state_of floor.now team.now ≡ Some s → name_at s.cells own ≡ Some name.new.items) }
+    ensures name { (s : TeamState) → IfOk result (λ there. IsTrue there → state_of floor.now team.now ≡ Some s
+        → name_at s.cells own ≡ Some name.new.items) }
     ensures plain { IfOk result (λ there. IsTrue there → IsLineName name.new.items) }
 {
     name.clear();
@@ -154,10 +158,13 @@ fn run_edit<S: Seeker + Drop, K: Sink>(
     texts: &mut Buffers,
     lines: &mut K,
 ) -> Result<(), RepairFault>
-    ensures run { (l : Legalizer) → IfOk result (λ _. IsWrittenRun l seat.now.team.now floor.old (K.contents lines.old) (K.contents lines.new) floor.new) }
-    ensures err { (l : Legalizer) → OnErr result (IsRunWithCutLine l seat.now.team.now floor.old (K.contents lines.old) (K.contents lines.new) floor.new) }
+    ensures run { (l : Legalizer) → IfOk result
+        (λ _. IsWrittenRun l seat.now.team.now floor.old (K.contents lines.old) (K.contents lines.new) floor.new) }
+    ensures err { (l : Legalizer) → OnErr result
+        (IsRunWithCutLine l seat.now.team.now floor.old (K.contents lines.old) (K.contents lines.new) floor.new) }
     ensures only { ChangesOnly seat.now.team.now floor.old floor.new }
-    ensures cells { (other : ℕ) → other ≢ own → place_of_cell_in floor.new seat.now.team.now other ≡ place_of_cell_in floor.old seat.now.team.now other }
+    ensures cells { (other : ℕ) → other ≢ own
+        → place_of_cell_in floor.new seat.now.team.now other ≡ place_of_cell_in floor.old seat.now.team.now other }
     ensures committed { KeepsCommittedPlaces seat.now.team.now floor.old floor.new }
 {
     floor.teams_match_frame();
@@ -188,8 +195,10 @@ fn run_edit_unless_locked<S: Seeker + Drop, K: Sink>(
     texts: &mut Buffers,
     lines: &mut K,
 ) -> Result<(), RepairFault>
-    ensures run { (l : Legalizer) → IfOk result (λ _. IsWrittenRun l seat.now.team.now floor.old (K.contents lines.old) (K.contents lines.new) floor.new) }
-    ensures err { (l : Legalizer) → OnErr result (IsRunWithCutLine l seat.now.team.now floor.old (K.contents lines.old) (K.contents lines.new) floor.new) }
+    ensures run { (l : Legalizer) → IfOk result
+        (λ _. IsWrittenRun l seat.now.team.now floor.old (K.contents lines.old) (K.contents lines.new) floor.new) }
+    ensures err { (l : Legalizer) → OnErr result
+        (IsRunWithCutLine l seat.now.team.now floor.old (K.contents lines.old) (K.contents lines.new) floor.new) }
     ensures only { ChangesOnly seat.now.team.now floor.old floor.new }
     ensures marked { KeepsLockedPlaces seat.now.team.now marks.now floor.old floor.new }
     ensures committed { KeepsCommittedPlaces seat.now.team.now floor.old floor.new }
@@ -210,8 +219,10 @@ pub(crate) fn run_edits<S: Seeker + Drop, K: Sink>(
     texts: &mut Buffers,
     lines: &mut K,
 ) -> Result<(), RepairFault>
-    ensures run { (l : Legalizer) → IfOk result (λ _. IsWrittenRun l seat.now.team.now floor.old (K.contents lines.old) (K.contents lines.new) floor.new) }
-    ensures err { (l : Legalizer) → OnErr result (IsRunWithCutLine l seat.now.team.now floor.old (K.contents lines.old) (K.contents lines.new) floor.new) }
+    ensures run { (l : Legalizer) → IfOk result
+        (λ _. IsWrittenRun l seat.now.team.now floor.old (K.contents lines.old) (K.contents lines.new) floor.new) }
+    ensures err { (l : Legalizer) → OnErr result
+        (IsRunWithCutLine l seat.now.team.now floor.old (K.contents lines.old) (K.contents lines.new) floor.new) }
     ensures only { ChangesOnly seat.now.team.now floor.old floor.new }
     ensures marked { KeepsLockedPlaces seat.now.team.now marks.now floor.old floor.new }
     ensures committed { KeepsCommittedPlaces seat.now.team.now floor.old floor.new }

@@ -76,21 +76,21 @@ fn count_cell(
     reported: &mut RepairStats,
 )
     ensures changed { reported.new.changed ≡ reported.old.changed }
-    ensures left { reported.new.left ≡ reported.old.left }
+    ensures left { reported.new.unrepaired ≡ reported.old.unrepaired }
     ensures reported { CountsOneCell wanted_place now (IsTrue original_place) reported.old reported.new }
 {
     let far = displacement(wanted_place, now);
     reported.cells = counted(reported.cells, !original_place);
     reported.kept = counted(reported.kept, is_kept(wanted_place, now, original_place));
-    reported.pushed = counted(
-        reported.pushed,
+    reported.displaced_legal = counted(
+        reported.displaced_legal,
         is_pushed(wanted_place, now, original_place),
     );
     reported.moved = counted(reported.moved, 0 < far);
     reported.placed = counted(reported.placed, is_placed(wanted_place, now));
     reported.turned = counted(reported.turned, is_turned(wanted_place, now));
-    reported.total = reported.total.saturating_add(far);
-    reported.largest = reported.largest.max(far);
+    reported.total_displacement = reported.total_displacement.saturating_add(far);
+    reported.max_displacement = reported.max_displacement.max(far);
 }
 
 /// Statistics of a team's repair, given each cell's original place and whether it was legal there.
@@ -102,8 +102,9 @@ fn count_cells(
     found: RepairOutcome,
 ) -> RepairStats
     ensures changed { result.changed ≡ found.changed }
-    ensures left { result.left ≡ found.left }
-    ensures tally { AreStatsOfFirst wanted_places.now marks.now (cells_of placement.now.cells number) (length (cells_of placement.now.cells number)) result }
+    ensures left { result.unrepaired ≡ found.left }
+    ensures tally { AreStatsOfFirst wanted_places.now marks.now (cells_of placement.now.cells number)
+        (length (cells_of placement.now.cells number)) result }
 {
     placement.cells_are_sized();
     let RepairOutcome { changed, left } = found;
@@ -112,12 +113,12 @@ fn count_cells(
         kept: 0,
         moved: 0,
         placed: 0,
-        pushed: 0,
+        displaced_legal: 0,
         turned: 0,
-        total: 0,
-        largest: 0,
+        total_displacement: 0,
+        max_displacement: 0,
         changed,
-        left,
+        unrepaired: left,
     };
     for id in placement.cells().cells_of(number) {
         let now = placement.cells().working(*id);
@@ -136,7 +137,7 @@ pub(crate) fn stats_of<S: Seeker + Drop>(
     found: RepairOutcome,
 ) -> RepairStats
     ensures changed { result.changed ≡ found.changed }
-    ensures left { result.left ≡ found.left }
+    ensures left { result.unrepaired ≡ found.left }
     ensures tally { (s : TeamState) → slice_get floor.now.teams number ≡ Some s
         → AreStatsOfFirst start.now.pass.wanted_places.items start.now.legal.items s.cells (length s.cells) result }
 {

@@ -5,7 +5,7 @@ ghost use Rattle.lf_rules.specs.Legalizer.{Legalizer};
 ghost use Rattle.lf_floor_model.specs.Steps.{AllCommittedIn};
 ghost use Rattle.lf_floor_model.specs.Teams.{team_number};
 ghost use Rattle.lf_floor_model.specs.VerbLaws.{is_ok};
-ghost use Rattle.lf_repair_strategy.specs.declared.pass.MovePolicy.TheVariants.{Keep};
+ghost use Rattle.lf_repair_strategy.specs.declared.pass.MovePolicy.TheVariants.{KeepLegal};
 ghost use Rattle.lf_repair_team.specs.CellEdits.{KeepsCommittedPlaces, KeepsLockedPlaces, KeepsPlaces, SameCells, TeamHasLeftTargets, TeamIsAtTargetsExcept};
 ghost use Rattle.lf_repair_team.specs.TeamRepairs.{AllListedMove, AreLegalExcept, ChangesOnly, IsIllegalIn, KeepsLegalPlaces, OnlyListedMove, committed_in};
 ghost use Rattle.lf_repair_team.specs.Runs.{IsRunWithCutLine, IsWrittenRun};
@@ -35,8 +35,10 @@ fn open<S: Seeker + Drop, K: Sink>(
     texts: &mut Buffers,
     lines: &mut K,
 ) -> Result<u32, RepairFault>
-    ensures run { (l : Legalizer) → IfOk result (λ _. IsWrittenRun l team.now floor.old (K.contents lines.old) (K.contents lines.new) floor.new) }
-    ensures err { (l : Legalizer) → OnErr result (IsRunWithCutLine l team.now floor.old (K.contents lines.old) (K.contents lines.new) floor.new) }
+    ensures run { (l : Legalizer)
+        → IfOk result (λ _. IsWrittenRun l team.now floor.old (K.contents lines.old) (K.contents lines.new) floor.new) }
+    ensures err { (l : Legalizer)
+        → OnErr result (IsRunWithCutLine l team.now floor.old (K.contents lines.old) (K.contents lines.new) floor.new) }
     ensures only { ChangesOnly team.now floor.old floor.new }
     ensures cells { SameCells team.now floor.old floor.new }
 {
@@ -68,8 +70,10 @@ fn commit<S: Seeker + Drop, K: Sink>(
     texts: &mut Buffers,
     lines: &mut K,
 ) -> Result<(), RepairFault>
-    ensures run { (l : Legalizer) → IfOk result (λ _. IsWrittenRun l seat.now.team.now floor.old (K.contents lines.old) (K.contents lines.new) floor.new) }
-    ensures err { (l : Legalizer) → OnErr result (IsRunWithCutLine l seat.now.team.now floor.old (K.contents lines.old) (K.contents lines.new) floor.new) }
+    ensures run { (l : Legalizer) → IfOk result
+        (λ _. IsWrittenRun l seat.now.team.now floor.old (K.contents lines.old) (K.contents lines.new) floor.new) }
+    ensures err { (l : Legalizer) → OnErr result
+        (IsRunWithCutLine l seat.now.team.now floor.old (K.contents lines.old) (K.contents lines.new) floor.new) }
     ensures only { ChangesOnly seat.now.team.now floor.old floor.new }
     ensures places { KeepsPlaces seat.now.team.now floor.old floor.new }
     ensures committed { (l : Legalizer) → IfOk result (λ _. AllCommittedIn l floor.new seat.now.team.now) }
@@ -106,11 +110,14 @@ fn commit_if_clean<S: Seeker + Drop, K: Sink>(
     texts: &mut Buffers,
     lines: &mut K,
 ) -> Result<(), RepairFault>
-    ensures run { (l : Legalizer) → IfOk result (λ _. IsWrittenRun l seat.now.team.now floor.old (K.contents lines.old) (K.contents lines.new) floor.new) }
-    ensures err { (l : Legalizer) → OnErr result (IsRunWithCutLine l seat.now.team.now floor.old (K.contents lines.old) (K.contents lines.new) floor.new) }
+    ensures run { (l : Legalizer) → IfOk result
+        (λ _. IsWrittenRun l seat.now.team.now floor.old (K.contents lines.old) (K.contents lines.new) floor.new) }
+    ensures err { (l : Legalizer) → OnErr result
+        (IsRunWithCutLine l seat.now.team.now floor.old (K.contents lines.old) (K.contents lines.new) floor.new) }
     ensures only { ChangesOnly seat.now.team.now floor.old floor.new }
     ensures places { KeepsPlaces seat.now.team.now floor.old floor.new }
-    ensures committed { (l : Legalizer) → left.now ≡ [] → IfOk result (λ _. AllCommittedIn l floor.new seat.now.team.now) }
+    ensures committed { (l : Legalizer) → left.now ≡ []
+        → IfOk result (λ _. AllCommittedIn l floor.new seat.now.team.now) }
     ensures kept { left.now ≢ [] → floor.new ≡ floor.old }
 {
     legalizer_exists();
@@ -127,8 +134,10 @@ fn close<S: Seeker + Drop, K: Sink>(
     texts: &mut Buffers,
     lines: &mut K,
 ) -> Result<(), RepairFault>
-    ensures run { (l : Legalizer) → IfOk result (λ _. IsWrittenRun l seat.now.team.now floor.old (K.contents lines.old) (K.contents lines.new) floor.new) }
-    ensures err { (l : Legalizer) → OnErr result (IsRunWithCutLine l seat.now.team.now floor.old (K.contents lines.old) (K.contents lines.new) floor.new) }
+    ensures run { (l : Legalizer) → IfOk result
+        (λ _. IsWrittenRun l seat.now.team.now floor.old (K.contents lines.old) (K.contents lines.new) floor.new) }
+    ensures err { (l : Legalizer) → OnErr result
+        (IsRunWithCutLine l seat.now.team.now floor.old (K.contents lines.old) (K.contents lines.new) floor.new) }
     ensures only { ChangesOnly seat.now.team.now floor.old floor.new }
     ensures cells { SameCells seat.now.team.now floor.old floor.new }
 {
@@ -158,16 +167,22 @@ fn finish<S: Seeker + Drop, K: Sink>(
     lines: &mut K,
 ) -> Result<RepairOutcome, RepairFault>
     requires { team_number floor.old.frame seat.now.team.now ≡ Some seat.now.number }
-    ensures run { (l : Legalizer) → IfOk result (λ _. IsWrittenRun l seat.now.team.now floor.old (K.contents lines.old) (K.contents lines.new) floor.new) }
-    ensures err { (l : Legalizer) → OnErr result (IsRunWithCutLine l seat.now.team.now floor.old (K.contents lines.old) (K.contents lines.new) floor.new) }
+    ensures run { (l : Legalizer) → IfOk result
+        (λ _. IsWrittenRun l seat.now.team.now floor.old (K.contents lines.old) (K.contents lines.new) floor.new) }
+    ensures err { (l : Legalizer) → OnErr result
+        (IsRunWithCutLine l seat.now.team.now floor.old (K.contents lines.old) (K.contents lines.new) floor.new) }
     ensures only { ChangesOnly seat.now.team.now floor.old floor.new }
     ensures places { KeepsPlaces seat.now.team.now floor.old floor.new }
-    ensures changed { IfOk result (λ found. TeamIsAtTargetsExcept seat.now.team.now wanted_places.now floor.new found.changed.items) }
-    ensures moved { IfOk result (λ found. TeamHasLeftTargets seat.now.team.now wanted_places.now floor.new found.changed.items) }
+    ensures changed { IfOk result
+        (λ found. TeamIsAtTargetsExcept seat.now.team.now wanted_places.now floor.new found.changed.items) }
+    ensures moved { IfOk result
+        (λ found. TeamHasLeftTargets seat.now.team.now wanted_places.now floor.new found.changed.items) }
     ensures named { IfOk result (λ found. AreLegalExcept seat.now.team.now floor.new found.left.items) }
     ensures illegal { IfOk result (λ found. All (λ own. IsIllegalIn floor.new seat.now.team.now own) found.left.items) }
-    ensures committed { (l : Legalizer) → IfOk result (λ found. found.left.items ≡ [] → AllCommittedIn l floor.new seat.now.team.now) }
-    ensures uncommitted { IfOk result (λ found. found.left.items ≢ [] → KeepsCommittedPlaces seat.now.team.now floor.old floor.new) }
+    ensures committed { (l : Legalizer)
+        → IfOk result (λ found. found.left.items ≡ [] → AllCommittedIn l floor.new seat.now.team.now) }
+    ensures uncommitted { IfOk result
+        (λ found. found.left.items ≢ [] → KeepsCommittedPlaces seat.now.team.now floor.old floor.new) }
 {
     legalizer_exists();
     let Ok(found) = found_of(alloc, floor, seat, wanted_places) else {
@@ -214,10 +229,12 @@ fn run_pass<S: Seeker + Drop, K: Sink>(
     texts: &mut Buffers,
     lines: &mut K,
 ) -> Result<(), RepairFault>
-    ensures run { (l : Legalizer) → IfOk result (λ _. IsWrittenRun l seat.now.team.now floor.old (K.contents lines.old) (K.contents lines.new) floor.new) }
-    ensures err { (l : Legalizer) → OnErr result (IsRunWithCutLine l seat.now.team.now floor.old (K.contents lines.old) (K.contents lines.new) floor.new) }
+    ensures run { (l : Legalizer) → IfOk result
+        (λ _. IsWrittenRun l seat.now.team.now floor.old (K.contents lines.old) (K.contents lines.new) floor.new) }
+    ensures err { (l : Legalizer) → OnErr result
+        (IsRunWithCutLine l seat.now.team.now floor.old (K.contents lines.old) (K.contents lines.new) floor.new) }
     ensures only { ChangesOnly seat.now.team.now floor.old floor.new }
-    ensures marked { KeepsLockedPlaces seat.now.team.now pass.now.marks.items floor.old floor.new }
+    ensures marked { KeepsLockedPlaces seat.now.team.now pass.now.locked.items floor.old floor.new }
     ensures committed { KeepsCommittedPlaces seat.now.team.now floor.old floor.new }
 {
     for phase in &PHASES {
@@ -227,7 +244,7 @@ fn run_pass<S: Seeker + Drop, K: Sink>(
         match run_edits(
             floor,
             seat,
-            pass.marks.as_slice(),
+            pass.locked.as_slice(),
             cell_edits.as_slice(),
             texts,
             lines,
@@ -260,8 +277,10 @@ fn run_local_pass<S: Seeker + Drop, K: Sink>(
     reach: &Neighborhood,
     lines: &mut K,
 ) -> Result<(), RepairFault>
-    ensures run { (l : Legalizer) → IfOk result (λ _. IsWrittenRun l seat.now.team.now floor.old (K.contents lines.old) (K.contents lines.new) floor.new) }
-    ensures err { (l : Legalizer) → OnErr result (IsRunWithCutLine l seat.now.team.now floor.old (K.contents lines.old) (K.contents lines.new) floor.new) }
+    ensures run { (l : Legalizer) → IfOk result
+        (λ _. IsWrittenRun l seat.now.team.now floor.old (K.contents lines.old) (K.contents lines.new) floor.new) }
+    ensures err { (l : Legalizer) → OnErr result
+        (IsRunWithCutLine l seat.now.team.now floor.old (K.contents lines.old) (K.contents lines.new) floor.new) }
     ensures only { ChangesOnly seat.now.team.now floor.old floor.new }
     ensures committed { KeepsCommittedPlaces seat.now.team.now floor.old floor.new }
 {
@@ -281,7 +300,7 @@ fn run_local_pass<S: Seeker + Drop, K: Sink>(
     run_edits(
         floor,
         seat,
-        local_plan.pass.marks.as_slice(),
+        local_plan.pass.locked.as_slice(),
         back.as_slice(),
         &mut texts,
         lines,
@@ -290,10 +309,10 @@ fn run_local_pass<S: Seeker + Drop, K: Sink>(
 
 /// Whether legal cells may move as needed.
 fn is_as_needed(how: MovePolicy) -> bool
-    ensures { how ≡ Keep → result ≡ false }
+    ensures { how ≡ KeepLegal → result ≡ false }
 {
     match how {
-        MovePolicy::AsNeeded => true,
+        MovePolicy::MoveAsNeeded => true,
         _ => false,
     }
 }
@@ -306,10 +325,12 @@ fn run_local_passes<S: Seeker + Drop, K: Sink>(
     start: &RepairInput,
     lines: &mut K,
 ) -> Result<(), RepairFault>
-    ensures run { (l : Legalizer) → IfOk result (λ _. IsWrittenRun l seat.now.team.now floor.old (K.contents lines.old) (K.contents lines.new) floor.new) }
-    ensures err { (l : Legalizer) → OnErr result (IsRunWithCutLine l seat.now.team.now floor.old (K.contents lines.old) (K.contents lines.new) floor.new) }
+    ensures run { (l : Legalizer) → IfOk result
+        (λ _. IsWrittenRun l seat.now.team.now floor.old (K.contents lines.old) (K.contents lines.new) floor.new) }
+    ensures err { (l : Legalizer) → OnErr result
+        (IsRunWithCutLine l seat.now.team.now floor.old (K.contents lines.old) (K.contents lines.new) floor.new) }
     ensures only { ChangesOnly seat.now.team.now floor.old floor.new }
-    ensures kept { start.now.how ≡ Keep → floor.new ≡ floor.old }
+    ensures kept { start.now.how ≡ KeepLegal → floor.new ≡ floor.old }
     ensures committed { KeepsCommittedPlaces seat.now.team.now floor.old floor.new }
 {
     if !is_as_needed(start.how) {
@@ -334,16 +355,23 @@ fn repair_in_session<S: Seeker + Drop, K: Sink>(
     lines: &mut K,
 ) -> Result<RepairOutcome, RepairFault>
     requires { team_number floor.old.frame team.now ≡ Some number }
-    ensures run { (l : Legalizer) → IfOk result (λ _. IsWrittenRun l team.now floor.old (K.contents lines.old) (K.contents lines.new) floor.new) }
-    ensures err { (l : Legalizer) → OnErr result (IsRunWithCutLine l team.now floor.old (K.contents lines.old) (K.contents lines.new) floor.new) }
+    ensures run { (l : Legalizer)
+        → IfOk result (λ _. IsWrittenRun l team.now floor.old (K.contents lines.old) (K.contents lines.new) floor.new) }
+    ensures err { (l : Legalizer)
+        → OnErr result (IsRunWithCutLine l team.now floor.old (K.contents lines.old) (K.contents lines.new) floor.new) }
     ensures only { ChangesOnly team.now floor.old floor.new }
-    ensures marked { start.now.how ≡ Keep → KeepsLockedPlaces team.now start.now.pass.marks.items floor.old floor.new }
-    ensures changed { IfOk result (λ found. TeamIsAtTargetsExcept team.now start.now.pass.wanted_places.items floor.new found.changed.items) }
-    ensures moved { IfOk result (λ found. TeamHasLeftTargets team.now start.now.pass.wanted_places.items floor.new found.changed.items) }
+    ensures marked { start.now.how ≡ KeepLegal
+        → KeepsLockedPlaces team.now start.now.pass.locked.items floor.old floor.new }
+    ensures changed { IfOk result
+        (λ found. TeamIsAtTargetsExcept team.now start.now.pass.wanted_places.items floor.new found.changed.items) }
+    ensures moved { IfOk result
+        (λ found. TeamHasLeftTargets team.now start.now.pass.wanted_places.items floor.new found.changed.items) }
     ensures named { IfOk result (λ found. AreLegalExcept team.now floor.new found.left.items) }
     ensures illegal { IfOk result (λ found. All (λ own. IsIllegalIn floor.new team.now own) found.left.items) }
-    ensures committed { (l : Legalizer) → IfOk result (λ found. found.left.items ≡ [] → AllCommittedIn l floor.new team.now) }
-    ensures uncommitted { IfOk result (λ found. found.left.items ≢ [] → KeepsCommittedPlaces team.now floor.old floor.new) }
+    ensures committed { (l : Legalizer)
+        → IfOk result (λ found. found.left.items ≡ [] → AllCommittedIn l floor.new team.now) }
+    ensures uncommitted { IfOk result
+        (λ found. found.left.items ≢ [] → KeepsCommittedPlaces team.now floor.old floor.new) }
 {
     let mut texts = Buffers::new(alloc);
     let session = match open(floor, team, &mut texts, lines) {
@@ -375,9 +403,9 @@ fn repair_in_session<S: Seeker + Drop, K: Sink>(
 
 /// Repairs a team: moves its cells that break a rule or have no place to legal places.
 ///
-/// With `All` other cells may move too, with `AsNeeded` only if a cell would otherwise have no
-/// place or a long displacement. With `Keep` legal cells never move, whether or not the repair
-/// succeeds. All cells whose place changed are listed.
+/// With `MoveAll` other cells may move too, with `MoveAsNeeded` only if a cell would otherwise have
+/// no place or a long displacement. With `KeepLegal` legal cells never move, whether or not the
+/// repair succeeds. All cells whose place changed are listed.
 ///
 /// Each command is sent to the floor, and its line is written exactly if the floor accepts it. If a
 /// line can contain the team's name, each line reads as its command.
@@ -396,17 +424,22 @@ pub fn repair_team<S: Seeker + Drop, K: Sink>(
     how: MovePolicy,
     lines: &mut K,
 ) -> Result<RepairStats, RepairFault>
-    ensures run { (l : Legalizer) → IfOk result (λ _. IsWrittenRun l team.now floor.old (K.contents lines.old) (K.contents lines.new) floor.new) }
-    ensures err { (l : Legalizer) → OnErr result (IsRunWithCutLine l team.now floor.old (K.contents lines.old) (K.contents lines.new) floor.new) }
+    ensures run { (l : Legalizer)
+        → IfOk result (λ _. IsWrittenRun l team.now floor.old (K.contents lines.old) (K.contents lines.new) floor.new) }
+    ensures err { (l : Legalizer)
+        → OnErr result (IsRunWithCutLine l team.now floor.old (K.contents lines.old) (K.contents lines.new) floor.new) }
     ensures only { ChangesOnly team.now floor.old floor.new }
     ensures unknown { team_number floor.old.frame team.now ≡ None → result ≡ Err RepairFault.NoTeam }
-    ensures kept { how ≡ Keep → KeepsLegalPlaces team.now floor.old floor.new }
+    ensures kept { how ≡ KeepLegal → KeepsLegalPlaces team.now floor.old floor.new }
     ensures changed { IfOk result (λ repaired. OnlyListedMove team.now floor.old floor.new repaired.changed.items) }
     ensures moved { IfOk result (λ repaired. AllListedMove team.now floor.old floor.new repaired.changed.items) }
-    ensures named { IfOk result (λ repaired. AreLegalExcept team.now floor.new repaired.left.items) }
-    ensures illegal { IfOk result (λ repaired. All (λ own. IsIllegalIn floor.new team.now own) repaired.left.items) }
-    ensures committed { (l : Legalizer) → IfOk result (λ repaired. repaired.left.items ≡ [] ↔ AllCommittedIn l floor.new team.now) }
-    ensures uncommitted { IfOk result (λ repaired. repaired.left.items ≢ [] → committed_in floor.new team.now ≡ committed_in floor.old team.now) }
+    ensures named { IfOk result (λ repaired. AreLegalExcept team.now floor.new repaired.unrepaired.items) }
+    ensures illegal { IfOk result
+        (λ repaired. All (λ own. IsIllegalIn floor.new team.now own) repaired.unrepaired.items) }
+    ensures committed { (l : Legalizer)
+        → IfOk result (λ repaired. repaired.unrepaired.items ≡ [] ↔ AllCommittedIn l floor.new team.now) }
+    ensures uncommitted { IfOk result (λ repaired. repaired.unrepaired.items ≢ []
+        → committed_in floor.new team.now ≡ committed_in floor.old team.now) }
     ensures reported { IfOk result (λ repaired. AreTeamStats team.now floor.old floor.new repaired) }
 {
     let Some(number) = floor.team_number(team) else {

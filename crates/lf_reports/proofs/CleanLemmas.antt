@@ -294,10 +294,10 @@ all_reported l f padding cells all = found_hold HasPrintableNames (violation_at 
 
 -- ---- the cells of a design
 
-pub standing_listed : (cells : List LoadedCell) (places : List (Option Place)) → map design_cell_of (listed_at cells places) ≡ design_cells_at cells places
-standing_listed [] places = refl
-standing_listed (c ∷ cells) [] = ap (λ (rest : List DesignCell). record { team = c.team; mac = c.mac; place = None } ∷ rest) (standing_listed cells [])
-standing_listed (c ∷ cells) (p ∷ places) = ap (λ (rest : List DesignCell). record { team = c.team; mac = c.mac; place = option_map spot_of p } ∷ rest) (standing_listed cells places)
+pub design_cells_listed : (cells : List LoadedCell) (places : List (Option Place)) → map design_cell_of (listed_at cells places) ≡ design_cells_at cells places
+design_cells_listed [] places = refl
+design_cells_listed (c ∷ cells) [] = ap (λ (rest : List DesignCell). record { team = c.team; mac = c.mac; place = None } ∷ rest) (design_cells_listed cells [])
+design_cells_listed (c ∷ cells) (p ∷ places) = ap (λ (rest : List DesignCell). record { team = c.team; mac = c.mac; place = option_map spot_of p } ∷ rest) (design_cells_listed cells places)
 
 listed_cell : (f : Frame) → CellIsSized → (c : LoadedCell) (place : Option Place) → IsCell f c →
     IsListed f (record { name = c.name; team = c.team; mac = c.mac; place = place })

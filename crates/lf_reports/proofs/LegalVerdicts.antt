@@ -16,7 +16,7 @@ use Rattle.lf_rules.specs.FullyLegal.{DesignCell, IsFullyLegal, design_cells_at}
 use Rattle.lf_rules.specs.Legalizer.{Legalizer}
 use Rattle.lf_rules.specs.Reports.{IsClean}
 use Rattle.lf_reports.specs.Reports.{AreVerdicts, IsFaultless, broken_among, listed_at, report_of, verdict_at, violation_at, violation_by, violation_of, violations_in}
-use Rattle.lf_reports.proofs.CleanLemmas.{all_listed, clean_is_legal, standing_listed}
+use Rattle.lf_reports.proofs.CleanLemmas.{all_listed, clean_is_legal, design_cells_listed}
 
 -- ---- there are as many verdicts with a broken rule as violations
 
@@ -77,7 +77,7 @@ unplaced_are (c ∷ cells) (p ∷ places) long =
 pub clean_there : (l : Legalizer) (f : Frame) (cells : List LoadedCell) (places : List (Option Place)) → CellIsSized → All (IsCell f) cells →
     IsClean (report_of l f 0 (listed_at cells places)) ↔ IsFullyLegal f (design_cells_at cells places)
 clean_there l f cells places sized known =
-    subst (λ (standing : List DesignCell). IsClean (report_of l f 0 (listed_at cells places)) ↔ IsFullyLegal f standing) (standing_listed cells places)
+    subst (λ (design : List DesignCell). IsClean (report_of l f 0 (listed_at cells places)) ↔ IsFullyLegal f design) (design_cells_listed cells places)
     (clean_is_legal l f (listed_at cells places) (all_listed f sized cells places known))
 
 length_nil : {Y : Type 0} (ys : List Y) → length ys ≡ 0 → ys ≡ []

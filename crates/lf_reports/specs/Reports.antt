@@ -35,20 +35,24 @@ design_cell_of c = record { team = c.team; mac = c.mac; place = option_map spot_
 -- The cell with this number, as a candidate at its place, with a padding, among the other placed
 -- cells that are listed.
 abbrev pub candidate_among : Frame → ℕ → List (Listed (List ℕ)) → ℕ → Listed (List ℕ) → Place → Candidate
-candidate_among f padding cells own c p = candidate_of f c.team padding (macro_of f c.mac) p (boxes_beside f (map listed_member cells) own)
+candidate_among f padding cells own c p =
+    candidate_of f c.team padding (macro_of f c.mac) p (boxes_beside f (map listed_member cells) own)
 
 -- The first rule that the cell breaks at its place; an unplaced cell breaks no rule.
 abbrev pub broken_among : Legalizer → Frame → ℕ → List (Listed (List ℕ)) → ℕ → Listed (List ℕ) → Option Broken
-broken_among l f padding cells own c = option_and_then (λ p. l.first_broken (candidate_among f padding cells own c p)) c.place
+broken_among l f padding cells own c =
+    option_and_then (λ p. l.first_broken (candidate_among f padding cells own c p)) c.place
 
 -- The verdict with this number: the first broken rule, or `None`.
 abbrev pub verdict_at : List (Option Broken) → ℕ → Option Broken
 verdict_at verdicts own = slice_index_or verdicts own None
 
 -- Each cell's verdict is the first rule that it breaks at its place.
-pub record AreVerdicts (l : Legalizer) (f : Frame) (padding : ℕ) (cells : List (Listed (List ℕ))) (verdicts : List (Option Broken)) : Type 0 where
+pub record AreVerdicts (l : Legalizer) (f : Frame) (padding : ℕ) (cells : List (Listed (List ℕ)))
+    (verdicts : List (Option Broken)) : Type 0 where
   pub count : length verdicts ≡ length cells
-  pub each : (own : ℕ) (c : Listed (List ℕ)) → slice_get cells own ≡ Some c → verdict_at verdicts own ≡ broken_among l f padding cells own c
+  pub each : (own : ℕ) (c : Listed (List ℕ)) → slice_get cells own ≡ Some c
+      → verdict_at verdicts own ≡ broken_among l f padding cells own c
 
 -- No cell is unplaced, and every verdict is `None`.
 pub record IsFaultless (places : List (Option Place)) (verdicts : List (Option Broken)) : Type 0 where
@@ -56,7 +60,8 @@ pub record IsFaultless (places : List (Option Place)) (verdicts : List (Option B
   pub none_broken : count_by is_some verdicts ≡ 0
 
 -- Some cells have their verdict; that of each other cell is still `None`.
-pub record AreSomeVerdicts (l : Legalizer) (f : Frame) (padding : ℕ) (cells : List (Listed (List ℕ))) (verdicts : List (Option Broken)) : Type 0 where
+pub record AreSomeVerdicts (l : Legalizer) (f : Frame) (padding : ℕ) (cells : List (Listed (List ℕ)))
+    (verdicts : List (Option Broken)) : Type 0 where
   pub count : length verdicts ≡ length cells
   pub each : (own : ℕ) (c : Listed (List ℕ)) → slice_get cells own ≡ Some c →
       (verdict_at verdicts own ≡ None) ⊎ (verdict_at verdicts own ≡ broken_among l f padding cells own c)
@@ -66,16 +71,21 @@ abbrev pub IsVerdictSet : ℕ → Option Broken → List (Option Broken) → Lis
 IsVerdictSet own verdict old new = ((verdict ≡ None) × (new ≡ old)) ⊎ (new ≡ set old own verdict)
 
 -- The cell with this number has its verdict, and so does each cell that already had it.
-pub record SetsVerdict (l : Legalizer) (f : Frame) (padding : ℕ) (cells : List (Listed (List ℕ))) (own : ℕ) (old new : List (Option Broken)) : Type 0 where
+pub record SetsVerdict (l : Legalizer) (f : Frame) (padding : ℕ) (cells : List (Listed (List ℕ))) (own : ℕ)
+    (old new : List (Option Broken)) : Type 0 where
   pub some : AreSomeVerdicts l f padding cells new
-  pub put : (c : Listed (List ℕ)) → slice_get cells own ≡ Some c → verdict_at new own ≡ broken_among l f padding cells own c
-  pub kept : (other : ℕ) (c : Listed (List ℕ)) → slice_get cells other ≡ Some c → verdict_at old other ≡ broken_among l f padding cells other c →
+  pub put : (c : Listed (List ℕ)) → slice_get cells own ≡ Some c
+      → verdict_at new own ≡ broken_among l f padding cells own c
+  pub kept : (other : ℕ) (c : Listed (List ℕ)) → slice_get cells other ≡ Some c
+      → verdict_at old other ≡ broken_among l f padding cells other c →
       verdict_at new other ≡ broken_among l f padding cells other c
 
 -- The cells of the given boxes have their verdict. Each other cell has its verdict or still `None`.
-pub record HaveVerdicts (l : Legalizer) (f : Frame) (padding : ℕ) (cells : List (Listed (List ℕ))) (boxes : List Placed) (verdicts : List (Option Broken)) : Type 0 where
+pub record HaveVerdicts (l : Legalizer) (f : Frame) (padding : ℕ) (cells : List (Listed (List ℕ))) (boxes : List Placed)
+    (verdicts : List (Option Broken)) : Type 0 where
   pub some : AreSomeVerdicts l f padding cells verdicts
-  pub done : All (λ p. (c : Listed (List ℕ)) → slice_get cells p.own ≡ Some c → verdict_at verdicts p.own ≡ broken_among l f padding cells p.own c) boxes
+  pub done : All (λ p. (c : Listed (List ℕ)) → slice_get cells p.own ≡ Some c
+      → verdict_at verdicts p.own ≡ broken_among l f padding cells p.own c) boxes
 
 -- The name of the cell with this number.
 abbrev pub name_among : List (Listed (List ℕ)) → ℕ → Option (List ℕ)
@@ -100,7 +110,11 @@ violations_in l f padding cells = filter_map (violation_at l f padding cells) (r
 -- The report of a list of cells, in which overlap is between any two of them. A team's report has
 -- the team's cells and its padding; a design's report has the cells of all teams and no padding.
 abbrev pub report_of : Legalizer → Frame → ℕ → List (Listed (List ℕ)) → Report
-report_of l f padding cells = record { cells = length cells; unplaced = count_by (λ c. is_none c.place) cells; violations = violations_in l f padding cells }
+report_of l f padding cells = record {
+  cells = length cells;
+  unplaced = count_by (λ c. is_none c.place) cells;
+  violations = violations_in l f padding cells;
+}
 
 -- The cell's macro is one of the frame's, of whole size, and its name is a name.
 pub record IsListed (f : Frame) (c : Listed (List ℕ)) : Type 0 where
@@ -118,4 +132,9 @@ CleanIsLegal =
 abbrev pub listed_at : List LoadedCell → List (Option Place) → List (Listed (List ℕ))
 listed_at [] places = []
 listed_at (c ∷ cells) [] = record { name = c.name; team = c.team; mac = c.mac; place = None } ∷ listed_at cells []
-listed_at (c ∷ cells) (p ∷ places) = record { name = c.name; team = c.team; mac = c.mac; place = p } ∷ listed_at cells places
+listed_at (c ∷ cells) (p ∷ places) = record {
+  name = c.name;
+  team = c.team;
+  mac = c.mac;
+  place = p;
+} ∷ listed_at cells places

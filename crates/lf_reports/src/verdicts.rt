@@ -15,12 +15,12 @@ ghost use Rattle.lf_reports.specs.Reports.{SetsVerdict, verdict_at, violation_at
 ghost use Rattle.lf_rules.specs.Team.{Member, boxes_beside, boxes_from, with_box};
 
 use lf_floorplan::{Frame, FrameQuery, Loaded, LoadedCells, Macro, Place, cell_is_sized};
+use lf_frame_index::{FrameIndex, IndexedFrame};
 use lf_rtree::{Placed, RTree};
 use lf_rules::{
     Broken, Listed, Padding, Report, Violation, box_of, broken_frame_rule, legalizer_exists,
     overlap_of, padded_box, verdict_is_unique,
 };
-use lf_segments::{FrameIndex, IndexedFrame};
 use lf_units::{Name, Sequence};
 use std::alloc::{AllocError, Global};
 
@@ -42,7 +42,8 @@ fn push_box(
     own: u32,
 ) -> Result<(), AllocError>
     requires { IsListed frame.now (with_byte_name cell.now) }
-    ensures { OnOk result (others.new.items ≡ others.old.items ++ with_box frame.now own cell.now.mac (listed_member (with_byte_name cell.now)).place []) }
+    ensures { OnOk result (others.new.items
+        ≡ others.old.items ++ with_box frame.now own cell.now.mac (listed_member (with_byte_name cell.now)).place []) }
 {
     if let Some(place) = cell.place {
         others.push(Placed {
@@ -65,7 +66,8 @@ fn broken_at(
 ) -> Option<Broken>
     requires { IsListed plan.now (with_byte_name cell.now) }
     ensures { (cells : List Member) → IsPermutation (boxes_from plan.now 0 cells) boxes.now →
-        IsVerdict (candidate_of plan.now cell.now.team padding.sites (macro_of plan.now cell.now.mac) place.now (boxes_beside plan.now cells own)) result }
+        IsVerdict (candidate_of plan.now cell.now.team padding.sites (macro_of plan.now cell.now.mac) place.now
+        (boxes_beside plan.now cells own)) result }
 {
     let frame = plan.frame();
     let mac = macro_in(frame, cell);
@@ -89,7 +91,8 @@ fn broken_in(
     requires this { IsListed plan.now (with_byte_name cell.now) }
     requires within { own < length cells.now }
     requires tree { IsPermutation (boxes_from plan.now 0 (map listed_member (map with_byte_name cells.now))) boxes.now }
-    ensures { (l : Legalizer) → result ≡ broken_among l plan.now padding.sites (map with_byte_name cells.now) own (with_byte_name cell.now) }
+    ensures { (l : Legalizer) → result
+        ≡ broken_among l plan.now padding.sites (map with_byte_name cells.now) own (with_byte_name cell.now) }
 {
     verdict_is_unique();
     let place = cell.place?;
@@ -129,7 +132,8 @@ fn violation_of(
     cell: &Listed<&[u8]>,
     broken: Broken,
 ) -> Result<Violation, AllocError>
-    ensures { IfOk result (λ violation. violation ≡ violation_of (map with_byte_name cells.now) (with_byte_name cell.now) broken) }
+    ensures { IfOk result
+        (λ violation. violation ≡ violation_of (map with_byte_name cells.now) (with_byte_name cell.now) broken) }
 {
     let other = other_name(alloc, cells, broken.other)?;
     Ok(Violation {
@@ -179,8 +183,10 @@ fn put_verdict(
     requires tree { IsPermutation (boxes_from plan.now 0 (map listed_member (map with_byte_name cells.now))) boxes.now }
     requires count { length verdicts.old.items ≡ length cells.now }
     ensures count { length verdicts.new.items ≡ length cells.now }
-    ensures put { (l : Legalizer) → AreSomeVerdicts l plan.now padding.sites (map with_byte_name cells.now) verdicts.old.items
-        → SetsVerdict l plan.now padding.sites (map with_byte_name cells.now) own verdicts.old.items verdicts.new.items }
+    ensures put { (l : Legalizer)
+        → AreSomeVerdicts l plan.now padding.sites (map with_byte_name cells.now) verdicts.old.items
+        → SetsVerdict l plan.now padding.sites
+        (map with_byte_name cells.now) own verdicts.old.items verdicts.new.items }
 {
     let verdict = broken_in(plan, boxes, cells, own, cell, padding);
     put(verdicts, own, verdict);
@@ -194,7 +200,8 @@ fn fetch<'a>(
     boxes: &[Placed],
 ) -> Result<Vec<Listed<&'a [u8]>>, AllocError>
     requires { All (λ p. p.own < length cells.now) boxes.now }
-    ensures { IfOk result (λ fetched. map Some (map with_byte_name fetched.items) ≡ map (λ p. slice_get (map with_byte_name cells.now) p.own) boxes.now) }
+    ensures { IfOk result (λ fetched. map Some (map with_byte_name fetched.items)
+        ≡ map (λ p. slice_get (map with_byte_name cells.now) p.own) boxes.now) }
 {
     let mut fetched = Vec::with_capacity(alloc, boxes.len())?;
     for placed in boxes {
@@ -219,8 +226,10 @@ fn put_verdicts(
     requires known { All (λ p. p.own < length cells.now) boxes.now }
     requires count { length verdicts.old.items ≡ length cells.now }
     ensures count { length verdicts.new.items ≡ length cells.now }
-    ensures put { (l : Legalizer) (done : List Placed) → HaveVerdicts l plan.now padding.sites (map with_byte_name cells.now) done verdicts.old.items →
-        OnOk result (HaveVerdicts l plan.now padding.sites (map with_byte_name cells.now) (done ++ boxes.now) verdicts.new.items) }
+    ensures put { (l : Legalizer) (done : List Placed)
+        → HaveVerdicts l plan.now padding.sites (map with_byte_name cells.now) done verdicts.old.items →
+        OnOk result
+        (HaveVerdicts l plan.now padding.sites (map with_byte_name cells.now) (done ++ boxes.now) verdicts.new.items) }
 {
     let fetched = fetch(alloc, cells, boxes)?;
     for (number, placed) in boxes.iter().enumerate() {
@@ -247,7 +256,8 @@ fn verdicts_in(
     requires few { length cells.now ≤ 4000000 }
     requires tree { IsPermutation (boxes_from plan.now 0 (map listed_member (map with_byte_name cells.now))) tree.now }
     ensures count { IfOk result (λ verdicts. length verdicts.items ≡ length cells.now) }
-    ensures each { (l : Legalizer) → IfOk result (λ verdicts. AreVerdicts l plan.now padding.sites (map with_byte_name cells.now) verdicts.items) }
+    ensures each { (l : Legalizer)
+        → IfOk result (λ verdicts. AreVerdicts l plan.now padding.sites (map with_byte_name cells.now) verdicts.items) }
 {
     let mut verdicts = no_verdicts(alloc, cells.len())?;
     let mut rest = tree.boxes();
@@ -270,7 +280,8 @@ fn push_violation(
 ) -> Result<(), AllocError>
     requires within { own < length cells.now }
     requires count { length verdicts.now ≡ length cells.now }
-    ensures { (l : Legalizer) (f : Frame) (padding : ℕ) → AreVerdicts l f padding (map with_byte_name cells.now) verdicts.now
+    ensures { (l : Legalizer) (f : Frame) (padding : ℕ)
+        → AreVerdicts l f padding (map with_byte_name cells.now) verdicts.now
         → OnOk result (violations.new.items ≡ violations.old.items ++ cons_option
         (violation_at l f padding (map with_byte_name cells.now) own) []) }
 {
@@ -291,7 +302,8 @@ fn violations_in(
     verdicts: &[Option<Broken>],
 ) -> Result<Vec<Violation>, AllocError>
     requires { length verdicts.now ≡ length cells.now }
-    ensures { (l : Legalizer) (f : Frame) (padding : ℕ) → AreVerdicts l f padding (map with_byte_name cells.now) verdicts.now
+    ensures { (l : Legalizer) (f : Frame) (padding : ℕ)
+        → AreVerdicts l f padding (map with_byte_name cells.now) verdicts.now
         → IfOk result (λ violations. violations.items ≡ violations_in l f padding (map with_byte_name cells.now)) }
 {
     let mut violations = Vec::new(alloc);
@@ -319,9 +331,11 @@ pub fn report_from_verdicts(
     verdicts: &[Option<Broken>],
 ) -> Result<Report, AllocError>
     requires { length verdicts.now ≡ length cells.now }
-    ensures report { (l : Legalizer) (f : Frame) (padding : ℕ) → AreVerdicts l f padding (map with_byte_name cells.now) verdicts.now
+    ensures report { (l : Legalizer) (f : Frame) (padding : ℕ)
+        → AreVerdicts l f padding (map with_byte_name cells.now) verdicts.now
         → IfOk result (λ report. report ≡ report_of l f padding (map with_byte_name cells.now)) }
-    ensures reported { (l : Legalizer) (f : Frame) (padding : ℕ) → AreVerdicts l f padding (map with_byte_name cells.now) verdicts.now
+    ensures reported { (l : Legalizer) (f : Frame) (padding : ℕ)
+        → AreVerdicts l f padding (map with_byte_name cells.now) verdicts.now
         → All (λ c. IsListed f (with_byte_name c)) cells.now →
         IfOk result (λ report. All HasPrintableNames report.violations) }
 {
@@ -341,7 +355,8 @@ fn boxes_in(
 ) -> Result<Vec<Placed>, AllocError>
     requires listed { All (λ c. IsListed frame.now (with_byte_name c)) cells.now }
     requires few { length cells.now ≤ 4000000 }
-    ensures { IfOk result (λ boxes. boxes.items ≡ boxes_from frame.now 0 (map listed_member (map with_byte_name cells.now))) }
+    ensures { IfOk result
+        (λ boxes. boxes.items ≡ boxes_from frame.now 0 (map listed_member (map with_byte_name cells.now))) }
 {
     let mut boxes = Vec::with_capacity(alloc, cells.len())?;
     for (number, cell) in cells.iter().enumerate() {
@@ -366,7 +381,8 @@ pub fn verdicts_with_plan(
     requires listed { All (λ c. IsListed plan.now (with_byte_name c)) cells.now }
     requires few { length cells.now ≤ 4000000 }
     ensures count { IfOk result (λ verdicts. length verdicts.items ≡ length cells.now) }
-    ensures each { (l : Legalizer) → IfOk result (λ verdicts. AreVerdicts l plan.now padding.sites (map with_byte_name cells.now) verdicts.items) }
+    ensures each { (l : Legalizer)
+        → IfOk result (λ verdicts. AreVerdicts l plan.now padding.sites (map with_byte_name cells.now) verdicts.items) }
 {
     let boxes = boxes_in(alloc, plan.frame(), cells)?;
     let tree = RTree::build(alloc, boxes)?;
@@ -383,7 +399,8 @@ fn verdicts_over(
     requires listed { All (λ c. IsListed frame.now (with_byte_name c)) cells.now }
     requires few { length cells.now ≤ 4000000 }
     ensures count { IfOk result (λ verdicts. length verdicts.items ≡ length cells.now) }
-    ensures each { (l : Legalizer) → IfOk result (λ verdicts. AreVerdicts l frame.now 0 (map with_byte_name cells.now) verdicts.items) }
+    ensures each { (l : Legalizer)
+        → IfOk result (λ verdicts. AreVerdicts l frame.now 0 (map with_byte_name cells.now) verdicts.items) }
 {
     let ground = FrameIndex::build(alloc, frame)?;
     verdicts_with_plan(
@@ -430,8 +447,10 @@ pub fn verdicts_of_all(
 ) -> Result<Vec<Option<Broken>>, AllocError>
     requires { length places.now ≡ length loaded.now.cells }
     ensures count { IfOk result (λ verdicts. length verdicts.items ≡ length loaded.now.cells) }
-    ensures each { (l : Legalizer) → IfOk result (λ verdicts. AreVerdicts l loaded.now.frame 0 (listed_at loaded.now.cells places.now) verdicts.items) }
-    ensures legal { IfOk result (λ verdicts. IsFaultless places.now verdicts.items ↔ IsFullyLegal loaded.now.frame (design_cells_at loaded.now.cells places.now)) }
+    ensures each { (l : Legalizer) → IfOk result
+        (λ verdicts. AreVerdicts l loaded.now.frame 0 (listed_at loaded.now.cells places.now) verdicts.items) }
+    ensures legal { IfOk result (λ verdicts. IsFaultless places.now verdicts.items
+        ↔ IsFullyLegal loaded.now.frame (design_cells_at loaded.now.cells places.now)) }
 {
     cell_is_sized();
     legalizer_exists();
@@ -450,8 +469,10 @@ pub fn check_all(
     places: &[Option<Place>],
 ) -> Result<Report, AllocError>
     requires { length places.now ≡ length loaded.now.cells }
-    ensures report { (l : Legalizer) → IfOk result (λ report. report ≡ report_of l loaded.now.frame 0 (listed_at loaded.now.cells places.now)) }
-    ensures legal { IfOk result (λ report. IsClean report ↔ IsFullyLegal loaded.now.frame (design_cells_at loaded.now.cells places.now)) }
+    ensures report { (l : Legalizer)
+        → IfOk result (λ report. report ≡ report_of l loaded.now.frame 0 (listed_at loaded.now.cells places.now)) }
+    ensures legal { IfOk result (λ report. IsClean report
+        ↔ IsFullyLegal loaded.now.frame (design_cells_at loaded.now.cells places.now)) }
     ensures reported { IfOk result (λ report. All HasPrintableNames report.violations) }
 {
     cell_is_sized();

@@ -69,7 +69,8 @@ impl RTree {
     /// Returns the least number, other than `but`, of a box that shares a point with this
     /// rectangle. `None` iff there is no such box. Allocates nothing.
     pub fn least_overlapping(&self, rect: &Rect, but: u32) -> Option<u32>
-        ensures { MatchOption result (IsNoneOverlapping self.now rect.now but) (IsLeastOverlapping self.now rect.now but) }
+        ensures { MatchOption result (IsNoneOverlapping self.now rect.now but)
+            (IsLeastOverlapping self.now rect.now but) }
     {
         least_among(
             self.boxes.as_slice(),

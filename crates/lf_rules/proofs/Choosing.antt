@@ -6,7 +6,7 @@ use Rattle.lf_floorplan.specs.declared.parts.Row.{Row}
 use Rattle.lf_floorplan.specs.Boxes.{IsSized}
 use Rattle.lf_rules.specs.Choice.{SpotPlace, PlacementQuery, IsAllowedPlace, IsChoice, Precedes, distance, rank}
 use Rattle.lf_rules.specs.Scanning.{ScansPlaces, IsAtSite, IsOnSites, IsOnRows, spot_at}
-use Rattle.lf_rules.proofs.Looking.{passed_over, taken_first, taken, left, idle}
+use Rattle.lf_rules.proofs.Looking.{skipped_place, taken_first, taken, left, idle}
 use Rattle.lf_rules.proofs.Order.{ordered, through, not_itself, by_rank}
 use Rattle.lf_rules.proofs.SiteLemmas.{all_four, next_site, next_row, chosen}
 
@@ -47,7 +47,7 @@ abbrev Settled : PlacementQuery → Type 0
 Settled cell = (p : SpotPlace) → IsAllowedPlace cell p ⊎ (IsAllowedPlace cell p → ⊥)
 
 one_more : (cell : PlacementQuery) (target : Point) (best : Option SpotPlace) (s : SpotPlace) → IsAllowedPlace cell s ⊎ (IsAllowedPlace cell s → ⊥) → (new : Option SpotPlace) × ScansPlaces (λ p. p ≡ s) cell target best new
-one_more cell target best s (inr not_so) = (best, passed_over cell target best s not_so)
+one_more cell target best s (inr not_so) = (best, skipped_place cell target best s not_so)
 one_more cell target None s (inl is) = (Some s, taken_first cell target s is)
 one_more cell target (Some b) s (inl is) = elim (decided target s b) [
   | inl less ↦ (Some s, taken cell target b s is less)

@@ -10,7 +10,7 @@ use Rattle.lf_units.proofs.Edges.{edges_of_shared, shared_of_edges}
 use Rattle.lf_floorplan.specs.declared.frame.Frame.{Frame}
 use Rattle.lf_floorplan.specs.declared.parts.Row.{Row}
 use Rattle.lf_floorplan.specs.declared.parts.Team.{Team}
-use Rattle.lf_floorplan.specs.Standing.{IsSitesHigh, IsBottomRow, IsRowOfBox, Supports, rail_alternated}
+use Rattle.lf_floorplan.specs.RowSupport.{IsSitesHigh, IsBottomRow, IsRowOfBox, Supports, rail_alternated}
 use Rattle.lf_floorplan.specs.Ground.{InGround}
 use Rattle.std.specs.Option.{option_map}
 use Rattle.lf_orient.specs.declared.Rail.{Rail}

@@ -6,8 +6,8 @@ use Rattle.lf_rules.specs.Scanning.{ScansPlaces}
 use Rattle.lf_rules.proofs.Order.{through, not_itself}
 
 -- A place where the cell may not be put leaves the best one unchanged.
-pub passed_over : (cell : PlacementQuery) (target : Point) (best : Option SpotPlace) (s : SpotPlace) → (IsAllowedPlace cell s → ⊥) → ScansPlaces (λ p. p ≡ s) cell target best best
-passed_over cell target best s not_so = record {
+pub skipped_place : (cell : PlacementQuery) (target : Point) (best : Option SpotPlace) (s : SpotPlace) → (IsAllowedPlace cell s → ⊥) → ScansPlaces (λ p. p ≡ s) cell target best best
+skipped_place cell target best s not_so = record {
   may_go = λ h. h;
   kept = λ p h. h;
   seen = λ p e l. absurd (not_so (subst (λ (q : SpotPlace). IsAllowedPlace cell q) e l));

@@ -8,7 +8,7 @@ use Rattle.lf_units.specs.declared.geometry.Point.{Point}
 use Rattle.lf_units.specs.declared.geometry.Rect.{Rect}
 use Rattle.lf_floorplan.specs.declared.frame.Frame.{Frame}
 use Rattle.lf_floorplan.specs.declared.parts.Row.{Row}
-use Rattle.lf_floorplan.specs.Standing.{Supports, ExtendsOver, IsBottomRow, IsRowAt, IsRowOfBox}
+use Rattle.lf_floorplan.specs.RowSupport.{Supports, ExtendsOver, IsBottomRow, IsRowAt, IsRowOfBox}
 use Rattle.lf_floorplan.proofs.RowAtLemmas.{row_at_one}
 use Rattle.lf_rules.specs.Solid.{IsOnlyRow}
 

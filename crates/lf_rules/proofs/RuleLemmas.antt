@@ -8,13 +8,13 @@ use Rattle.lf_units.specs.Area.{Covers, SharesPoint}
 use Rattle.lf_orient.specs.Orientation.{is_allowed, EqualUnder, rail_below}
 use Rattle.lf_floorplan.specs.declared.frame.Frame.{Frame}
 use Rattle.lf_floorplan.specs.declared.parts.Row.{Row}
-use Rattle.lf_floorplan.proofs.StandingLemmas.{height_one, bottom_one}
+use Rattle.lf_floorplan.proofs.RowSupportLemmas.{height_one, bottom_one}
 use Rattle.lf_rules.specs.declared.rule.Rule.{Rule}
 use Rattle.lf_rules.specs.declared.rule.Rule.TheVariants.{Height, Row as RowRule, Stand, Orient as OrientRule, Rail as RailRule, Fence, Obstacle, Overlap}
 use Rattle.lf_rules.specs.Legality.{IsFirstOverlapping, IsFrameRuleVerdict, Candidate, box_of, padded_box, Holds, number_of, IsTeamLegal, IsFirstBroken}
 use Rattle.lf_rules.specs.Legalizer.{IsVerdict}
 use Rattle.lf_rules.proofs.LegalParts.{HoldsBelow, KeepsFrame, below_overlap, first_broken_by, frame_below, legal_by_parts, next_below, none_below}
-use Rattle.lf_floorplan.specs.Standing.{IsSitesHigh, IsBottomRow, Supports, RestsOnRows}
+use Rattle.lf_floorplan.specs.RowSupport.{IsSitesHigh, IsBottomRow, Supports, RestsOnRows}
 use Rattle.lf_floorplan.specs.Ground.{InGround}
 
 -- What holds at the height and the bottom row holds at each height and each bottom row of the box.

@@ -15,7 +15,7 @@ use Rattle.lf_rules.specs.declared.rule.Broken.{Broken}
 use Rattle.lf_rules.specs.Legality.{IsFirstOverlapping, Candidate, IsFirstBroken, box_of, padded_box}
 use Rattle.lf_floorplan.specs.Boxes.{IsSized, size_of}
 use Rattle.lf_floorplan.specs.Sizes.{turned}
-use Rattle.lf_floorplan.specs.Standing.{Supports}
+use Rattle.lf_floorplan.specs.RowSupport.{Supports}
 use Rattle.lf_rules.specs.Legalizer.{IsVerdict}
 use Rattle.lf_floorplan.proofs.SizeBounds.{IsSmall, small_pitch, turned_small, sized_pitch}
 use Rattle.lf_rules.proofs.RuleLemmas.{Found, OnRows, on_rows, frame_of, height_broken, row_broken, placed_and_broken, orient_broken, rail_broken, fence_broken, obstacle_broken, overlap_broken}

@@ -39,7 +39,16 @@ pub record PlacementQuery : Type 0 where
 -- The cell at a candidate place.
 abbrev pub candidate_at : PlacementQuery → SpotPlace → Candidate
 candidate_at c p =
-    record { frame = c.frame; team = c.team; padding = c.padding; mac = c.mac; x = p.x; y = p.y; orient = p.orient; others = c.others }
+    record {
+      frame = c.frame;
+      team = c.team;
+      padding = c.padding;
+      mac = c.mac;
+      x = p.x;
+      y = p.y;
+      orient = p.orient;
+      others = c.others;
+    }
 
 -- The place is team-legal for the cell.
 abbrev pub IsLegalAt : PlacementQuery → SpotPlace → Type 0
@@ -97,7 +106,8 @@ KeysDiffer = (target : Point) (p q : SpotPlace) → IsUpright p.orient → IsUpr
 pub record KeyOrders : Type 0 where
   pub not_itself : (target : Point) (p : SpotPlace) → Precedes target p p → ⊥
   pub through : (target : Point) (p q r : SpotPlace) → Precedes target p q → Precedes target q r → Precedes target p r
-  pub total : (target : Point) (p q : SpotPlace) → IsUpright p.orient → IsUpright q.orient → (p ≡ q) ⊎ (Precedes target p q ⊎ Precedes target q p)
+  pub total : (target : Point) (p q : SpotPlace) → IsUpright p.orient → IsUpright q.orient
+      → (p ≡ q) ⊎ (Precedes target p q ⊎ Precedes target q p)
 
 -- A legal place is upright.
 abbrev pub LegalIsUpright : Type 0
@@ -115,7 +125,8 @@ IsChoice c target found = MatchOption found ((p : SpotPlace) → IsAllowedPlace 
 
 -- A search has one result.
 abbrev pub BestPlaceIsUnique : Type 0
-BestPlaceIsUnique = (c : PlacementQuery) (target : Point) (a b : Option SpotPlace) → IsChoice c target a → IsChoice c target b → a ≡ b
+BestPlaceIsUnique = (c : PlacementQuery) (target : Point) (a b : Option SpotPlace) → IsChoice c target a
+    → IsChoice c target b → a ≡ b
 
 -- ---- the anchor
 

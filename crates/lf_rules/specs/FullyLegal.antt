@@ -20,7 +20,16 @@ pub record DesignCell : Type 0 where
 -- The cell at the place, with no other cell.
 abbrev pub candidate_alone : Frame → DesignCell → SpotPlace → Candidate
 candidate_alone f c p =
-    record { frame = f; team = c.team; padding = 0; mac = macro_of f c.mac; x = p.x; y = p.y; orient = p.orient; others = [] }
+    record {
+      frame = f;
+      team = c.team;
+      padding = 0;
+      mac = macro_of f c.mac;
+      x = p.x;
+      y = p.y;
+      orient = p.orient;
+      others = [];
+    }
 
 -- Rules 1 to 7 hold for the cell at the place.
 abbrev pub KeepsRules : Frame → DesignCell → SpotPlace → Type 0
@@ -40,7 +49,11 @@ pub record IsFullyLegal (f : Frame) (cells : List DesignCell) : Type 0 where
 abbrev pub design_cells_at : List LoadedCell → List (Option Place) → List DesignCell
 design_cells_at [] places = []
 design_cells_at (c ∷ cells) [] = record { team = c.team; mac = c.mac; place = None } ∷ design_cells_at cells []
-design_cells_at (c ∷ cells) (p ∷ places) = record { team = c.team; mac = c.mac; place = option_map spot_of p } ∷ design_cells_at cells places
+design_cells_at (c ∷ cells) (p ∷ places) = record {
+  team = c.team;
+  mac = c.mac;
+  place = option_map spot_of p;
+} ∷ design_cells_at cells places
 
 -- A cell of the team.
 abbrev pub design_cell : ℕ → Member → DesignCell
@@ -61,5 +74,6 @@ design_cells_from team (cells ∷ teams) = with_team team cells (design_cells_fr
 abbrev pub TeamsMakeLegal : Type 0
 TeamsMakeLegal =
     (f : Frame) (teams : List (List Member)) →
-    ((team : ℕ) (cells : List Member) → slice_get teams team ≡ Some cells → (own : ℕ) → IsLegalCell f team 0 cells own) →
+    ((team : ℕ) (cells : List Member) → slice_get teams team ≡ Some cells
+    → (own : ℕ) → IsLegalCell f team 0 cells own) →
     IsFullyLegal f (design_cells_from 0 teams)

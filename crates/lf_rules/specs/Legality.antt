@@ -11,7 +11,7 @@ use Rattle.lf_floorplan.specs.declared.place.Place.{Place}
 use Rattle.lf_floorplan.specs.Boxes.{size_of}
 use Rattle.lf_floorplan.specs.Sizes.{turned, box_at}
 use Rattle.lf_floorplan.specs.Ground.{StaysInGround, IsClear}
-use Rattle.lf_floorplan.specs.Standing.{IsSitesHigh, IsBottomRow, HasHeight, HasBottomRow, IsSupported}
+use Rattle.lf_floorplan.specs.RowSupport.{IsSitesHigh, IsBottomRow, HasHeight, HasBottomRow, IsSupported}
 use Rattle.lf_rules.specs.Padding.{length_of, wider}
 use Rattle.lf_rules.specs.declared.rule.Rule.{Rule}
 use Rattle.lf_rules.specs.declared.rule.Rule.TheVariants.{Height, Row as RowRule, Stand, Orient as OrientRule, Rail as RailRule, Fence, Obstacle, Overlap}
@@ -103,13 +103,16 @@ pub record IsFirstOverlapping (box : Rect) (others : List Placed) (own : ℕ) : 
 pub record IsFirstBroken (t : Candidate) (b : Broken) : Type 0 where
   pub broken : Holds t b.rule → ⊥
   pub lesser : (r : Rule) → number_of r < number_of b.rule → Holds t r
-  pub other : MatchOption b.other (b.rule ≢ Overlap) (λ own. (b.rule ≡ Overlap) × IsFirstOverlapping (padded_box t) t.others own)
+  pub other : MatchOption b.other (b.rule ≢ Overlap)
+      (λ own. (b.rule ≡ Overlap) × IsFirstOverlapping (padded_box t) t.others own)
 
 -- The verdict on all rules except Overlap: all of them hold, or this one is the first that is
 -- broken.
 abbrev pub IsFrameRuleVerdict : Candidate → Option Rule → Type 0
-IsFrameRuleVerdict t verdict = MatchOption verdict ((r : Rule) → number_of r ≤ 7 → Holds t r) (λ rule. IsFirstBroken t record { rule = rule; other = None })
+IsFrameRuleVerdict t verdict = MatchOption verdict ((r : Rule) → number_of r ≤ 7 → Holds t r)
+    (λ rule. IsFirstBroken t record { rule = rule; other = None })
 
 -- A team-legal place remains team-legal with less padding.
 abbrev pub LessPaddingKeepsLegal : Type 0
-LessPaddingKeepsLegal = (t : Candidate) (less : ℕ) → less ≤ t.padding → IsTeamLegal t → IsTeamLegal (record t { padding = less })
+LessPaddingKeepsLegal = (t : Candidate) (less : ℕ) → less ≤ t.padding → IsTeamLegal t
+    → IsTeamLegal (record t { padding = less })

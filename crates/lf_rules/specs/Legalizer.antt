@@ -18,7 +18,8 @@ pub record Legalizer : Type 0 where
   pub first_broken : Candidate → Option Broken
   pub best_place : PlacementQuery → Point → Option SpotPlace
   pub finds_first_broken : (t : Candidate) → IsSized t.frame t.mac → IsVerdict t (first_broken t)
-  pub finds_best_place : (c : PlacementQuery) (target : Point) → IsSized c.frame c.mac → IsChoice c target (best_place c target)
+  pub finds_best_place : (c : PlacementQuery) (target : Point) → IsSized c.frame c.mac
+      → IsChoice c target (best_place c target)
 
 -- A candidate has one verdict.
 abbrev pub VerdictIsUnique : Type 0

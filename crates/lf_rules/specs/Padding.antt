@@ -26,4 +26,5 @@ pub record HasRoomAround (r : Rect) : Type 0 where
 -- other, then the other, widened, shares a point with it.
 abbrev pub PaddingIsSymmetric : Type 0
 PaddingIsSymmetric =
-    (by : ℤ) (a b : Rect) → pos 0 ≤ℤ by → a.x1 <ℤ a.x2 → b.x1 <ℤ b.x2 → SharesPoint (wider by a) b → SharesPoint (wider by b) a
+    (by : ℤ) (a b : Rect) → pos 0 ≤ℤ by → a.x1 <ℤ a.x2 → b.x1 <ℤ b.x2 → SharesPoint (wider by a) b
+    → SharesPoint (wider by b) a

@@ -10,7 +10,8 @@ abbrev pub IsAsGood : Point → Option SpotPlace → SpotPlace → Type 0
 IsAsGood target best p = MatchOption best ⊥ (λ b. Precedes target p b → ⊥)
 
 -- The step from the best place so far to the one after these places are scanned too.
-pub record ScansPlaces (Seen : SpotPlace → Type 0) (cell : PlacementQuery) (target : Point) (old new : Option SpotPlace) : Type 0 where
+pub record ScansPlaces (Seen : SpotPlace → Type 0) (cell : PlacementQuery) (target : Point)
+    (old new : Option SpotPlace) : Type 0 where
   pub may_go : IfSome old (λ b. IsAllowedPlace cell b) → IfSome new (λ b. IsAllowedPlace cell b)
   pub kept : (p : SpotPlace) → IsAsGood target old p → IsAsGood target new p
   pub seen : (p : SpotPlace) → Seen p → IsAllowedPlace cell p → IsAsGood target new p

@@ -5,7 +5,7 @@ use Rattle.lf_units.specs.declared.geometry.Point.{Point}
 use Rattle.lf_units.specs.declared.geometry.Rect.{Rect}
 use Rattle.lf_floorplan.specs.declared.frame.Frame.{Frame}
 use Rattle.lf_floorplan.specs.declared.parts.Row.{Row}
-use Rattle.lf_floorplan.specs.Standing.{ExtendsOver}
+use Rattle.lf_floorplan.specs.RowSupport.{ExtendsOver}
 
 -- The box has points, and lies not far past the coordinates of a DEF text.
 pub record IsSolid (box : Rect) : Type 0 where

@@ -39,4 +39,5 @@ query_from f team padding cells own mac =
 -- The cell of this number is placed, and team-legal with this padding among the team's other cells.
 abbrev pub IsLegalCell : Frame → ℕ → ℕ → List Member → ℕ → Type 0
 IsLegalCell f team padding cells own =
-    (m : Member) → slice_get cells own ≡ Some m → MatchOption m.place ⊥ (λ p. IsLegalAt (query_from f team padding cells own m.mac) p)
+    (m : Member) → slice_get cells own ≡ Some m
+    → MatchOption m.place ⊥ (λ p. IsLegalAt (query_from f team padding cells own m.mac) p)

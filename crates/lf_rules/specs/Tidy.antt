@@ -26,7 +26,8 @@ target_of l c (Some p) = option_map (λ broken. point_of p) (l.first_broken (can
 -- The cell moves to its best place; the state is `Stuck` if there is no best place.
 abbrev pub tidied_to_best : Option SpotPlace → List Member → ℕ → ℕ → ℕ → Tidied
 tidied_to_best None cells moved own mac = Stuck own
-tidied_to_best (Some p) cells moved own mac = Going (slice_set cells own record { mac = mac; place = Some p }) (moved + 1)
+tidied_to_best (Some p) cells moved own mac =
+    Going (slice_set cells own record { mac = mac; place = Some p }) (moved + 1)
 
 -- The cell stays if it has no target; otherwise it moves to its best place for the target.
 abbrev pub tidied_to : Option Point → Legalizer → PlacementQuery → List Member → ℕ → ℕ → ℕ → Tidied
@@ -46,7 +47,8 @@ tidy_cell l f team padding (Going cells moved) own = tidied_own (slice_get cells
 -- `count` cells are tidied one after the other, from the number `own` on.
 abbrev pub tidied_from : Legalizer → Frame → ℕ → ℕ → ℕ → ℕ → Tidied → Tidied
 tidied_from l f team padding own zero t = t
-tidied_from l f team padding own (suc count) t = tidied_from l f team padding (own + 1) count (tidy_cell l f team padding t own)
+tidied_from l f team padding own (suc count) t =
+    tidied_from l f team padding (own + 1) count (tidy_cell l f team padding t own)
 
 -- All cells of the team, which has this padding, are tidied.
 unfoldable pub tidied : Legalizer → Frame → ℕ → ℕ → List Member → Tidied

@@ -34,7 +34,8 @@ pub fn box_of(frame: &Frame, mac: &Macro, place: &Place) -> Rect
 /// it shares no point with another cell of the team.
 pub fn padded_box(frame: &Frame, mac: &Macro, place: &Place, padding: Padding) -> Rect
     requires { IsSized frame.now mac.now }
-    ensures { result ≡ widened (length_of frame.now padding.sites) (box_at (turned (size_of frame.now mac.now) place.now.orient) place.now.x place.now.y) }
+    ensures { result ≡ widened (length_of frame.now padding.sites)
+        (box_at (turned (size_of frame.now mac.now) place.now.orient) place.now.x place.now.y) }
 {
     let rect = box_with_points(frame, mac, place);
     widen(&rect, padding.length(frame))

@@ -3,7 +3,7 @@
 ghost use Rattle.std.specs.Prelude.{◌≡◌, ◌↔◌, ◌<ℤ◌, IsTrue};
 ghost use Rattle.lf_floorplan.specs.Ground.{StaysInGround};
 ghost use Rattle.lf_floorplan.specs.Rows.{IsCoreRow};
-ghost use Rattle.lf_floorplan.specs.Standing.{ExtendsOver, IsRowAt, RestsOnRows};
+ghost use Rattle.lf_floorplan.specs.RowSupport.{ExtendsOver, IsRowAt, RestsOnRows};
 
 use crate::cover::is_covered;
 use crate::overlap::{is_clear_of, is_in_open_ground};

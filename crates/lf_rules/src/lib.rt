@@ -30,7 +30,7 @@
 //! From `crates/lf_placement/src/placement.rt`:
 //!
 //! ```
-//! let mac = &self.frame.macros.as_slice()[standing.mac];
+//! let mac = &self.frame.macros.as_slice()[cell_placement.mac];
 //! broken_frame_rule(&self.indexed_frame(), id.team as usize, mac, place)
 //! ```
 #![tactic(auto)]

@@ -23,7 +23,8 @@ pub(crate) fn is_clear_of(rect: &Rect, rects: &[Rect]) -> bool
 /// Returns the number of the first placed cell whose box shares a point with this one. `None` if
 /// there is no such cell.
 pub(crate) fn first_overlapping(rect: &Rect, others: &[Placed]) -> Option<u32>
-    ensures { MatchOption result (All (λ p. SharesPoint rect.now p.rect → ⊥) others.now) (λ own. IsFirstOverlapping rect.now others.now own) }
+    ensures { MatchOption result (All (λ p. SharesPoint rect.now p.rect → ⊥) others.now)
+        (λ own. IsFirstOverlapping rect.now others.now own) }
 {
     for other in others {
         if rect.overlaps(&other.rect) {

@@ -5,7 +5,7 @@ ghost use Rattle.std.specs.Option.{option_map};
 ghost use Rattle.lf_orient.specs.Orientation.{rail_below};
 ghost use Rattle.lf_floorplan.specs.Rows.{IsCoreRow};
 ghost use Rattle.lf_floorplan.specs.declared.parts.Row.{Row};
-ghost use Rattle.lf_floorplan.specs.Standing.{IsSitesHigh, IsRowOfBox, IsBottomRow, Supports, rail_alternated};
+ghost use Rattle.lf_floorplan.specs.RowSupport.{IsSitesHigh, IsRowOfBox, IsBottomRow, Supports, rail_alternated};
 ghost use Rattle.lf_rules.specs.Solid.{IsOnlyRow, IsSolid};
 
 use crate::cover::corner_of;
@@ -42,7 +42,8 @@ fn foot_of(pitch: &Point, rect: &Rect, sites: u32) -> Point
 /// This is rule 1. The box has points.
 pub fn height_in_sites(frame: &Frame, rect: &Rect) -> Option<u32>
     requires { IsSolid rect.now }
-    ensures { MatchOption result ((k : ℕ) → IsSitesHigh frame.now rect.now k → ⊥) (λ k. IsSitesHigh frame.now rect.now k) }
+    ensures { MatchOption result ((k : ℕ) → IsSitesHigh frame.now rect.now k → ⊥)
+        (λ k. IsSitesHigh frame.now rect.now k) }
 {
     for k in 1..9u32 {
         if rect.y2 == level(&frame.pitch, rect, k) {
@@ -123,7 +124,8 @@ fn row_at<'a, N: FrameQuery>(near: &'a N, point: &Point) -> Option<&'a Row>
 /// Returns the bottom row of the box. `None` if the box has no bottom row.
 pub(crate) fn bottom_row<'a, N: FrameQuery>(near: &'a N, rect: &Rect) -> Option<&'a Row>
     requires { IsSolid rect.now }
-    ensures { MatchOption result ((r : Row) → IsBottomRow (N.of near.now) rect.now r → ⊥) (λ r. IsBottomRow (N.of near.now) rect.now r.now) }
+    ensures { MatchOption result ((r : Row) → IsBottomRow (N.of near.now) rect.now r → ⊥)
+        (λ r. IsBottomRow (N.of near.now) rect.now r.now) }
 {
     let Some(row) = row_at(near, &corner_of(rect)) else {
         return None;
@@ -177,7 +179,7 @@ fn is_carried<N: FrameQuery>(near: &N, rect: &Rect, bottom: &Row, sites: u32) ->
 }
 
 /// Returns whether rows of the frame carry the box over all of its height.
-pub(crate) fn is_standing<N: FrameQuery>(near: &N, rect: &Rect, bottom: &Row, height: u32) -> bool
+pub(crate) fn is_supported<N: FrameQuery>(near: &N, rect: &Rect, bottom: &Row, height: u32) -> bool
     requires solid { IsSolid rect.now }
     requires few { height ≤ 8 }
     ensures { IsTrue result ↔ ((j : ℕ) → j < height → (s : Row) × Supports (N.of near.now) rect.now bottom.now j s) }

@@ -11,7 +11,7 @@ use crate::boxes::{box_with_points, padded_box};
 use crate::frame_scan::FrameScan;
 use crate::overlap::first_overlapping;
 use crate::padding::Padding;
-use crate::rows::{bottom_row, height_in_sites, is_standing};
+use crate::rows::{bottom_row, height_in_sites, is_supported};
 use crate::rule::{Broken, Rule};
 use lf_floorplan::{Frame, FrameQuery, Macro, Place, Row};
 use lf_orient::{Orient, equal_under, is_candidate, row_rail};
@@ -21,7 +21,8 @@ use lf_rtree::Placed;
 /// symmetry must allow it. If the height in core sites is odd, the core site's symmetry must make
 /// it equal to the row's. This is rule 4.
 pub fn is_oriented(frame: &Frame, mac: &Macro, orient: Orient, height: u32, bottom: &Row) -> bool
-    ensures { IsTrue result ↔ (IsTrue (is_allowed mac.now.symmetry orient) × (height % 2 ≡ 1 → EqualUnder frame.now.site.symmetry orient bottom.now.orient)) }
+    ensures { IsTrue result ↔ (IsTrue (is_allowed mac.now.symmetry orient)
+        × (height % 2 ≡ 1 → EqualUnder frame.now.site.symmetry orient bottom.now.orient)) }
 {
     if !is_candidate(mac.symmetry, orient) {
         return false;
@@ -50,7 +51,8 @@ pub fn broken_frame_rule<N: FrameQuery>(
     place: &Place,
 ) -> Option<Rule>
     requires { IsSized (N.of near.now) mac.now }
-    ensures { (padding : ℕ) (others : List Placed) → IsFrameRuleVerdict (candidate_of (N.of near.now) team padding mac.now place.now others) result }
+    ensures { (padding : ℕ) (others : List Placed)
+        → IsFrameRuleVerdict (candidate_of (N.of near.now) team padding mac.now place.now others) result }
 {
     let frame = near.frame();
     let rect = box_with_points(frame, mac, place);
@@ -60,7 +62,7 @@ pub fn broken_frame_rule<N: FrameQuery>(
     let Some(bottom) = bottom_row(near, &rect) else {
         return Some(Rule::Row);
     };
-    if !is_standing(near, &rect, bottom, height) {
+    if !is_supported(near, &rect, bottom, height) {
         return Some(Rule::Stand);
     }
     if !is_oriented(frame, mac, place.orient, height, bottom) {

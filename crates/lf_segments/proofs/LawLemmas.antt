@@ -12,7 +12,7 @@ use Rattle.lf_floorplan.specs.declared.frame.Frame.{Frame}
 use Rattle.lf_floorplan.specs.declared.parts.Row.{Row}
 use Rattle.lf_floorplan.specs.Rows.{row_area}
 use Rattle.lf_floorplan.specs.Ground.{StaysInGround}
-use Rattle.lf_floorplan.specs.Standing.{IsSitesHigh, IsBottomRow, IsRowOfBox, Supports, RestsOnRows}
+use Rattle.lf_floorplan.specs.RowSupport.{IsSitesHigh, IsBottomRow, IsRowOfBox, Supports, RestsOnRows}
 use Rattle.lf_segments.specs.declared.segment.Segment.{Segment}
 use Rattle.lf_segments.specs.Segments.{IsOpen, IsCutBeside, LiesInSegment}
 use Rattle.lf_segments.specs.Boxes.{x_extent}

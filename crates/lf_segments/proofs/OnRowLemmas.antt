@@ -18,7 +18,7 @@ use Rattle.lf_floorplan.specs.declared.parts.Row.{Row}
 use Rattle.lf_floorplan.specs.Bounds.{IsDefNumber}
 use Rattle.lf_floorplan.specs.Ground.{IsClear, StaysInGround}
 use Rattle.lf_floorplan.specs.Rows.{IsCoreRow, row_area}
-use Rattle.lf_floorplan.specs.Standing.{Supports, ExtendsOver, IsBottomRow, IsRowOfBox, IsSitesHigh, RestsOnRows}
+use Rattle.lf_floorplan.specs.RowSupport.{Supports, ExtendsOver, IsBottomRow, IsRowOfBox, IsSitesHigh, RestsOnRows}
 use Rattle.lf_floorplan.proofs.RowAtLemmas.{row_at_one}
 use Rattle.lf_segments.specs.declared.rows_by_y.RowEntry.{RowEntry}
 use Rattle.lf_segments.specs.declared.segment.Segment.{Segment}

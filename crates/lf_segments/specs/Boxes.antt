@@ -75,17 +75,20 @@ pub record IsCoveredAt (boxes : List Placed) (y : ℤ) (free covered : List Span
 -- upper one.
 pub record IsCoveredOver (boxes : List Placed) (lower upper : ℤ) (free covered : List Span) : Type 0 where
   pub rising : IsRising covered
-  pub exact : (s : Span) → IsFilled s → (LiesInOneOf covered s ↔ (LiesInOneOf free s × ((y : ℤ) → lower ≤ℤ y → y <ℤ upper → AreUnder boxes y s)))
+  pub exact : (s : Span) → IsFilled s
+      → (LiesInOneOf covered s ↔ (LiesInOneOf free s × ((y : ℤ) → lower ≤ℤ y → y <ℤ upper → AreUnder boxes y s)))
 
 -- A span as a segment of a row and a team.
 abbrev pub segment_of : ℕ → ℕ → Span → Segment
 segment_of row team s = record { row = row; team = team; span = s }
 
 -- The row's segments of the teams below a number.
-pub record IsCutOfRow (f : Frame) (obstacles : List Rect) (number : ℕ) (r : Row) (limit : ℕ) (segments : List Segment) : Type 0 where
+pub record IsCutOfRow (f : Frame) (obstacles : List Rect) (number : ℕ) (r : Row) (limit : ℕ)
+    (segments : List Segment) : Type 0 where
   pub known : All (λ g. (g.row ≡ number) × ((g.team < limit) × IsFilled g.span)) segments
   pub in_order : AllPairs ComesFirst segments
-  pub exact : (team : ℕ) (s : Span) → team < limit → IsFilled s → (LiesInSegment segments number team s ↔ ((x : ℤ) → HoldsNumber s x → IsOpen f obstacles r team x))
+  pub exact : (team : ℕ) (s : Span) → team < limit → IsFilled s
+      → (LiesInSegment segments number team s ↔ ((x : ℤ) → HoldsNumber s x → IsOpen f obstacles r team x))
 
 -- The maximal spans of a row that are clear of obstacles.
 pub record AreClear (f : Frame) (obstacles : List Rect) (r : Row) (spans : List Span) : Type 0 where
@@ -95,10 +98,12 @@ pub record AreClear (f : Frame) (obstacles : List Rect) (r : Row) (spans : List 
 -- The maximal spans of a row that the team may use.
 pub record AreOpen (f : Frame) (obstacles : List Rect) (r : Row) (team : ℕ) (spans : List Span) : Type 0 where
   pub rising : IsRising spans
-  pub exact : (s : Span) → IsFilled s → (LiesInOneOf spans s ↔ ((x : ℤ) → HoldsNumber s x → IsOpen f obstacles r team x))
+  pub exact : (s : Span) → IsFilled s
+      → (LiesInOneOf spans s ↔ ((x : ℤ) → HoldsNumber s x → IsOpen f obstacles r team x))
 
 -- The row's segments of the teams below a number are appended.
-pub record AddsRow (f : Frame) (obstacles : List Rect) (number : ℕ) (r : Row) (limit : ℕ) (old new : List Segment) : Type 0 where
+pub record AddsRow (f : Frame) (obstacles : List Rect) (number : ℕ) (r : Row) (limit : ℕ)
+    (old new : List Segment) : Type 0 where
   pub added : List Segment
   pub is : new ≡ old ++ added
   pub cut : IsCutOfRow f obstacles number r limit added

@@ -23,5 +23,6 @@ pub record AreRowsBetween (f : Frame) (from to : ℤ) (run : List RowEntry) : Ty
 -- The soft spans of the segment with this number in the frame's only list of segments; empty if
 -- there is no such segment.
 pub record IsSoftOf (f : Frame) (number : ℕ) (spans : List Span) : Type 0 where
-  pub there : (segments : List Segment) (g : Segment) → IsCut f segments → slice_get segments number ≡ Some g → AreSoftSpans f g spans
+  pub there : (segments : List Segment) (g : Segment) → IsCut f segments → slice_get segments number ≡ Some g
+      → AreSoftSpans f g spans
   pub past : (segments : List Segment) → IsCut f segments → slice_get segments number ≡ None → spans ≡ []

@@ -46,7 +46,8 @@ hull a b = record { x1 = int_min a.x1 b.x1; y1 = int_min a.y1 b.y1; x2 = int_max
 -- The maximal spans of a segment's numbers at which a point of its strip lies in a soft blockage.
 pub record AreSoftSpans (f : Frame) (g : Segment) (spans : List Span) : Type 0 where
   pub rising : IsRising spans
-  pub exact : (s : Span) → IsFilled s → (LiesInOneOf spans s ↔ (LiesIn s g.span × ((x : ℤ) → HoldsNumber s x → IsSoftAt f (strip_of f g).area x)))
+  pub exact : (s : Span) → IsFilled s
+      → (LiesInOneOf spans s ↔ (LiesIn s g.span × ((x : ℤ) → HoldsNumber s x → IsSoftAt f (strip_of f g).area x)))
 
 -- The soft spans of each segment.
 pub record AreSoft (f : Frame) (segments : List Segment) (soft : List (List Span)) : Type 0 where

@@ -53,13 +53,15 @@ IsRunBetween entries from to run = IsRunByY (λ v. v <ℤ from) (λ v. (from ≤
 -- The run at a y has exactly the rows of a frame at that y.
 abbrev pub RunAtHasRows : Type 0
 RunAtHasRows =
-    (f : Frame) (entries run : List RowEntry) (y : ℤ) (n : ℕ) (r : Row) → IsRowsByY f entries → IsRunAt entries y run → slice_get f.rows n ≡ Some r →
+    (f : Frame) (entries run : List RowEntry) (y : ℤ) (n : ℕ) (r : Row) → IsRowsByY f entries → IsRunAt entries y run
+    → slice_get f.rows n ≡ Some r →
     (Any (λ e. e.row ≡ n) run ↔ (r.y ≡ y))
 
 -- The run between two y has exactly the rows of a frame from the first on and below the second.
 abbrev pub RunBetweenHasRows : Type 0
 RunBetweenHasRows =
-    (f : Frame) (entries run : List RowEntry) (from to : ℤ) (n : ℕ) (r : Row) → IsRowsByY f entries → IsRunBetween entries from to run →
+    (f : Frame) (entries run : List RowEntry) (from to : ℤ) (n : ℕ) (r : Row) → IsRowsByY f entries
+    → IsRunBetween entries from to run →
     slice_get f.rows n ≡ Some r → (Any (λ e. e.row ≡ n) run ↔ ((from ≤ℤ r.y) × (r.y <ℤ to)))
 
 -- The entry lies below y, or at y and not right of x.

@@ -13,7 +13,8 @@ use Rattle.lf_segments.specs.Boxes.{x_extent, placed_with_number}
 -- The lists that begin at these positions; each ends where the next one begins.
 abbrev pub lists_from : List Span → List ℕ → List (List Span)
 lists_from spans [] = []
-lists_from spans (start ∷ starts) = slice_range spans start (slice_index_or starts 0 (length spans)) ∷ lists_from spans starts
+lists_from spans (start ∷ starts) =
+    slice_range spans start (slice_index_or starts 0 (length spans)) ∷ lists_from spans starts
 
 -- Positions in the list of spans, in order.
 pub record AreStarts (spans : List Span) (starts : List ℕ) : Type 0 where
@@ -34,14 +35,17 @@ pub record IsSoftAt (f : Frame) (area : Rect) (x : ℤ) : Type 0 where
 pub record AreOverlappedSpans (area : Rect) (boxes : List Placed) (spans : List Span) : Type 0 where
   pub rising : IsRising spans
   pub exact : (s : Span) → IsFilled s →
-      (LiesInOneOf spans s ↔ (LiesIn s (x_extent area) × ((x : ℤ) → HoldsNumber s x → Any (λ p. HoldsNumber (x_extent p.rect) x) boxes)))
+      (LiesInOneOf spans s
+      ↔ (LiesIn s (x_extent area) × ((x : ℤ) → HoldsNumber s x → Any (λ p. HoldsNumber (x_extent p.rect) x) boxes)))
 
 -- The maximal spans of the area's x range at which a point of it lies in a soft blockage.
 pub record AreSoftIn (f : Frame) (area : Rect) (spans : List Span) : Type 0 where
   pub rising : IsRising spans
-  pub exact : (s : Span) → IsFilled s → (LiesInOneOf spans s ↔ (LiesIn s (x_extent area) × ((x : ℤ) → HoldsNumber s x → IsSoftAt f area x)))
+  pub exact : (s : Span) → IsFilled s
+      → (LiesInOneOf spans s ↔ (LiesIn s (x_extent area) × ((x : ℤ) → HoldsNumber s x → IsSoftAt f area x)))
 
 -- The soft spans of each strip.
 pub record AreSoftOver (f : Frame) (strips : List Strip) (soft : List (List Span)) : Type 0 where
   pub many : length soft ≡ length strips
-  pub each : (n : ℕ) (d : Strip) → n < length strips → AreSoftIn f (slice_index_or strips n d).area (slice_index_or soft n [])
+  pub each : (n : ℕ) (d : Strip) → n < length strips
+      → AreSoftIn f (slice_index_or strips n d).area (slice_index_or soft n [])

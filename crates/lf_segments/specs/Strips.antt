@@ -23,7 +23,8 @@ strip_of f g = record {
 
 -- The order of strips: by row, then by team, then by x, without overlap.
 abbrev pub LiesBefore : Strip → Strip → Type 0
-LiesBefore a b = (a.row < b.row) ⊎ ((a.row ≡ b.row) × ((a.team < b.team) ⊎ ((a.team ≡ b.team) × (a.area.x2 ≤ℤ b.area.x1))))
+LiesBefore a b = (a.row < b.row)
+    ⊎ ((a.row ≡ b.row) × ((a.team < b.team) ⊎ ((a.team ≡ b.team) × (a.area.x2 ≤ℤ b.area.x1))))
 
 -- The rows of strips.
 abbrev pub rows_in : List Strip → List ℕ
@@ -57,7 +58,8 @@ pub record IsNear (row team : ℕ) (lo hi : ℤ) (g : Strip) : Type 0 where
 -- The numbers from start on and below end are those of the near strips.
 pub record AreNear (strips : List Strip) (row team : ℕ) (lo hi : ℤ) (start end : ℕ) : Type 0 where
   pub within : end ≤ length strips
-  pub exact : (n : ℕ) (d : Strip) → n < length strips → (((start ≤ n) × (n < end)) ↔ IsNear row team lo hi (slice_index_or strips n d))
+  pub exact : (n : ℕ) (d : Strip) → n < length strips
+      → (((start ≤ n) × (n < end)) ↔ IsNear row team lo hi (slice_index_or strips n d))
 
 -- The rows' entries near a rectangle: those of all rows whose strips may share a point with it.
 pub record AreRowsNear (rows : List RowEntry) (height : ℤ) (rect : Rect) (run : List RowEntry) : Type 0 where
@@ -67,14 +69,17 @@ pub record AreRowsNear (rows : List RowEntry) (height : ℤ) (rect : Rect) (run 
 
 -- The strip is of an earlier row or team. For a strip of this row and team, the value is `left`.
 abbrev pub is_earlier : ℕ → ℕ → Bool → Strip → Bool
-is_earlier row team left g = if g.row == row then (if g.team == team then left else nat_lt g.team team) else nat_lt g.row row
+is_earlier row team left g = if g.row == row then (if g.team == team then left else nat_lt g.team team)
+    else nat_lt g.row row
 
 -- True if the strip with this number is of an earlier row or team. For one of this row and team,
 -- true if it ends at x or left of it.
 abbrev pub is_ended : List Strip → ℕ → ℕ → ℤ → ℕ → Strip → Bool
-is_ended strips row team x k d = is_earlier row team (int_le (slice_index_or strips k d).area.x2 x) (slice_index_or strips k d)
+is_ended strips row team x k d =
+    is_earlier row team (int_le (slice_index_or strips k d).area.x2 x) (slice_index_or strips k d)
 
 -- True if the strip with this number is of an earlier row or team. For one of this row and team,
 -- true if it begins left of x.
 abbrev pub is_begun : List Strip → ℕ → ℕ → ℤ → ℕ → Strip → Bool
-is_begun strips row team x k d = is_earlier row team (int_lt (slice_index_or strips k d).area.x1 x) (slice_index_or strips k d)
+is_begun strips row team x k d =
+    is_earlier row team (int_lt (slice_index_or strips k d).area.x1 x) (slice_index_or strips k d)

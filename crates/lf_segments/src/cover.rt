@@ -92,7 +92,8 @@ fn covered_at(
 /// Returns whether the box ends below the area's upper edge, and at another y than the last one.
 fn ends_elsewhere(placed: &Placed, area: &Rect, last: &Option<Placed>) -> bool
     ensures ends { IsTrue result → placed.now.rect.y2 <ℤ area.now.y2 }
-    ensures not { IsFalse result → (area.now.y2 ≤ℤ placed.now.rect.y2) ⊎ IsSomeAnd last.now (λ l. l.rect.y2 ≡ placed.now.rect.y2) }
+    ensures not { IsFalse result → (area.now.y2 ≤ℤ placed.now.rect.y2)
+        ⊎ IsSomeAnd last.now (λ l. l.rect.y2 ≡ placed.now.rect.y2) }
 {
     if let Some(last) = last
         && last.rect.y2 == placed.rect.y2

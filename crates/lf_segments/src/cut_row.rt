@@ -38,7 +38,8 @@ fn count_below(boxes: &[Placed], own: u32) -> usize
     requires { AreSorted boxes.now }
     ensures within { result ≤ length boxes.now }
     ensures below { (k : ℕ) → (d : Placed) → k < result → (slice_index_or boxes.now k d).own < own }
-    ensures rest { (k : ℕ) → (d : Placed) → result ≤ k → k < length boxes.now → own ≤ (slice_index_or boxes.now k d).own }
+    ensures rest { (k : ℕ) → (d : Placed) → result ≤ k → k < length boxes.now
+        → own ≤ (slice_index_or boxes.now k d).own }
 {
     boxes.partition_point(|placed| placed.own < own)
 }
@@ -49,7 +50,8 @@ fn count_up_to(boxes: &[Placed], own: u32) -> usize
     requires { AreSorted boxes.now }
     ensures within { result ≤ length boxes.now }
     ensures up_to { (k : ℕ) → (d : Placed) → k < result → (slice_index_or boxes.now k d).own ≤ own }
-    ensures rest { (k : ℕ) → (d : Placed) → result ≤ k → k < length boxes.now → own < (slice_index_or boxes.now k d).own }
+    ensures rest { (k : ℕ) → (d : Placed) → result ≤ k → k < length boxes.now
+        → own < (slice_index_or boxes.now k d).own }
 {
     boxes.partition_point(|placed| placed.own <= own)
 }
@@ -121,7 +123,8 @@ fn push_fences(
     requires core_ones { IsCoreRow frame.now.pitch row.now }
     requires boxes { AreBoxesOf frame.now obstacles row.now near.now }
     requires sorted { AreSorted near.now }
-    ensures { OnOk result (AddsRow frame.now obstacles number row.now (length frame.now.teams) segments.old.items segments.new.items) }
+    ensures { OnOk result
+        (AddsRow frame.now obstacles number row.now (length frame.now.teams) segments.old.items segments.new.items) }
 {
     let ground = ground_number(frame);
     let area = row.area(&frame.pitch);
@@ -157,7 +160,8 @@ pub(crate) fn push_row(
     requires core_ones { IsCoreRow frame.now.pitch row.now }
     requires boxes { AreBoxesOf frame.now obstacles row.now near.now }
     requires sorted { AreSorted near.now }
-    ensures { OnOk result (AddsRow frame.now obstacles number row.now (length frame.now.teams + 1) segments.old.items segments.new.items) }
+    ensures { OnOk result (AddsRow frame.now obstacles number row.now
+        (length frame.now.teams + 1) segments.old.items segments.new.items) }
 {
     push_fences(alloc, frame, number, row, near, segments)?;
     let spans = ground_spans(alloc, frame, row, near)?;
@@ -168,7 +172,8 @@ pub(crate) fn push_row(
 /// Returns the boxes of fences, which precede those of obstacles.
 fn without_obstacles<'a>(frame: &Frame, near: &'a [Placed]) -> &'a [Placed]
     requires { AreSorted near.now }
-    ensures boxes { (row : Row) → AreBoxesOf frame.now frame.now.obstacles row near.now → AreBoxesOf frame.now [] row result.now }
+    ensures boxes { (row : Row) → AreBoxesOf frame.now frame.now.obstacles row near.now
+        → AreBoxesOf frame.now [] row result.now }
     ensures sorted { AreSorted result.now }
 {
     &near[..count_below(near, ground_number(frame))]
@@ -187,7 +192,8 @@ pub(crate) fn push_land(
     requires core_ones { IsCoreRow frame.now.pitch row.now }
     requires boxes { AreBoxesOf frame.now frame.now.obstacles row.now near.now }
     requires sorted { AreSorted near.now }
-    ensures { OnOk result (AddsRow frame.now [] number row.now (length frame.now.teams + 1) land.old.items land.new.items) }
+    ensures { OnOk result
+        (AddsRow frame.now [] number row.now (length frame.now.teams + 1) land.old.items land.new.items) }
 {
     let fences = without_obstacles(frame, near);
     push_row(alloc, frame, number, row, fences, land)

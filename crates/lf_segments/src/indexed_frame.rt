@@ -2,7 +2,7 @@
 
 ghost use Rattle.std.specs.Prelude.{◌≡◌, ◌↔◌, ◌<ℤ◌, IsTrue};
 ghost use Rattle.lf_floorplan.specs.Ground.{IsClear, StaysInGround};
-ghost use Rattle.lf_floorplan.specs.Standing.{RestsOnRows};
+ghost use Rattle.lf_floorplan.specs.RowSupport.{RestsOnRows};
 ghost use Rattle.lf_segments.specs.Indexes.{IsExtentOf, IsIndexOf};
 ghost use Rattle.lf_segments.specs.IndexedFrames.{AreRowsAt, AreRowsBetween, IsSoftOf};
 

@@ -4,7 +4,7 @@ ghost use Rattle.std.specs.Prelude.{◌≡◌, ◌↔◌, ◌≤◌, ◌+ℤ◌,
 ghost use Rattle.std.specs.Option.{IsSomeAnd};
 ghost use Rattle.lf_floorplan.specs.Bounds.{IsDefNumber};
 ghost use Rattle.lf_floorplan.specs.Rows.{IsCoreRow, row_area};
-ghost use Rattle.lf_floorplan.specs.Standing.{ExtendsOver, RestsOnRows};
+ghost use Rattle.lf_floorplan.specs.RowSupport.{ExtendsOver, RestsOnRows};
 ghost use Rattle.lf_segments.specs.Boxes.{x_extent};
 ghost use Rattle.lf_segments.specs.Laws.{LiesAt, LiesInSegments};
 ghost use Rattle.lf_segments.specs.RowsByY.{IsEntryOf, IsRowsByY};

@@ -68,7 +68,8 @@ impl RowStarts {
     /// Returns the positions of the row's segments among `count` segments. The range is empty at
     /// the end of the list if the table has no such row. Takes one lookup.
     pub fn of_row(&self, row: usize, count: usize) -> RowRange
-        ensures { (rows : List ℕ) → AreRowStarts rows self.now → length rows ≡ count → IsRangeOf rows row result.start result.end }
+        ensures { (rows : List ℕ) → AreRowStarts rows self.now → length rows ≡ count
+            → IsRangeOf rows row result.start result.end }
     {
         let Some(start) = self.starts.get(row) else {
             return RowRange {

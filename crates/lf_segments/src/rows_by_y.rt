@@ -93,7 +93,8 @@ fn parts_at(entries: &[RowEntry], y: &i64, at: usize) -> bool
     requires { AllPairs PrecedesByY entries.now }
     ensures within { IsTrue result → at ≤ length entries.now }
     ensures below { IsTrue result → (k : ℕ) → (d : RowEntry) → k < at → (slice_index_or entries.now k d).y <ℤ y.now }
-    ensures rest { IsTrue result → (k : ℕ) → (d : RowEntry) → at ≤ k → k < length entries.now → y.now ≤ℤ (slice_index_or entries.now k d).y }
+    ensures rest { IsTrue result → (k : ℕ) → (d : RowEntry) → at ≤ k → k < length entries.now
+        → y.now ≤ℤ (slice_index_or entries.now k d).y }
 {
     if entries.len() < at {
         return false;
@@ -110,7 +111,8 @@ fn count_below(entries: &[RowEntry], y: &i64) -> usize
     requires { AllPairs PrecedesByY entries.now }
     ensures within { result ≤ length entries.now }
     ensures below { (k : ℕ) → (d : RowEntry) → k < result → (slice_index_or entries.now k d).y <ℤ y.now }
-    ensures rest { (k : ℕ) → (d : RowEntry) → result ≤ k → k < length entries.now → y.now ≤ℤ (slice_index_or entries.now k d).y }
+    ensures rest { (k : ℕ) → (d : RowEntry) → result ≤ k → k < length entries.now
+        → y.now ≤ℤ (slice_index_or entries.now k d).y }
 {
     let guess = even_place(entries, y);
     if parts_at(entries, y, guess) {
@@ -124,7 +126,8 @@ fn count_low(entries: &[RowEntry], y: &i64) -> usize
     requires { AllPairs PrecedesByY entries.now }
     ensures within { result ≤ length entries.now }
     ensures below { (k : ℕ) → (d : RowEntry) → k < result → (slice_index_or entries.now k d).y <ℤ y.now }
-    ensures rest { (k : ℕ) → (d : RowEntry) → result ≤ k → k < length entries.now → y.now ≤ℤ (slice_index_or entries.now k d).y }
+    ensures rest { (k : ℕ) → (d : RowEntry) → result ≤ k → k < length entries.now
+        → y.now ≤ℤ (slice_index_or entries.now k d).y }
 {
     for n in 0..entries.len() {
         if *y <= entries[n].y {
@@ -139,7 +142,8 @@ fn count_up_to(entries: &[RowEntry], y: &i64) -> usize
     requires { AllPairs PrecedesByY entries.now }
     ensures within { result ≤ length entries.now }
     ensures up_to { (k : ℕ) → (d : RowEntry) → k < result → (slice_index_or entries.now k d).y ≤ℤ y.now }
-    ensures rest { (k : ℕ) → (d : RowEntry) → result ≤ k → k < length entries.now → y.now <ℤ (slice_index_or entries.now k d).y }
+    ensures rest { (k : ℕ) → (d : RowEntry) → result ≤ k → k < length entries.now
+        → y.now <ℤ (slice_index_or entries.now k d).y }
 {
     for n in 0..entries.len() {
         if *y < entries[n].y {
@@ -185,7 +189,8 @@ fn count_by(entries: &[RowEntry], y: &i64, x: &i64) -> usize
     requires { AllPairs PrecedesByY entries.now }
     ensures within { result ≤ length entries.now }
     ensures by { (k : ℕ) → (d : RowEntry) → k < result → IsUpToPoint y.now x.now (slice_index_or entries.now k d) }
-    ensures rest { (k : ℕ) → (d : RowEntry) → result ≤ k → k < length entries.now → IsUpToPoint y.now x.now (slice_index_or entries.now k d) → ⊥ }
+    ensures rest { (k : ℕ) → (d : RowEntry) → result ≤ k → k < length entries.now
+        → IsUpToPoint y.now x.now (slice_index_or entries.now k d) → ⊥ }
 {
     entries.partition_point(|entry| comes_by(entry, y, x))
 }
@@ -193,7 +198,8 @@ fn count_by(entries: &[RowEntry], y: &i64, x: &i64) -> usize
 /// Returns the last of the rows at y that do not begin right of x. `None` if there is no such row.
 fn last_at<'a>(entries: &'a [RowEntry], y: &i64, x: &i64) -> Option<&'a RowEntry>
     requires { AllPairs PrecedesByY entries.now }
-    ensures { MatchOption result (All (λ e. BeginsUpTo y.now x.now e → ⊥) entries.now) (λ e. IsLastAt entries.now y.now x.now e.now) }
+    ensures { MatchOption result (All (λ e. BeginsUpTo y.now x.now e → ⊥) entries.now)
+        (λ e. IsLastAt entries.now y.now x.now e.now) }
 {
     let count = count_by(entries, y, x);
     if count == 0 {
@@ -234,7 +240,8 @@ impl RowsByY {
     /// Returns, among the rows at this y that do not begin right of x, the one farthest right.
     /// `None` iff there is no such row. Found by binary search.
     pub fn last_at(&self, y: &i64, x: &i64) -> Option<&RowEntry>
-        ensures { MatchOption result (All (λ e. BeginsUpTo y.now x.now e → ⊥) self.now) (λ e. IsLastAt self.now y.now x.now e.now) }
+        ensures { MatchOption result (All (λ e. BeginsUpTo y.now x.now e → ⊥) self.now)
+            (λ e. IsLastAt self.now y.now x.now e.now) }
     {
         last_at(&self.entries, y, x)
     }

@@ -78,7 +78,8 @@ fn count_ended(segments: &[Segment], x: &i64) -> usize
     requires { AllPairs (λ g h. g.span.hi ≤ℤ h.span.hi) segments.now }
     ensures within { result ≤ length segments.now }
     ensures ended { (k : ℕ) → (d : Segment) → k < result → (slice_index_or segments.now k d).span.hi ≤ℤ x.now }
-    ensures rest { (k : ℕ) → (d : Segment) → result ≤ k → k < length segments.now → x.now <ℤ (slice_index_or segments.now k d).span.hi }
+    ensures rest { (k : ℕ) → (d : Segment) → result ≤ k → k < length segments.now
+        → x.now <ℤ (slice_index_or segments.now k d).span.hi }
 {
     segments.partition_point(|segment| segment.span.hi <= *x)
 }
@@ -102,7 +103,8 @@ pub(crate) fn place_in(
     requires order { AllPairs ComesBefore segments.now }
     requires starts { AreRowStarts (rows_of segments.now) starts.now }
     requires filled { All (λ g. IsFilled g.span) segments.now }
-    ensures { MatchOption result (All (λ g. IsAt row team x.now g → ⊥) segments.now) (λ n. HoldsAt (IsAt row team x.now) segments.now n) }
+    ensures { MatchOption result (All (λ g. IsAt row team x.now g → ⊥) segments.now)
+        (λ n. HoldsAt (IsAt row team x.now) segments.now n) }
 {
     let run = run_of(segments, starts, row, team);
     let k = count_ended(run.segments, x);

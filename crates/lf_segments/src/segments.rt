@@ -33,7 +33,8 @@ impl Model for Segments {
 
     ghost view = { λ s. s.list.items };
 
-    ghost invariant = { λ s. AllPairs ComesBefore s.list.items × (All (λ g. IsFilled g.span) s.list.items × AreRowStarts (rows_of s.list.items) s.starts) };
+    ghost invariant = { λ s. AllPairs ComesBefore s.list.items
+        × (All (λ g. IsFilled g.span) s.list.items × AreRowStarts (rows_of s.list.items) s.starts) };
 }
 
 /// Returns the segments of all rows. Visits for each row only the boxes near it. `Err` if an

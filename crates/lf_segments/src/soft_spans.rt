@@ -94,7 +94,8 @@ fn push_piece(
 ) -> Result<(), AllocError>
     requires { AreStarts spans.old.items starts.old.items }
     ensures starts { OnOk result (AreStarts spans.new.items starts.new.items) }
-    ensures pieces { OnOk result (lists_from spans.new.items starts.new.items ≡ lists_from spans.old.items starts.old.items ++ more.now ∷ []) }
+    ensures pieces { OnOk result
+        (lists_from spans.new.items starts.new.items ≡ lists_from spans.old.items starts.old.items ++ more.now ∷ []) }
 {
     starts.push(spans.as_slice().len())?;
     spans.extend_from_slice(more)?;

@@ -88,7 +88,8 @@ fn count_ended(strips: &[Strip], row: usize, team: usize, x: &i64) -> usize
     requires wide { All (λ g. g.area.x1 <ℤ g.area.x2) strips.now }
     ensures within { result ≤ length strips.now }
     ensures ended { (k : ℕ) → (d : Strip) → k < result → is_ended strips.now row team x.now k d ≡ true }
-    ensures rest { (k : ℕ) → (d : Strip) → result ≤ k → k < length strips.now → is_ended strips.now row team x.now k d ≡ false }
+    ensures rest { (k : ℕ) → (d : Strip) → result ≤ k → k < length strips.now
+        → is_ended strips.now row team x.now k d ≡ false }
 {
     strips.partition_point(|strip| is_before(strip, row, team, strip.area.x2 <= *x))
 }
@@ -110,7 +111,8 @@ fn end_of_begun(strips: &[Strip], first: usize, row: usize, team: usize, x: &i64
     requires first { first ≤ length strips.now }
     ensures within { result ≤ length strips.now }
     ensures begun { (k : ℕ) → (d : Strip) → first ≤ k → k < result → is_begun strips.now row team x.now k d ≡ true }
-    ensures rest { (k : ℕ) → (d : Strip) → result ≤ k → k < length strips.now → is_begun strips.now row team x.now k d ≡ false }
+    ensures rest { (k : ℕ) → (d : Strip) → result ≤ k → k < length strips.now
+        → is_begun strips.now row team x.now k d ≡ false }
 {
     for n in first..strips.len() {
         if !begins_before(&strips[n], row, team, x) {

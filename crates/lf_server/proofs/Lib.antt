@@ -3,5 +3,5 @@ pub mod Parts
 pub mod UnderWay
 pub mod Steps
 pub mod Finishing
-pub mod Telling
+pub mod OwnReplies
 pub mod Connecting

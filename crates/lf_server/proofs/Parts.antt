@@ -11,7 +11,7 @@ use Rattle.lf_proto.specs.ReplyText.{spaced_line}
 use Rattle.lf_floor_model.specs.States.{FloorState}
 use Rattle.lf_floor.specs.Responses.{def_text, reply_in}
 use Rattle.lf_floor.specs.declared.response.Response.{Response}
-use Rattle.lf_floor.specs.declared.response.Response.TheVariants.{Def as Apart}
+use Rattle.lf_floor.specs.declared.response.Response.TheVariants.{DefText}
 use Rattle.lf_server.specs.Exchanges.{reply_text_of}
 
 -- A front of the bytes was written.
@@ -48,7 +48,7 @@ pub def_parts : (floor : FloorState) (team : List ℕ) (reply : Reply) (text lin
 def_parts floor team reply text line counted bytes is same line_is shown = rw (is, line_is, same, shown) refl
 
 -- The line in front of a DEF text that is written in chunks, and the text.
-pub response_parts : (floor : FloorState) (team : List ℕ) (response : Response) (count : ℕ) (line : List ℕ) → response ≡ Apart count
+pub response_parts : (floor : FloorState) (team : List ℕ) (response : Response) (count : ℕ) (line : List ℕ) → response ≡ DefText count
     → count ≡ length (def_text floor team) → line ≡ spaced_line (codes "ok" ∷ decimal count ∷ [])
     → line ++ def_text floor team ≡ reply_text_of floor team (reply_in floor team response)
 response_parts floor team response count line is counted line_is = rw (is, line_is, counted) refl

@@ -35,7 +35,12 @@ pub record ConnectionState : Type 0 where
   pub sent : Writer
 
 abbrev pub connection_state : Option (List ℕ) → ℕ → Bool → Writer → ConnectionState
-connection_state left reads read_failed sent = record { left = left; reads = reads; read_failed = read_failed; sent = sent }
+connection_state left reads read_failed sent = record {
+  left = left;
+  reads = reads;
+  read_failed = read_failed;
+  sent = sent;
+}
 
 -- Holds if no read was made, nothing waits to be flushed, and no call of the reader or writer has
 -- failed.
@@ -65,7 +70,8 @@ Closes (Some before) after last = after ≡ Some (record { clients = before.clie
 -- closed, and no others, if what is accepted is known.
 abbrev pub AcceptsAndCloses : Option Accepted → Option Accepted → List ClientBytes → List ConnectionState → Type 0
 AcceptsAndCloses None after clients closed = Unit {0}
-AcceptsAndCloses (Some before) after clients closed = after ≡ Some (record { clients = clients ++ before.clients; closed = closed ++ before.closed })
+AcceptsAndCloses (Some before) after clients closed =
+    after ≡ Some (record { clients = clients ++ before.clients; closed = closed ++ before.closed })
 
 -- ---- what is served
 
@@ -73,7 +79,8 @@ AcceptsAndCloses (Some before) after clients closed = after ≡ Some (record { c
 -- connection is in the state `end`. After a fault of the reader the connection has failed to read,
 -- or the limit on reads was reached. After a fault of the writer a write has failed. If memory ran
 -- out, nothing was read.
-pub record ServesClient (l : Legalizer) (lines reads : ℕ) (from : ClientBytes) (end : ConnectionState) (old new : FloorState) : Type 0 where
+pub record ServesClient (l : Legalizer) (lines reads : ℕ) (from : ClientBytes) (end : ConnectionState)
+    (old new : FloorState) : Type 0 where
   pub served : Served
   pub serves : ServesLines l lines old from.sends end.left (writer from.was_sent true false) end.sent served new
   pub read_fault : served.ending ≡ ReadFault → (end.read_failed ≡ true) ⊎ (end.reads ≡ reads)
@@ -89,10 +96,12 @@ pub record ServesNext (lines reads : ℕ) (before after : Option Accepted) (old 
 
 -- The connections of these clients, the latest first, were served one after the other, each up to
 -- its state in `closed`.
-abbrev pub ServesConnections : Legalizer → ℕ → ℕ → List ClientBytes → List ConnectionState → FloorState → FloorState → Type 0
+abbrev pub ServesConnections : Legalizer → ℕ → ℕ → List ClientBytes → List ConnectionState → FloorState
+    → FloorState → Type 0
 ServesConnections l lines reads [] [] old new = new ≡ old
 ServesConnections l lines reads (from ∷ clients) (end ∷ closed) old new =
-    (mid : FloorState) × ServesConnections l lines reads clients closed old mid × ServesClient l lines reads from end mid new
+    (mid : FloorState) × ServesConnections l lines reads clients closed old mid
+    × ServesClient l lines reads from end mid new
 ServesConnections l lines reads _ _ old new = ⊥
 
 -- `count` connections were accepted, and their clients' lines were served, one connection after the

@@ -73,12 +73,14 @@ CountsAnswered WriteFault acted answered = acted ≡ answered + 1
 CountsAnswered _ acted answered = answered ≡ acted
 
 -- Serving acted on lines of the input, one step each, and wrote the replies' texts.
-pub record ServesLines (l : Legalizer) (limit : ℕ) (old : FloorState) (input left : Option (List ℕ)) (before after : Writer) (served : Served) (new : FloorState) : Type 0 where
+pub record ServesLines (l : Legalizer) (limit : ℕ) (old : FloorState) (input left : Option (List ℕ))
+    (before after : Writer) (served : Served) (new : FloorState) : Type 0 where
   pub read : List ℕ
   pub reads : Consumes input left read
   pub done : List Exchange
   pub comes : WritesReplies served.ending l old before done new after
-  pub acted_on : IfSome input (λ bytes. AreLinesActedOn served.ending limit (lines_of bytes) (ended_lines read) (lines done))
+  pub acted_on :
+      IfSome input (λ bytes. AreLinesActedOn served.ending limit (lines_of bytes) (ended_lines read) (lines done))
   pub counted : served.lines ≡ length done
   pub answered : CountsAnswered served.ending served.lines served.answered
   pub within : served.lines ≤ limit

@@ -49,7 +49,8 @@ name_in floor team (Some own) = unwrap_or (option_and_then (λ s. name_at s.cell
 
 -- The text of a reply to a command of the team.
 abbrev pub reply_text_of : FloorState → List ℕ → Reply → List ℕ
-reply_text_of floor team reply = reply_text reply (name_in floor team (reply_cells reply).0) (name_in floor team (reply_cells reply).1)
+reply_text_of floor team reply =
+    reply_text reply (name_in floor team (reply_cells reply).0) (name_in floor team (reply_cells reply).1)
 
 -- True if the reply contains a text of any length: a report, or a team's DEF text.
 abbrev pub is_long : Reply → Bool
@@ -72,13 +73,15 @@ pub record RefusesLine (old : FloorState) (reply : Reply) (text : List ℕ) (new
   pub kept : new ≡ old
 
 -- A request is one step of the floor, with this reply and its text.
-pub record StepsOn (l : Legalizer) (old : FloorState) (command : Command (List ℕ) Place) (reply : Reply) (text : List ℕ) (new : FloorState) : Type 0 where
+pub record StepsOn (l : Legalizer) (old : FloorState) (command : Command (List ℕ) Place) (reply : Reply) (text : List ℕ)
+    (new : FloorState) : Type 0 where
   pub step : Step l old command reply new
   pub text_is : text ≡ reply_text_of new (team_addressed command) reply
 
 -- The line's request gets this reply and text, and the floor changes from `old` to `new`.
 abbrev pub AnswersTo : Legalizer → FloorState → Option (Command (List ℕ) Place) → Reply → List ℕ → FloorState → Type 0
-AnswersTo l old requested reply text new = MatchOption requested (RefusesLine old reply text new) (λ command. StepsOn l old command reply text new)
+AnswersTo l old requested reply text new =
+    MatchOption requested (RefusesLine old reply text new) (λ command. StepsOn l old command reply text new)
 
 -- ---- many lines
 
@@ -87,11 +90,13 @@ AnswersTo l old requested reply text new = MatchOption requested (RefusesLine ol
 abbrev pub AnswersLines : Legalizer → FloorState → Writer → List Exchange → FloorState → Writer → Type 0
 AnswersLines l old before [] new after = (new ≡ old) × (after ≡ before)
 AnswersLines l old before (e ∷ later) new after =
-    (mid : FloorState) × (between : Writer) × AnswersTo l old (requested_on e.line) e.reply e.text mid × SendsText before between e.text
+    (mid : FloorState) × (between : Writer) × AnswersTo l old (requested_on e.line) e.reply e.text mid
+    × SendsText before between e.text
     × AnswersLines l mid between later new after
 
 -- The same, except that only a front of the last text was written.
-pub record BreaksOffLastReply (l : Legalizer) (old : FloorState) (before : Writer) (done : List Exchange) (new : FloorState) (after : Writer) : Type 0 where
+pub record BreaksOffLastReply (l : Legalizer) (old : FloorState) (before : Writer) (done : List Exchange)
+    (new : FloorState) (after : Writer) : Type 0 where
   pub earlier : List Exchange
   pub last : Exchange
   pub mid : FloorState

@@ -19,7 +19,8 @@ use Rattle.lf_server.specs.declared.serve_loop.Ending.{Ending}
 
 -- ---- lines as commands
 
-abbrev pub with_command : Option (Command (List ℕ) Place) → List (Command (List ℕ) Place) → List (Command (List ℕ) Place)
+abbrev pub with_command : Option (Command (List ℕ) Place) → List (Command (List ℕ) Place)
+    → List (Command (List ℕ) Place)
 with_command None later = later
 with_command (Some command) later = command ∷ later
 
@@ -49,7 +50,8 @@ ServingRuns =
 abbrev pub reply_before : List ℕ → Option (Command (List ℕ) Place) → Exchange → List (List ℕ) → List (List ℕ)
 reply_before team None e later = later
 reply_before team (Some Bye) e later = later
-reply_before team (Some (To name order)) e later = if bytes_eq name team && not (is_short e.reply) then e.text ∷ later else later
+reply_before team (Some (To name order)) e later =
+    if bytes_eq name team && not (is_short e.reply) then e.text ∷ later else later
 
 -- The texts of the replies to the team of this name, without `OutOfMemory`.
 abbrev pub reply_texts : List ℕ → List Exchange → List (List ℕ)
@@ -61,7 +63,8 @@ reply_texts team (e ∷ later) = reply_before team (requested_on e.line) e (repl
 -- Commands with the reply `OutOfMemory` are not considered.
 abbrev pub RepliesAreOwn : Type 0
 RepliesAreOwn =
-    (l : Legalizer) (team : List ℕ) (end end' : Ending) (a a' b b' : FloorState) (v v' w w' : Writer) (done others : List Exchange) (s : TeamState)
+    (l : Legalizer) (team : List ℕ) (end end' : Ending) (a a' b b' : FloorState) (v v' w w' : Writer)
+    (done others : List Exchange) (s : TeamState)
     → WritesReplies end l a v done a' v' → WritesReplies end' l b w others b' w'
     → a.frame ≡ b.frame → state_of a team ≡ Some s → state_of b team ≡ Some s
     → own_commands team (commands done) (replies done) ≡ own_commands team (commands others) (replies others)
@@ -70,7 +73,8 @@ RepliesAreOwn =
 -- The same for two loaded designs that agree for the team.
 abbrev pub RepliesFollowDesign : Type 0
 RepliesFollowDesign =
-    (l : Legalizer) (team : List ℕ) (end end' : Ending) (a b : Loaded) (a' b' : FloorState) (v v' w w' : Writer) (done others : List Exchange)
+    (l : Legalizer) (team : List ℕ) (end end' : Ending) (a b : Loaded) (a' b' : FloorState) (v v' w w' : Writer)
+    (done others : List Exchange)
     → AgreeFor team a b
     → WritesReplies end l (initial_floor a) v done a' v' → WritesReplies end' l (initial_floor b) w others b' w'
     → own_commands team (commands done) (replies done) ≡ own_commands team (commands others) (replies others)

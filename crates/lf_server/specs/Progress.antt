@@ -30,7 +30,8 @@ team_requested (Some command) = team_addressed command
 
 -- The request gets this reply with the reply's own text.
 abbrev pub IsAnswered : Legalizer → FloorState → Option (Command (List ℕ) Place) → Reply → FloorState → Type 0
-IsAnswered l old requested reply new = AnswersTo l old requested reply (reply_text_of new (team_requested requested) reply) new
+IsAnswered l old requested reply new =
+    AnswersTo l old requested reply (reply_text_of new (team_requested requested) reply) new
 
 -- What was written of the one reply, depending on how the connection continues.
 abbrev pub ExchangeEnds : Option Ending → Writer → Writer → Line → List ℕ → Type 0
@@ -40,7 +41,8 @@ ExchangeEnds (Some WriteFault) w w' line text = BreaksText w w' text
 ExchangeEnds (Some _) w w' line text = ⊥
 
 -- One line was acted on.
-pub record ActsOnLine (l : Legalizer) (stop : Option Ending) (w w' : Writer) (old new : FloorState) (line : Line) : Type 0 where
+pub record ActsOnLine (l : Legalizer) (stop : Option Ending) (w w' : Writer) (old new : FloorState)
+    (line : Line) : Type 0 where
   pub reply : Reply
   pub text : List ℕ
   pub answers : AnswersTo l old (requested_on line) reply text new
@@ -50,12 +52,14 @@ pub record ActsOnLine (l : Legalizer) (stop : Option Ending) (w w' : Writer) (ol
 
 -- The framer's pending bytes changed from `held` to `held'`, lines were acted on, and serving
 -- continues.
-pub record ContinuesServing (l : Legalizer) (w w' : Writer) (left left' : ℕ) (old new : FloorState) (held held' : Option (List ℕ)) (from to : List ℕ) : Type 0 where
+pub record ContinuesServing (l : Legalizer) (w w' : Writer) (left left' : ℕ) (old new : FloorState)
+    (held held' : Option (List ℕ)) (from to : List ℕ) : Type 0 where
   pub done : List Exchange
   pub exchanged : AnswersLines l old w done new w'
   pub counts : left ≡ length done + left'
   pub no_bye : NoneIsBye (lines done)
-  pub goes_on : (rest : List ℕ) → lines_from held (between_line_feeds (from ++ rest)) ≡ lines done ++ lines_from held' (between_line_feeds (to ++ rest))
+  pub goes_on : (rest : List ℕ) → lines_from held (between_line_feeds (from ++ rest))
+      ≡ lines done ++ lines_from held' (between_line_feeds (to ++ rest))
 
 -- The lines acted on if serving stops in the middle of the input, or at its end.
 abbrev pub StopsServingAt : Ending → ℕ → List Line → List Line → Type 0
@@ -64,14 +68,16 @@ StopsServingAt OutOfMemory limit all acted = ⊥
 StopsServingAt ending limit all acted = AreLinesActedOn ending limit all [] acted
 
 -- Some of these lines were acted on, and serving stops.
-pub record StopsServing (l : Legalizer) (ending : Ending) (w w' : Writer) (left left' : ℕ) (old new : FloorState) (all : List Line) : Type 0 where
+pub record StopsServing (l : Legalizer) (ending : Ending) (w w' : Writer) (left left' : ℕ) (old new : FloorState)
+    (all : List Line) : Type 0 where
   pub done : List Exchange
   pub comes : WritesReplies ending l old w done new w'
   pub counts : left ≡ length done + left'
   pub stops : StopsServingAt ending left all (lines done)
 
 -- The input was served to an ending.
-pub record FinishesServing (l : Legalizer) (ending : Ending) (input rest : Option (List ℕ)) (w w' : Writer) (left left' : ℕ) (old new : FloorState) : Type 0 where
+pub record FinishesServing (l : Legalizer) (ending : Ending) (input rest : Option (List ℕ)) (w w' : Writer)
+    (left left' : ℕ) (old new : FloorState) : Type 0 where
   pub read : List ℕ
   pub reads : Consumes input rest read
   pub done : List Exchange

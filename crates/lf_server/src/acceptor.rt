@@ -61,7 +61,8 @@ pub trait Acceptor {
     fn accept(&mut self) -> Result<Connection<Self::Reader, Self::Writer>, DeviceFault>
         ensures ok { IfOk result (λ connection. Accepts (accepted self.old) (accepted self.new)
             (client (Self.Reader.remaining connection.reader) (Self.Writer.contents connection.writer))) }
-        ensures unused { IfOk result (λ connection. IsUnused (Self.Reader.reads connection.reader) (Self.Reader.has_failed connection.reader)
+        ensures unused { IfOk result
+            (λ connection. IsUnused (Self.Reader.reads connection.reader) (Self.Reader.has_failed connection.reader)
             (Self.Writer.is_flushed connection.writer) (Self.Writer.has_failed connection.writer)) }
         ensures err { OnErr result (accepted self.new ≡ accepted self.old) }
         ensures offers { offers self.new ≡ offers self.old }
@@ -70,8 +71,10 @@ pub trait Acceptor {
     /// Closes a connection that was served to its end.
     fn close(&mut self, connection: Connection<Self::Reader, Self::Writer>)
         ensures closed { Closes (accepted self.old) (accepted self.new)
-            (connection_state (Self.Reader.remaining connection.reader) (Self.Reader.reads connection.reader) (Self.Reader.has_failed connection.reader)
-            (writer (Self.Writer.contents connection.writer) (Self.Writer.is_flushed connection.writer) (Self.Writer.has_failed connection.writer))) }
+            (connection_state (Self.Reader.remaining connection.reader) (Self.Reader.reads connection.reader)
+            (Self.Reader.has_failed connection.reader)
+            (writer (Self.Writer.contents connection.writer) (Self.Writer.is_flushed connection.writer)
+            (Self.Writer.has_failed connection.writer))) }
         ensures offers { offers self.new ≡ offers self.old }
         ensures failed { has_failed self.new ≡ has_failed self.old };
 }

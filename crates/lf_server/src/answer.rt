@@ -8,7 +8,7 @@ ghost use Rattle.lf_proto.specs.Commands.{command_with_names};
 ghost use Rattle.lf_proto.specs.ReplyText.{reply_text};
 ghost use Rattle.lf_proto.specs.declared.reply.Reply.TheVariants.{Refused};
 ghost use Rattle.lf_floor.specs.Responses.{def_text, reply_in};
-ghost use Rattle.lf_floor.specs.declared.response.Response.TheVariants.{Def as Apart};
+ghost use Rattle.lf_floor.specs.declared.response.Response.TheVariants.{DefText};
 ghost use Rattle.lf_server.specs.Exchanges.{requested_on, requests_end, reply_cells, is_long, name_in, reply_text_of};
 ghost use Rattle.lf_server.specs.Connections.{KeepsDesign};
 ghost use Rattle.lf_server.specs.Progress.{IsAnswered, team_requested};
@@ -160,10 +160,11 @@ pub(crate) fn answer<K: Seeker + Drop>(floor: &mut Floor<K>, request: &Option<Re
     ensures stays { KeepsDesign floor.old floor.new }
     ensures answered { (l : Legalizer) → IsAnswered l floor.old (option_map command_with_names request.now)
         (reply_in floor.new (team_requested (option_map command_with_names request.now)) result) floor.new }
-    ensures length { (count : ℕ) → result ≡ Apart count → count ≡ length (def_text floor.new (team_requested (option_map command_with_names request.now))) }
+    ensures length { (count : ℕ) → result ≡ DefText count
+        → count ≡ length (def_text floor.new (team_requested (option_map command_with_names request.now))) }
 {
     match request {
-        None => Response::Whole(Reply::Refused(Refusal::BadRequest)),
+        None => Response::Reply(Reply::Refused(Refusal::BadRequest)),
         Some(request) => floor.respond(request),
     }
 }

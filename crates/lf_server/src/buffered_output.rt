@@ -36,15 +36,18 @@ impl<'a, W: Sink> BufferedOutput<'a, W> {
     /// Writes the buffered bytes and flushes. `Err` if a call of the sink fails or has failed.
     pub(crate) fn finish(&mut self) -> Result<(), DeviceFault>
         ensures ok { (before : W) (text : List ℕ)
-            → IsUnderWay self.old.failed (W.contents before) (W.contents self.old.sink.now) text self.old.waiting.now.items
+            → IsUnderWay self.old.failed (W.contents before)
+            (W.contents self.old.sink.now) text self.old.waiting.now.items
             → OnOk result (Appends (W.contents before) (W.contents self.new.sink.now) text) }
         ensures front { (before : W) (text : List ℕ)
-            → IsUnderWay self.old.failed (W.contents before) (W.contents self.old.sink.now) text self.old.waiting.now.items
+            → IsUnderWay self.old.failed (W.contents before)
+            (W.contents self.old.sink.now) text self.old.waiting.now.items
             → OnErr result ((n : ℕ) × Appends (W.contents before) (W.contents self.new.sink.now) (take n text)) }
         ensures flushed { OnOk result (W.is_flushed self.new.sink.now ≡ true) }
         ensures healthy { OnOk result (self.old.failed ≡ false) }
         ensures kept { OnOk result (W.has_failed self.new.sink.now ≡ W.has_failed self.old.sink.now) }
-        ensures failed { OnErr result ((self.old.failed ≡ true → W.has_failed self.old.sink.now ≡ true) → W.has_failed self.new.sink.now ≡ true) }
+        ensures failed { OnErr result ((self.old.failed ≡ true → W.has_failed self.old.sink.now ≡ true)
+            → W.has_failed self.new.sink.now ≡ true) }
         ensures held { W.holds self.new.sink.now ≡ W.holds self.old.sink.now }
         ensures same_sink { self.new.sink.ghost_name ≡ self.old.sink.ghost_name }
         ensures same_buffer { self.new.waiting.ghost_name ≡ self.old.waiting.ghost_name }
@@ -63,7 +66,8 @@ impl<'a, W: Sink> Output for BufferedOutput<'a, W> {
         × (vec_capacity start.waiting.now ≤ vec_capacity now.waiting.now)
         × (W.holds now.sink.now ≡ W.holds start.sink.now)
         × (W.has_failed now.sink.now ≡ has_failed_since now.failed (W.has_failed start.sink.now))
-        × IsUnderWay now.failed (W.contents start.sink.now) (W.contents now.sink.now) (start.waiting.now.items ++ text) now.waiting.now.items };
+        × IsUnderWay now.failed (W.contents start.sink.now) (W.contents now.sink.now)
+        (start.waiting.now.items ++ text) now.waiting.now.items };
 
     fn put(&mut self, bytes: &[u8]) {
         if self.failed {

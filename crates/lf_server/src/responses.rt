@@ -4,7 +4,7 @@ ghost use Rattle.std.specs.Prelude.{◌≡◌, ◌≤◌, ◌+◌, ◌++◌, ◌
 ghost use Rattle.std.specs.Io.KnownBytes.{Appends};
 ghost use Rattle.lf_proto.specs.ReplyText.{spaced_line};
 ghost use Rattle.lf_floor.specs.Responses.{def_text, reply_in};
-ghost use Rattle.lf_floor.specs.declared.response.Response.TheVariants.{Def as Apart};
+ghost use Rattle.lf_floor.specs.declared.response.Response.TheVariants.{DefText};
 ghost use Rattle.lf_server.specs.Exchanges.{reply_text_of};
 ghost use Rattle.lf_server.specs.Pieces.{IsUnderWay, has_failed_since};
 
@@ -37,7 +37,8 @@ pub(crate) fn send_both<W: Sink>(
     ensures ok { OnOk result (Appends (W.contents sink.old) (W.contents sink.new) (first.now ++ second.now)) }
     ensures flushed { OnOk result (W.is_flushed sink.new ≡ true) }
     ensures healthy { OnOk result (W.has_failed sink.new ≡ W.has_failed sink.old) }
-    ensures front { OnErr result ((n : ℕ) × Appends (W.contents sink.old) (W.contents sink.new) (take n (first.now ++ second.now))) }
+    ensures front { OnErr result
+        ((n : ℕ) × Appends (W.contents sink.old) (W.contents sink.new) (take n (first.now ++ second.now))) }
     ensures failed { OnErr result (W.has_failed sink.new ≡ true) }
     ensures held { W.holds sink.new ≡ W.holds sink.old }
 {
@@ -55,10 +56,12 @@ fn send_reply<K: Seeker + Drop, W: Sink>(
     team: &[u8],
     reply: &Reply,
 ) -> Result<(), DeviceFault>
-    ensures ok { OnOk result (Appends (W.contents sink.old) (W.contents sink.new) (reply_text_of floor.now team.now reply.now)) }
+    ensures ok { OnOk result
+        (Appends (W.contents sink.old) (W.contents sink.new) (reply_text_of floor.now team.now reply.now)) }
     ensures flushed { OnOk result (W.is_flushed sink.new ≡ true) }
     ensures healthy { OnOk result (W.has_failed sink.new ≡ W.has_failed sink.old) }
-    ensures front { OnErr result ((n : ℕ) × Appends (W.contents sink.old) (W.contents sink.new) (take n (reply_text_of floor.now team.now reply.now))) }
+    ensures front { OnErr result ((n : ℕ)
+        × Appends (W.contents sink.old) (W.contents sink.new) (take n (reply_text_of floor.now team.now reply.now))) }
     ensures failed { OnErr result (W.has_failed sink.new ≡ true) }
     ensures held { W.holds sink.new ≡ W.holds sink.old }
 {
@@ -85,8 +88,10 @@ fn put_pieces<K: Seeker + Drop, W: Sink>(
     team: &[u8],
 )
     requires { pieces.old.failed ≡ false }
-    ensures under_way { IsUnderWay pieces.new.failed (W.contents pieces.old.sink.now) (W.contents pieces.new.sink.now) (pieces.old.waiting.now.items ++ def_text floor.now team.now) pieces.new.waiting.now.items }
-    ensures failed { W.has_failed pieces.new.sink.now ≡ has_failed_since pieces.new.failed (W.has_failed pieces.old.sink.now) }
+    ensures under_way { IsUnderWay pieces.new.failed (W.contents pieces.old.sink.now) (W.contents pieces.new.sink.now)
+        (pieces.old.waiting.now.items ++ def_text floor.now team.now) pieces.new.waiting.now.items }
+    ensures failed { W.has_failed pieces.new.sink.now
+        ≡ has_failed_since pieces.new.failed (W.has_failed pieces.old.sink.now) }
     ensures held { W.holds pieces.new.sink.now ≡ W.holds pieces.old.sink.now }
     ensures room { vec_capacity pieces.old.waiting.now ≤ vec_capacity pieces.new.waiting.now }
     ensures same_sink { pieces.new.sink.ghost_name ≡ pieces.old.sink.ghost_name }
@@ -103,10 +108,12 @@ fn send_def<K: Seeker + Drop, W: Sink>(
     floor: &Floor<K>,
     team: &[u8],
 ) -> Result<(), DeviceFault>
-    ensures ok { OnOk result (Appends (W.contents sink.old) (W.contents sink.new) (text.old.items ++ def_text floor.now team.now)) }
+    ensures ok { OnOk result
+        (Appends (W.contents sink.old) (W.contents sink.new) (text.old.items ++ def_text floor.now team.now)) }
     ensures flushed { OnOk result (W.is_flushed sink.new ≡ true) }
     ensures healthy { OnOk result (W.has_failed sink.new ≡ W.has_failed sink.old) }
-    ensures front { OnErr result ((n : ℕ) × Appends (W.contents sink.old) (W.contents sink.new) (take n (text.old.items ++ def_text floor.now team.now))) }
+    ensures front { OnErr result ((n : ℕ) × Appends (W.contents sink.old) (W.contents sink.new)
+        (take n (text.old.items ++ def_text floor.now team.now))) }
     ensures failed { OnErr result (W.has_failed sink.new ≡ true) }
     ensures held { W.holds sink.new ≡ W.holds sink.old }
     ensures room { vec_capacity text.old ≤ vec_capacity text.new }
@@ -125,8 +132,9 @@ pub(crate) fn send_response<K: Seeker + Drop, W: Sink>(
     team: &[u8],
     response: &Response,
 ) -> Result<(), DeviceFault>
-    requires { (count : ℕ) → response.now ≡ Apart count → count ≡ length (def_text floor.now team.now) }
-    ensures ok { OnOk result (Appends (W.contents sink.old) (W.contents sink.new) (reply_text_of floor.now team.now (reply_in floor.now team.now response.now))) }
+    requires { (count : ℕ) → response.now ≡ DefText count → count ≡ length (def_text floor.now team.now) }
+    ensures ok { OnOk result (Appends (W.contents sink.old) (W.contents sink.new)
+        (reply_text_of floor.now team.now (reply_in floor.now team.now response.now))) }
     ensures flushed { OnOk result (W.is_flushed sink.new ≡ true) }
     ensures healthy { OnOk result (W.has_failed sink.new ≡ W.has_failed sink.old) }
     ensures front { OnErr result ((n : ℕ)
@@ -136,8 +144,8 @@ pub(crate) fn send_response<K: Seeker + Drop, W: Sink>(
     ensures held { W.holds sink.new ≡ W.holds sink.old }
 {
     match response {
-        Response::Whole(reply) => send_reply(sink, text, floor, team, reply),
-        Response::Def(count) => {
+        Response::Reply(reply) => send_reply(sink, text, floor, team, reply),
+        Response::DefText(count) => {
             put_def_line(text, *count);
             send_def(sink, &mut text.bytes, floor, team)
         }

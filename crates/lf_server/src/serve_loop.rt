@@ -59,7 +59,8 @@ pub struct ServeLimits {
 /// Returns the line that the framer gave, or `None` if it needs more bytes. The inner `None` is a
 /// line over the limit.
 fn line_given(framer: &LineFramer, got: Got) -> Option<Option<&[u8]>>
-    ensures { MatchOption result (got ≡ Got.More) (λ line. IsGivenLine got framer.now.line (option_map (λ bytes. bytes.now) line)) }
+    ensures { MatchOption result (got ≡ Got.More)
+        (λ line. IsGivenLine got framer.now.line (option_map (λ bytes. bytes.now) line)) }
 {
     match got {
         Got::More => None,
@@ -122,7 +123,8 @@ fn take_line<K: Seeker + Drop, W: Sink>(
         (λ ending. (rest : List ℕ) → StopsServing l ending
         (writer (W.contents sink.old) (W.is_flushed sink.old) (W.has_failed sink.old))
         (writer (W.contents sink.new) (W.is_flushed sink.new) (W.has_failed sink.new))
-        left.old left.new floor.old floor.new (lines_from framer.old.pending (between_line_feeds (piece.now ++ rest)))) }
+        left.old left.new floor.old floor.new
+        (lines_from framer.old.pending (between_line_feeds (piece.now ++ rest)))) }
 {
     let fed = framer.feed(piece);
     let Some(line) = line_given(framer, fed.got) else {
@@ -158,7 +160,8 @@ fn answer_lines_in<K: Seeker + Drop, W: Sink>(
         (λ ending. (rest : List ℕ) → StopsServing l ending
         (writer (W.contents sink.old) (W.is_flushed sink.old) (W.has_failed sink.old))
         (writer (W.contents sink.new) (W.is_flushed sink.new) (W.has_failed sink.new))
-        left.old left.new floor.old floor.new (lines_from framer.old.pending (between_line_feeds (piece.now ++ rest)))) }
+        left.old left.new floor.old floor.new
+        (lines_from framer.old.pending (between_line_feeds (piece.now ++ rest)))) }
 {
     let mut at = 0;
     while at < piece.len() {
@@ -219,7 +222,8 @@ fn serve_lines<K: Seeker + Drop, S: Source, W: Sink>(
     requires countable { S.reads source.old + left.old.reads ≤ 18446744073709551615 }
     ensures left { left.new.lines ≤ left.old.lines }
     ensures reads { S.reads source.new ≤ S.reads source.old + left.old.reads }
-    ensures read_fault { result ≡ Ending.ReadFault → (S.has_failed source.new ≡ true) ⊎ (S.reads source.new ≡ S.reads source.old + left.old.reads) }
+    ensures read_fault { result ≡ Ending.ReadFault
+        → (S.has_failed source.new ≡ true) ⊎ (S.reads source.new ≡ S.reads source.old + left.old.reads) }
     ensures readable { result ≢ Ending.ReadFault → S.has_failed source.new ≡ S.has_failed source.old }
     ensures some { result ≢ Ending.OutOfMemory }
     ensures health { SinkFailsAtWriteFault result (W.has_failed sink.old) (W.has_failed sink.new) }
@@ -294,13 +298,15 @@ pub fn serve<K: Seeker + Drop, S: Source, W: Sink>(
     ensures source_held { S.holds source.new ≡ S.holds source.old }
     ensures sink_held { W.holds sink.new ≡ W.holds sink.old }
     ensures stays { KeepsDesign floor.old floor.new }
-    ensures serves { (l : Legalizer) → ServesLines l limits.lines floor.old (S.remaining source.old) (S.remaining source.new)
+    ensures serves { (l : Legalizer)
+        → ServesLines l limits.lines floor.old (S.remaining source.old) (S.remaining source.new)
         (writer (W.contents sink.old) (W.is_flushed sink.old) (W.has_failed sink.old))
         (writer (W.contents sink.new) (W.is_flushed sink.new) (W.has_failed sink.new))
         result floor.new }
     ensures lines { result.lines ≤ limits.lines }
     ensures reads { S.reads source.new ≤ S.reads source.old + limits.reads }
-    ensures read_fault { result.ending ≡ Ending.ReadFault → (S.has_failed source.new ≡ true) ⊎ (S.reads source.new ≡ S.reads source.old + limits.reads) }
+    ensures read_fault { result.ending ≡ Ending.ReadFault
+        → (S.has_failed source.new ≡ true) ⊎ (S.reads source.new ≡ S.reads source.old + limits.reads) }
     ensures readable { result.ending ≢ Ending.ReadFault → S.has_failed source.new ≡ false }
     ensures write_fault { result.ending ≡ Ending.WriteFault → W.has_failed sink.new ≡ true }
     ensures writable { result.ending ≢ Ending.WriteFault → W.has_failed sink.new ≡ false }

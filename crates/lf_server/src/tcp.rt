@@ -30,7 +30,8 @@ fn serve_connection<R: Source + Drop, W: Sink + Drop, K: Seeker + Drop>(
     connection: Connection<R, W>,
     limits: ServeLimits,
 ) -> Connection<R, W>
-    requires unused { IsUnused (R.reads connection.reader) (R.has_failed connection.reader) (W.is_flushed connection.writer)
+    requires unused { IsUnused (R.reads connection.reader) (R.has_failed connection.reader)
+        (W.is_flushed connection.writer)
         (W.has_failed connection.writer) }
     ensures served { (l : Legalizer) → ServesClient l limits.lines limits.reads
         (client (R.remaining connection.reader) (W.contents connection.writer))
@@ -55,7 +56,8 @@ fn serve_next<A: Acceptor, K: Seeker + Drop>(
     acceptor: &mut A,
     limits: ServeLimits,
 ) -> Result<(), DeviceFault>
-    ensures served { OnOk result (ServesNext limits.lines limits.reads (A.accepted acceptor.old) (A.accepted acceptor.new) floor.old floor.new) }
+    ensures served { OnOk result
+        (ServesNext limits.lines limits.reads (A.accepted acceptor.old) (A.accepted acceptor.new) floor.old floor.new) }
     ensures kept { OnErr result (floor.new ≡ floor.old) }
     ensures unaccepted { OnErr result (A.accepted acceptor.new ≡ A.accepted acceptor.old) }
     ensures offers { A.offers acceptor.new ≡ A.offers acceptor.old }
@@ -88,7 +90,8 @@ pub fn serve_connections<A: Acceptor, K: Seeker + Drop>(
     ensures all { (result.connections ≡ connections) ↔ (result.accept_fault ≡ false) }
     ensures offers { A.offers acceptor.new ≡ A.offers acceptor.old }
     ensures failed { A.has_failed acceptor.new ≡ (result.accept_fault || A.has_failed acceptor.old) }
-    ensures served { AreServed limits.lines limits.reads result.connections (A.accepted acceptor.old) (A.accepted acceptor.new)
+    ensures served { AreServed limits.lines limits.reads result.connections (A.accepted acceptor.old)
+        (A.accepted acceptor.new)
         floor.old floor.new }
     ensures stays { KeepsDesign floor.old floor.new }
 {
@@ -120,7 +123,8 @@ pub fn serve_tcp<T: Net + AllocGlobal, K: Seeker + Drop>(
 ) -> TcpServed
     ensures most { result.connections ≤ connections }
     ensures all { (result.connections ≡ connections) ↔ (result.accept_fault ≡ false) }
-    ensures served { (clients : List ClientBytes) × (closed : List ConnectionState) × (length clients ≡ result.connections)
+    ensures served { (clients : List ClientBytes) × (closed : List ConnectionState)
+        × (length clients ≡ result.connections)
         × ((l : Legalizer) → ServesConnections l limits.lines limits.reads clients closed floor.old floor.new) }
     ensures stays { KeepsDesign floor.old floor.new }
 {

@@ -60,7 +60,8 @@ impl Slots {
     /// taken.
     pub(crate) fn take(&mut self, revision: u32) -> Option<u32>
         ensures session { result ≡ position is_none self.old }
-        ensures slots { MatchOption result (self.new ≡ self.old) (λ session. self.new ≡ slice_set self.old session (Some revision)) }
+        ensures slots { MatchOption result (self.new ≡ self.old)
+            (λ session. self.new ≡ slice_set self.old session (Some revision)) }
     {
         let session = least_free(&self.slots)?;
         self.slots[session] = Some(revision);

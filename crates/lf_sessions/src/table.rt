@@ -65,7 +65,8 @@ impl SessionTable {
     /// taken or there is no such team.
     pub fn take_slot(&mut self, team: usize, revision: u32) -> Option<u32>
         ensures session { result ≡ position is_none (slots_of self.old team) }
-        ensures table { MatchOption result (self.new ≡ self.old) (λ session. self.new ≡ with_slot self.old team session (Some revision)) }
+        ensures table { MatchOption result (self.new ≡ self.old)
+            (λ session. self.new ≡ with_slot self.old team session (Some revision)) }
         ensures teams { length self.new ≡ length self.old }
     {
         self.teams.get_mut(team)?.take(revision)
@@ -103,7 +104,8 @@ impl SessionTable {
 /// Sets the slot of an open session of the team. Returns false if the session is not open.
 fn write_open(teams: &mut Vec<Slots>, team: usize, session: u32, seen: Option<u32>) -> bool
     ensures open { result ≡ is_some (seen_at (slots_of teams.old.items team) session) }
-    ensures table { teams.new.items ≡ (if result then with_slot teams.old.items team session seen else teams.old.items) }
+    ensures table { teams.new.items
+        ≡ (if result then with_slot teams.old.items team session seen else teams.old.items) }
 {
     match teams.get_mut(team) {
         Some(slots) => slots.write_open(session, seen),

@@ -46,7 +46,8 @@ distance_to target x = unsigned_abs (x -ℤ target)
 
 -- x is nearer to the target than y, or equally near and not right of y.
 abbrev pub IsNoFarther : ℤ → ℤ → ℤ → Type 0
-IsNoFarther target x y = (distance_to target x < distance_to target y) ⊎ ((distance_to target x ≡ distance_to target y) × (x ≤ℤ y))
+IsNoFarther target x y = (distance_to target x < distance_to target y)
+    ⊎ ((distance_to target x ≡ distance_to target y) × (x ≤ℤ y))
 
 -- x fits and is the nearest to the target; the lesser of two that are equally near.
 pub record IsNearest (Fit : ℤ → Type 0) (target x : ℤ) : Type 0 where

@@ -16,7 +16,7 @@ use Rattle.lf_floor_model.specs.Verbs.{outcome_of}
 use Rattle.lf_floor_model.specs.Steps.{IsAnswerOf, MayRunOutOfMemory, answer_at, answer_by, answer_of, outcome_by_rules}
 use Rattle.lf_floor_model.specs.Runs.{Run}
 use Rattle.lf_floor_model.proofs.Cases.{Facts, order_facts, part_stays}
-use Rattle.lf_floor_model.proofs.Standing.{some_one}
+use Rattle.lf_floor_model.proofs.LegalPlaces.{some_one}
 use Rattle.lf_state_restore.specs.Saved.{ShareDesign, RunKeepsDesign, fixed_cells, fixed_part}
 
 pub committed_fixed : (cells : List Cell) → map fixed_part (map as_committed cells) ≡ map fixed_part cells

@@ -11,11 +11,13 @@ use Rattle.lf_state_restore.specs.Saved.{map_two, restored_cell}
 
 -- each saved team has as many cells as the team of its number
 abbrev pub AreAsMany : List SavedTeam → Cells → Type 0
-AreAsMany saved cells = (team : ℕ) → team < length saved → length (saved_at saved team).cells ≡ length (cells_of cells team)
+AreAsMany saved cells = (team : ℕ) → team < length saved
+    → length (saved_at saved team).cells ≡ length (cells_of cells team)
 
 -- the cells of each saved team are at its places, and nothing else differs
 pub record ArePlaced (saved : List SavedTeam) (old new : Cells) : Type 0 where
-  pub cells : (team : ℕ) → team < length saved → cells_of new team ≡ map_two restored_cell (cells_of old team) (saved_at saved team).cells
+  pub cells : (team : ℕ) → team < length saved
+      → cells_of new team ≡ map_two restored_cell (cells_of old team) (saved_at saved team).cells
   pub others : (team : ℕ) → length saved ≤ team → cells_of new team ≡ cells_of old team
   pub components : new.components ≡ old.components
 

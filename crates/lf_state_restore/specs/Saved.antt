@@ -35,7 +35,8 @@ named_team name s = record { name = name; cells = map (λ c. c.name) s.cells }
 
 -- the design of a floor, by its names
 abbrev pub design_names : FloorState → NamedDesign
-design_names floor = record { teams = map_two named_team (team_names floor.frame) floor.teams; limits = floor.frame.limits }
+design_names floor =
+    record { teams = map_two named_team (team_names floor.frame) floor.teams; limits = floor.frame.limits }
 
 -- the places of a cell
 abbrev pub saved_cell : Cell → SavedCell
@@ -57,7 +58,8 @@ pub record AreSavedTeams (floor : FloorState) (saved : List SavedTeam) : Type 0 
 
 -- a text of the floor's state
 abbrev pub IsStateText : FloorState → List ℕ → Type 0
-IsStateText floor text = (saved : List SavedTeam) × AreSavedTeams floor saved × (text ≡ state_text (design_names floor) saved)
+IsStateText floor text = (saved : List SavedTeam) × AreSavedTeams floor saved
+    × (text ≡ state_text (design_names floor) saved)
 
 -- ---- floors of one design
 
@@ -106,7 +108,8 @@ saved_design begin saved = design_cells_from 0 (map_two (λ s t. map_two saved_m
 
 -- the floor is in the state of the text, and has the design of the first floor
 abbrev pub IsRestoredFrom : FloorState → List ℕ → FloorState → Type 0
-IsRestoredFrom begin text floor = (saved : List SavedTeam) × (saved_state_of (design_names begin) text ≡ Ok saved) × (floor ≡ restored_floor begin saved)
+IsRestoredFrom begin text floor = (saved : List SavedTeam) × (saved_state_of (design_names begin) text ≡ Ok saved)
+    × (floor ≡ restored_floor begin saved)
 
 -- ---- laws
 
@@ -114,18 +117,21 @@ IsRestoredFrom begin text floor = (saved : List SavedTeam) × (saved_state_of (d
 abbrev pub SavedRestores : Type 0
 SavedRestores =
     (begin floor : FloorState) (text : List ℕ) → ShareDesign begin floor → IsStateText floor text
-    → (saved : List SavedTeam) × (saved_state_of (design_names begin) text ≡ Ok saved) × (restored_floor begin saved ≡ floor)
+    → (saved : List SavedTeam) × (saved_state_of (design_names begin) text ≡ Ok saved)
+    × (restored_floor begin saved ≡ floor)
 
 -- the committed design of a restored floor is fully legal if and only if the design with the saved
 -- committed places is
 abbrev pub RestoredIsCommitted : Type 0
-RestoredIsCommitted = (begin : FloorState) (saved : List SavedTeam) → IsCommittedLegal (restored_floor begin saved) ↔ IsFullyLegal begin.frame (saved_design begin saved)
+RestoredIsCommitted = (begin : FloorState) (saved : List SavedTeam) → IsCommittedLegal (restored_floor begin saved)
+    ↔ IsFullyLegal begin.frame (saved_design begin saved)
 
 -- a state text with the journal written after it is a backup: the journal runs from the floor that
 -- the text restores
 abbrev pub StateAndTail : Type 0
 StateAndTail =
-    (l : Legalizer) (begin old new : FloorState) (text : List ℕ) (commands : List (Command (List ℕ) Place)) (replies : List Reply)
+    (l : Legalizer) (begin old new : FloorState) (text : List ℕ) (commands : List (Command (List ℕ) Place))
+    (replies : List Reply)
     → ShareDesign begin old → IsStateText old text → Run l old commands replies new
     → (saved : List SavedTeam) × (saved_state_of (design_names begin) text ≡ Ok saved)
     × IsBackup l (restored_floor begin saved) (lasting commands replies) (lasting_replies commands replies) new

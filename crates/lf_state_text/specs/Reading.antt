@@ -133,7 +133,8 @@ move_at cells bytes = do
   Ok (record { own = own.0; old = place.0 }, place.1)
 
 -- this number of items, one after another
-unfoldable pub many_at : {X : Type 0} → (List ℕ → Result (X × List ℕ) TextFault) → ℕ → List ℕ → Result (List X × List ℕ) TextFault
+unfoldable pub many_at : {X : Type 0} → (List ℕ → Result (X × List ℕ) TextFault) → ℕ → List ℕ
+    → Result (List X × List ℕ) TextFault
 many_at item zero bytes = Ok ([], bytes)
 many_at item (suc n) bytes = do
   first ← item bytes
@@ -141,7 +142,8 @@ many_at item (suc n) bytes = do
   Ok (first.0 ∷ others.0, others.1)
 
 -- an item for each of these
-unfoldable pub each_at : {D X : Type 0} → (D → List ℕ → Result (X × List ℕ) TextFault) → List D → List ℕ → Result (List X × List ℕ) TextFault
+unfoldable pub each_at : {D X : Type 0} → (D → List ℕ → Result (X × List ℕ) TextFault) → List D → List ℕ
+    → Result (List X × List ℕ) TextFault
 each_at item [] bytes = Ok ([], bytes)
 each_at item (due ∷ dues) bytes = do
   first ← item due bytes
@@ -184,7 +186,16 @@ rows_at limits named numbers bytes = do
   slots ← many_at (slot_at numbers.revision) limits.sessions bytes
   cells ← each_at read_cell named.cells slots.1
   entries ← many_at (entry_at (length named.cells)) numbers.entries cells.1
-  Ok (record { revision = numbers.revision; padding = numbers.padding; slots = slots.0; cells = cells.0; entries = entries.0 }, entries.1)
+  Ok (
+    record {
+      revision = numbers.revision;
+      padding = numbers.padding;
+      slots = slots.0;
+      cells = cells.0;
+      entries = entries.0;
+    },
+    entries.1,
+  )
 
 unfoldable pub team_at : Limits → NamedTeam → List ℕ → Result (SavedTeam × List ℕ) TextFault
 team_at limits named bytes = do

@@ -23,14 +23,26 @@ pub record SavedTeam : Type 0 where
   pub entries : List (List Move)
 
 abbrev pub team_view : TeamRow → SavedTeam
-team_view t = record { revision = t.revision; padding = t.padding.sites; slots = t.slots.items; cells = t.cells.items; entries = t.entries.items }
+team_view t = record {
+  revision = t.revision;
+  padding = t.padding.sites;
+  slots = t.slots.items;
+  cells = t.cells.items;
+  entries = t.entries.items;
+}
 
 abbrev pub team_views : List TeamRow → List SavedTeam
 team_views teams = map team_view teams
 
 -- the team of that number; empty if there is none
 abbrev pub saved_at : List SavedTeam → ℕ → SavedTeam
-saved_at teams team = slice_index_or teams team record { revision = 0; padding = 0; slots = []; cells = []; entries = [] }
+saved_at teams team = slice_index_or teams team record {
+  revision = 0;
+  padding = 0;
+  slots = [];
+  cells = [];
+  entries = [];
+}
 
 -- the moves of cells below this number: a move of no cell changes nothing, and is not written
 abbrev pub moves_within : ℕ → List Move → List Move
@@ -64,12 +76,14 @@ entry_lines moves = spaced_line (codes "undo" ∷ decimal (length moves) ∷ [])
 abbrev pub head_line : List ℕ → SavedTeam → List ℕ
 head_line name t =
     spaced_line
-    (codes "team" ∷ name ∷ decimal t.revision ∷ decimal t.padding ∷ decimal (length t.slots) ∷ decimal (length t.cells) ∷ decimal (length t.entries) ∷ [])
+    (codes "team" ∷ name ∷ decimal t.revision ∷ decimal t.padding ∷ decimal (length t.slots) ∷ decimal (length t.cells)
+    ∷ decimal (length t.entries) ∷ [])
 
 -- the first line, the slots, the cells and the undo entries
 abbrev pub saved_team_lines : NamedTeam → SavedTeam → List ℕ
 saved_team_lines named t =
-    head_line named.name t ++ (flat_map slot_line t.slots ++ (lines_by cell_line named.cells t.cells ++ flat_map entry_lines t.entries))
+    head_line named.name t
+    ++ (flat_map slot_line t.slots ++ (lines_by cell_line named.cells t.cells ++ flat_map entry_lines t.entries))
 
 -- lefence-state 1
 abbrev pub title : List ℕ

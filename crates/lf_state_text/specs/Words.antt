@@ -37,7 +37,8 @@ unfoldable pub slot_on : List ℕ → Option (Option ℕ)
 slot_on word = cond (bytes_eq word (codes "-")) (Some None) (option_map (λ n. Some n) (number word))
 
 -- a leading word with this value, the byte that ends it, and the bytes after that
-pub record Begins {A : Type 0} (says : List ℕ → Option A) (byte : ℕ) (bytes : List ℕ) (value : A) (rest : List ℕ) : Type 0 where
+pub record Begins {A : Type 0} (says : List ℕ → Option A) (byte : ℕ) (bytes : List ℕ) (value : A)
+    (rest : List ℕ) : Type 0 where
   pub word : List ℕ
   pub is : bytes ≡ word ++ (byte ∷ rest)
   pub said : says word ≡ Some value

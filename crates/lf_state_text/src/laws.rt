@@ -7,5 +7,6 @@ ghost use Rattle.lf_state_text.specs.Reading.{saved_state_of};
 
 /// A law: a saved state is read back from its text.
 pub fn saved_reads_back()
-    ensures { (design : NamedDesign) (teams : List SavedTeam) → AreSaved design teams → saved_state_of design (state_text design teams) ≡ Ok teams }
+    ensures { (design : NamedDesign) (teams : List SavedTeam) → AreSaved design teams
+        → saved_state_of design (state_text design teams) ≡ Ok teams }
 {}

@@ -57,7 +57,8 @@ fn padding_of(sites: u32) -> Padding
 /// `cells`.
 #[tactic(auto, unfolding(crate::specs::Reading::numbers_at))]
 fn numbers_at(limits: &Limits, cells: usize, cursor: &mut Cursor) -> Result<Numbers, ReadError>
-    ensures read { ReadsState (λ numbers left. (numbers_view numbers, left)) result (numbers_at limits.now cells (rest cursor.old)) (rest cursor.new) }
+    ensures read { ReadsState (λ numbers left. (numbers_view numbers, left)) result
+        (numbers_at limits.now cells (rest cursor.old)) (rest cursor.new) }
     ensures ends { (text : List ℕ) → IsEnd text cursor.old → IsEnd text cursor.new }
 {
     let revision = below_at(limits.revisions as usize + 1, WordEnd::Space, cursor)?;
@@ -82,7 +83,8 @@ fn rows_at<D: DesignSchema>(
     cursor: &mut Cursor,
 ) -> Result<TeamRow, ReadError>
     ensures read { ReadsState (λ row left. (team_view row, left)) result
-        (rows_at (D.named design.now).limits (named_team_of (D.named design.now) team) (numbers_view numbers) (rest cursor.old)) (rest cursor.new) }
+        (rows_at (D.named design.now).limits (named_team_of (D.named design.now) team) (numbers_view numbers)
+        (rest cursor.old)) (rest cursor.new) }
     ensures ends { (text : List ℕ) → IsEnd text cursor.old → IsEnd text cursor.new }
 {
     let cells = design.cell_count(team);
@@ -107,7 +109,8 @@ fn read_team<D: DesignSchema>(
     cursor: &mut Cursor,
 ) -> Result<TeamRow, ReadError>
     ensures read { ReadsState (λ row left. (team_view row, left)) result
-        (team_at (D.named design.now).limits (named_team_of (D.named design.now) team) (rest cursor.old)) (rest cursor.new) }
+        (team_at (D.named design.now).limits (named_team_of (D.named design.now) team) (rest cursor.old))
+        (rest cursor.new) }
     ensures ends { (text : List ℕ) → IsEnd text cursor.old → IsEnd text cursor.new }
 {
     named_at(name_of_team(design, team), cursor)?;
@@ -150,7 +153,8 @@ fn read_title(cursor: &mut Cursor) -> Result<(), ReadError>
 /// Reads the title and the number of teams.
 #[tactic(auto, unfolding(crate::specs::Reading::opening_at))]
 fn read_opening<D: DesignSchema>(design: &D, cursor: &mut Cursor) -> Result<(), ReadError>
-    ensures read { ReadsState (λ _ left. left) result (opening_at (D.named design.now) (rest cursor.old)) (rest cursor.new) }
+    ensures read { ReadsState (λ _ left. left) result (opening_at (D.named design.now) (rest cursor.old))
+        (rest cursor.new) }
     ensures ends { (text : List ℕ) → IsEnd text cursor.old → IsEnd text cursor.new }
 {
     read_title(cursor)?;
@@ -165,7 +169,8 @@ fn read_all<D: DesignSchema>(
     design: &D,
     cursor: &mut Cursor,
 ) -> Result<Vec<TeamRow>, ReadError>
-    ensures read { ReadsState (λ rows _. team_views rows.items) result (all_at (D.named design.now) (rest cursor.old)) (rest cursor.new) }
+    ensures read { ReadsState (λ rows _. team_views rows.items) result (all_at (D.named design.now) (rest cursor.old))
+        (rest cursor.new) }
     ensures ends { (text : List ℕ) → IsEnd text cursor.old → IsEnd text cursor.new }
 {
     read_opening(design, cursor)?;
@@ -196,7 +201,8 @@ fn with_text_end(
     cursor: Cursor,
 ) -> Result<Vec<TeamRow>, ChunkError>
     ensures read { (text : List ℕ) (found : Result (List SavedTeam) TextFault) → IsEnd text cursor
-        → ReadsState (λ rows _. team_views rows.items) read found (rest cursor) → ReturnsIn (λ rows. team_views rows.items) result (with_fault_line text found) }
+        → ReadsState (λ rows _. team_views rows.items) read found (rest cursor)
+        → ReturnsIn (λ rows. team_views rows.items) result (with_fault_line text found) }
     ensures end { (text : List ℕ) → IsEnd text cursor → IfErr result (HoldsEnd text) }
 {
     match read {
@@ -217,7 +223,8 @@ pub fn read_chunks<D: DesignSchema>(
     pieces: VecDeque<Vec<u8>>,
 ) -> Result<Vec<TeamRow>, ChunkError>
     // The teams, or the fault.
-    ensures exact { ReturnsIn (λ rows. team_views rows.items) result (saved_state_of (D.named design.now) (text_of_chunks pieces.items)) }
+    ensures exact { ReturnsIn (λ rows. team_views rows.items) result
+        (saved_state_of (D.named design.now) (text_of_chunks pieces.items)) }
     // The result is within the design's limits.
     ensures fits { IfOk result (λ rows. AreOf (D.named design.now) (team_views rows.items)) }
     // The end of a refused text.
@@ -265,7 +272,8 @@ pub fn read_state<D: DesignSchema>(
     // The result is within the design's limits.
     ensures fits { IfOk result (λ rows. AreOf (D.named design.now) (team_views rows.items)) }
     // A written text is read back, unless memory runs out.
-    ensures again { (teams : List SavedTeam) → AreSaved (D.named design.now) teams → text.now ≡ state_text (D.named design.now) teams
+    ensures again { (teams : List SavedTeam) → AreSaved (D.named design.now) teams
+        → text.now ≡ state_text (D.named design.now) teams
         → ReturnsAt (λ rows. team_views rows.items) result (Ok teams) }
 {
     let Ok(pieces) = piece_of(alloc, text) else {

@@ -17,7 +17,8 @@ use std::alloc::Global;
 /// Reads the line of the cell of that name.
 #[tactic(auto, unfolding(crate::specs::Reading::read_cell))]
 fn cell_at(name: &[u8], cursor: &mut Cursor) -> Result<SavedCell, ReadError>
-    ensures read { ReadsState (λ cell left. (cell, left)) result (read_cell name.now (rest cursor.old)) (rest cursor.new) }
+    ensures read { ReadsState (λ cell left. (cell, left)) result (read_cell name.now (rest cursor.old))
+        (rest cursor.new) }
     ensures ends { (text : List ℕ) → IsEnd text cursor.old → IsEnd text cursor.new }
 {
     expect_bytes(StateFaultNumber::OtherDesign, name, cursor)?;
@@ -45,7 +46,8 @@ pub(crate) fn read_slots(
     count: u32,
     cursor: &mut Cursor,
 ) -> Result<Vec<Option<u32>>, ReadError>
-    ensures read { ReadsState (λ slots left. (slots.items, left)) result (many_at (slot_at revision) count (rest cursor.old)) (rest cursor.new) }
+    ensures read { ReadsState (λ slots left. (slots.items, left)) result
+        (many_at (slot_at revision) count (rest cursor.old)) (rest cursor.new) }
     ensures ends { (text : List ℕ) → IsEnd text cursor.old → IsEnd text cursor.new }
 {
     let mut items = Vec::with_capacity(alloc, count as usize)?;
@@ -84,7 +86,8 @@ fn read_moves(
     count: u32,
     cursor: &mut Cursor,
 ) -> Result<Moves, ReadError>
-    ensures read { ReadsState (λ moves left. (moves, left)) result (many_at (move_at cells) count (rest cursor.old)) (rest cursor.new) }
+    ensures read { ReadsState (λ moves left. (moves, left)) result (many_at (move_at cells) count (rest cursor.old))
+        (rest cursor.new) }
     ensures ends { (text : List ℕ) → IsEnd text cursor.old → IsEnd text cursor.new }
 {
     let mut items = Moves::with_capacity(alloc, cells.min(count as usize))?;
@@ -98,7 +101,8 @@ fn read_moves(
 /// Reads an undo entry of a team of `cells` cells: its line, and its moves.
 #[tactic(auto, unfolding(crate::specs::Reading::entry_at))]
 fn entry_at(alloc: Global, cells: usize, cursor: &mut Cursor) -> Result<Moves, ReadError>
-    ensures read { ReadsState (λ moves left. (moves, left)) result (entry_at cells (rest cursor.old)) (rest cursor.new) }
+    ensures read { ReadsState (λ moves left. (moves, left)) result (entry_at cells (rest cursor.old))
+        (rest cursor.new) }
     ensures ends { (text : List ℕ) → IsEnd text cursor.old → IsEnd text cursor.new }
 {
     expect_bytes(StateFaultNumber::Unexpected, b"undo ", cursor)?;
@@ -113,7 +117,8 @@ pub(crate) fn read_entries(
     count: u32,
     cursor: &mut Cursor,
 ) -> Result<Vec<Moves>, ReadError>
-    ensures read { ReadsState (λ entries left. (entries.items, left)) result (many_at (entry_at cells) count (rest cursor.old)) (rest cursor.new) }
+    ensures read { ReadsState (λ entries left. (entries.items, left)) result
+        (many_at (entry_at cells) count (rest cursor.old)) (rest cursor.new) }
     ensures ends { (text : List ℕ) → IsEnd text cursor.old → IsEnd text cursor.new }
 {
     let mut items = Vec::new(alloc);

@@ -52,7 +52,8 @@ fn front_number(byte: u8, bytes: &[u8]) -> Option<(u64, &[u8])>
 pub(crate) fn front_u32(byte: u8, bytes: &[u8]) -> Option<(u32, usize)>
     requires { byte < 48 }
     ensures within { IfSome result (λ x. x.1 ≤ length bytes.now) }
-    ensures read { IfSome result (λ x. (later : List ℕ) → number_at byte (bytes.now ++ later) ≡ Ok (x.0, drop x.1 bytes.now ++ later)) }
+    ensures read { IfSome result
+        (λ x. (later : List ℕ) → number_at byte (bytes.now ++ later) ≡ Ok (x.0, drop x.1 bytes.now ++ later)) }
 {
     let (value, rest) = front_number(byte, bytes)?;
     let number = u32::try_from(value).ok()?;

@@ -77,7 +77,8 @@ fn front_orient(byte: u8, bytes: &[u8]) -> Option<(Orient, &[u8])>
 pub(crate) fn front_place(byte: u8, bytes: &[u8]) -> Option<(Place, usize)>
     requires { byte ≤ 32 }
     ensures within { IfSome result (λ x. x.1 ≤ length bytes.now) }
-    ensures read { IfSome result (λ x. (later : List ℕ) → read_spot byte (bytes.now ++ later) ≡ Ok (Some x.0, drop x.1 bytes.now ++ later)) }
+    ensures read { IfSome result
+        (λ x. (later : List ℕ) → read_spot byte (bytes.now ++ later) ≡ Ok (Some x.0, drop x.1 bytes.now ++ later)) }
 {
     let (x, rest) = front_coordinate(bytes)?;
     let (y, rest) = front_coordinate(rest)?;

@@ -51,7 +51,8 @@ pub(crate) fn expect_bytes(
 /// `byte`.
 #[tactic(auto, unfolding(crate::specs::Reading::word_at, crate::specs::Words::cut))]
 fn word_len(byte: u8, cursor: &mut Cursor) -> Result<usize, ReadError>
-    ensures read { ReadsState (λ len left. (take len left, drop (len + 1) left)) result (word_at byte (rest cursor.old)) (rest cursor.new) }
+    ensures read { ReadsState (λ len left. (take len left, drop (len + 1) left)) result (word_at byte (rest cursor.old))
+        (rest cursor.new) }
     ensures within { IfOk result (λ len. len < length (front cursor.new)) }
     ensures rest { rest cursor.new ≡ rest cursor.old }
     ensures ends { (text : List ℕ) → IsEnd text cursor.old → IsEnd text cursor.new }
@@ -172,7 +173,8 @@ fn is_seen_by(revision: u32, slot: Option<u32>) -> bool
 /// Reads the line of a session slot of a team with this revision.
 #[tactic(auto, unfolding(crate::specs::Reading::slot_at))]
 pub(crate) fn slot_at(revision: u32, cursor: &mut Cursor) -> Result<Option<u32>, ReadError>
-    ensures read { ReadsState (λ slot left. (slot, left)) result (slot_at revision (rest cursor.old)) (rest cursor.new) }
+    ensures read { ReadsState (λ slot left. (slot, left)) result (slot_at revision (rest cursor.old))
+        (rest cursor.new) }
     ensures ends { (text : List ℕ) → IsEnd text cursor.old → IsEnd text cursor.new }
 {
     let len = word_len(b'\n', cursor)?;

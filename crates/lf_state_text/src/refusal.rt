@@ -41,7 +41,8 @@ fn join_all(cursor: &mut Cursor) -> Result<(), AllocError>
 
 /// Returns the line of the cursor. `None` if the number overflows.
 fn line_of(cursor: &Cursor) -> Option<usize>
-    ensures { IfSome result (λ line. line ≡ cursor.now.lines + line_feeds (take cursor.now.at cursor.now.piece.items) + 1) }
+    ensures { IfSome result
+        (λ line. line ≡ cursor.now.lines + line_feeds (take cursor.now.at cursor.now.piece.items) + 1) }
 {
     let before = line_feeds(&cursor.piece[..cursor.at]);
     cursor.lines.checked_add(before)?.checked_add(1)
@@ -49,7 +50,8 @@ fn line_of(cursor: &Cursor) -> Option<usize>
 
 /// Returns the fault of that number at the cursor.
 pub(crate) fn refusal_at(number: StateFaultNumber, cursor: Cursor) -> ChunkError
-    ensures fault { (text : List ℕ) → IsEnd text cursor → IsRefusedState text (record { number = number; left = length (rest cursor) }) result }
+    ensures fault { (text : List ℕ) → IsEnd text cursor
+        → IsRefusedState text (record { number = number; left = length (rest cursor) }) result }
     ensures end { (text : List ℕ) → IsEnd text cursor → HoldsEnd text result }
 {
     let mut left = cursor;

@@ -22,7 +22,8 @@ pub trait DesignSchema {
 
     /// Returns the name of a team. `None` if and only if there is no such team.
     fn team_name(&self, team: usize) -> Option<&[u8]>
-        ensures { option_map (λ name. name.now) result ≡ option_map (λ t. t.name) (slice_get (named self.now).teams team) };
+        ensures { option_map (λ name. name.now) result
+            ≡ option_map (λ t. t.name) (slice_get (named self.now).teams team) };
 
     /// Returns the number of a team's cells; 0 if there is no such team.
     fn cell_count(&self, team: usize) -> usize

@@ -70,7 +70,8 @@ fn put_spaced<O: Output>(out: &mut O, words: &[Word<'_>])
 
 /// Writes a line of words, given its first word and the others.
 fn put_line<O: Output>(out: &mut O, first: &Word<'_>, words: &[Word<'_>])
-    ensures { PutsText O.took out.old out.new (spaced_line (state_word_text first.now ∷ map state_word_text words.now)) }
+    ensures { PutsText O.took out.old out.new
+        (spaced_line (state_word_text first.now ∷ map state_word_text words.now)) }
 {
     put_word(out, first);
     put_spaced(out, words);
@@ -106,7 +107,8 @@ fn put_cell_at<O: Output, D: DesignSchema, T: TeamViews>(
     own: usize,
 )
     ensures text { PutsText O.took out.old out.new
-        (line_of_pair cell_line (named_team_of (D.named design.now) team).cells (saved_at (T.saved teams.now) team).cells own) }
+        (line_of_pair cell_line (named_team_of (D.named design.now) team).cells
+        (saved_at (T.saved teams.now) team).cells own) }
     ensures spotted { IfSome (slice_get (saved_at (T.saved teams.now) team).cells own) IsSpottedCell }
 {
     if let Some(cell) = teams.cell(team, own) {
@@ -187,7 +189,8 @@ fn put_entry<O: Output>(out: &mut O, cells: usize, entry: &Moves)
 
 /// Writes the lines of the team's undo entry that has `newer` newer ones, if there is one.
 fn put_entry_at<O: Output, T: TeamViews>(out: &mut O, teams: &T, team: usize, newer: usize)
-    ensures text { PutsText O.took out.old out.new (entry_if (slice_get (saved_at (T.saved teams.now) team).entries newer)) }
+    ensures text { PutsText O.took out.old out.new
+        (entry_if (slice_get (saved_at (T.saved teams.now) team).entries newer)) }
     ensures spotted { IfSome (slice_get (saved_at (T.saved teams.now) team).entries newer) IsSpottedEntry }
 {
     let cells = teams.cell_count(team);
@@ -242,7 +245,8 @@ fn put_team<O: Output, D: DesignSchema, T: TeamViews>(
     teams: &T,
     team: usize,
 )
-    ensures text { PutsText O.took out.old out.new (saved_team_lines (named_team_of (D.named design.now) team) (saved_at (T.saved teams.now) team)) }
+    ensures text { PutsText O.took out.old out.new
+        (saved_team_lines (named_team_of (D.named design.now) team) (saved_at (T.saved teams.now) team)) }
     ensures in_range { IsSavedInRange (saved_at (T.saved teams.now) team) }
 {
     put_head(out, name_of_team(design, team), teams, team);
@@ -254,7 +258,8 @@ fn put_team<O: Output, D: DesignSchema, T: TeamViews>(
 /// Writes the lines of the teams.
 fn put_teams<O: Output, D: DesignSchema, T: TeamViews>(out: &mut O, design: &D, teams: &T)
     requires { length (T.saved teams.now) ≡ length (D.named design.now).teams }
-    ensures text { PutsText O.took out.old out.new (lines_by saved_team_lines (D.named design.now).teams (T.saved teams.now)) }
+    ensures text { PutsText O.took out.old out.new
+        (lines_by saved_team_lines (D.named design.now).teams (T.saved teams.now)) }
     ensures in_range { All IsSavedInRange (T.saved teams.now) }
 {
     for team in 0..design.team_count() {

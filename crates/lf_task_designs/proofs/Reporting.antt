@@ -24,9 +24,9 @@ found_alike {Y = Y} g h alike (x ∷ xs) =
     ap (λ (o : Option Y). cons_option o (filter_map h xs)) (alike x) ∙ ap (cons_option (g x)) (found_alike g h alike xs)
 
 -- The cells that the report lists are those of the design.
-pub at_home : (cells : List LoadedCell) → listed_at cells (def_places cells) ≡ map listed_as_loaded cells
-at_home [] = refl
-at_home (c ∷ cells) = ap (λ (listed : List (Listed (List ℕ))). listed_as_loaded c ∷ listed) (at_home cells)
+pub places_as_loaded : (cells : List LoadedCell) → listed_at cells (def_places cells) ≡ map listed_as_loaded cells
+places_as_loaded [] = refl
+places_as_loaded (c ∷ cells) = ap (λ (listed : List (Listed (List ℕ))). listed_as_loaded c ∷ listed) (places_as_loaded cells)
 
 -- ---- names
 

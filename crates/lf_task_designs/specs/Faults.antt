@@ -76,7 +76,8 @@ name_words (Some name) = codes " " ++ name
 
 -- The text of a refusal: its number, its name, and its line and name if it has them.
 abbrev pub refusal_text : TextRefusal → List ℕ
-refusal_text refusal = numbered_refusal refusal.number ++ line_words refusal.line ++ name_words (option_map (λ name. name.items) refusal.name)
+refusal_text refusal = numbered_refusal refusal.number ++ line_words refusal.line
+    ++ name_words (option_map (λ name. name.items) refusal.name)
 
 -- The text of a refusal of a state text: its number, its name and its line.
 abbrev pub state_refusal_text : StateRefusal → List ℕ
@@ -110,7 +111,8 @@ fault_line fault = codes "lefence: " ++ fault_text fault ++ 10 ∷ []
 -- A byte as shown: unchanged if it is printable, otherwise '\x' and its two hex digits.
 abbrev pub shown_byte : ℕ → List ℕ
 shown_byte byte =
-    if nat_le 32 byte && nat_le byte 126 then byte ∷ [] else 92 ∷ 120 ∷ digit_char (byte / 16) ∷ digit_char (byte % 16) ∷ []
+    if nat_le 32 byte && nat_le byte 126 then byte ∷ []
+    else 92 ∷ 120 ∷ digit_char (byte / 16) ∷ digit_char (byte % 16) ∷ []
 
 abbrev pub shown_bytes : List ℕ → List ℕ
 shown_bytes bytes = flat_map shown_byte bytes
@@ -147,7 +149,8 @@ overlapped_fence_words fence = codes " (overlaps " ++ fence_words fence ++ codes
 
 -- The two fences that claim a component.
 abbrev pub claiming_fences_words : FenceLine → FenceLine → List ℕ
-claiming_fences_words first second = codes " (claimed by " ++ fence_words first ++ codes " and " ++ fence_words second ++ codes ")"
+claiming_fences_words first second =
+    codes " (claimed by " ++ fence_words first ++ codes " and " ++ fence_words second ++ codes ")"
 
 abbrev pub conflict_words : Option FenceLine → Option FenceLine → List ℕ
 conflict_words None second = []
@@ -170,7 +173,8 @@ line_shown (Some number) beside bytes = number_words number ++ beside ++ bytes_w
 
 -- The remark about that line: the line of an earlier entry, and the fences in conflict.
 abbrev pub beside_words : TextRefusal → List ℕ
-beside_words refusal = earlier_words refusal.earlier ++ conflict_words refusal.first_overlapped refusal.second_overlapped
+beside_words refusal =
+    earlier_words refusal.earlier ++ conflict_words refusal.first_overlapped refusal.second_overlapped
 
 abbrev pub shown_line : TextRefusal → List ℕ
 shown_line refusal = line_shown refusal.at (beside_words refusal) refusal.shown.items
@@ -193,7 +197,8 @@ team_words name = codes "team " ++ shown_bytes name
 
 -- The line of a refused state text.
 abbrev pub state_line : List ℕ → StateRefusal → List ℕ
-state_line path refusal = codes "lefence: " ++ state_words path ++ number_words refusal.line ++ bytes_words refusal.shown.items ++ 10 ∷ []
+state_line path refusal =
+    codes "lefence: " ++ state_words path ++ number_words refusal.line ++ bytes_words refusal.shown.items ++ 10 ∷ []
 
 -- A port of this machine.
 abbrev pub port_text : ℕ → List ℕ
@@ -215,7 +220,8 @@ hint_words State (Some OtherKind) = []
 -- The line of a refused text. It is empty if the refusal is a failed allocation.
 abbrev pub text_refusal_words : TextFile → TextRefusal → List ℕ
 text_refusal_words file refusal =
-    if is_memory refusal.number then [] else codes "lefence: " ++ file_words file ++ hint_words file.kind refusal.hint ++ shown_line refusal ++ 10 ∷ []
+    if is_memory refusal.number then []
+    else codes "lefence: " ++ file_words file ++ hint_words file.kind refusal.hint ++ shown_line refusal ++ 10 ∷ []
 
 -- The file, path, port or team at fault.
 abbrev pub subject_words : Fault → List ℕ
@@ -270,7 +276,8 @@ reason_words _ = []
 
 -- The line of the subject, what is wrong with it, and the reason.
 abbrev pub complaint_line : Fault → List ℕ
-complaint_line fault = codes "lefence: " ++ subject_words fault ++ complaint_words fault ++ reason_words fault ++ 10 ∷ []
+complaint_line fault =
+    codes "lefence: " ++ subject_words fault ++ complaint_words fault ++ reason_words fault ++ 10 ∷ []
 
 -- The second line on standard error: the line of a text, or the file, path, port or team at fault.
 -- Empty for other faults.
@@ -307,7 +314,7 @@ status_of _ = 3
 pub record EndsWith (fault : Fault) (old new : Option (List ℕ)) (failed : Bool) (exit : TaskExit) : Type 0 where
   pub status : exit.status ≡ status_of fault
   pub reported : IsTrue exit.is_printed → Appends old new (fault_lines_text fault)
-  pub untold : exit.is_printed ≡ false → failed ≡ true
+  pub unreported : exit.is_printed ≡ false → failed ≡ true
 
 -- ---- kinds of faults
 

@@ -60,20 +60,24 @@ fence_line_of fence = record { name = fence.name.items; line = fence.line }
 -- The fault `reported` with its fences is reported for the fault that was found. It is the same
 -- fault, or a failed allocation without fences.
 abbrev pub IsReportedConflict : LoadFault → Conflict → LoadFault → Conflict → Type 0
-IsReportedConflict found overlapping_one reported fences = ((reported ≡ found) × (fences ≡ overlapping_one)) ⊎ ((reported ≡ load_fault_of Memory) × (fences ≡ no_fence))
+IsReportedConflict found overlapping_one reported fences = ((reported ≡ found) × (fences ≡ overlapping_one))
+    ⊎ ((reported ≡ load_fault_of Memory) × (fences ≡ no_fence))
 
 -- What is reported about the fault of a text that was read as this kind, with these fences in
 -- conflict: its number, line and name; the line that it is about, with its first bytes; the line of
 -- an earlier entry of its name; the fences with their lines; and what the text may be instead.
-pub record ReportsFault (kind : TextKind) (text : List ℕ) (fault : LoadFault) (overlapping_one : Conflict) (refusal : TextRefusal) : Type 0 where
+pub record ReportsFault (kind : TextKind) (text : List ℕ) (fault : LoadFault) (overlapping_one : Conflict)
+    (refusal : TextRefusal) : Type 0 where
   pub number : refusal.number ≡ fault.number
   pub line : refusal.line ≡ fault.line
   pub name : option_map (λ name. name.items) refusal.name ≡ option_map (λ name. name.now) fault.name
   pub at : refusal.at ≡ fault_line_number text fault
   pub shown : refusal.shown.items ≡ line_front text (fault_line_number text fault)
   pub earlier : refusal.earlier ≡ earlier_line text fault
-  pub first_overlapped : option_map fence_line_of refusal.first_overlapped ≡ option_map (fence_line_in text) overlapping_one.first
-  pub second_overlapped : option_map fence_line_of refusal.second_overlapped ≡ option_map (fence_line_in text) overlapping_one.second
+  pub first_overlapped : option_map fence_line_of refusal.first_overlapped
+      ≡ option_map (fence_line_in text) overlapping_one.first
+  pub second_overlapped : option_map fence_line_of refusal.second_overlapped
+      ≡ option_map (fence_line_in text) overlapping_one.second
   pub hint : refusal.hint ≡ hint_of kind text
 
 -- What is reported about the fault of a state text: its number and its line, with the first bytes

@@ -55,7 +55,8 @@ pub fn illegal_in(verdicts: &[Option<Broken>]) -> usize
 
 /// Returns whether the count of unplaced cells is 0 and no verdict names a broken rule.
 fn is_faultless(unplaced: usize, verdicts: &[Option<Broken>]) -> bool
-    ensures { (places : List (Option Place)) → unplaced ≡ count_by is_none places → IsTrue result ↔ IsFaultless places verdicts.now }
+    ensures { (places : List (Option Place)) → unplaced ≡ count_by is_none places
+        → IsTrue result ↔ IsFaultless places verdicts.now }
 {
     unplaced == 0 && illegal_in(verdicts) == 0
 }
@@ -84,7 +85,8 @@ fn put_cells(
     requires { length verdicts.now ≡ length loaded.now.cells }
     ensures { (l : Legalizer) → AreVerdicts l loaded.now.frame 0 (map listed_as_loaded loaded.now.cells) verdicts.now
         → OnOk result (text.new.items ++ violations_text true []
-        ≡ text.old.items ++ violations_text false (violations_in l loaded.now.frame 0 (map listed_as_loaded loaded.now.cells))) }
+        ≡ text.old.items ++ violations_text false
+        (violations_in l loaded.now.frame 0 (map listed_as_loaded loaded.now.cells))) }
 {
     let names = DesignNames {
         cells: &loaded.cells,
@@ -132,7 +134,8 @@ fn design_report(alloc: Global, loaded: &Loaded) -> Result<DesignReport, AllocEr
 /// Writes the text and a line feed.
 fn put_line<W: Sink>(writer: &mut W, text: &[u8]) -> Result<(), DeviceFault>
     ensures ok { OnOk result (Appends (W.contents writer.old) (W.contents writer.new) (text.now ++ 10 ∷ [])) }
-    ensures front { OnErr result ((n : ℕ) × Appends (W.contents writer.old) (W.contents writer.new) (take n (text.now ++ 10 ∷ []))) }
+    ensures front { OnErr result
+        ((n : ℕ) × Appends (W.contents writer.old) (W.contents writer.new) (take n (text.now ++ 10 ∷ []))) }
     ensures failed { OnErr result (W.has_failed writer.new ≡ true) }
     ensures writer_held { W.holds writer.new ≡ W.holds writer.old }
 {
@@ -149,10 +152,12 @@ pub fn report_design<'f, W: Sink>(
     loaded: &Loaded,
     writer: &mut W,
 ) -> Result<bool, Fault<'f>>
-    ensures text { (l : Legalizer) → OnOk result (Appends (W.contents writer.old) (W.contents writer.new) (report_line l loaded.now)) }
+    ensures text { (l : Legalizer)
+        → OnOk result (Appends (W.contents writer.old) (W.contents writer.new) (report_line l loaded.now)) }
     ensures legal { IfOk result (λ legal. IsTrue legal ↔ IsLegalDesign loaded.now) }
     ensures err { IfErr result (IsNotReported loaded.now (W.contents writer.old) (W.contents writer.new)) }
-    ensures blames { IfErr result (λ fault. BlamesWriter fault (writer.new ≡ writer.old) (W.has_failed writer.old) (W.has_failed writer.new)) }
+    ensures blames { IfErr result
+        (λ fault. BlamesWriter fault (writer.new ≡ writer.old) (W.has_failed writer.old) (W.has_failed writer.new)) }
     ensures writer_held { W.holds writer.new ≡ W.holds writer.old }
 {
     let Ok(report) = design_report(alloc, loaded) else {

@@ -135,7 +135,8 @@ fn write_claiming_fences<W: Sink>(
     first: &FenceLine,
     second: &FenceLine,
 ) -> Result<(), DeviceFault>
-    ensures ok { OnOk result (Appends (W.contents sink.old) (W.contents sink.new) (claiming_fences_words first.now second.now)) }
+    ensures ok { OnOk result
+        (Appends (W.contents sink.old) (W.contents sink.new) (claiming_fences_words first.now second.now)) }
     ensures failed { OnErr result (W.has_failed sink.new ≡ true) }
     ensures held { W.holds sink.new ≡ W.holds sink.old }
 {
@@ -152,7 +153,8 @@ fn put_overlapped<W: Sink>(
     first: &Option<FenceLine>,
     second: &Option<FenceLine>,
 ) -> Result<(), DeviceFault>
-    ensures ok { OnOk result (Appends (W.contents sink.old) (W.contents sink.new) (conflict_words first.now second.now)) }
+    ensures ok { OnOk result
+        (Appends (W.contents sink.old) (W.contents sink.new) (conflict_words first.now second.now)) }
     ensures failed { OnErr result (W.has_failed sink.new ≡ true) }
     ensures held { W.holds sink.new ≡ W.holds sink.old }
 {
@@ -226,7 +228,8 @@ fn put_refused<W: Sink>(
     file: &TextFile<'_>,
     refusal: &TextRefusal,
 ) -> Result<(), DeviceFault>
-    ensures ok { OnOk result (Appends (W.contents sink.old) (W.contents sink.new) (text_refusal_words file.now refusal.now)) }
+    ensures ok { OnOk result
+        (Appends (W.contents sink.old) (W.contents sink.new) (text_refusal_words file.now refusal.now)) }
     ensures failed { OnErr result (W.has_failed sink.new ≡ true) }
     ensures held { W.holds sink.new ≡ W.holds sink.old }
 {

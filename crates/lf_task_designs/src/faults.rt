@@ -166,7 +166,8 @@ fn put_line<W: Sink>(sink: &mut W, line: Option<usize>) -> Result<(), DeviceFaul
 
 /// Writes the name of a refusal, if it has one.
 fn put_name<W: Sink>(sink: &mut W, name: &Option<Vec<u8>>) -> Result<(), DeviceFault>
-    ensures ok { OnOk result (Appends (W.contents sink.old) (W.contents sink.new) (name_words (option_map (λ bytes. bytes.items) name.now))) }
+    ensures ok { OnOk result (Appends (W.contents sink.old) (W.contents sink.new)
+        (name_words (option_map (λ bytes. bytes.items) name.now))) }
     ensures failed { OnErr result (W.has_failed sink.new ≡ true) }
     ensures held { W.holds sink.new ≡ W.holds sink.old }
 {

@@ -102,7 +102,8 @@ pub(crate) fn refused<'a>(
     text: &[u8],
     fault: &LoadFault<'_>,
 ) -> Fault<'a>
-    ensures { IsRefusedText file.entry.kind file.entry.path.now text.now (IsReportedConflict fault.now no_fence) result }
+    ensures { IsRefusedText file.entry.kind file.entry.path.now text.now
+        (IsReportedConflict fault.now no_fence) result }
 {
     Fault::Refused {
         file,
@@ -118,7 +119,8 @@ fn load_fault<'a>(
     document: &DefDoc,
     fault: &LoadFault<'_>,
 ) -> Fault<'a>
-    ensures { (overlapping_one : Conflict) × ConflictsWith document.now.regions document.now.groups fault.now overlapping_one × IsRefusedText Def path.now text.now (IsReportedConflict fault.now overlapping_one) result }
+    ensures { (overlapping_one : Conflict) × ConflictsWith document.now.regions document.now.groups fault.now
+        overlapping_one × IsRefusedText Def path.now text.now (IsReportedConflict fault.now overlapping_one) result }
 {
     let file = def_file(path);
     let overlapping_one = conflicting_fences(document, fault);
@@ -165,7 +167,8 @@ fn add_files<'a, T: InputFiles>(
     library: &mut Library,
     paths: &[&'a str],
 ) -> Result<(), Fault<'a>>
-    ensures ok { OnOk result (IsLibraryOf (T.gives texts.now) library.old (map (λ path. path.now) paths.now) library.new) }
+    ensures ok { OnOk result
+        (IsLibraryOf (T.gives texts.now) library.old (map (λ path. path.now) paths.now) library.new) }
     ensures err { IfErr result (IsLibraryFault (T.gives texts.now) library.old (map (λ path. path.now) paths.now)) }
 {
     for path in paths {
@@ -181,7 +184,8 @@ pub fn library_of<'a, T: InputFiles>(
     texts: &T,
     lefs: &[&'a str],
 ) -> Result<Library, Fault<'a>>
-    ensures ok { IfOk result (λ library. IsLibraryOf (T.gives texts.now) no_library (map (λ lef. lef.now) lefs.now) library) }
+    ensures ok { IfOk result
+        (λ library. IsLibraryOf (T.gives texts.now) no_library (map (λ lef. lef.now) lefs.now) library) }
     ensures err { IfErr result (IsLibraryFault (T.gives texts.now) no_library (map (λ lef. lef.now) lefs.now)) }
 {
     let mut library = Library::new(alloc);
@@ -216,7 +220,8 @@ pub fn load_document<'a>(
     document: &DefDoc,
 ) -> Result<Loaded, Fault<'a>>
     ensures ok { IfOk result (IsLoadedIn limits library.now (contents document.now)) }
-    ensures err { IfErr result (IsRefusedText Def path.now text.now (IsLoadRefusal limits library.now (contents document.now))) }
+    ensures err { IfErr result
+        (IsRefusedText Def path.now text.now (IsLoadRefusal limits library.now (contents document.now))) }
 {
     match load(alloc, library, document, limits) {
         Ok(loaded) => Ok(loaded),

@@ -38,8 +38,10 @@ fn open_document<'a>(
     document: &DefDoc,
 ) -> Result<LoadedDocument, Fault<'a>>
     ensures design { IfOk result (λ kept. IsLoadedIn limits library.now (contents document.now) kept.loaded) }
-    ensures clauses { IfOk result (λ kept. kept.clauses ≡ map (clause_of document.now.text.now) document.now.components) }
-    ensures err { IfErr result (IsRefusedText Def path.now text.now (IsLoadRefusal limits library.now (contents document.now))) }
+    ensures clauses { IfOk result
+        (λ kept. kept.clauses ≡ map (clause_of document.now.text.now) document.now.components) }
+    ensures err { IfErr result
+        (IsRefusedText Def path.now text.now (IsLoadRefusal limits library.now (contents document.now))) }
 {
     let loaded = load_document(alloc, limits, library, path, text, document)?;
     match clauses_of(alloc, document) {
@@ -59,7 +61,8 @@ fn open_text<'a>(
     path: &'a str,
     text: &[u8],
 ) -> Result<LoadedDocument, Fault<'a>>
-    ensures ok { IfOk result (λ kept. (document : Document) × IsLoadedText limits text.now library.now document kept.clauses kept.loaded) }
+    ensures ok { IfOk result
+        (λ kept. (document : Document) × IsLoadedText limits text.now library.now document kept.clauses kept.loaded) }
     ensures err { IfErr result (IsRefusedText Def path.now text.now (IsDefRefusal limits library.now text.now)) }
 {
     let document = read_document(alloc, path, text)?;
@@ -93,7 +96,8 @@ fn open_kept<'a>(
     text: Vec<u8>,
 ) -> Result<OpenedDesign, Fault<'a>>
     ensures text { IfOk result (λ opened. opened.original.text.items ≡ text.items) }
-    ensures ok { IfOk result (λ opened. (document : Document) × IsLoadedText limits text.items library.now document opened.original.clauses opened.loaded) }
+    ensures ok { IfOk result (λ opened. (document : Document)
+        × IsLoadedText limits text.items library.now document opened.original.clauses opened.loaded) }
     ensures err { IfErr result (IsRefusedText Def path.now text.items (IsDefRefusal limits library.now text.items)) }
 {
     let LoadedDocument { loaded, clauses } = open_text(alloc, limits, library, path, &text)?;

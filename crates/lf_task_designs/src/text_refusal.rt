@@ -119,7 +119,8 @@ fn line_front(text: &[u8], line: Option<usize>) -> &[u8]
 
 /// Copies the name, if there is one. `Err` if an allocation fails.
 fn copied(alloc: Global, name: Option<&[u8]>) -> Result<Option<Vec<u8>>, AllocError>
-    ensures { IfOk result (λ copy. option_map (λ bytes. bytes.items) copy ≡ option_map (λ bytes. bytes.now) name.entry) }
+    ensures { IfOk result
+        (λ copy. option_map (λ bytes. bytes.items) copy ≡ option_map (λ bytes. bytes.now) name.entry) }
 {
     match name {
         Some(name) => Ok(Some(Vec::from_slice(alloc, name)?)),
@@ -133,7 +134,8 @@ fn fence_line(
     text: &[u8],
     name: Option<&[u8]>,
 ) -> Result<Option<FenceLine>, AllocError>
-    ensures { IfOk result (λ fence. option_map fence_line_of fence ≡ option_map (fence_line_in text.now) (option_copied name.entry)) }
+    ensures { IfOk result
+        (λ fence. option_map fence_line_of fence ≡ option_map (fence_line_in text.now) (option_copied name.entry)) }
 {
     let Some(name) = name else {
         return Ok(None);
@@ -221,7 +223,8 @@ impl TextRefusal {
     /// Collects what is printed about the refused text, which was read as this kind. If memory runs
     /// out, it describes a failed allocation.
     pub fn new(alloc: Global, kind: TextKind, text: &[u8], fault: &LoadFault<'_>) -> TextRefusal
-        ensures { (reported : LoadFault) × (overlapping_one : Conflict) × IsReportedConflict fault.now no_fence reported overlapping_one × ReportsFault kind text.now reported overlapping_one result }
+        ensures { (reported : LoadFault) × (overlapping_one : Conflict) × IsReportedConflict fault.now no_fence reported
+            overlapping_one × ReportsFault kind text.now reported overlapping_one result }
     {
         let none = FenceConflict {
             first: None,
@@ -238,7 +241,8 @@ impl TextRefusal {
         fault: &LoadFault<'_>,
         overlapping_one: &FenceConflict<'_>,
     ) -> TextRefusal
-        ensures { (reported : LoadFault) × (fences : Conflict) × IsReportedConflict fault.now (conflict_in overlapping_one.now) reported fences × ReportsFault kind text.now reported fences result }
+        ensures { (reported : LoadFault) × (fences : Conflict) × IsReportedConflict fault.now
+            (conflict_in overlapping_one.now) reported fences × ReportsFault kind text.now reported fences result }
     {
         match refusal_of(alloc, kind, text, fault, overlapping_one) {
             Ok(refusal) => refusal,

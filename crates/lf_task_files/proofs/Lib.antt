@@ -1,6 +1,6 @@
 mod Beginning
 mod Copying
 pub mod DesignSteps
-mod Judging
+mod CommittedVerdicts
 mod Looking
 pub mod WorkSteps

@@ -29,7 +29,8 @@ pub record IsReported (loaded : Loaded) (old new : Option (List ℕ)) (status : 
 -- If a DEF text is kept for the export, it has these bytes and this document.
 abbrev pub AreKept : Option SourceText → List ℕ → Document → Type 0
 AreKept original text document =
-    IfSome original (λ original. (original.text.items ≡ text) × (original.clauses ≡ map (clause_of text) document.components))
+    IfSome original
+    (λ original. (original.text.items ≡ text) × (original.clauses ≡ map (clause_of text) document.components))
 
 -- If a DEF text is kept, these places can be written into it.
 abbrev pub CanBePut : Option SourceText → List (ℕ × Option Place) → Type 0
@@ -37,10 +38,12 @@ CanBePut original places = IfSome original (λ original. CanBeRenewed original.t
 
 -- The document's text with the committed places of the floor is written to the file of this path.
 -- Without a path, no file is written.
-abbrev pub IsExported : Option (List ℕ) → List ℕ → Document → FloorState → Option (List Put) → Option (List Put) → Type 0
+abbrev pub IsExported : Option (List ℕ) → List ℕ → Document → FloorState → Option (List Put)
+    → Option (List Put) → Type 0
 IsExported None text document floor old new = new ≡ old
 IsExported (Some path) text document floor old new =
-    (places : List (ℕ × Option Place)) × AreCommittedPlaces floor places × PutsFile old new path (exported text document.components places)
+    (places : List (ℕ × Option Place)) × AreCommittedPlaces floor places
+    × PutsFile old new path (exported text document.components places)
 
 -- The description of the design is appended to the output. The status says whether the design is
 -- fully legal.
@@ -51,13 +54,15 @@ pub record IsDescribed (document : Document) (loaded : Loaded) (old new : Option
   pub illegal : status ≡ 4 → ¬ IsLegalDesign loaded
 
 -- The loaded design of the document is described, with the places of the state if one is given.
-abbrev pub IsViewDescribed : ReadsFile → Option (List ℕ) → Document → Loaded → Option (List ℕ) → Option (List ℕ) → ℕ → Type 0
+abbrev pub IsViewDescribed : ReadsFile → Option (List ℕ) → Document → Loaded → Option (List ℕ)
+    → Option (List ℕ) → ℕ → Type 0
 IsViewDescribed gives state document loaded before after status =
     (seen : Loaded) × IsViewedDesign gives state loaded seen × IsDescribed document seen before after status
 
 -- The design was opened and its description written, at the places of its DEF text or of the given
 -- state.
-pub record IsOpenDescribed (limits : Limits) (gives : ReadsFile) (def : List ℕ) (lefs : List (List ℕ)) (state before after : Option (List ℕ))
+pub record IsOpenDescribed (limits : Limits) (gives : ReadsFile) (def : List ℕ) (lefs : List (List ℕ))
+    (state before after : Option (List ℕ))
     (status : ℕ) : Type 0 where
   pub text : List ℕ
   pub document : Document
@@ -68,18 +73,22 @@ pub record IsOpenDescribed (limits : Limits) (gives : ReadsFile) (def : List ℕ
 -- ---- faults
 
 -- The description of the design is not written, or only a front of it.
-pub record IsUndescribed (document : Document) (loaded : Loaded) (before after : Option (List ℕ)) (fault : Fault) : Type 0 where
+pub record IsUndescribed (document : Document) (loaded : Loaded) (before after : Option (List ℕ))
+    (fault : Fault) : Type 0 where
   pub why : IsDescriptionFault fault
   pub front : (l : Legalizer) → ((n : ℕ) × Appends before after (take n (description l loaded document)))
 
 -- Why the loaded design of the document is not described: it could not be brought into the given
 -- state; or the description is not written, or only a front of it.
-abbrev pub IsViewNotDescribed : ReadsFile → Option (List ℕ) → Document → Loaded → Option (List ℕ) → Option (List ℕ) → Fault → Type 0
+abbrev pub IsViewNotDescribed : ReadsFile → Option (List ℕ) → Document → Loaded → Option (List ℕ)
+    → Option (List ℕ) → Fault → Type 0
 IsViewNotDescribed gives state document loaded before after fault =
-    IsNotOpened gives state loaded fault ⊎ ((seen : Loaded) × IsViewedDesign gives state loaded seen × IsUndescribed document seen before after fault)
+    IsNotOpened gives state loaded fault
+    ⊎ ((seen : Loaded) × IsViewedDesign gives state loaded seen × IsUndescribed document seen before after fault)
 
 -- The design was opened, and is not described for this reason.
-pub record IsOpenUndescribed (limits : Limits) (gives : ReadsFile) (def : List ℕ) (lefs : List (List ℕ)) (state before after : Option (List ℕ))
+pub record IsOpenUndescribed (limits : Limits) (gives : ReadsFile) (def : List ℕ) (lefs : List (List ℕ))
+    (state before after : Option (List ℕ))
     (fault : Fault) : Type 0 where
   pub text : List ℕ
   pub document : Document

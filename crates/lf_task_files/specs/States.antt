@@ -20,7 +20,8 @@ use Rattle.lf_task_files.specs.PlacedDesigns.{IsPlacedOnFloor}
 
 -- The file of the path is read, and its text has these teams of the design of the opened floor.
 abbrev pub FileHasState : ReadsFile → List ℕ → FloorState → List SavedTeam → Type 0
-FileHasState gives path opened saved = (text : List ℕ) × gives path (Some text) × (saved_state_of (design_names opened) text ≡ Ok saved)
+FileHasState gives path opened saved = (text : List ℕ) × gives path (Some text)
+    × (saved_state_of (design_names opened) text ≡ Ok saved)
 
 -- The file of the path is read, and the floor is in the state that its text has of the design of
 -- the opened floor.
@@ -42,12 +43,14 @@ IsStateRefused path text why _ = ⊥
 -- allocation.
 abbrev pub IsStateTextFault : FloorState → List ℕ → List ℕ → Fault → Type 0
 IsStateTextFault opened path text fault =
-    (fault ≡ SetupOutOfMemory) ⊎ ((why : StateFault) × (saved_state_of (design_names opened) text ≡ Err why) × IsStateRefused path text why fault)
+    (fault ≡ SetupOutOfMemory)
+    ⊎ ((why : StateFault) × (saved_state_of (design_names opened) text ≡ Err why) × IsStateRefused path text why fault)
 
 -- Why the file of the path has no state of the design: its text was not read, or has no such state.
 abbrev pub IsStateFileFault : ReadsFile → List ℕ → FloorState → Fault → Type 0
 IsStateFileFault gives path opened fault =
-    IsUnread gives State path fault ⊎ ((text : List ℕ) × gives path (Some text) × IsStateTextFault opened path text fault)
+    IsUnread gives State path fault
+    ⊎ ((text : List ℕ) × gives path (Some text) × IsStateTextFault opened path text fault)
 
 -- Why work does not begin in the requested state.
 abbrev pub IsStateFault : ReadsFile → Option (List ℕ) → FloorState → Fault → Type 0
@@ -56,23 +59,27 @@ IsStateFault gives (Some path) opened fault = IsStateFileFault gives path opened
 
 -- Why the design has no floor with which work begins.
 abbrev pub IsNotOpened : ReadsFile → Option (List ℕ) → Loaded → Fault → Type 0
-IsNotOpened gives state loaded fault = (fault ≡ SetupOutOfMemory) ⊎ IsStateFault gives state (initial_floor loaded) fault
+IsNotOpened gives state loaded fault = (fault ≡ SetupOutOfMemory)
+    ⊎ IsStateFault gives state (initial_floor loaded) fault
 
 -- Why there is no floor with which work begins: there is no design; or an allocation for its floor
 -- failed; or the floor could not be brought into the requested state.
 abbrev pub IsFloorFault : Limits → ReadsFile → List ℕ → List (List ℕ) → Option (List ℕ) → Fault → Type 0
 IsFloorFault limits gives def lefs state fault =
-    IsDesignFault limits gives def lefs fault ⊎ ((loaded : Loaded) × IsDesignOf limits gives def lefs loaded × IsNotOpened gives state loaded fault)
+    IsDesignFault limits gives def lefs fault
+    ⊎ ((loaded : Loaded) × IsDesignOf limits gives def lefs loaded × IsNotOpened gives state loaded fault)
 
 -- The floor with which work begins.
 abbrev pub IsFloorOf : Limits → ReadsFile → List ℕ → List (List ℕ) → Option (List ℕ) → FloorState → Type 0
-IsFloorOf limits gives def lefs state begin = (loaded : Loaded) × IsDesignOf limits gives def lefs loaded × IsOpenedFloor gives state (initial_floor loaded) begin
+IsFloorOf limits gives def lefs state begin = (loaded : Loaded) × IsDesignOf limits gives def lefs loaded
+    × IsOpenedFloor gives state (initial_floor loaded) begin
 
 -- ---- the design to show
 
 -- The design with the working places of the floor in the state of the file of this path.
 abbrev pub IsDesignInState : ReadsFile → List ℕ → Loaded → Loaded → Type 0
-IsDesignInState gives path design seen = (floor : FloorState) × IsFileState gives path (initial_floor design) floor × IsPlacedOnFloor floor design seen
+IsDesignInState gives path design seen = (floor : FloorState) × IsFileState gives path (initial_floor design) floor
+    × IsPlacedOnFloor floor design seen
 
 -- The design to show: with the places of the state of the file, or without a path as loaded.
 abbrev pub IsViewedDesign : ReadsFile → Option (List ℕ) → Loaded → Loaded → Type 0
@@ -81,7 +88,8 @@ IsViewedDesign gives (Some path) design seen = IsDesignInState gives path design
 
 -- The design of a DEF file over LEF files, with the places to show.
 abbrev pub IsViewedDesignOf : Limits → ReadsFile → List ℕ → List (List ℕ) → Option (List ℕ) → Loaded → Type 0
-IsViewedDesignOf limits gives def lefs state seen = (design : Loaded) × IsDesignOf limits gives def lefs design × IsViewedDesign gives state design seen
+IsViewedDesignOf limits gives def lefs state seen = (design : Loaded) × IsDesignOf limits gives def lefs design
+    × IsViewedDesign gives state design seen
 
 -- ---- the state at the end
 

@@ -40,9 +40,11 @@ fn viewed_files<'a, T: InputFiles>(
     texts: &T,
     inputs: DesignInput<'a>,
 ) -> Result<Loaded, Fault<'a>>
-    ensures ok { IfOk result (IsViewedDesignOf inputs.entry.limits (T.gives texts.now) inputs.entry.def.now (map (λ lef. lef.now) inputs.entry.lefs.now)
+    ensures ok { IfOk result (IsViewedDesignOf inputs.entry.limits (T.gives texts.now) inputs.entry.def.now
+        (map (λ lef. lef.now) inputs.entry.lefs.now)
         (path_of inputs.entry.state)) }
-    ensures err { IfErr result (IsFloorFault inputs.entry.limits (T.gives texts.now) inputs.entry.def.now (map (λ lef. lef.now) inputs.entry.lefs.now)
+    ensures err { IfErr result (IsFloorFault inputs.entry.limits (T.gives texts.now) inputs.entry.def.now
+        (map (λ lef. lef.now) inputs.entry.lefs.now)
         (path_of inputs.entry.state)) }
 {
     let loaded = load_files(alloc, inputs.limits, texts, inputs.def, inputs.lefs)?;
@@ -62,13 +64,16 @@ pub fn check<'a, T: InputFiles, W: Sink>(
     writer: &mut W,
 ) -> Result<u8, Fault<'a>>
     ensures ok { IfOk result (λ status. (seen : Loaded)
-        × IsViewedDesignOf inputs.entry.limits (T.gives texts.now) inputs.entry.def.now (map (λ lef. lef.now) inputs.entry.lefs.now) (path_of inputs.entry.state) seen
+        × IsViewedDesignOf inputs.entry.limits (T.gives texts.now) inputs.entry.def.now
+        (map (λ lef. lef.now) inputs.entry.lefs.now) (path_of inputs.entry.state) seen
         × IsReported seen (W.contents writer.old) (W.contents writer.new) status) }
     ensures err { IfErr result (λ fault.
-        (IsFloorFault inputs.entry.limits (T.gives texts.now) inputs.entry.def.now (map (λ lef. lef.now) inputs.entry.lefs.now)
+        (IsFloorFault inputs.entry.limits (T.gives texts.now) inputs.entry.def.now
+        (map (λ lef. lef.now) inputs.entry.lefs.now)
         (path_of inputs.entry.state) fault
         ⊎ ((seen : Loaded)
-        × IsViewedDesignOf inputs.entry.limits (T.gives texts.now) inputs.entry.def.now (map (λ lef. lef.now) inputs.entry.lefs.now) (path_of inputs.entry.state) seen
+        × IsViewedDesignOf inputs.entry.limits (T.gives texts.now) inputs.entry.def.now
+        (map (λ lef. lef.now) inputs.entry.lefs.now) (path_of inputs.entry.state) seen
         × IsNotReported seen (W.contents writer.old) (W.contents writer.new) fault))
         × BlamesWriter fault (writer.new ≡ writer.old) (W.has_failed writer.old) (W.has_failed writer.new)) }
     ensures held { W.holds writer.new ≡ W.holds writer.old }

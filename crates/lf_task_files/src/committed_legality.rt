@@ -11,10 +11,10 @@ ghost use Rattle.lf_task_files.specs.CommittedLegality.{committed_listed};
 
 use lf_cells::{CellId, CellTable};
 use lf_floor::Floor;
+use lf_frame_index::IndexedFrame;
 use lf_legalize::IndexSeeker;
 use lf_reports::{Listed, verdicts_with_plan};
 use lf_rules::{Padding, legalizer_exists};
-use lf_segments::IndexedFrame;
 use lf_task_designs::illegal_in;
 use std::alloc::{AllocError, Global};
 
@@ -38,7 +38,8 @@ fn push_cell<'a>(
     listed: &mut Vec<Listed<&'a [u8]>>,
 ) -> Result<(), AllocError>
     ensures { (c : Cell) → cell_at cells.now id ≡ Some c
-        → OnOk result (map with_byte_name listed.new.items ≡ map with_byte_name listed.old.items ++ committed_listed id.team c ∷ []) }
+        → OnOk result (map with_byte_name listed.new.items
+        ≡ map with_byte_name listed.old.items ++ committed_listed id.team c ∷ []) }
 {
     if let Some(cell) = listed_cell(cells, id) {
         listed.push(cell)?;
@@ -52,7 +53,8 @@ fn listed_team(
     cells: &CellTable,
     team: usize,
 ) -> Result<Vec<Listed<&[u8]>>, AllocError>
-    ensures { IfOk result (λ listed. map with_byte_name listed.items ≡ map (committed_listed team) (cells_of cells.now team)) }
+    ensures { IfOk result
+        (λ listed. map with_byte_name listed.items ≡ map (committed_listed team) (cells_of cells.now team)) }
 {
     let ids = cells.cells_of(team);
     let mut listed = Vec::with_capacity(alloc, ids.len())?;
@@ -85,7 +87,8 @@ fn are_legal(
 ) -> Result<bool, AllocError>
     requires listed { All (λ c. IsListed plan.now (with_byte_name c)) cells.now }
     requires few { length cells.now ≤ 4000000 }
-    ensures { IfOk result (λ legal. IsTrue legal ↔ IsFullyLegal plan.now (map design_cell_of (map with_byte_name cells.now))) }
+    ensures { IfOk result (λ legal. IsTrue legal
+        ↔ IsFullyLegal plan.now (map design_cell_of (map with_byte_name cells.now))) }
 {
     legalizer_exists();
     let verdicts = verdicts_with_plan(alloc, plan, cells, Padding::none())?;

@@ -31,8 +31,10 @@ fn describe_loaded<'a, W: Sink>(
     document: &DefDoc<'_>,
     writer: &mut W,
 ) -> Result<u8, Fault<'a>>
-    ensures ok { IfOk result (IsDescribed (contents document.now) loaded.now (W.contents writer.old) (W.contents writer.new)) }
-    ensures err { IfErr result (λ fault. IsUndescribed (contents document.now) loaded.now (W.contents writer.old) (W.contents writer.new) fault
+    ensures ok { IfOk result
+        (IsDescribed (contents document.now) loaded.now (W.contents writer.old) (W.contents writer.new)) }
+    ensures err { IfErr result
+        (λ fault. IsUndescribed (contents document.now) loaded.now (W.contents writer.old) (W.contents writer.new) fault
         × BlamesWriter fault (writer.new ≡ writer.old) (W.has_failed writer.old) (W.has_failed writer.new)) }
     ensures held { W.holds writer.new ≡ W.holds writer.old }
 {
@@ -54,10 +56,12 @@ fn seen_of_document<'a, T: InputFiles>(
     text: &[u8],
     document: &DefDoc<'_>,
 ) -> Result<Loaded, Fault<'a>>
-    ensures ok { IfOk result (λ seen. (loaded : Loaded) × IsLoadedIn inputs.entry.limits library.now (contents document.now) loaded
+    ensures ok { IfOk result
+        (λ seen. (loaded : Loaded) × IsLoadedIn inputs.entry.limits library.now (contents document.now) loaded
         × IsViewedDesign (T.gives texts.now) (path_of inputs.entry.state) loaded seen) }
     ensures err { IfErr result (λ fault.
-        IsRefusedText Def inputs.entry.def.now text.now (IsLoadRefusal inputs.entry.limits library.now (contents document.now)) fault
+        IsRefusedText Def inputs.entry.def.now text.now
+        (IsLoadRefusal inputs.entry.limits library.now (contents document.now)) fault
         ⊎ ((loaded : Loaded) × IsLoadedIn inputs.entry.limits library.now (contents document.now) loaded
         × IsNotOpened (T.gives texts.now) (path_of inputs.entry.state) loaded fault)) }
 {
@@ -74,12 +78,17 @@ fn describe_text<'a, T: InputFiles, W: Sink>(
     text: &[u8],
     writer: &mut W,
 ) -> Result<u8, Fault<'a>>
-    ensures ok { IfOk result (λ status. (document : Document) × (document_of text.now ≡ Ok document) × ((loaded : Loaded)
+    ensures ok { IfOk result
+        (λ status. (document : Document) × (document_of text.now ≡ Ok document) × ((loaded : Loaded)
         × IsLoadedIn inputs.entry.limits library.now document loaded
-        × IsViewDescribed (T.gives texts.now) (path_of inputs.entry.state) document loaded (W.contents writer.old) (W.contents writer.new) status)) }
-    ensures err { IfErr result (λ fault. (IsRefusedText Def inputs.entry.def.now text.now (IsDefRefusal inputs.entry.limits library.now text.now) fault
-        ⊎ ((document : Document) × (document_of text.now ≡ Ok document) × ((loaded : Loaded) × IsLoadedIn inputs.entry.limits library.now document loaded
-        × IsViewNotDescribed (T.gives texts.now) (path_of inputs.entry.state) document loaded (W.contents writer.old) (W.contents writer.new) fault)))
+        × IsViewDescribed (T.gives texts.now) (path_of inputs.entry.state) document loaded (W.contents writer.old)
+        (W.contents writer.new) status)) }
+    ensures err { IfErr result (λ fault.
+        (IsRefusedText Def inputs.entry.def.now text.now (IsDefRefusal inputs.entry.limits library.now text.now) fault
+        ⊎ ((document : Document) × (document_of text.now ≡ Ok document)
+        × ((loaded : Loaded) × IsLoadedIn inputs.entry.limits library.now document loaded
+        × IsViewNotDescribed (T.gives texts.now) (path_of inputs.entry.state) document loaded (W.contents writer.old)
+        (W.contents writer.new) fault)))
         × BlamesWriter fault (writer.new ≡ writer.old) (W.has_failed writer.old) (W.has_failed writer.new)) }
     ensures held { W.holds writer.new ≡ W.holds writer.old }
 {
@@ -96,13 +105,19 @@ fn describe_file<'a, T: InputFiles, W: Sink>(
     inputs: DesignInput<'a>,
     writer: &mut W,
 ) -> Result<u8, Fault<'a>>
-    ensures ok { IfOk result (λ status. (text : List ℕ) × T.gives texts.now inputs.entry.def.now (Some text) × ((document : Document)
-        × (document_of text ≡ Ok document) × ((loaded : Loaded) × IsLoadedIn inputs.entry.limits library.now document loaded
-        × IsViewDescribed (T.gives texts.now) (path_of inputs.entry.state) document loaded (W.contents writer.old) (W.contents writer.new) status))) }
-    ensures err { IfErr result (λ fault. (IsFileFault (T.gives texts.now) Def inputs.entry.def.now (IsDefRefusal inputs.entry.limits library.now) fault
-        ⊎ ((text : List ℕ) × T.gives texts.now inputs.entry.def.now (Some text) × ((document : Document) × (document_of text ≡ Ok document)
+    ensures ok { IfOk result
+        (λ status. (text : List ℕ) × T.gives texts.now inputs.entry.def.now (Some text) × ((document : Document)
+        × (document_of text ≡ Ok document)
         × ((loaded : Loaded) × IsLoadedIn inputs.entry.limits library.now document loaded
-        × IsViewNotDescribed (T.gives texts.now) (path_of inputs.entry.state) document loaded (W.contents writer.old) (W.contents writer.new) fault))))
+        × IsViewDescribed (T.gives texts.now) (path_of inputs.entry.state) document loaded (W.contents writer.old)
+        (W.contents writer.new) status))) }
+    ensures err { IfErr result (λ fault.
+        (IsFileFault (T.gives texts.now) Def inputs.entry.def.now (IsDefRefusal inputs.entry.limits library.now) fault
+        ⊎ ((text : List ℕ) × T.gives texts.now inputs.entry.def.now (Some text)
+        × ((document : Document) × (document_of text ≡ Ok document)
+        × ((loaded : Loaded) × IsLoadedIn inputs.entry.limits library.now document loaded
+        × IsViewNotDescribed (T.gives texts.now) (path_of inputs.entry.state) document loaded (W.contents writer.old)
+        (W.contents writer.new) fault))))
         × BlamesWriter fault (writer.new ≡ writer.old) (W.has_failed writer.old) (W.has_failed writer.new)) }
     ensures held { W.holds writer.new ≡ W.holds writer.old }
 {
@@ -119,11 +134,14 @@ pub fn describe_files<'a, T: InputFiles, W: Sink>(
     inputs: DesignInput<'a>,
     writer: &mut W,
 ) -> Result<u8, Fault<'a>>
-    ensures ok { IfOk result (IsOpenDescribed inputs.entry.limits (T.gives texts.now) inputs.entry.def.now (map (λ lef. lef.now) inputs.entry.lefs.now)
+    ensures ok { IfOk result (IsOpenDescribed inputs.entry.limits (T.gives texts.now) inputs.entry.def.now
+        (map (λ lef. lef.now) inputs.entry.lefs.now)
         (path_of inputs.entry.state) (W.contents writer.old) (W.contents writer.new)) }
     ensures err { IfErr result (λ fault.
-        (IsDesignFault inputs.entry.limits (T.gives texts.now) inputs.entry.def.now (map (λ lef. lef.now) inputs.entry.lefs.now) fault
-        ⊎ IsOpenUndescribed inputs.entry.limits (T.gives texts.now) inputs.entry.def.now (map (λ lef. lef.now) inputs.entry.lefs.now)
+        (IsDesignFault inputs.entry.limits (T.gives texts.now) inputs.entry.def.now
+        (map (λ lef. lef.now) inputs.entry.lefs.now) fault
+        ⊎ IsOpenUndescribed inputs.entry.limits (T.gives texts.now) inputs.entry.def.now
+        (map (λ lef. lef.now) inputs.entry.lefs.now)
         (path_of inputs.entry.state) (W.contents writer.old) (W.contents writer.new) fault)
         × BlamesWriter fault (writer.new ≡ writer.old) (W.has_failed writer.old) (W.has_failed writer.new)) }
     ensures held { W.holds writer.new ≡ W.holds writer.old }

@@ -68,7 +68,8 @@ fn exported_text<'a>(
     text: &'a [u8],
     clauses: &'a KeptClauses,
 ) -> ExportedText<'a>
-    requires fits { (places : List (ℕ × Option Place)) → AreCommittedPlaces floor.now places → CanBeRenewed text.now clauses.now places }
+    requires fits { (places : List (ℕ × Option Place)) → AreCommittedPlaces floor.now places
+        → CanBeRenewed text.now clauses.now places }
     ensures { (places : List (ℕ × Option Place)) × AreCommittedPlaces floor.now places
         × (result ≡ (text.now, clauses.now, places)) }
 {
@@ -121,7 +122,8 @@ pub fn save_export<'a, E: OutputFiles>(
 ) -> Result<(), Fault<'a>>
     requires fits { (places : List (ℕ × Option Place)) → AreCommittedPlaces floor.now places
         → CanBeRenewed original.now.text.items original.now.clauses places }
-    ensures ok { (document : Document) → original.now.clauses ≡ map (clause_of original.now.text.items) document.components
+    ensures ok { (document : Document)
+        → original.now.clauses ≡ map (clause_of original.now.text.items) document.components
         → OnOk result (IsExported (option_map (λ path. path.now) path.entry) original.now.text.items document floor.now
         (E.puts exports.old) (E.puts exports.new)) }
     ensures err { IfErr result (IsExportFault (option_map (λ path. path.now) path.entry)) }

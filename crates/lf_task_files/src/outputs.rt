@@ -31,11 +31,13 @@ pub fn check_outputs<'a, E: OutputFiles>(
     outputs: OutputPaths<'a>,
     exports: &mut E,
 ) -> Result<(), Fault<'a>>
-    ensures err { IfErr result (λ fault. IsExportFault (path_of outputs.entry.export) fault ⊎ IsSaveFault (path_of outputs.entry.save) fault) }
+    ensures err { IfErr result (λ fault. IsExportFault (path_of outputs.entry.export) fault
+        ⊎ IsSaveFault (path_of outputs.entry.save) fault) }
     ensures fails { IfErr result (λ fault. ExportFails fault (E.has_failed exports.old) (E.has_failed exports.new)) }
     ensures sound { OnOk result (E.has_failed exports.new ≡ E.has_failed exports.old) }
     ensures unput { E.puts exports.new ≡ E.puts exports.old }
-    ensures unasked { path_of outputs.entry.save ≡ None → path_of outputs.entry.export ≡ None → exports.new ≡ exports.old }
+    ensures unasked { path_of outputs.entry.save ≡ None → path_of outputs.entry.export
+        ≡ None → exports.new ≡ exports.old }
 {
     check_export_path(outputs.export, exports)?;
     try_save(outputs.save, exports)
@@ -50,19 +52,23 @@ pub fn write_outputs<'a, E: OutputFiles>(
     exports: &mut E,
 ) -> Result<(), Fault<'a>>
     requires kept { original ≡ None → path_of outputs.export ≡ None }
-    requires fits { (places : List (ℕ × Option Place)) → AreCommittedPlaces floor.now places → CanBePut (option_copied original) places }
+    requires fits { (places : List (ℕ × Option Place)) → AreCommittedPlaces floor.now places
+        → CanBePut (option_copied original) places }
     ensures ok { (text : List ℕ) (document : Document) → AreKept (option_copied original.entry) text document
         → OnOk result ((between : Option (List Put))
         × IsExported (path_of outputs.entry.export) text document floor.now (E.puts exports.old) between
         × IsSaved (path_of outputs.entry.save) floor.now between (E.puts exports.new)) }
     ensures err { (text : List ℕ) (document : Document) → AreKept (option_copied original.entry) text document
-        → IfErr result (λ fault. (IsExportFault (path_of outputs.entry.export) fault × (E.puts exports.new ≡ E.puts exports.old))
+        → IfErr result
+        (λ fault. (IsExportFault (path_of outputs.entry.export) fault × (E.puts exports.new ≡ E.puts exports.old))
         ⊎ (IsSaveFault (path_of outputs.entry.save) fault
-        × IsExported (path_of outputs.entry.export) text document floor.now (E.puts exports.old) (E.puts exports.new))) }
+        × IsExported (path_of outputs.entry.export) text document floor.now (E.puts exports.old)
+        (E.puts exports.new))) }
     ensures fails { IfErr result (λ fault. ExportFails fault (E.has_failed exports.old) (E.has_failed exports.new)) }
     ensures sound { OnOk result (E.has_failed exports.new ≡ E.has_failed exports.old) }
     ensures unput { path_of outputs.entry.save ≡ None → OnErr result (E.puts exports.new ≡ E.puts exports.old) }
-    ensures unasked { path_of outputs.entry.save ≡ None → path_of outputs.entry.export ≡ None → exports.new ≡ exports.old }
+    ensures unasked { path_of outputs.entry.save ≡ None → path_of outputs.entry.export
+        ≡ None → exports.new ≡ exports.old }
 {
     if let Some(original) = original {
         save_export(floor, original, outputs.export, exports)?;

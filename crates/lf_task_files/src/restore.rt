@@ -48,7 +48,8 @@ fn read_rows<'a>(
     path: &'a str,
     pieces: VecDeque<Vec<u8>>,
 ) -> Result<Vec<TeamRow>, Fault<'a>>
-    ensures ok { IfOk result (λ rows. saved_state_of (design_names floor.now) (text_of_chunks pieces.items) ≡ Ok (team_views rows.items)) }
+    ensures ok { IfOk result
+        (λ rows. saved_state_of (design_names floor.now) (text_of_chunks pieces.items) ≡ Ok (team_views rows.items)) }
     ensures due { IfOk result (λ rows. MatchDesign floor.now.frame.limits floor.now.teams (team_views rows.items)) }
     ensures err { IfErr result (IsStateTextFault floor.now path.now (text_of_chunks pieces.items)) }
 {
@@ -113,7 +114,8 @@ pub(crate) fn floor_in_state<'a, T: InputFiles>(
 ) -> Result<Floor<IndexSeeker>, Fault<'a>>
     ensures ok { IfOk result (IsFileState (T.gives texts.now) path.now (initial_floor design)) }
     ensures many { IfOk result (λ floor. length floor.teams ≡ length design.frame.teams + 1) }
-    ensures err { IfErr result (λ fault. (fault ≡ SetupOutOfMemory) ⊎ IsStateFileFault (T.gives texts.now) path.now (initial_floor design) fault) }
+    ensures err { IfErr result (λ fault. (fault ≡ SetupOutOfMemory)
+        ⊎ IsStateFileFault (T.gives texts.now) path.now (initial_floor design) fault) }
 {
     let floor = start_unplaced(alloc, design)?;
     restore_file(alloc, texts, floor, path)

@@ -32,9 +32,12 @@ fn cells_in_state<'a, T: InputFiles>(
 ) -> Result<LoadedCells, Fault<'a>>
     requires whole { length parts.now.names ≡ length parts.now.cells.items }
     requires design { MakeDesign frame.now (cells_of_parts parts.now) }
-    ensures ok { (design : Loaded) → design.frame ≡ frame.now → design.cells ≡ cells_of_parts parts.now → IfOk result (λ cells. (floor : FloorState)
-        × IsFileState (T.gives texts.now) path.now (initial_floor design) floor × (cells ≡ map (placed_on_floor floor) design.cells)) }
-    ensures err { (design : Loaded) → design.frame ≡ frame.now → design.cells ≡ cells_of_parts parts.now → IfErr result (λ fault. (fault ≡ SetupOutOfMemory)
+    ensures ok { (design : Loaded) → design.frame ≡ frame.now → design.cells ≡ cells_of_parts parts.now
+        → IfOk result (λ cells. (floor : FloorState)
+        × IsFileState (T.gives texts.now) path.now (initial_floor design) floor
+        × (cells ≡ map (placed_on_floor floor) design.cells)) }
+    ensures err { (design : Loaded) → design.frame ≡ frame.now → design.cells ≡ cells_of_parts parts.now
+        → IfErr result (λ fault. (fault ≡ SetupOutOfMemory)
         ⊎ IsStateFileFault (T.gives texts.now) path.now (initial_floor design) fault) }
 {
     let twin = copy_of_design(alloc, frame, parts)?;
@@ -51,7 +54,8 @@ fn design_in_state<'a, T: InputFiles>(
     path: &'a str,
 ) -> Result<Loaded, Fault<'a>>
     ensures ok { IfOk result (IsDesignInState (T.gives texts.now) path.now design) }
-    ensures err { IfErr result (λ fault. (fault ≡ SetupOutOfMemory) ⊎ IsStateFileFault (T.gives texts.now) path.now (initial_floor design) fault) }
+    ensures err { IfErr result (λ fault. (fault ≡ SetupOutOfMemory)
+        ⊎ IsStateFileFault (T.gives texts.now) path.now (initial_floor design) fault) }
 {
     let Loaded { frame, cells } = design;
     let parts = cells.into_parts();

@@ -1,3 +1,3 @@
 mod Named
 mod Repairing
-mod Telling
+mod TeamLines

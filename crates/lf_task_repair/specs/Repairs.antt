@@ -9,9 +9,9 @@ use Rattle.lf_io_files.specs.Shelf.{Put, PutsFile}
 use Rattle.lf_io_files.specs.declared.output_files.WriteFailure.{WriteFailure as NotWritten}
 use Rattle.lf_io_files.specs.declared.output_files.WriteFailure.TheVariants as not_written
 use Rattle.lf_cli.specs.declared.parse.LegalCells.{LegalCells}
-use Rattle.lf_cli.specs.declared.parse.LegalCells.TheVariants.{Stay, MoveAsNeeded, Move}
+use Rattle.lf_cli.specs.declared.parse.LegalCells.TheVariants.{KeepLegal, MoveAsNeeded, MoveAll}
 use Rattle.lf_repair_strategy.specs.declared.pass.MovePolicy.{MovePolicy}
-use Rattle.lf_repair_strategy.specs.declared.pass.MovePolicy.TheVariants.{Keep, AsNeeded, All as AllCells}
+use Rattle.lf_repair_strategy.specs.declared.pass.MovePolicy.TheVariants.{KeepLegal as Keep, MoveAsNeeded as AsNeeded, MoveAll as AllCells}
 use Rattle.lf_proto.specs.declared.request.Command.{Command}
 use Rattle.lf_proto.specs.declared.reply.Reply.{Reply}
 use Rattle.lf_floor_model.specs.States.{FloorState}
@@ -35,9 +35,9 @@ is_selected teams name = (length teams == 0) || is_some (position (λ team. byte
 
 -- which of a team's cells may move
 abbrev pub how_of : LegalCells → MovePolicy
-how_of Stay = Keep
+how_of KeepLegal = Keep
 how_of MoveAsNeeded = AsNeeded
-how_of Move = AllCells
+how_of MoveAll = AllCells
 
 -- each of the names is a team's
 abbrev pub AreKnown : Frame → List (List ℕ) → Type 0
@@ -51,7 +51,8 @@ IsUnknown f teams _ = ⊥
 -- ---- the run
 
 -- the commands lead the floor from `old` to `new`, and each is accepted
-pub record IsAcceptedRun (l : Legalizer) (old : FloorState) (commands : List (Command (List ℕ) Place)) (new : FloorState) : Type 0 where
+pub record IsAcceptedRun (l : Legalizer) (old : FloorState) (commands : List (Command (List ℕ) Place))
+    (new : FloorState) : Type 0 where
   pub replies : List Reply
   pub run : Run l old commands replies new
   pub granted : All (λ reply. is_ok reply ≡ true) replies
@@ -60,7 +61,8 @@ pub record IsAcceptedRun (l : Legalizer) (old : FloorState) (commands : List (Co
 -- kept ones, if lines are kept
 abbrev pub IsKeptRun : Legalizer → FloorState → Option (List ℕ) → Option (List ℕ) → FloorState → Type 0
 IsKeptRun l old before after new =
-    (commands : List (Command (List ℕ) Place)) × IsAcceptedRun l old commands new × Appends before after (request_lines commands)
+    (commands : List (Command (List ℕ) Place)) × IsAcceptedRun l old commands new
+    × Appends before after (request_lines commands)
 
 -- only selected teams may differ, and a fully legal committed design stays fully legal
 pub record OnlySelectedChange (teams : List (List ℕ)) (old new : FloorState) : Type 0 where
@@ -126,4 +128,5 @@ IsRepairFault f teams export lines fault =
 -- earlier and has failed now
 abbrev pub BlamesOutputs : Fault → Type 0 → Bool → Bool → Bool → Bool → Type 0
 BlamesOutputs fault kept write_before write_now file_before file_now =
-    BlamesDevices fault kept ⊥ (write_now ≡ true) (file_now ≡ true) ⊥ ((write_now ≡ write_before) × (file_now ≡ file_before))
+    BlamesDevices fault kept ⊥ (write_now ≡ true) (file_now ≡ true) ⊥
+    ((write_now ≡ write_before) × (file_now ≡ file_before))

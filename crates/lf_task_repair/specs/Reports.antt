@@ -37,15 +37,16 @@ selected_names f teams = filter (is_selected teams) (team_names f)
 
 -- the name of the team with this number, if it is selected
 abbrev pub selected_at : Frame → List (List ℕ) → ℕ → List (List ℕ)
-selected_at f teams number = filter (is_selected teams) (option_map_or (λ name. name ∷ []) (slice_get (team_names f) number) [])
+selected_at f teams number =
+    filter (is_selected teams) (option_map_or (λ name. name ∷ []) (slice_get (team_names f) number) [])
 
 -- the team is reported with its own bound, and its reported cells are exactly those that are not
 -- legal on the floor
 pub record IsTeamReport (bounds : List ℕ) (floor : FloorState) (t : TeamReport) : Type 0 where
   pub least : t.least ≡ least_for bounds (team_number floor.frame t.name)
-  pub left : t.left ≡ cell_names floor t.name t.became.left.items
-  pub legal : AreLegalExcept t.name floor t.became.left.items
-  pub illegal : All (IsIllegalIn floor t.name) t.became.left.items
+  pub left : t.left ≡ cell_names floor t.name t.became.unrepaired.items
+  pub legal : AreLegalExcept t.name floor t.became.unrepaired.items
+  pub illegal : All (IsIllegalIn floor t.name) t.became.unrepaired.items
 
 -- the lines of the teams with these names are appended, each with its unrepaired cells on this
 -- floor

@@ -43,8 +43,10 @@ impl CommandLog {
 
 /// Appends the bytes if lines are kept. `Err` if an allocation fails; then nothing is changed.
 fn keep(kept: &mut Option<Vec<u8>>, bytes: &[u8]) -> Result<(), AllocError>
-    ensures ok { OnOk result (Appends (option_map (λ text. text.items) kept.old) (option_map (λ text. text.items) kept.new) bytes.now) }
-    ensures err { OnErr result (Keeps (option_map (λ text. text.items) kept.old) (option_map (λ text. text.items) kept.new)) }
+    ensures ok { OnOk result
+        (Appends (option_map (λ text. text.items) kept.old) (option_map (λ text. text.items) kept.new) bytes.now) }
+    ensures err { OnErr result
+        (Keeps (option_map (λ text. text.items) kept.old) (option_map (λ text. text.items) kept.new)) }
 {
     match kept {
         Some(text) => text.extend_from_slice(bytes),
@@ -139,7 +141,8 @@ pub(crate) fn save_lines<'a, E: OutputFiles>(
     path: Option<&'a str>,
     exports: &mut E,
 ) -> Result<(), Fault<'a>>
-    ensures ok { OnOk result (WritesLines (path_of path.entry) (kept_text lines.now) (E.puts exports.old) (E.puts exports.new)) }
+    ensures ok { OnOk result
+        (WritesLines (path_of path.entry) (kept_text lines.now) (E.puts exports.old) (E.puts exports.new)) }
     ensures err { IfErr result (IsLinesFileFault (path_of path.entry)) }
     ensures fails { IfErr result (λ fault. ExportFails fault (E.has_failed exports.old) (E.has_failed exports.new)) }
     ensures sound { OnOk result (E.has_failed exports.new ≡ E.has_failed exports.old) }

@@ -3,7 +3,7 @@
 ghost use Rattle.std.specs.Prelude.{◌≡◌, ◌≢◌, ◌⊎◌, ◌+◌, ℕ, All, List, None, Option, Some, IfErr, IfOk, IsTrue, OnErr, OnOk};
 ghost use Rattle.std.specs.Prelude.{bytes_eq, is_some, length, map, position, take, true};
 ghost use Rattle.std.specs.Io.KnownBytes.{Appends};
-ghost use Rattle.lf_cli.specs.declared.parse.LegalCells.TheVariants.{Stay};
+ghost use Rattle.lf_cli.specs.declared.parse.LegalCells.TheVariants.{KeepLegal};
 ghost use Rattle.lf_def.specs.Document.{Document};
 ghost use Rattle.lf_io_files.specs.Shelf.{Put};
 ghost use Rattle.lf_floorplan.specs.declared.limits.Limits.{Limits as TheLimits};
@@ -15,7 +15,7 @@ ghost use Rattle.lf_floor_model.specs.Places.{AreCommittedPlaces};
 ghost use Rattle.lf_floor_model.specs.States.{FloorState};
 ghost use Rattle.lf_floor_model.specs.Teams.{state_of, team_number};
 ghost use Rattle.lf_write.specs.Export.{CanBeRenewed, clause_of};
-ghost use Rattle.lf_repair_strategy.specs.declared.pass.MovePolicy.TheVariants.{Keep};
+ghost use Rattle.lf_repair_strategy.specs.declared.pass.MovePolicy.TheVariants.{KeepLegal as Keep};
 ghost use Rattle.lf_repair_team.specs.TeamRepairs.{AreLegalExcept, ChangesOnly, IsIllegalIn, KeepsLegalPlaces};
 ghost use Rattle.lf_repair_strategy.specs.declared.stats.RepairStats.{RepairStats};
 ghost use Rattle.lf_repair_report.specs.RepairReports.{IsOneMore};
@@ -73,9 +73,9 @@ fn how_of(legal: LegalCells) -> MovePolicy
     ensures { result ≡ how_of legal }
 {
     match legal {
-        LegalCells::Stay => MovePolicy::Keep,
-        LegalCells::MoveAsNeeded => MovePolicy::AsNeeded,
-        LegalCells::Move => MovePolicy::All,
+        LegalCells::KeepLegal => MovePolicy::KeepLegal,
+        LegalCells::MoveAsNeeded => MovePolicy::MoveAsNeeded,
+        LegalCells::MoveAll => MovePolicy::MoveAll,
     }
 }
 
@@ -125,11 +125,14 @@ fn repair_named<'f, P: Progress>(
     lines: &mut ProgressSink<'_, P>,
     report: &mut RepairReport,
 ) -> Result<(), Fault<'f>>
-    ensures run { (l : Legalizer) → OnOk result (IsKeptRun l floor.old (kept_text lines.old.lines) (kept_text lines.new.lines) floor.new) }
+    ensures run { (l : Legalizer)
+        → OnOk result (IsKeptRun l floor.old (kept_text lines.old.lines) (kept_text lines.new.lines) floor.new) }
     ensures only { ChangesOnly name.now floor.old floor.new }
     ensures kept { how ≡ Keep → KeepsLegalPlaces name.now floor.old floor.new }
-    ensures reported { OnOk result ((repaired : RepairStats) × IsOneMore floor.new name.now repaired report.old report.new
-        × AreLegalExcept name.now floor.new repaired.left.items × All (IsIllegalIn floor.new name.now) repaired.left.items) }
+    ensures reported { OnOk result
+        ((repaired : RepairStats) × IsOneMore floor.new name.now repaired report.old report.new
+        × AreLegalExcept name.now floor.new repaired.unrepaired.items
+        × All (IsIllegalIn floor.new name.now) repaired.unrepaired.items) }
     ensures err { IfErr result (λ fault. fault ≡ SetupOutOfMemory) }
 {
     match repair_team(alloc, floor, name, how, lines) {
@@ -156,12 +159,17 @@ fn repair_numbered<'a, P: Progress>(
     lines: &mut ProgressSink<'_, P>,
     report: &mut RepairReport,
 ) -> Result<(), Fault<'a>>
-    ensures run { (l : Legalizer) → OnOk result (IsKeptRun l floor.old (kept_text lines.old.lines) (kept_text lines.new.lines) floor.new) }
-    ensures only { OnOk result (OnlySelectedChange (map (λ team. team.now) requested.now.teams.now) floor.old floor.new) }
-    ensures reported { OnOk result (AddsTeamLines (selected_at floor.old.frame (map (λ team. team.now) requested.now.teams.now) number) floor.new report.old report.new) }
+    ensures run { (l : Legalizer)
+        → OnOk result (IsKeptRun l floor.old (kept_text lines.old.lines) (kept_text lines.new.lines) floor.new) }
+    ensures only { OnOk result
+        (OnlySelectedChange (map (λ team. team.now) requested.now.teams.now) floor.old floor.new) }
+    ensures reported { OnOk result (AddsTeamLines (selected_at floor.old.frame
+        (map (λ team. team.now) requested.now.teams.now) number) floor.new report.old report.new) }
     ensures err { IfErr result (λ fault. fault ≡ SetupOutOfMemory) }
-    ensures kept { requested.now.legal ≡ Stay → (team : List ℕ) → team_number floor.old.frame team ≡ Some number → KeepsLegalPlaces team floor.old floor.new }
-    ensures others { (team : List ℕ) → team_number floor.old.frame team ≢ Some number → state_of floor.new team ≡ state_of floor.old team }
+    ensures kept { requested.now.legal ≡ KeepLegal → (team : List ℕ) → team_number floor.old.frame team ≡ Some number
+        → KeepsLegalPlaces team floor.old floor.new }
+    ensures others { (team : List ℕ) → team_number floor.old.frame team ≢ Some number
+        → state_of floor.new team ≡ state_of floor.old team }
 {
     let Some(name) = team_name(floor.placement().frame(), number) else {
         return Ok(());
@@ -183,10 +191,13 @@ fn repair_teams<'a, P: Progress>(
     lines: &mut ProgressSink<'_, P>,
     report: &mut RepairReport,
 ) -> Result<(), Fault<'a>>
-    ensures run { (l : Legalizer) → OnOk result (IsKeptRun l floor.old (kept_text lines.old.lines) (kept_text lines.new.lines) floor.new) }
-    ensures only { OnOk result (OnlySelectedChange (map (λ team. team.now) requested.now.teams.now) floor.old floor.new) }
-    ensures kept { requested.now.legal ≡ Stay → OnOk result (KeepsAllLegalPlaces floor.old floor.new) }
-    ensures reported { OnOk result (AddsTeamLines (selected_names floor.old.frame (map (λ team. team.now) requested.now.teams.now)) floor.new report.old report.new) }
+    ensures run { (l : Legalizer)
+        → OnOk result (IsKeptRun l floor.old (kept_text lines.old.lines) (kept_text lines.new.lines) floor.new) }
+    ensures only { OnOk result
+        (OnlySelectedChange (map (λ team. team.now) requested.now.teams.now) floor.old floor.new) }
+    ensures kept { requested.now.legal ≡ KeepLegal → OnOk result (KeepsAllLegalPlaces floor.old floor.new) }
+    ensures reported { OnOk result (AddsTeamLines (selected_names floor.old.frame
+        (map (λ team. team.now) requested.now.teams.now)) floor.new report.old report.new) }
     ensures err { IfErr result (λ fault. fault ≡ SetupOutOfMemory) }
 {
     let teams = floor.placement().frame().teams.len() + 1;
@@ -240,11 +251,14 @@ fn repair_selected<'a, P: Progress>(
     progress: &mut P,
 ) -> Result<FinishedRepair, Fault<'a>>
     requires { length floor.old.teams ≡ length floor.old.frame.teams + 1 }
-    ensures run { (l : Legalizer) → IfOk result (λ done. IsKeptRun l floor.old (initial_lines (path_of requested.now.lines)) (kept_text done.lines) floor.new) }
-    ensures only { OnOk result (OnlySelectedChange (map (λ team. team.now) requested.now.teams.now) floor.old floor.new) }
-    ensures kept { requested.now.legal ≡ Stay → OnOk result (KeepsAllLegalPlaces floor.old floor.new) }
+    ensures run { (l : Legalizer) → IfOk result
+        (λ done. IsKeptRun l floor.old (initial_lines (path_of requested.now.lines)) (kept_text done.lines) floor.new) }
+    ensures only { OnOk result
+        (OnlySelectedChange (map (λ team. team.now) requested.now.teams.now) floor.old floor.new) }
+    ensures kept { requested.now.legal ≡ KeepLegal → OnOk result (KeepsAllLegalPlaces floor.old floor.new) }
     ensures committed_checked { IfOk result (λ done. IsStatusOf floor.new done.status) }
-    ensures reported { IfOk result (λ done. IsReport (map (λ team. team.now) requested.now.teams.now) least.now floor.new done.report.text.items) }
+    ensures reported { IfOk result
+        (λ done. IsReport (map (λ team. team.now) requested.now.teams.now) least.now floor.new done.report.text.items) }
     ensures err { IfErr result (λ fault. fault ≡ SetupOutOfMemory) }
 {
     legalizer_exists();
@@ -265,7 +279,8 @@ fn repair_selected<'a, P: Progress>(
 fn put_report<'f, W: Sink>(writer: &mut W, report: &RepairReport) -> Result<(), Fault<'f>>
     ensures ok { OnOk result (Appends (W.contents writer.old) (W.contents writer.new) report.now.text.items) }
     ensures healthy { OnOk result (W.has_failed writer.new ≡ W.has_failed writer.old) }
-    ensures front { OnErr result ((n : ℕ) × Appends (W.contents writer.old) (W.contents writer.new) (take n report.now.text.items)) }
+    ensures front { OnErr result
+        ((n : ℕ) × Appends (W.contents writer.old) (W.contents writer.new) (take n report.now.text.items)) }
     ensures err { IfErr result (λ fault. fault ≡ Output) }
     ensures failed { OnErr result (W.has_failed writer.new ≡ true) }
     ensures held { W.holds writer.new ≡ W.holds writer.old }
@@ -281,11 +296,13 @@ fn try_files<'a, E: OutputFiles>(
     requested: &RepairJob<'a>,
     exports: &mut E,
 ) -> Result<(), Fault<'a>>
-    ensures err { IfErr result (λ fault. IsExportFault (path_of requested.now.export) fault ⊎ IsLinesFileFault (path_of requested.now.lines) fault) }
+    ensures err { IfErr result (λ fault. IsExportFault (path_of requested.now.export) fault
+        ⊎ IsLinesFileFault (path_of requested.now.lines) fault) }
     ensures fails { IfErr result (λ fault. ExportFails fault (E.has_failed exports.old) (E.has_failed exports.new)) }
     ensures sound { OnOk result (E.has_failed exports.new ≡ E.has_failed exports.old) }
     ensures unput { E.puts exports.new ≡ E.puts exports.old }
-    ensures unasked { path_of requested.now.lines ≡ None → path_of requested.now.export ≡ None → exports.new ≡ exports.old }
+    ensures unasked { path_of requested.now.lines ≡ None → path_of requested.now.export
+        ≡ None → exports.new ≡ exports.old }
 {
     check_export_path(requested.export, exports)?;
     check_lines_path(requested.lines, exports)
@@ -301,17 +318,22 @@ fn put_files<'a, E: OutputFiles>(
 ) -> Result<(), Fault<'a>>
     requires fits { (places : List (ℕ × Option Place)) → AreCommittedPlaces floor.now places
         → CanBeRenewed original.now.text.items original.now.clauses places }
-    ensures ok { (document : Document) → original.now.clauses ≡ map (clause_of original.now.text.items) document.components
+    ensures ok { (document : Document)
+        → original.now.clauses ≡ map (clause_of original.now.text.items) document.components
         → OnOk result ((between : Option (List Put))
-        × IsExported (path_of requested.now.export) original.now.text.items document floor.now (E.puts exports.old) between
+        × IsExported (path_of requested.now.export) original.now.text.items document floor.now
+        (E.puts exports.old) between
         × WritesLines (path_of requested.now.lines) (kept_text lines.now) between (E.puts exports.new)) }
-    ensures err { (document : Document) → original.now.clauses ≡ map (clause_of original.now.text.items) document.components
-        → IfErr result (AreNotPut (path_of requested.now.export) (path_of requested.now.lines) original.now.text.items document floor.now
+    ensures err { (document : Document)
+        → original.now.clauses ≡ map (clause_of original.now.text.items) document.components
+        → IfErr result (AreNotPut (path_of requested.now.export)
+        (path_of requested.now.lines) original.now.text.items document floor.now
         (E.puts exports.old) (E.puts exports.new)) }
     ensures fails { IfErr result (λ fault. ExportFails fault (E.has_failed exports.old) (E.has_failed exports.new)) }
     ensures sound { OnOk result (E.has_failed exports.new ≡ E.has_failed exports.old) }
     ensures unput { path_of requested.now.lines ≡ None → OnErr result (E.puts exports.new ≡ E.puts exports.old) }
-    ensures unasked { path_of requested.now.lines ≡ None → path_of requested.now.export ≡ None → exports.new ≡ exports.old }
+    ensures unasked { path_of requested.now.lines ≡ None → path_of requested.now.export
+        ≡ None → exports.new ≡ exports.old }
 {
     save_export(floor, original, requested.export, exports)?;
     save_lines(lines, requested.lines, exports)
@@ -329,16 +351,24 @@ fn put_all<'a, E: OutputFiles, W: Sink>(
     requires fits { (places : List (ℕ × Option Place)) → AreCommittedPlaces floor.now places
         → CanBeRenewed original.now.text.items original.now.clauses places }
     ensures status { IfOk result (λ status. status ≡ done.now.status) }
-    ensures ok { (document : Document) → original.now.clauses ≡ map (clause_of original.now.text.items) document.components
-        → OnOk result (IsPut (path_of requested.now.export) (path_of requested.now.lines) original.now.text.items document floor.now (kept_text done.now.lines)
-        done.now.report.text.items (W.contents writer.old) (W.contents writer.new) (E.puts exports.old) (E.puts exports.new)) }
-    ensures err { (document : Document) → original.now.clauses ≡ map (clause_of original.now.text.items) document.components
-        → IfErr result (IsNotPut (path_of requested.now.export) (path_of requested.now.lines) original.now.text.items document floor.now
-        done.now.report.text.items (W.contents writer.old) (W.contents writer.new) (E.puts exports.old) (E.puts exports.new)) }
-    ensures blames { IfErr result (λ fault. BlamesOutputs fault (writer.new ≡ writer.old) (W.has_failed writer.old) (W.has_failed writer.new)
+    ensures ok { (document : Document)
+        → original.now.clauses ≡ map (clause_of original.now.text.items) document.components
+        → OnOk result (IsPut (path_of requested.now.export)
+        (path_of requested.now.lines) original.now.text.items document floor.now (kept_text done.now.lines)
+        done.now.report.text.items (W.contents writer.old) (W.contents writer.new) (E.puts exports.old)
+        (E.puts exports.new)) }
+    ensures err { (document : Document)
+        → original.now.clauses ≡ map (clause_of original.now.text.items) document.components
+        → IfErr result (IsNotPut (path_of requested.now.export)
+        (path_of requested.now.lines) original.now.text.items document floor.now
+        done.now.report.text.items (W.contents writer.old) (W.contents writer.new) (E.puts exports.old)
+        (E.puts exports.new)) }
+    ensures blames { IfErr result
+        (λ fault. BlamesOutputs fault (writer.new ≡ writer.old) (W.has_failed writer.old) (W.has_failed writer.new)
         (E.has_failed exports.old) (E.has_failed exports.new)) }
     ensures unput { path_of requested.now.lines ≡ None → OnErr result (E.puts exports.new ≡ E.puts exports.old) }
-    ensures unasked { path_of requested.now.lines ≡ None → path_of requested.now.export ≡ None → exports.new ≡ exports.old }
+    ensures unasked { path_of requested.now.lines ≡ None → path_of requested.now.export
+        ≡ None → exports.new ≡ exports.old }
     ensures held { W.holds writer.new ≡ W.holds writer.old }
 {
     put_report(writer, &done.report)?;
@@ -367,20 +397,27 @@ fn repair_on_floor<'a, E: OutputFiles, W: Sink, P: Progress>(
     writer: &mut W,
 ) -> Result<u8, Fault<'a>>
     requires teams { length floor.old.teams ≡ length floor.old.frame.teams + 1 }
-    requires fits { (s : FloorState) (places : List (ℕ × Option Place)) → s.components ≡ floor.old.components → AreCommittedPlaces s places
+    requires fits { (s : FloorState) (places : List (ℕ × Option Place)) → s.components ≡ floor.old.components
+        → AreCommittedPlaces s places
         → CanBeRenewed before.old.original.text.items before.old.original.clauses places }
-    ensures ok { (document : Document) → before.old.original.clauses ≡ map (clause_of before.old.original.text.items) document.components
-        → IfOk result (IsRepaired (map (λ team. team.now) requested.now.teams.now) requested.now.legal (path_of requested.now.export) (path_of requested.now.lines)
+    ensures ok { (document : Document)
+        → before.old.original.clauses ≡ map (clause_of before.old.original.text.items) document.components
+        → IfOk result (IsRepaired (map (λ team. team.now) requested.now.teams.now) requested.now.legal
+        (path_of requested.now.export) (path_of requested.now.lines)
         before.old.original.text.items document before.old.least.items floor.old
         (W.contents writer.old) (W.contents writer.new) (E.puts exports.old) (E.puts exports.new)) }
-    ensures err { (document : Document) → before.old.original.clauses ≡ map (clause_of before.old.original.text.items) document.components
-        → IfErr result (IsUnrepaired (map (λ team. team.now) requested.now.teams.now) requested.now.legal (path_of requested.now.export) (path_of requested.now.lines)
+    ensures err { (document : Document)
+        → before.old.original.clauses ≡ map (clause_of before.old.original.text.items) document.components
+        → IfErr result (IsUnrepaired (map (λ team. team.now) requested.now.teams.now) requested.now.legal
+        (path_of requested.now.export) (path_of requested.now.lines)
         before.old.original.text.items document before.old.least.items floor.old
         (W.contents writer.old) (W.contents writer.new) (E.puts exports.old) (E.puts exports.new)) }
-    ensures blames { IfErr result (λ fault. BlamesOutputs fault (writer.new ≡ writer.old) (W.has_failed writer.old) (W.has_failed writer.new)
+    ensures blames { IfErr result
+        (λ fault. BlamesOutputs fault (writer.new ≡ writer.old) (W.has_failed writer.old) (W.has_failed writer.new)
         (E.has_failed exports.old) (E.has_failed exports.new)) }
     ensures unput { path_of requested.now.lines ≡ None → OnErr result (E.puts exports.new ≡ E.puts exports.old) }
-    ensures unasked { path_of requested.now.lines ≡ None → path_of requested.now.export ≡ None → exports.new ≡ exports.old }
+    ensures unasked { path_of requested.now.lines ≡ None → path_of requested.now.export
+        ≡ None → exports.new ≡ exports.old }
     ensures held { W.holds writer.new ≡ W.holds writer.old }
 {
     all_known(floor, requested.teams)?;
@@ -400,22 +437,29 @@ fn repair_opened<'a, E: OutputFiles, W: Sink, P: Progress>(
 ) -> Result<u8, Fault<'a>>
     requires loads { (limits : TheLimits) × (library : Contents) × (document : Document)
         × IsLoadedText limits opened.original.text.items library document opened.original.clauses opened.loaded }
-    ensures ok { (document : Document) → opened.original.clauses ≡ map (clause_of opened.original.text.items) document.components
+    ensures ok { (document : Document)
+        → opened.original.clauses ≡ map (clause_of opened.original.text.items) document.components
         → IfOk result (λ status. (bounds : List ℕ) × AreBounds opened.loaded bounds
-        × IsRepaired (map (λ team. team.now) requested.now.teams.now) requested.now.legal (path_of requested.now.export) (path_of requested.now.lines)
+        × IsRepaired (map (λ team. team.now) requested.now.teams.now) requested.now.legal (path_of requested.now.export)
+        (path_of requested.now.lines)
         opened.original.text.items document bounds (initial_floor opened.loaded)
         (W.contents writer.old) (W.contents writer.new) (E.puts exports.old) (E.puts exports.new) status) }
-    ensures err { (document : Document) → opened.original.clauses ≡ map (clause_of opened.original.text.items) document.components
+    ensures err { (document : Document)
+        → opened.original.clauses ≡ map (clause_of opened.original.text.items) document.components
         → IfErr result (λ fault.
-        ((fault ≡ SetupOutOfMemory) × (W.contents writer.new ≡ W.contents writer.old) × (E.puts exports.new ≡ E.puts exports.old))
+        ((fault ≡ SetupOutOfMemory) × (W.contents writer.new ≡ W.contents writer.old)
+        × (E.puts exports.new ≡ E.puts exports.old))
         ⊎ ((bounds : List ℕ) × AreBounds opened.loaded bounds
-        × IsUnrepaired (map (λ team. team.now) requested.now.teams.now) requested.now.legal (path_of requested.now.export) (path_of requested.now.lines)
+        × IsUnrepaired (map (λ team. team.now) requested.now.teams.now) requested.now.legal
+        (path_of requested.now.export) (path_of requested.now.lines)
         opened.original.text.items document bounds (initial_floor opened.loaded)
         (W.contents writer.old) (W.contents writer.new) (E.puts exports.old) (E.puts exports.new) fault)) }
-    ensures blames { IfErr result (λ fault. BlamesOutputs fault (writer.new ≡ writer.old) (W.has_failed writer.old) (W.has_failed writer.new)
+    ensures blames { IfErr result
+        (λ fault. BlamesOutputs fault (writer.new ≡ writer.old) (W.has_failed writer.old) (W.has_failed writer.new)
         (E.has_failed exports.old) (E.has_failed exports.new)) }
     ensures unput { path_of requested.now.lines ≡ None → OnErr result (E.puts exports.new ≡ E.puts exports.old) }
-    ensures unasked { path_of requested.now.lines ≡ None → path_of requested.now.export ≡ None → exports.new ≡ exports.old }
+    ensures unasked { path_of requested.now.lines ≡ None → path_of requested.now.export
+        ≡ None → exports.new ≡ exports.old }
     ensures held { W.holds writer.new ≡ W.holds writer.old }
 {
     kept_clauses_suffice();
@@ -456,16 +500,21 @@ pub fn repair<'a, T: InputFiles, E: OutputFiles, W: Sink, P: Progress>(
     progress: &mut P,
     requested: &RepairJob<'a>,
 ) -> Result<u8, Fault<'a>>
-    ensures ok { IfOk result (IsOpenRepaired requested.now.limits (T.gives texts.now) requested.now.def.now (map (λ lef. lef.now) requested.now.lefs.now)
-        (map (λ team. team.now) requested.now.teams.now) requested.now.legal (path_of requested.now.export) (path_of requested.now.lines)
+    ensures ok { IfOk result (IsOpenRepaired requested.now.limits (T.gives texts.now) requested.now.def.now
+        (map (λ lef. lef.now) requested.now.lefs.now)
+        (map (λ team. team.now) requested.now.teams.now) requested.now.legal (path_of requested.now.export)
+        (path_of requested.now.lines)
         (W.contents writer.old) (W.contents writer.new) (E.puts exports.old) (E.puts exports.new)) }
-    ensures err { IfErr result (λ fault. IsNotRepaired requested.now.limits (T.gives texts.now) requested.now.def.now (map (λ lef. lef.now) requested.now.lefs.now)
-        (map (λ team. team.now) requested.now.teams.now) requested.now.legal (path_of requested.now.export) (path_of requested.now.lines)
+    ensures err { IfErr result (λ fault. IsNotRepaired requested.now.limits (T.gives texts.now) requested.now.def.now
+        (map (λ lef. lef.now) requested.now.lefs.now)
+        (map (λ team. team.now) requested.now.teams.now) requested.now.legal (path_of requested.now.export)
+        (path_of requested.now.lines)
         (W.contents writer.old) (W.contents writer.new) (E.puts exports.old) (E.puts exports.new) fault
         × BlamesOutputs fault (writer.new ≡ writer.old) (W.has_failed writer.old) (W.has_failed writer.new)
         (E.has_failed exports.old) (E.has_failed exports.new)) }
     ensures unput { path_of requested.now.lines ≡ None → OnErr result (E.puts exports.new ≡ E.puts exports.old) }
-    ensures unasked { path_of requested.now.lines ≡ None → path_of requested.now.export ≡ None → exports.new ≡ exports.old }
+    ensures unasked { path_of requested.now.lines ≡ None → path_of requested.now.export
+        ≡ None → exports.new ≡ exports.old }
     ensures held { W.holds writer.new ≡ W.holds writer.old }
 {
     let opened = open_design(

@@ -21,14 +21,14 @@ use Rattle.lf_task_serve.specs.Surroundings.{IsSound}
 use Rattle.lf_task_serve.specs.Work.{AreAnswered, IsServingFault, IsOfOriginal, IsUnfinished, IsNotServedDesign}
 use Rattle.lf_task_serve.specs.declared.environment.Environment.{Environment}
 use Rattle.lf_task_serve.specs.declared.line_source.LineSource.{LineSource}
-use Rattle.lf_task_serve.specs.declared.line_source.LineSource.TheVariants.{Stream, Port}
+use Rattle.lf_task_serve.specs.declared.line_source.LineSource.TheVariants.{Reader, Port}
 
 -- Lines are done whatever is written to files besides.
 pub done_beside : (lines : LineSource) (begin floor : FloorState) (input left before after : Option (List ℕ))
     (old_puts new_puts other_old other_new : Option (List Put)) (old_accepted new_accepted : Option Accepted)
     → AreAnswered lines begin floor (streams input left before after old_puts new_puts old_accepted new_accepted)
     → AreAnswered lines begin floor (streams input left before after other_old other_new old_accepted new_accepted)
-done_beside (Stream limit) begin floor input left before after old_puts new_puts other_old other_new old_accepted new_accepted is = is
+done_beside (Reader limit) begin floor input left before after old_puts new_puts other_old other_new old_accepted new_accepted is = is
 done_beside (Port port connections) begin floor input left before after old_puts new_puts other_old other_new old_accepted new_accepted is = is
 
 -- The same for a fault of the lines.
@@ -36,7 +36,7 @@ pub fault_beside : (lines : LineSource) (begin : FloorState) (fault : Fault) (in
     (old_puts new_puts other_old other_new : Option (List Put)) (old_accepted new_accepted : Option Accepted)
     → IsServingFault lines begin fault (streams input left before after old_puts new_puts old_accepted new_accepted)
     → IsServingFault lines begin fault (streams input left before after other_old other_new old_accepted new_accepted)
-fault_beside (Stream limit) begin fault input left before after old_puts new_puts other_old other_new old_accepted new_accepted is = is
+fault_beside (Reader limit) begin fault input left before after old_puts new_puts other_old other_new old_accepted new_accepted is = is
 fault_beside (Port port connections) begin fault input left before after old_puts new_puts other_old other_new old_accepted new_accepted is = is
 
 -- Why the work on the design of a text fails is why the work on that of its files fails.

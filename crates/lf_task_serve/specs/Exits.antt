@@ -33,7 +33,8 @@ pub record Streams : Type 0 where
   pub old_accepted : Option Accepted
   pub new_accepted : Option Accepted
 
-abbrev pub streams : Option (List ℕ) → Option (List ℕ) → Option (List ℕ) → Option (List ℕ) → Option (List Put) → Option (List Put)
+abbrev pub streams : Option (List ℕ) → Option (List ℕ) → Option (List ℕ) → Option (List ℕ) → Option (List Put)
+    → Option (List Put)
     → Option Accepted → Option Accepted → Streams
 streams input left before after old_puts new_puts old_accepted new_accepted =
     record {
@@ -52,7 +53,8 @@ abbrev pub streams_alone : Option (List ℕ) → Option (List ℕ) → Option (L
 streams_alone input left before after = streams input left before after None None None None
 
 -- The lines of the input, at most `limit`, were served on the floor, up to their end or to a bye.
-pub record AnswersInput (limit : ℕ) (begin floor : FloorState) (input left before after : Option (List ℕ)) : Type 0 where
+pub record AnswersInput (limit : ℕ) (begin floor : FloorState)
+    (input left before after : Option (List ℕ)) : Type 0 where
   pub ending : Ending
   pub well : ending_fault ending ≡ None
   pub served : (l : Legalizer) → IsServed l limit begin floor input left before after ending
@@ -65,11 +67,13 @@ listening = codes "listening" ++ 10 ∷ []
 pub record IsOffered (begin floor : FloorState) (connections : ℕ) (before after : Option (List ℕ))
     (old_accepted new_accepted : Option Accepted) : Type 0 where
   pub reported : Appends before after listening
-  pub served : AreServed default_most_lines (reads_for default_most_lines) connections old_accepted new_accepted begin floor
+  pub served :
+      AreServed default_most_lines (reads_for default_most_lines) connections old_accepted new_accepted begin floor
 
 -- This work led to the state of the floor. Then the exported text of the document was written if
 -- requested, and then the state.
-pub record IsFinished (Work : FloorState → Streams → Type 0) (save export : Option (List ℕ)) (text : List ℕ) (document : Document) (io : Streams) : Type 0 where
+pub record IsFinished (Work : FloorState → Streams → Type 0) (save export : Option (List ℕ)) (text : List ℕ)
+    (document : Document) (io : Streams) : Type 0 where
   pub floor : FloorState
   pub work : Work floor io
   pub between : Option (List Put)
@@ -78,7 +82,8 @@ pub record IsFinished (Work : FloorState → Streams → Type 0) (save export : 
 
 -- The design was opened, its floor was brought into the requested state, and this work on it
 -- finished.
-pub record IsServedDesign (limits : Limits) (gives : ReadsFile) (def : List ℕ) (lefs : List (List ℕ)) (state save export : Option (List ℕ))
+pub record IsServedDesign (limits : Limits) (gives : ReadsFile) (def : List ℕ) (lefs : List (List ℕ))
+    (state save export : Option (List ℕ))
     (Work : FloorState → FloorState → Streams → Type 0) (io : Streams) : Type 0 where
   pub text : List ℕ
   pub document : Document
@@ -91,7 +96,8 @@ pub record IsServedDesign (limits : Limits) (gives : ReadsFile) (def : List ℕ)
 -- ---- faults
 
 -- The lines of the input were served on the floor, up to an end that is this fault.
-pub record EndsWithFault (limit : ℕ) (begin : FloorState) (fault : Fault) (input left before after : Option (List ℕ)) : Type 0 where
+pub record EndsWithFault (limit : ℕ) (begin : FloorState) (fault : Fault)
+    (input left before after : Option (List ℕ)) : Type 0 where
   pub floor : FloorState
   pub ending : Ending
   pub is : ending_fault ending ≡ Some fault
@@ -99,19 +105,23 @@ pub record EndsWithFault (limit : ℕ) (begin : FloorState) (fault : Fault) (inp
 
 -- Why the lines of a demo are not answered up to their end: an allocation for the floor failed, or
 -- serving them ended with a fault.
-abbrev pub IsLinesFault : ℕ → FloorState → Fault → Option (List ℕ) → Option (List ℕ) → Option (List ℕ) → Option (List ℕ) → Type 0
-IsLinesFault limit begin fault input left before after = (fault ≡ SetupOutOfMemory) ⊎ EndsWithFault limit begin fault input left before after
+abbrev pub IsLinesFault : ℕ → FloorState → Fault → Option (List ℕ) → Option (List ℕ) → Option (List ℕ)
+    → Option (List ℕ) → Type 0
+IsLinesFault limit begin fault input left before after = (fault ≡ SetupOutOfMemory)
+    ⊎ EndsWithFault limit begin fault input left before after
 
 -- Why a service ends early. If it cannot listen on the port, nothing is written. If the line
 -- `listening` is not written, a front of it may be. If a connection is not accepted, the earlier
 -- ones were served.
-abbrev pub IsServiceFault : ℕ → ℕ → FloorState → Fault → Option (List ℕ) → Option (List ℕ) → Option Accepted → Option Accepted → Type 0
+abbrev pub IsServiceFault : ℕ → ℕ → FloorState → Fault → Option (List ℕ) → Option (List ℕ) → Option Accepted
+    → Option Accepted → Type 0
 IsServiceFault port connections begin (Bind its why) before after old_accepted new_accepted =
     (its ≡ port) × (after ≡ before) × (new_accepted ≡ old_accepted)
 IsServiceFault port connections begin Output before after old_accepted new_accepted =
     ((n : ℕ) × Appends before after (take n listening)) × (new_accepted ≡ old_accepted)
 IsServiceFault port connections begin Accept before after old_accepted new_accepted =
-    (floor : FloorState) × ((count : ℕ) × (count < connections) × IsOffered begin floor count before after old_accepted new_accepted)
+    (floor : FloorState)
+    × ((count : ℕ) × (count < connections) × IsOffered begin floor count before after old_accepted new_accepted)
 IsServiceFault port connections begin _ before after old_accepted new_accepted = ⊥
 
 -- Nothing was read, written or accepted.
@@ -123,13 +133,16 @@ pub record IsUntouched (io : Streams) : Type 0 where
 
 -- Why the work on a floor fails: for its own reason; or a requested file cannot be written, which
 -- is reported before anything is done; or the exported text is not written after the work.
-abbrev pub IsServeFault : Option (List ℕ) → Option (List ℕ) → (Fault → Streams → Type 0) → (FloorState → Streams → Type 0) → Fault → Streams → Type 0
+abbrev pub IsServeFault : Option (List ℕ) → Option (List ℕ) → (Fault → Streams → Type 0)
+    → (FloorState → Streams → Type 0) → Fault → Streams → Type 0
 IsServeFault save export why Work fault io =
     why fault io
-    ⊎ (((IsExportFault export fault ⊎ IsSaveFault save fault) × IsUntouched io) ⊎ (IsExportFault export fault × ((floor : FloorState) × Work floor io)))
+    ⊎ (((IsExportFault export fault ⊎ IsSaveFault save fault) × IsUntouched io)
+    ⊎ (IsExportFault export fault × ((floor : FloorState) × Work floor io)))
 
 -- There is nothing to work on for this reason; or there is, and this is why the work on it fails.
-abbrev pub IsJobStop : {A : Type 0} → (Fault → Type 0) → (A → Type 0) → (A → Fault → Streams → Type 0) → Fault → Streams → Type 0
+abbrev pub IsJobStop : {A : Type 0} → (Fault → Type 0) → (A → Type 0) → (A → Fault → Streams → Type 0)
+    → Fault → Streams → Type 0
 IsJobStop {A} nothing IsWorkedOn why fault io = nothing fault ⊎ ((on : A) × IsWorkedOn on × why on fault io)
 
 -- Why a job on lines fails: it stopped, and no file is written; or everything is done except that

@@ -20,4 +20,5 @@ ending_fault ending.OutOfMemory = Some OutOfMemory
 -- before.
 abbrev pub BlamesStreams : ℕ → Fault → Type 0 → Bool → ℕ → ℕ → Bool → Type 0
 BlamesStreams limit fault kept read_failed old_reads new_reads write_failed =
-    BlamesDevices fault kept (ReadsFail limit read_failed old_reads new_reads) (write_failed ≡ true) ⊥ ⊥ ((read_failed ≡ false) × (write_failed ≡ false))
+    BlamesDevices fault kept (ReadsFail limit read_failed old_reads new_reads) (write_failed ≡ true) ⊥ ⊥
+    ((read_failed ≡ false) × (write_failed ≡ false))

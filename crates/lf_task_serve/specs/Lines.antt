@@ -8,7 +8,8 @@ use Rattle.lf_server.specs.declared.serve_loop.Ending.{Ending}
 use Rattle.lf_server.specs.declared.serve_loop.Served.{Served}
 
 -- The lines of the input were served on the floor, at most `limit`, up to this ending.
-pub record IsServed (l : Legalizer) (limit : ℕ) (old new : FloorState) (input left before after : Option (List ℕ)) (ending : Ending) : Type 0 where
+pub record IsServed (l : Legalizer) (limit : ℕ) (old new : FloorState) (input left before after : Option (List ℕ))
+    (ending : Ending) : Type 0 where
   pub served : Served
   pub ends : served.ending ≡ ending
   pub begun : Bool

@@ -18,7 +18,7 @@ use Rattle.lf_task_files.specs.States.{IsOpenedFloor, IsNotOpened}
 use Rattle.lf_task_serve.specs.declared.environment.Environment.{Environment}
 use Rattle.lf_task_serve.specs.declared.line_source.LineSource.{LineSource}
 use Rattle.lf_task_serve.specs.declared.serve_task.OpenDesign.{OpenDesign}
-use Rattle.lf_task_serve.specs.declared.line_source.LineSource.TheVariants.{Stream, Port}
+use Rattle.lf_task_serve.specs.declared.line_source.LineSource.TheVariants.{Reader, Port}
 use Rattle.lf_task_serve.specs.Exits.{AnswersInput, EndsWithFault, IsFinished, IsOffered, IsServiceFault, IsServeFault, Streams}
 use Rattle.lf_task_serve.specs.Lines.{ReadsFail}
 use Rattle.lf_task_serve.specs.Services.{OffersLocal}
@@ -26,21 +26,25 @@ use Rattle.lf_task_serve.specs.Surroundings.{IsSound}
 
 -- The lines were answered to their end, on the floor with which they began.
 abbrev pub AreAnswered : LineSource → FloorState → FloorState → Streams → Type 0
-AreAnswered (Stream limit) begin floor io = AnswersInput limit begin floor io.input io.left io.before io.after
-AreAnswered (Port port connections) begin floor io = IsOffered begin floor connections io.before io.after io.old_accepted io.new_accepted
+AreAnswered (Reader limit) begin floor io = AnswersInput limit begin floor io.input io.left io.before io.after
+AreAnswered (Port port connections) begin floor io =
+    IsOffered begin floor connections io.before io.after io.old_accepted io.new_accepted
 
 -- Why the lines were not answered to their end.
 abbrev pub IsServingFault : LineSource → FloorState → Fault → Streams → Type 0
-IsServingFault (Stream limit) begin fault io = EndsWithFault limit begin fault io.input io.left io.before io.after
-IsServingFault (Port port connections) begin fault io = IsServiceFault port connections begin fault io.before io.after io.old_accepted io.new_accepted
+IsServingFault (Reader limit) begin fault io = EndsWithFault limit begin fault io.input io.left io.before io.after
+IsServingFault (Port port connections) begin fault io =
+    IsServiceFault port connections begin fault io.before io.after io.old_accepted io.new_accepted
 
 -- If a DEF text is kept, the design was loaded from it.
 abbrev pub IsOfOriginal : Option SourceText → Loaded → Type 0
-IsOfOriginal original loaded = IfSome original (λ original. (limits : Limits) × (library : Contents) × (document : Document)
+IsOfOriginal original loaded =
+    IfSome original (λ original. (limits : Limits) × (library : Contents) × (document : Document)
     × IsLoadedText limits original.text.items library document original.clauses loaded)
 
 -- The design to work on is that of the files, with its DEF text if an export is requested.
-pub record IsDesignFor (limits : Limits) (gives : ReadsFile) (def : List ℕ) (lefs : List (List ℕ)) (export : Option (List ℕ)) (design : OpenDesign) : Type 0 where
+pub record IsDesignFor (limits : Limits) (gives : ReadsFile) (def : List ℕ) (lefs : List (List ℕ))
+    (export : Option (List ℕ)) (design : OpenDesign) : Type 0 where
   pub text : List ℕ
   pub document : Document
   pub opened : IsOpened limits gives def lefs text document design.loaded
@@ -50,46 +54,55 @@ pub record IsDesignFor (limits : Limits) (gives : ReadsFile) (def : List ℕ) (l
 
 -- Why the work on a floor is not finished: it stopped, and no file is written; or everything is
 -- done except that the state is not saved.
-abbrev pub IsUnfinished : Option (List ℕ) → Option (List ℕ) → LineSource → FloorState → List ℕ → Document → Fault → Streams → Type 0
+abbrev pub IsUnfinished : Option (List ℕ) → Option (List ℕ) → LineSource → FloorState → List ℕ → Document
+    → Fault → Streams → Type 0
 IsUnfinished save export lines begin text document fault io =
-    (IsServeFault save export (IsServingFault lines begin) (AreAnswered lines begin) fault io × (io.new_puts ≡ io.old_puts))
+    (IsServeFault save export (IsServingFault lines begin) (AreAnswered lines begin) fault io
+    × (io.new_puts ≡ io.old_puts))
     ⊎ (IsSaveFault save fault × IsFinished (AreAnswered lines begin) None export text document io)
 
 -- Why the work on the design of a text is not finished: there is no floor with which to begin, and
 -- no file is written; or the work on its floor is not finished.
-abbrev pub IsNotServedDesign : ReadsFile → Option (List ℕ) → Option (List ℕ) → Option (List ℕ) → LineSource → Loaded → List ℕ → Document → Fault → Streams → Type 0
+abbrev pub IsNotServedDesign : ReadsFile → Option (List ℕ) → Option (List ℕ) → Option (List ℕ) → LineSource → Loaded
+    → List ℕ → Document → Fault → Streams → Type 0
 IsNotServedDesign gives state save export lines loaded text document fault io =
     (IsNotOpened gives state loaded fault × (io.new_puts ≡ io.old_puts))
-    ⊎ ((begin : FloorState) × IsOpenedFloor gives state (initial_floor loaded) begin × IsUnfinished save export lines begin text document fault io)
+    ⊎ ((begin : FloorState) × IsOpenedFloor gives state (initial_floor loaded) begin
+    × IsUnfinished save export lines begin text document fault io)
 
 -- The reader has failed, or the limit on reads was reached. A service does not read from it.
 abbrev pub IsReaderSpent : LineSource → Bool → ℕ → ℕ → Type 0
-IsReaderSpent (Stream limit) failed old new = ReadsFail limit failed old new
+IsReaderSpent (Reader limit) failed old new = ReadsFail limit failed old new
 IsReaderSpent (Port port connections) failed old new = ⊥
 
 -- Which device is to blame for a fault of the lines.
-abbrev pub BlamesIn : {T E V R W F P : Type 0} → (E → Bool) → (V → Bool) → (R → Bool) → (R → ℕ) → (W → Bool) → LineSource
+abbrev pub BlamesIn : {T E V R W F P : Type 0} → (E → Bool) → (V → Bool) → (R → Bool) → (R → ℕ)
+    → (W → Bool) → LineSource
     → Environment T E V R W F P → Environment T E V R W F P → Fault → Type 0
 BlamesIn export_failed service_failed read_failed reads write_failed lines old new fault =
-    BlamesDevices fault (new.writer ≡ old.writer) (IsReaderSpent lines (read_failed new.reader) (reads old.reader) (reads new.reader)) (write_failed new.writer ≡ true)
-    (export_failed new.exports ≡ true) (service_failed new.services ≡ true) (IsSound export_failed service_failed read_failed write_failed old new)
+    BlamesDevices fault (new.writer ≡ old.writer) (IsReaderSpent lines (read_failed new.reader) (reads old.reader)
+    (reads new.reader)) (write_failed new.writer ≡ true)
+    (export_failed new.exports ≡ true) (service_failed new.services ≡ true)
+    (IsSound export_failed service_failed read_failed write_failed old new)
 
 -- What was offered for the lines: a service, or nothing for lines of the reader.
 abbrev pub IsOfferFor : LineSource → Option (List ServiceConfig) → Option (List ServiceConfig) → Type 0
-IsOfferFor (Stream limit) old new = new ≡ old
+IsOfferFor (Reader limit) old new = new ≡ old
 IsOfferFor (Port port connections) old new = OffersLocal port connections old new
 
 -- The reader is unchanged by a service.
 abbrev pub LeavesReader : {R : Type 0} → LineSource → R → R → Type 0
-LeavesReader (Stream limit) old new = Unit {0}
+LeavesReader (Reader limit) old new = Unit {0}
 LeavesReader (Port port connections) old new = new ≡ old
 
 -- What the work on a design changes besides its lines. Files are written, services offered and the
 -- reader read only as requested. After a fault, no file is written if no state was requested.
-pub record LeavesDevices {T E V R W F P : Type 0} (puts : E → Option (List Put)) (offers : V → Option (List ServiceConfig)) (lines : LineSource) (save export : Option (List ℕ))
+pub record LeavesDevices {T E V R W F P : Type 0} (puts : E → Option (List Put))
+    (offers : V → Option (List ServiceConfig)) (lines : LineSource) (save export : Option (List ℕ))
     (result : Result ℕ Fault) (old new : Environment T E V R W F P) : Type 0 where
   pub unput : save ≡ None → OnErr result (puts new.exports ≡ puts old.exports)
   pub unasked : save ≡ None → export ≡ None → new.exports ≡ old.exports
   pub offered : OnOk result (IsOfferFor lines (offers old.services) (offers new.services))
-  pub unoffered : (offers new.services ≡ offers old.services) ⊎ IsOfferFor lines (offers old.services) (offers new.services)
+  pub unoffered : (offers new.services ≡ offers old.services)
+      ⊎ IsOfferFor lines (offers old.services) (offers new.services)
   pub unread : LeavesReader lines old.reader new.reader

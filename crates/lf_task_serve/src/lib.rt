@@ -19,7 +19,7 @@
 //! From `crates/lf_app/src/tasks.rt`:
 //!
 //! ```
-//! let lines = LineSource::Stream { most: *lines };
+//! let lines = LineSource::Reader { max_lines: *lines };
 //! let outputs = OutputPaths {
 //!     export: *export,
 //!     save: *save,

@@ -24,8 +24,8 @@ use std::alloc::Global;
 /// The source of a design's lines.
 #[derive(Clone, Copy, Debug, PartialEq, Eq)]
 pub enum LineSource {
-    /// The reader, with replies to the writer. At most `most` lines are answered.
-    Stream { most: u32 },
+    /// The reader, with replies to the writer. At most `max_lines` lines are answered.
+    Reader { max_lines: u32 },
     /// Connections to this port, one after the other.
     Port { port: u16, connections: u32 },
 }
@@ -45,7 +45,8 @@ pub(crate) fn serve_reader<'a, R: Source, W: Sink>(
     ensures components { floor.new.components ≡ floor.old.components }
     ensures err { IfErr result (λ fault. EndsWithFault lines floor.old fault
         (R.remaining reader.old) (R.remaining reader.new) (W.contents writer.old) (W.contents writer.new)
-        × BlamesStreams lines fault (writer.new ≡ writer.old) (R.has_failed reader.new) (R.reads reader.old) (R.reads reader.new) (W.has_failed writer.new)) }
+        × BlamesStreams lines fault (writer.new ≡ writer.old) (R.has_failed reader.new) (R.reads reader.old)
+        (R.reads reader.new) (W.has_failed writer.new)) }
     ensures sound { OnOk result ((R.has_failed reader.new ≡ false) × (W.has_failed writer.new ≡ false)) }
     ensures reader_held { R.holds reader.new ≡ R.holds reader.old }
     ensures writer_held { W.holds writer.new ≡ W.holds writer.old }
@@ -68,14 +69,18 @@ fn serve_port<'a, V: PortListener, W: Sink>(
 ) -> Result<(), Fault<'a>>
     requires lines { offer.now.limits.lines ≡ default_most_lines }
     requires reads { offer.now.limits.reads ≡ reads_for default_most_lines }
-    ensures ok { OnOk result (IsOffered floor.old floor.new offer.now.connections (W.contents writer.old) (W.contents writer.new)
+    ensures ok { OnOk result
+        (IsOffered floor.old floor.new offer.now.connections (W.contents writer.old) (W.contents writer.new)
         (V.accepted services.old) (V.accepted services.new)) }
     ensures components { floor.new.components ≡ floor.old.components }
     ensures err { IfErr result (λ fault.
-        IsServiceFault offer.now.port offer.now.connections floor.old fault (W.contents writer.old) (W.contents writer.new)
+        IsServiceFault offer.now.port offer.now.connections floor.old fault (W.contents writer.old)
+        (W.contents writer.new)
         (V.accepted services.old) (V.accepted services.new)
-        × BlamesDevices fault (writer.new ≡ writer.old) ⊥ (W.has_failed writer.new ≡ true) ⊥ (V.has_failed services.new ≡ true) ⊥) }
-    ensures sound { OnOk result ((W.has_failed writer.new ≡ W.has_failed writer.old) × (V.has_failed services.new ≡ V.has_failed services.old)) }
+        × BlamesDevices fault (writer.new ≡ writer.old) ⊥ (W.has_failed writer.new ≡ true) ⊥
+        (V.has_failed services.new ≡ true) ⊥) }
+    ensures sound { OnOk result ((W.has_failed writer.new ≡ W.has_failed writer.old)
+        × (V.has_failed services.new ≡ V.has_failed services.old)) }
     ensures offered { Offers (V.offers services.old) (V.offers services.new) offer.now }
     ensures writer_held { W.holds writer.new ≡ W.holds writer.old }
 {
@@ -100,7 +105,8 @@ pub(crate) fn serve_source<'a, T, E: OutputFiles, V: PortListener, R: Source, W:
     lines: LineSource,
 ) -> Result<(), Fault<'a>>
     requires ready { IsReady R.has_failed R.reads W.has_failed around.old.reader around.old.writer }
-    ensures ok { OnOk result (AreAnswered lines floor.old floor.new (io_of R.remaining W.contents E.puts V.accepted around.old around.new)) }
+    ensures ok { OnOk result
+        (AreAnswered lines floor.old floor.new (io_of R.remaining W.contents E.puts V.accepted around.old around.new)) }
     ensures components { floor.new.components ≡ floor.old.components }
     ensures err { IfErr result (λ fault.
         IsServingFault lines floor.old fault (io_of R.remaining W.contents E.puts V.accepted around.old around.new)
@@ -115,7 +121,7 @@ pub(crate) fn serve_source<'a, T, E: OutputFiles, V: PortListener, R: Source, W:
     let reader = &mut around.reader;
     let writer = &mut around.writer;
     match lines {
-        LineSource::Stream { most } => serve_reader(alloc, floor, most, reader, writer),
+        LineSource::Reader { max_lines } => serve_reader(alloc, floor, max_lines, reader, writer),
         LineSource::Port { port, connections } => {
             let local = local_service(port, connections);
             serve_port(alloc, &mut around.services, floor, &local, writer)

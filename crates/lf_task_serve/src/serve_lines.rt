@@ -41,10 +41,12 @@ pub fn serve_lines_within<S: Seeker + Drop, I: Source, O: Sink>(
     requires readable { I.has_failed source.old ≡ false }
     requires writable { O.has_failed sink.old ≡ false }
     requires fresh { I.reads source.old ≡ 0 }
-    ensures served { (l : Legalizer) → IsServed l lines floor.old floor.new (I.remaining source.old) (I.remaining source.new)
+    ensures served { (l : Legalizer)
+        → IsServed l lines floor.old floor.new (I.remaining source.old) (I.remaining source.new)
         (O.contents sink.old) (O.contents sink.new) result }
     ensures components { floor.new.components ≡ floor.old.components }
-    ensures reading { result ≡ Ending.ReadFault → ReadsFail lines (I.has_failed source.new) (I.reads source.old) (I.reads source.new) }
+    ensures reading { result ≡ Ending.ReadFault
+        → ReadsFail lines (I.has_failed source.new) (I.reads source.old) (I.reads source.new) }
     ensures readable { result ≢ Ending.ReadFault → I.has_failed source.new ≡ false }
     ensures writing { result ≡ Ending.WriteFault → O.has_failed sink.new ≡ true }
     ensures writable { result ≢ Ending.WriteFault → O.has_failed sink.new ≡ false }

@@ -50,9 +50,11 @@ fn design_for<'a, T: InputFiles>(
     inputs: DesignInput<'a>,
     export: Option<&str>,
 ) -> Result<OpenDesign, Fault<'a>>
-    ensures ok { IfOk result (λ design. IsDesignFor inputs.entry.limits (T.gives texts.now) inputs.entry.def.now (map (λ lef. lef.now) inputs.entry.lefs.now)
+    ensures ok { IfOk result (λ design. IsDesignFor inputs.entry.limits (T.gives texts.now) inputs.entry.def.now
+        (map (λ lef. lef.now) inputs.entry.lefs.now)
         (path_of export.entry) design) }
-    ensures err { IfErr result (IsDesignFault inputs.entry.limits (T.gives texts.now) inputs.entry.def.now (map (λ lef. lef.now) inputs.entry.lefs.now)) }
+    ensures err { IfErr result (IsDesignFault inputs.entry.limits (T.gives texts.now) inputs.entry.def.now
+        (map (λ lef. lef.now) inputs.entry.lefs.now)) }
 {
     let DesignInput {
         def,
@@ -88,16 +90,20 @@ fn serve_floor<'a, T, E: OutputFiles, V: PortListener, R: Source, W: Sink, F, P>
 ) -> Result<u8, Fault<'a>>
     requires ready { IsReady R.has_failed R.reads W.has_failed around.old.reader around.old.writer }
     requires kept { original ≡ None → path_of outputs.export ≡ None }
-    requires fits { (s : FloorState) (places : List (ℕ × Option Place)) → s.components ≡ floor.old.components → AreCommittedPlaces s places
+    requires fits { (s : FloorState) (places : List (ℕ × Option Place)) → s.components ≡ floor.old.components
+        → AreCommittedPlaces s places
         → CanBePut (option_copied original) places }
     ensures ok { (text : List ℕ) (document : Document) → AreKept (option_copied original.entry) text document
-        → IfOk result (λ status. (status ≡ 0) × IsFinished (AreAnswered lines floor.old) (path_of outputs.entry.save) (path_of outputs.entry.export)
+        → IfOk result (λ status. (status ≡ 0)
+        × IsFinished (AreAnswered lines floor.old) (path_of outputs.entry.save) (path_of outputs.entry.export)
         text document (io_of R.remaining W.contents E.puts V.accepted around.old around.new)) }
     ensures err { (text : List ℕ) (document : Document) → AreKept (option_copied original.entry) text document
-        → IfErr result (λ fault. IsUnfinished (path_of outputs.entry.save) (path_of outputs.entry.export) lines floor.old
+        → IfErr result
+        (λ fault. IsUnfinished (path_of outputs.entry.save) (path_of outputs.entry.export) lines floor.old
         text document fault (io_of R.remaining W.contents E.puts V.accepted around.old around.new)
         × BlamesIn E.has_failed V.has_failed R.has_failed R.reads W.has_failed lines around.old around.new fault) }
-    ensures leaves { LeavesDevices E.puts V.offers lines (path_of outputs.entry.save) (path_of outputs.entry.export) result around.old around.new }
+    ensures leaves { LeavesDevices E.puts V.offers lines (path_of outputs.entry.save)
+        (path_of outputs.entry.export) result around.old around.new }
     ensures silent { around.new.progress ≡ around.old.progress }
     ensures keeps { KeepsDevices R.holds W.holds around.old around.new }
 {
@@ -120,14 +126,17 @@ fn serve_design<'a, T: InputFiles, E: OutputFiles, V: PortListener, R: Source, W
     requires kept { design.original ≡ None → path_of outputs.export ≡ None }
     requires loads { IsOfOriginal design.original design.loaded }
     ensures ok { (text : List ℕ) (document : Document) → AreKept design.original text document
-        → IfOk result (λ status. (status ≡ 0) × ((begin : FloorState) × IsOpenedFloor (T.gives around.old.texts) (path_of state.entry) (initial_floor design.loaded) begin
+        → IfOk result (λ status. (status ≡ 0) × ((begin : FloorState)
+        × IsOpenedFloor (T.gives around.old.texts) (path_of state.entry) (initial_floor design.loaded) begin
         × IsFinished (AreAnswered lines begin) (path_of outputs.entry.save) (path_of outputs.entry.export)
         text document (io_of R.remaining W.contents E.puts V.accepted around.old around.new))) }
     ensures err { (text : List ℕ) (document : Document) → AreKept design.original text document
-        → IfErr result (λ fault. IsNotServedDesign (T.gives around.old.texts) (path_of state.entry) (path_of outputs.entry.save) (path_of outputs.entry.export) lines
+        → IfErr result (λ fault. IsNotServedDesign (T.gives around.old.texts) (path_of state.entry)
+        (path_of outputs.entry.save) (path_of outputs.entry.export) lines
         design.loaded text document fault (io_of R.remaining W.contents E.puts V.accepted around.old around.new)
         × BlamesIn E.has_failed V.has_failed R.has_failed R.reads W.has_failed lines around.old around.new fault) }
-    ensures leaves { LeavesDevices E.puts V.offers lines (path_of outputs.entry.save) (path_of outputs.entry.export) result around.old around.new }
+    ensures leaves { LeavesDevices E.puts V.offers lines (path_of outputs.entry.save)
+        (path_of outputs.entry.export) result around.old around.new }
     ensures silent { around.new.progress ≡ around.old.progress }
     ensures keeps { KeepsDevices R.holds W.holds around.old around.new }
 {
@@ -160,10 +169,12 @@ pub fn serve_files<'a, T: InputFiles, E: OutputFiles, V: PortListener, R: Source
         (io_of R.remaining W.contents E.puts V.accepted around.old around.new) × (status ≡ 0)) }
     ensures err { IfErr result (λ fault. IsUndone inputs.entry.limits (T.gives around.old.texts)
         inputs.entry.def.now (map (λ lef. lef.now) inputs.entry.lefs.now)
-        (path_of inputs.entry.state) (path_of outputs.entry.save) (path_of outputs.entry.export) (IsServingFault lines) (AreAnswered lines) fault
+        (path_of inputs.entry.state) (path_of outputs.entry.save) (path_of outputs.entry.export) (IsServingFault lines)
+        (AreAnswered lines) fault
         (io_of R.remaining W.contents E.puts V.accepted around.old around.new)
         × BlamesIn E.has_failed V.has_failed R.has_failed R.reads W.has_failed lines around.old around.new fault) }
-    ensures leaves { LeavesDevices E.puts V.offers lines (path_of outputs.entry.save) (path_of outputs.entry.export) result around.old around.new }
+    ensures leaves { LeavesDevices E.puts V.offers lines (path_of outputs.entry.save)
+        (path_of outputs.entry.export) result around.old around.new }
     ensures silent { around.new.progress ≡ around.old.progress }
     ensures keeps { KeepsDevices R.holds W.holds around.old around.new }
 {
@@ -182,11 +193,13 @@ pub fn serve_loaded<'a, R: Source, W: Sink>(
 ) -> Result<u8, Fault<'a>>
     requires ready { IsReady R.has_failed R.reads W.has_failed reader.old writer.old }
     ensures ok { IfOk result (λ status. ((floor : FloorState)
-        × AnswersInput default_most_lines (initial_floor loaded) floor (R.remaining reader.old) (R.remaining reader.new) (W.contents writer.old) (W.contents writer.new))
+        × AnswersInput default_most_lines (initial_floor loaded) floor (R.remaining reader.old) (R.remaining reader.new)
+        (W.contents writer.old) (W.contents writer.new))
         × (status ≡ 0)) }
     ensures err { IfErr result (λ fault. IsLinesFault default_most_lines (initial_floor loaded) fault
         (R.remaining reader.old) (R.remaining reader.new) (W.contents writer.old) (W.contents writer.new)
-        × BlamesStreams default_most_lines fault (writer.new ≡ writer.old) (R.has_failed reader.new) (R.reads reader.old) (R.reads reader.new)
+        × BlamesStreams default_most_lines fault (writer.new ≡ writer.old) (R.has_failed reader.new)
+        (R.reads reader.old) (R.reads reader.new)
         (W.has_failed writer.new)) }
     ensures reader_held { R.holds reader.new ≡ R.holds reader.old }
     ensures writer_held { W.holds writer.new ≡ W.holds writer.old }

@@ -38,11 +38,13 @@ header_lines h =
 -- ( x1 y1 ) ( x2 y2 ): the lower left corner, then the upper right one.
 abbrev pub team_rect_words : Rect → List (List ℕ)
 team_rect_words r =
-    codes "(" ∷ signed_decimal r.x1 ∷ signed_decimal r.y1 ∷ codes ")" ∷ codes "(" ∷ signed_decimal r.x2 ∷ signed_decimal r.y2 ∷ codes ")" ∷ []
+    codes "(" ∷ signed_decimal r.x1 ∷ signed_decimal r.y1 ∷ codes ")" ∷ codes "(" ∷ signed_decimal r.x2
+    ∷ signed_decimal r.y2 ∷ codes ")" ∷ []
 
 -- - name pt pt {pt pt} + TYPE FENCE ;
 abbrev pub team_region_words : Team → List (List ℕ)
-team_region_words t = codes "-" ∷ t.name ∷ (flat_map team_rect_words t.rects ++ codes "+" ∷ codes "TYPE" ∷ codes "FENCE" ∷ codes ";" ∷ [])
+team_region_words t =
+    codes "-" ∷ t.name ∷ (flat_map team_rect_words t.rects ++ codes "+" ∷ codes "TYPE" ∷ codes "FENCE" ∷ codes ";" ∷ [])
 
 -- - name macro + PLACED pt orient ; or - name macro + UNPLACED ;
 abbrev pub team_component_words : Frame → Cell → List (List ℕ)
@@ -50,7 +52,8 @@ team_component_words f c = codes "-" ∷ c.name ∷ (macro_of f c.mac).name ∷ 
 
 -- - name {cell} + REGION name ;
 abbrev pub team_group_words : Team → List Cell → List (List ℕ)
-team_group_words t cells = codes "-" ∷ t.name ∷ (map (λ c. c.name) cells ++ codes "+" ∷ codes "REGION" ∷ t.name ∷ codes ";" ∷ [])
+team_group_words t cells =
+    codes "-" ∷ t.name ∷ (map (λ c. c.name) cells ++ codes "+" ∷ codes "REGION" ∷ t.name ∷ codes ";" ∷ [])
 
 -- The text.
 

@@ -130,7 +130,8 @@ fn put_component<O: Output>(out: &mut O, frame: &Frame, cells: &CellTable, id: C
 
 /// Writes the lines of the components of the team's cells, in loading order.
 pub(crate) fn put_components<O: Output>(out: &mut O, frame: &Frame, cells: &CellTable, team: usize)
-    ensures { PutsText O.took out.old out.new (flat_map words_line (map (team_component_words frame.now) (cells_of cells.now team))) }
+    ensures { PutsText O.took out.old out.new
+        (flat_map words_line (map (team_component_words frame.now) (cells_of cells.now team))) }
 {
     for id in cells.cells_of(team) {
         put_component(out, frame, cells, *id);

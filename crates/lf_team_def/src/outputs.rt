@@ -53,7 +53,8 @@ impl Kept {
 
     /// Returns the text. `Err` if an allocation failed for it.
     pub(crate) fn finish(self) -> Result<Vec<u8>, AllocError>
-        ensures { (start : Kept) (text : List ℕ) → ⟦<Kept as Output>⟧.took start self text → IfOk result (λ whole. whole.items ≡ text) }
+        ensures { (start : Kept) (text : List ℕ)
+            → ⟦<Kept as Output>⟧.took start self text → IfOk result (λ whole. whole.items ≡ text) }
     {
         if self.failed {
             return Err(AllocError);

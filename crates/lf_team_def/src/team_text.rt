@@ -70,7 +70,8 @@ fn put_regions<O: Output>(out: &mut O, frame: &Frame, team: usize)
 
 /// Writes the COMPONENTS section of the team with this number.
 fn put_cells<O: Output>(out: &mut O, frame: &Frame, cells: &CellTable, team: usize)
-    ensures { PutsText O.took out.old out.new (flat_map words_line (section_lines (codes "COMPONENTS") (map (team_component_words frame.now) (cells_of cells.now team)))) }
+    ensures { PutsText O.took out.old out.new (flat_map words_line
+        (section_lines (codes "COMPONENTS") (map (team_component_words frame.now) (cells_of cells.now team)))) }
 {
     put_begin(out, b"COMPONENTS", cells.cells_of(team).len());
     put_components(out, frame, cells, team);
@@ -79,7 +80,8 @@ fn put_cells<O: Output>(out: &mut O, frame: &Frame, cells: &CellTable, team: usi
 
 /// Writes the GROUPS section of the team with this number.
 fn put_groups<O: Output>(out: &mut O, frame: &Frame, cells: &CellTable, team: usize)
-    ensures { PutsText O.took out.old out.new (flat_map words_line (group_lines (slice_get frame.now.teams team) (cells_of cells.now team))) }
+    ensures { PutsText O.took out.old out.new
+        (flat_map words_line (group_lines (slice_get frame.now.teams team) (cells_of cells.now team))) }
 {
     match frame.teams.as_slice().get(team) {
         None => {}

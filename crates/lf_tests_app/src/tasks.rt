@@ -175,8 +175,10 @@ impl<'a, V: Acceptor> Acceptor for OfferedThere<'a, V> {
 
     fn close(&mut self, connection: Connection<V::Reader, V::Writer>)
         ensures closed { Closes (V.accepted self.old.services.now) (V.accepted self.new.services.now)
-            (connection_state (V.Reader.remaining connection.reader) (V.Reader.reads connection.reader) (V.Reader.has_failed connection.reader)
-            (writer (V.Writer.contents connection.writer) (V.Writer.is_flushed connection.writer) (V.Writer.has_failed connection.writer))) }
+            (connection_state (V.Reader.remaining connection.reader) (V.Reader.reads connection.reader)
+            (V.Reader.has_failed connection.reader)
+            (writer (V.Writer.contents connection.writer) (V.Writer.is_flushed connection.writer)
+            (V.Writer.has_failed connection.writer))) }
         ensures offers { V.offers self.new.services.now ≡ V.offers self.old.services.now }
         ensures failed { V.has_failed self.new.services.now ≡ V.has_failed self.old.services.now }
     {
@@ -341,14 +343,14 @@ fn a_device_that_fails_ends_the_demo(rt: HostRuntime) {
 fn a_fault_that_cannot_be_reported_is_no_further_fault(rt: HostRuntime) {
     let mut written = Vec::new(rt.alloc());
     let end = demo(&rt, &mut Failing, &mut written, &mut Failing);
-    let untold = End {
+    let unreported = End {
         exit: TaskExit {
             status: 3,
             is_printed: false,
         },
         requested: 0,
     };
-    assert_eq!(rt; end, untold);
+    assert_eq!(rt; end, unreported);
 }
 
 /// Does the task over the files on the shelf, with these services and devices, and exported texts
@@ -558,7 +560,7 @@ fn fences_that_overlap_are_refused(rt: HostRuntime) -> Result<(), Fail> {
 }
 
 #[test]
-fn a_text_that_is_none_is_refused_with_its_line(rt: HostRuntime) -> Result<(), Fail> {
+fn a_text_with_a_fault_is_refused_with_its_line(rt: HostRuntime) -> Result<(), Fail> {
     let def = with_line(rt.alloc(), DEMO_DEF, 20, b"END REGIONS")?;
     let fault = "lefence: 5 WrongEnd line 20\nlefence: DEF file w.def, line 20: END REGIONS\n";
     assert!(rt; ends(&rt, &files_of(&def), LEFS, 1, fault)?);

@@ -56,12 +56,12 @@ fn windows_show_what_is_free(rt: HostRuntime) -> Result<(), Fail> {
 
 /// A cell in a row, and the span that it occupies.
 #[derive(Clone, Copy)]
-struct Standing {
+struct PlacedSpan {
     cell: u32,
     across: Span,
 }
 
-impl HasSpan for Standing {
+impl HasSpan for PlacedSpan {
     ghost span = { λ s. s.across };
 
     fn span(&self) -> Span {
@@ -73,11 +73,11 @@ impl HasSpan for Standing {
 fn windows_show_what_entries_leave_free(rt: HostRuntime) -> Result<(), Fail> {
     let segment = Span { lo: 0, hi: 1000 };
     let entries = [
-        Standing {
+        PlacedSpan {
             cell: 1,
             across: Span { lo: 0, hi: 400 },
         },
-        Standing {
+        PlacedSpan {
             cell: 0,
             across: Span { lo: 600, hi: 800 },
         },

@@ -58,7 +58,7 @@ fn reads_name(lexer: &mut Lexer<'_>, text: &[u8]) -> bool {
 }
 
 /// True if tokens are skipped up to a semicolon, up to an END with its name, and up to a word.
-fn passes_over(lexer: &mut Lexer<'_>) -> bool {
+fn skips_tokens(lexer: &mut Lexer<'_>) -> bool {
     skip_to_semicolon(lexer).is_ok()
         && skip_to_end(lexer, b"core").is_ok()
         && skip_to_word(lexer, b"ENDEXT").is_ok()
@@ -74,7 +74,7 @@ fn reads_words(rt: HostRuntime) {
     let mut lexer = Lexer::new(b"SIZE core a b ;\nx END y END core BEGINEXT ENDEXT z");
     assert!(rt; keyword(&mut lexer, b"SIZE").is_ok());
     assert!(rt; reads_name(&mut lexer, b"core"));
-    assert!(rt; passes_over(&mut lexer) && reads_the_last(&mut lexer));
+    assert!(rt; skips_tokens(&mut lexer) && reads_the_last(&mut lexer));
     assert_eq!(rt; lexer.end_line(), 2);
 }
 

@@ -141,13 +141,13 @@ fn responds(alloc: Global, floor: &mut Floor<PlainSeeker>) -> bool {
         team: b"A",
         order: TeamCommand::Open,
     });
-    let Response::Whole(Reply::Opened { .. }) = opened else {
+    let Response::Reply(Reply::Opened { .. }) = opened else {
         return false;
     };
-    let Response::Whole(Reply::Refused(Refusal::NoSession)) = floor.respond(&def_for(1)) else {
+    let Response::Reply(Reply::Refused(Refusal::NoSession)) = floor.respond(&def_for(1)) else {
         return false;
     };
-    let Response::Def(count) = floor.respond(&def_for(0)) else {
+    let Response::DefText(count) = floor.respond(&def_for(0)) else {
         return false;
     };
     let Reply::Def(text) = floor.step(&def_for(0)) else {

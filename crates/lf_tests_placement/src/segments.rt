@@ -3,7 +3,8 @@
 use crate::designs::{Requested, holds};
 use lf_def::DEMO_DEF;
 use lf_frame::{Frame, Loaded};
-use lf_segments::{RowEntry, RowsByY, Segment, Segments};
+use lf_frame_index::{RowEntry, RowsByY};
+use lf_segments::{Segment, Segments};
 use lf_tests_support::with_line;
 use lf_units::Span;
 use std::alloc::{AllocError, Global};

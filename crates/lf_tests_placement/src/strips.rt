@@ -8,11 +8,11 @@ use crate::designs::{Requested, holds, placement_of};
 use lf_cells::{CellId, CellTable};
 use lf_def::DEMO_DEF;
 use lf_frame::{Frame, Loaded, Place};
+use lf_frame_index::FrameIndex;
 use lf_occupancy::{Occupancy, OccupancyView};
 use lf_orient::Orient;
 use lf_placement::Placement;
 use lf_rules::Padding;
-use lf_segments::FrameIndex;
 use lf_tests_support::with_line;
 use lf_undo::{Move, Moves};
 use lf_units::{Rect, Span};
@@ -184,7 +184,7 @@ impl Requested for AreShown {
 }
 
 /// A DEF text with a1 at (400 0).
-fn standing(alloc: Global) -> Result<Vec<u8>, AllocError> {
+fn def_with_placed(alloc: Global) -> Result<Vec<u8>, AllocError> {
     with_line(alloc, DEMO_DEF, 15, b"- a1 INV + PLACED ( 400 0 ) N ;")
 }
 
@@ -247,14 +247,14 @@ fn follows_a_cell(alloc: Global, placement: &mut Placement) -> Result<bool, Fail
 
 #[test]
 fn strips_show_what_is_free(rt: HostRuntime) -> Result<(), Fail> {
-    let def = standing(rt.alloc())?;
+    let def = def_with_placed(rt.alloc())?;
     assert!(rt; holds(rt.alloc(), &def, &AreShown)?);
     Ok(())
 }
 
 #[test]
 fn strips_follow_a_cell(rt: HostRuntime) -> Result<(), Fail> {
-    let def = standing(rt.alloc())?;
+    let def = def_with_placed(rt.alloc())?;
     let mut placement = placement_of(rt.alloc(), &def)?;
     assert!(rt; follows_a_cell(rt.alloc(), &mut placement)?);
     Ok(())

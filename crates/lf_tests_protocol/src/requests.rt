@@ -19,7 +19,8 @@ use std::test::Fail;
 
 /// Reads the request of a line. A line that prints a request gives that request.
 fn read_back<'a>(line: &'a [u8]) -> Result<Request<'a>, BadRequest>
-    ensures { (command : Command (List ℕ) Place) → IsPlain command → line.now ≡ printed command → MatchResult result (λ request. command_with_names request ≡ command) (λ _. ⊥) }
+    ensures { (command : Command (List ℕ) Place) → IsPlain command → line.now ≡ printed command
+        → MatchResult result (λ request. command_with_names request ≡ command) (λ _. ⊥) }
 {
     printed_reads_back();
     parse_line(line)
@@ -27,7 +28,8 @@ fn read_back<'a>(line: &'a [u8]) -> Result<Request<'a>, BadRequest>
 
 /// Reads a line, with the result for the line with one more space in front.
 fn read_indented<'a>(line: &'a [u8]) -> Result<Request<'a>, BadRequest>
-    ensures { MatchResult result (λ request. command_on (32 ∷ line.now) ≡ Some (command_with_names request)) (λ _. command_on (32 ∷ line.now) ≡ None) }
+    ensures { MatchResult result (λ request. command_on (32 ∷ line.now) ≡ Some (command_with_names request))
+        (λ _. command_on (32 ∷ line.now) ≡ None) }
 {
     blanks_around_pass();
     parse_line(line)
@@ -36,7 +38,8 @@ fn read_indented<'a>(line: &'a [u8]) -> Result<Request<'a>, BadRequest>
 /// Reads a line of two parts with a tab between them, with the result for two spaces between them.
 fn read_tabbed<'a>(line: &'a [u8], front: &[u8], rest: &[u8]) -> Result<Request<'a>, BadRequest>
     requires { line.now ≡ front.now ++ 9 ∷ rest.now }
-    ensures { MatchResult result (λ request. command_on (front.now ++ 32 ∷ 32 ∷ rest.now) ≡ Some (command_with_names request)) (λ _. command_on (front.now ++ 32 ∷ 32 ∷ rest.now) ≡ None) }
+    ensures { MatchResult result (λ request. command_on (front.now ++ 32 ∷ 32 ∷ rest.now)
+        ≡ Some (command_with_names request)) (λ _. command_on (front.now ++ 32 ∷ 32 ∷ rest.now) ≡ None) }
 {
     blanks_between_pass();
     parse_line(line)

@@ -47,7 +47,8 @@ fn both(one: bool, other: bool) -> bool
 /// long.
 fn feed_stream(framer: &mut LineFramer, stream: &[u8], most: usize) -> bool
     requires { 1 ≤ most }
-    ensures { (lines : List (Option (List ℕ))) × TakesBytes framer.old stream.now lines framer.new × (result ≡ list_all is_some lines) }
+    ensures { (lines : List (Option (List ℕ))) × TakesBytes framer.old stream.now lines framer.new
+        × (result ≡ list_all is_some lines) }
 {
     let mut within = true;
     let mut at = 0;

@@ -148,9 +148,9 @@ fn is_printed(repaired: &RepairStats, comes: &Comes) -> bool {
         repaired.turned,
     ];
     counts == comes.counts
-        && (repaired.total, repaired.largest) == comes.ways
+        && (repaired.total_displacement, repaired.max_displacement) == comes.ways
         && repaired.changed.as_slice() == comes.changed
-        && repaired.left.as_slice() == comes.left
+        && repaired.unrepaired.as_slice() == comes.left
 }
 
 impl Requested for Comes {
@@ -168,7 +168,7 @@ impl Requested for Comes {
 #[test]
 fn cells_without_a_place_get_one(rt: HostRuntime) -> Result<(), Fail> {
     let def = def_of(rt.alloc(), &UNPLACED)?;
-    for how in [MovePolicy::Keep, MovePolicy::All] {
+    for how in [MovePolicy::KeepLegal, MovePolicy::MoveAll] {
         let comes = Comes {
             how,
             counts: [3, 0, 0, 3, 0],
@@ -184,7 +184,7 @@ fn cells_without_a_place_get_one(rt: HostRuntime) -> Result<(), Fail> {
 #[test]
 fn a_cell_that_overlaps_moves_beside_the_other(rt: HostRuntime) -> Result<(), Fail> {
     let def = def_of(rt.alloc(), &OVERLAPPING)?;
-    for how in [MovePolicy::Keep, MovePolicy::All] {
+    for how in [MovePolicy::KeepLegal, MovePolicy::MoveAll] {
         let comes = Comes {
             how,
             counts: [2, 1, 1, 0, 0],
@@ -201,7 +201,7 @@ fn a_cell_that_overlaps_moves_beside_the_other(rt: HostRuntime) -> Result<(), Fa
 fn a_cell_that_faces_wrongly_turns(rt: HostRuntime) -> Result<(), Fail> {
     let def = def_of(rt.alloc(), &TURNED)?;
     let comes = Comes {
-        how: MovePolicy::Keep,
+        how: MovePolicy::KeepLegal,
         counts: [1, 2, 0, 0, 1],
         ways: (0, 0),
         changed: &[0],
@@ -215,7 +215,7 @@ fn a_cell_that_faces_wrongly_turns(rt: HostRuntime) -> Result<(), Fail> {
 fn cells_without_room_are_left(rt: HostRuntime) -> Result<(), Fail> {
     let def = narrow_def_of(rt.alloc(), &LEGAL)?;
     let comes = Comes {
-        how: MovePolicy::Keep,
+        how: MovePolicy::KeepLegal,
         counts: [2, 1, 0, 0, 0],
         ways: (0, 0),
         changed: &[1, 2],
@@ -229,7 +229,7 @@ fn cells_without_room_are_left(rt: HostRuntime) -> Result<(), Fail> {
 fn legal_cells_stay(rt: HostRuntime) -> Result<(), Fail> {
     let def = def_of(rt.alloc(), &LEGAL)?;
     let comes = Comes {
-        how: MovePolicy::Keep,
+        how: MovePolicy::KeepLegal,
         counts: [0, 3, 0, 0, 0],
         ways: (0, 0),
         changed: &[],
@@ -274,7 +274,11 @@ impl Requested for Writes {
 fn a_legal_team_is_committed_and_no_cell_of_it_is_named(rt: HostRuntime) -> Result<(), Fail> {
     let def = def_of(rt.alloc(), &LEGAL)?;
     let lines = b"open A\ncommit A 0\nclose A 0\n";
-    for how in [MovePolicy::Keep, MovePolicy::AsNeeded, MovePolicy::All] {
+    for how in [
+        MovePolicy::KeepLegal,
+        MovePolicy::MoveAsNeeded,
+        MovePolicy::MoveAll,
+    ] {
         assert!(rt; holds(rt.alloc(), &def, &Writes { how, lines })?);
     }
     Ok(())
@@ -283,7 +287,7 @@ fn a_legal_team_is_committed_and_no_cell_of_it_is_named(rt: HostRuntime) -> Resu
 #[test]
 fn a_team_with_cells_left_is_not_committed(rt: HostRuntime) -> Result<(), Fail> {
     let def = narrow_def_of(rt.alloc(), &LEGAL)?;
-    let how = MovePolicy::Keep;
+    let how = MovePolicy::KeepLegal;
     let lines = b"open A\nunplace A 0 a2\nunplace A 0 a3\nclose A 0\n";
     assert!(rt; holds(rt.alloc(), &def, &Writes { how, lines })?);
     Ok(())
@@ -318,7 +322,7 @@ struct BreaksOff {
 
 impl Requested for BreaksOff {
     fn holds(&self, alloc: Global, floor: &mut Floor<PlainSeeker>) -> bool {
-        let reported = repair_within(alloc, floor, MovePolicy::Keep, self.left);
+        let reported = repair_within(alloc, floor, MovePolicy::KeepLegal, self.left);
         let x = if self.left < COMMIT { 200 } else { 400 };
         let written = LINES.get(..self.left).unwrap_or(LINES);
         is_fault(&reported, RepairFault::Lines, written)
@@ -336,7 +340,7 @@ fn each_byte_of_the_lines_may_find_no_room(rt: HostRuntime) -> Result<(), Fail> 
             "{left} bytes"
         );
     }
-    let (how, lines) = (MovePolicy::Keep, LINES);
+    let (how, lines) = (MovePolicy::KeepLegal, LINES);
     assert!(rt; holds(rt.alloc(), &def, &Writes { how, lines })?);
     Ok(())
 }
@@ -351,7 +355,7 @@ impl Requested for IsRefused {
             team: b"A",
             order: TeamCommand::Open,
         });
-        let reported = repair_within(alloc, floor, MovePolicy::Keep, usize::MAX);
+        let reported = repair_within(alloc, floor, MovePolicy::KeepLegal, usize::MAX);
         is_fault(&reported, RepairFault::Refused(Refusal::SessionsFull), b"")
     }
 }

@@ -20,7 +20,10 @@ entries_of places (ms ∷ entries) = moves_taken_back ms places ∷ entries_of (
 
 -- The moves, with the place of the one at this position replaced.
 abbrev pub replaced : List Move → ℕ → Option Place → List Move
-replaced moves at old = slice_set moves at record { own = (slice_index_or moves at record { own = 0; old = None }).own; old = old }
+replaced moves at old = slice_set moves at record {
+  own = (slice_index_or moves at record { own = 0; old = None }).own;
+  old = old;
+}
 
 -- The moves so far and one more, which holds the cell's present place.
 abbrev pub moves_with : List Move → Places → ℕ → List Move

@@ -87,7 +87,8 @@ fn digits_after(value: u64, digits: &[u8], max: u64) -> Option<u64>
 /// byte, or the value exceeds `max`.
 fn plain_value(text: &[u8], max: u64) -> Option<u64>
     requires max { max ≤ 10 ^ 12 }
-    ensures { IfSome result (λ n. (list_all is_ascii_digit text.now ≡ true) × (0 < length text.now) × (n ≡ digits_value 10 text.now) × (n ≤ max)) }
+    ensures { IfSome result (λ n. (list_all is_ascii_digit text.now ≡ true) × (0 < length text.now)
+        × (n ≡ digits_value 10 text.now) × (n ≤ max)) }
 {
     if text.is_empty() {
         return None;

@@ -17,7 +17,7 @@ use Rattle.lf_write.specs.Export.{exported, is_at, is_unchanged, is_plain, locat
 use Rattle.lf_write.proofs.Apart.{IsOf, clauses_rise}
 use Rattle.lf_write.proofs.Idle.{Agree, agree_same, same_spliced}
 use Rattle.lf_write.proofs.Positions.{Given, listed}
-use Rattle.lf_write.proofs.Standing.{is_placed_by}
+use Rattle.lf_write.proofs.WrittenLocations.{is_placed_by}
 
 -- A plain clause, written again for the component's own place, is unchanged.
 

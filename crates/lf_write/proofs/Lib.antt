@@ -12,6 +12,6 @@ pub mod Positions
 pub mod Reading
 pub mod Renewed
 pub mod Spans
-pub mod Standing
+pub mod WrittenLocations
 pub mod Statements
 pub mod Writing

@@ -54,16 +54,16 @@ first_left ks places i g k is =
     ∙ ap (λ (z : Option ClauseFacts). cons_option (option_and_then (λ d. renewal d g.1) z) (renewals ks (drop (i + 1) places)))
     (slice_get_read ks (length ks) g.0 k refl is.within is.clause)
 
-standing : (k : ClauseFacts) (given : Option Place) (ss : List Splice) → is_unchanged k given ≡ true → cons_option (renewal k given) ss ≡ ss
-standing k given ss e = rw e refl
+unchanged_renewal : (k : ClauseFacts) (given : Option Place) (ss : List Splice) → is_unchanged k given ≡ true → cons_option (renewal k given) ss ≡ ss
+unchanged_renewal k given ss e = rw e refl
 
 moving : (k : ClauseFacts) (given : Option Place) (ss : List Splice) → is_unchanged k given ≡ false → cons_option (renewal k given) ss ≡ splice_at k given ∷ ss
 moving k given ss e = rw e refl
 
-pub written_standing : {text : List ℕ} {ks : List ClauseFacts} {places : Given} {i at : ℕ} {before now : Option (List ℕ)} {g : ℕ × Option Place} {k : ClauseFacts}
+pub written_unchanged : {text : List ℕ} {ks : List ClauseFacts} {places : Given} {i at : ℕ} {before now : Option (List ℕ)} {g : ℕ × Option Place} {k : ClauseFacts}
     → Listed ks places i g k → is_unchanged k g.1 ≡ true → Written text ks places i at before now → Written text ks places (i + 1) at before now
-written_standing {ks = ks} {places = places} {i = i} {g = g} {k = k} is is_in_place w =
-    let e = first_left ks places i g k is ∙ standing k g.1 (renewals ks (drop (i + 1) places)) is_in_place in
+written_unchanged {ks = ks} {places = places} {i = i} {g = g} {k = k} is is_in_place w =
+    let e = first_left ks places i g k is ∙ unchanged_renewal k g.1 (renewals ks (drop (i + 1) places)) is_in_place in
     record { front = w.front; rising = rw e at w.rising; whole = rw e at w.whole; written = w.written }
 
 rising_within : (at len : ℕ) (ss : List Splice) → Rising at len ss → at ≤ len

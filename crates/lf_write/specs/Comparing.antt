@@ -12,4 +12,5 @@ IsRestOfText bytes text None = (rest : List ℕ) → bytes_eq bytes (text rest) 
 
 -- + PLACED ( x y ), a space, and the rest.
 abbrev pub before_orient : Location → List ℕ → List ℕ
-before_orient at rest = codes "+ PLACED ( " ++ (signed_decimal at.x ++ (codes " " ++ (signed_decimal at.y ++ (codes " ) " ++ rest))))
+before_orient at rest =
+    codes "+ PLACED ( " ++ (signed_decimal at.x ++ (codes " " ++ (signed_decimal at.y ++ (codes " ) " ++ rest))))

@@ -54,8 +54,16 @@ is_placed_at c given = is_at (clause_location c) given
 -- The new clause in place of the old one. If there is no old one, the new clause and a space
 -- directly in front of the semicolon.
 abbrev pub clause_splice : Option PlacementClause → ℕ → Option Place → Splice
-clause_splice None semicolon given = record { start = semicolon; stop = semicolon; new = joined_words (clause_words given) ++ codes " " }
-clause_splice (Some old) semicolon given = record { start = old.start; stop = old.stop; new = joined_words (clause_words given) }
+clause_splice None semicolon given = record {
+  start = semicolon;
+  stop = semicolon;
+  new = joined_words (clause_words given) ++ codes " ";
+}
+clause_splice (Some old) semicolon given = record {
+  start = old.start;
+  stop = old.stop;
+  new = joined_words (clause_words given);
+}
 
 -- The new clause of the component.
 abbrev pub splice_of : Component → Option Place → Splice
@@ -102,7 +110,8 @@ no_clause semicolon = record { place = None; start = semicolon; stop = semicolon
 abbrev pub location_clause_words : Option Location → List (List ℕ)
 location_clause_words None = codes "+" ∷ codes "UNPLACED" ∷ []
 location_clause_words (Some at) =
-    codes "+" ∷ codes "PLACED" ∷ codes "(" ∷ signed_decimal at.x ∷ signed_decimal at.y ∷ codes ")" ∷ orient_word at.orient ∷ []
+    codes "+" ∷ codes "PLACED" ∷ codes "(" ∷ signed_decimal at.x ∷ signed_decimal at.y ∷ codes ")"
+    ∷ orient_word at.orient ∷ []
 
 -- True if the clause is plain: its bytes in the text are those that are written for its place.
 abbrev pub is_plain : List ℕ → PlacementClause → Bool

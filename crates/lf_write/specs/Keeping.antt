@@ -23,7 +23,13 @@ is_of_plain _ = false
 
 -- The clause of this form between these offsets.
 abbrev pub clause_from_form : ℕ → ℕ → ℤ → ℤ → Form → ClauseFacts
-clause_from_form start stop x y f = record { place = clause_place x y f; start = start; stop = stop; lacks = is_lacking f; plain = is_of_plain f }
+clause_from_form start stop x y f = record {
+  place = clause_place x y f;
+  start = start;
+  stop = stop;
+  lacks = is_lacking f;
+  plain = is_of_plain f;
+}
 
 -- The clause of an entry, given the clauses that are not plain.
 abbrev pub clause_in : List ClauseFacts → Entry → ClauseFacts

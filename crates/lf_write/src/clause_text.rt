@@ -23,7 +23,8 @@ fn put_number<W: Write>(out: &mut W, number: &i32) -> io::Result<()>
 
 /// Writes `+ PLACED ( x y ) orient`.
 fn put_placed<W: Write>(out: &mut W, at: &Location) -> io::Result<()>
-    ensures { OnOk result (Appends (W.contents out.old) (W.contents out.new) (joined_words (location_clause_words (Some at.now)))) }
+    ensures { OnOk result
+        (Appends (W.contents out.old) (W.contents out.new) (joined_words (location_clause_words (Some at.now)))) }
 {
     out.write_all(b"+ PLACED ( ")?;
     put_number(out, &at.x)?;
@@ -37,7 +38,8 @@ fn put_placed<W: Write>(out: &mut W, at: &Location) -> io::Result<()>
 /// Writes the placement clause of a component at this location: `+ PLACED ( x y ) orient`, or
 /// `+ UNPLACED`.
 fn put_location<W: Write>(out: &mut W, location: &Option<Location>) -> io::Result<()>
-    ensures { OnOk result (Appends (W.contents out.old) (W.contents out.new) (joined_words (location_clause_words location.now))) }
+    ensures { OnOk result
+        (Appends (W.contents out.old) (W.contents out.new) (joined_words (location_clause_words location.now))) }
 {
     match location {
         Some(at) => put_placed(out, at),
@@ -68,7 +70,8 @@ fn put_clause<W: Write>(out: &mut W, place: &Option<Place>) -> io::Result<()>
 
 /// Writes the placement clause and a space.
 fn put_spaced_clause<W: Write>(out: &mut W, place: &Option<Place>) -> io::Result<()>
-    ensures { OnOk result (Appends (W.contents out.old) (W.contents out.new) (joined_words (clause_words place.now) ++ codes " ")) }
+    ensures { OnOk result
+        (Appends (W.contents out.old) (W.contents out.new) (joined_words (clause_words place.now) ++ codes " ")) }
 {
     put_clause(out, place)?;
     out.write_all(b" ")?;

@@ -137,7 +137,8 @@ pub fn write_export<G: NewPlaces, W: Write>(
     given: &G,
 ) -> io::Result<()>
     requires { CanBeRenewed text.now clauses.now (G.places given.now) }
-    ensures bytes { OnOk result (Appends (W.contents out.old) (W.contents out.new) (renewed text.now clauses.now (G.places given.now))) }
+    ensures bytes { OnOk result
+        (Appends (W.contents out.old) (W.contents out.new) (renewed text.now clauses.now (G.places given.now))) }
     ensures fit { OnOk result (All (λ g. FitsText g.1) (G.places given.now)) }
 {
     let mut at = 0;
@@ -170,7 +171,8 @@ pub fn export(
     places: &[(usize, Option<Place>)],
 ) -> Result<Vec<u8>, AllocError>
     requires places { AreExportable document.now.components places.now }
-    ensures bytes { IfOk result (λ text. text.items ≡ exported document.now.text.now document.now.components places.now) }
+    ensures bytes { IfOk result
+        (λ text. text.items ≡ exported document.now.text.now document.now.components places.now) }
     ensures again { IfOk result (λ text. WrittenReadsBack text.items places.now (contents document.now)) }
 {
     kept_clauses_suffice();

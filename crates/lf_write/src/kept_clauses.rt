@@ -241,7 +241,8 @@ fn plain_entry(clause: &ShortClause) -> Option<Entry>
 /// to the others. `None` if that needs more than 32 bits; the others are then unchanged. `Err` if
 /// an allocation fails.
 fn entry_of(clause: &Clause, others: &mut Vec<ShortClause>) -> Result<Option<Entry>, AllocError>
-    ensures { IfOk result (λ entry. MatchOption entry (others.new.items ≡ others.old.items) (λ entry. KeepsClause others.old.items others.new.items entry clause.now)) }
+    ensures { IfOk result (λ entry. MatchOption entry (others.new.items ≡ others.old.items)
+        (λ entry. KeepsClause others.old.items others.new.items entry clause.now)) }
 {
     let Some(short) = short_clause(clause) else {
         return Ok(None);
@@ -263,7 +264,8 @@ fn next_entry(
     others: &mut Vec<ShortClause>,
     far: &[Clause],
 ) -> Result<Option<Entry>, AllocError>
-    ensures { IfOk result (λ entry. MatchOption entry (others.new.items ≡ others.old.items) (λ entry. IsNext others.old.items others.new.items far.now entry clause.now)) }
+    ensures { IfOk result (λ entry. MatchOption entry (others.new.items ≡ others.old.items)
+        (λ entry. IsNext others.old.items others.new.items far.now entry clause.now)) }
 {
     if far.is_empty() {
         entry_of(clause, others)
@@ -280,7 +282,8 @@ fn keep(
     far: &mut Vec<Clause>,
 ) -> Result<(), AllocError>
     requires { All (IsEntryWithin (length others.old.items)) entries.old.items }
-    ensures more { OnOk result (all_in others.new.items entries.new.items far.new.items ≡ all_in others.old.items entries.old.items far.old.items ++ clause ∷ []) }
+    ensures more { OnOk result (all_in others.new.items entries.new.items far.new.items
+        ≡ all_in others.old.items entries.old.items far.old.items ++ clause ∷ []) }
     ensures within { OnOk result (All (IsEntryWithin (length others.new.items)) entries.new.items) }
 {
     match next_entry(&clause, others, far.as_slice())? {

@@ -18,7 +18,7 @@ returns-in-Ok g c =
     record {
       status = inl succeeded;
       outcome = λ _. is;
-      done = λ _. c.in-Ok.ensures.keeps.untold;
+      done = λ _. c.in-Ok.ensures.keeps.unreported;
       reported = λ _. c.exit_with.ensures.reported;
       fault = λ failed. absurd (not_both status succeeded failed);
       checked = checked gives c.args.task.now io status is;
@@ -31,7 +31,7 @@ returns-in-Ok g c =
       texts = c.in-Ok.ensures.keeps.texts;
       reader_held = c.in-Ok.ensures.keeps.reader_held;
       writer_held = c.in-Ok.ensures.keeps.writer_held;
-      faults_held = cc c.in-Ok.ensures.keeps.untold;
+      faults_held = cc c.in-Ok.ensures.keeps.unreported;
     }
 
 pub returns-in-Err : goal.returns-in-Err
@@ -50,7 +50,7 @@ returns-in-Err g c =
           blames_as c.in-Err.fault _ _ _ _ _ _ _ _ _ _ _ _ c.in-Err.ensures.err.1 (λ k. k) (λ r. r) (λ w. w) (λ e. e) (λ s. s)
               (λ sound. record { exports = sound.exports; services = sound.services; reader = sound.reader; writer = sound.writer }),
         ),
-        (rw c.in-Err.ensures.keeps.untold at c.report_fault.ensures.ends),
+        (rw c.in-Err.ensures.keeps.unreported at c.report_fault.ensures.ends),
       );
       checked = λ four. absurd (not_both status (inr four) failed);
       unread = c.in-Err.ensures.unread;
@@ -62,5 +62,5 @@ returns-in-Err g c =
       texts = c.in-Err.ensures.keeps.texts;
       reader_held = c.in-Err.ensures.keeps.reader_held;
       writer_held = c.in-Err.ensures.keeps.writer_held;
-      faults_held = cc (c.in-Err.ensures.keeps.untold, c.report_fault.ensures.faults_held);
+      faults_held = cc (c.in-Err.ensures.keeps.unreported, c.report_fault.ensures.faults_held);
     }

@@ -7,7 +7,7 @@ use Rattle.lf_floor_verbs.specs.Tables.{frame_of, teams_in}
 use Rattle.lf_floor.specs.SavedStates.{saved_teams_at}
 use Rattle.lf_floor.proofs.Placing.{rest_awaits}
 use Rattle.lf_floor.proofs.Saving.{first_left, no_views, views_many, views_more}
-use Rattle.lf_floor.proofs.Standing.{all_were_placed, standing_due, standing_less, standing_served}
+use Rattle.lf_floor.proofs.RestoredTeams.{all_were_placed, last_is_saved, last_keeps_others, last_team_served}
 use Rattle.lf_floor.proofs.restore.restore_teams.Goals as goal
 
 pub loop-alloc-init : goal.loop-alloc-init
@@ -36,8 +36,8 @@ restore_team-requires c =
     let few : length (team_views left) ≤ length (teams_in start) = let f = c.loop-alloc.invariant.few in omega (arith, f, views_many left) in
     let more : length left ≡ length rest + 1 = ap (λ (rows : List TeamRow). length rows) c.in-Some.ensures.items ∙ length-append rest (c.in-Some.row ∷ []) in
     record {
-      served = standing_served start now all (team_views left) (team_views rest) (team_view c.in-Some.row) k is at few c.loop-alloc.invariant.cells c.loop-alloc.invariant.left;
-      due = standing_due start now all (team_views left) (team_views rest) (team_view c.in-Some.row) k is at few c.loop-alloc.invariant.cells c.loop-alloc.invariant.left;
+      served = last_team_served start now all (team_views left) (team_views rest) (team_view c.in-Some.row) k is at few c.loop-alloc.invariant.cells c.loop-alloc.invariant.left;
+      due = last_is_saved start now all (team_views left) (team_views rest) (team_view c.in-Some.row) k is at few c.loop-alloc.invariant.cells c.loop-alloc.invariant.left;
       room = c.loop-alloc.invariant.room;
       awaits = c.loop-alloc.invariant.each k (omega (arith, here, more));
     }
@@ -57,7 +57,7 @@ loop-alloc-preserved c =
     let more : length left ≡ length rest + 1 = ap (λ (rows : List TeamRow). length rows) c.in-Some.ensures.items ∙ length-append rest (c.in-Some.row ∷ []) in
     record {
       left =
-          standing_less start now all (team_views left) (team_views rest) (team_view c.in-Some.row) k is at few c.loop-alloc.invariant.cells c.loop-alloc.invariant.left
+          last_keeps_others start now all (team_views left) (team_views rest) (team_view c.in-Some.row) k is at few c.loop-alloc.invariant.cells c.loop-alloc.invariant.left
           c.restore_team.new.tables c.in_ok-restore_team.ensures.team c.in_ok-restore_team.ensures.others c.in_ok-restore_team.ensures.fit;
       few = let f = c.loop-alloc.invariant.few in omega (arith, f, more);
       cells = c.in_ok-restore_team.ensures.cells ∙ c.loop-alloc.invariant.cells;

@@ -1,4 +1,4 @@
-use Rattle.lf_floor_verbs.proofs.Judging.{broken_there}
+use Rattle.lf_floor_verbs.proofs.BrokenRules.{broken_there}
 use Rattle.lf_floor_verbs.proofs.cell_queries.broken_at.Goals as goal
 
 pub returns : goal.returns

@@ -1,4 +1,4 @@
-use Rattle.lf_floor_verbs.proofs.Judging.{alone_first}
+use Rattle.lf_floor_verbs.proofs.BrokenRules.{alone_first}
 use Rattle.lf_floor_verbs.proofs.swap.broken_beside.Goals as goal
 
 pub returns-in-Some : goal.returns-in-Some

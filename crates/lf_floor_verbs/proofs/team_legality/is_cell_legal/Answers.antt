@@ -3,7 +3,7 @@ use Rattle.std.specs.Prelude.{is_none}
 use Rattle.lf_cells.specs.Cells.{Cells, cells_of, working_at}
 use Rattle.lf_floor_model.specs.Teams.{team_rules}
 use Rattle.lf_floor_verbs.proofs.Marking.{is_placed_by}
-use Rattle.lf_floor_verbs.proofs.Standing.{broken_is_not, unplaced_is_not}
+use Rattle.lf_floor_verbs.proofs.IllegalCells.{broken_is_not, unplaced_is_not}
 use Rattle.lf_floor_verbs.proofs.team_legality.is_cell_legal.Goals as goal
 
 pub returns-then-is_unplaced-clause-reported : goal.returns-then-is_unplaced-clause-reported

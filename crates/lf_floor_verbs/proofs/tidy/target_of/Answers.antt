@@ -17,8 +17,8 @@ returns-in-Some-broken_at c = λ l.
     let own = c.args.id.own in
     let point : Option Broken → Option Point = option_map (λ (b : Broken). point_of (spot_of c.in-Some.place)) in
     ap (λ (q : Point). Some q) c.corner.ensures ∙ ap point (sym c.in-Some-broken_at.is)
-    ∙ target_placed (team_rules l p.frame team c.args.padding.sites) (cells_of p.cells team) own c.in_ok-standing.standing c.in-Some.place c.broken_at.result
-    (subst (λ (cs : Cells). Some c.in_ok-standing.standing ≡ option_map placement_of (slice_get (cells_of cs team) own)) c.cells.ensures c.in_ok-standing.ensures)
+    ∙ target_placed (team_rules l p.frame team c.args.padding.sites) (cells_of p.cells team) own c.in_ok-cell_placement.cell_placement c.in-Some.place c.broken_at.result
+    (subst (λ (cs : Cells). Some c.in_ok-cell_placement.cell_placement ≡ option_map placement_of (slice_get (cells_of cs team) own)) c.cells.ensures c.in_ok-cell_placement.ensures)
     c.in-Some.is (c.broken_at.ensures l)
 
 pub returns-in-None : goal.returns-in-None
@@ -28,8 +28,8 @@ returns-in-None c = λ l.
     let own = c.args.id.own in
     let point : Option Broken → Option Point = option_map (λ (b : Broken). point_of (spot_of c.in-Some.place)) in
     ap point (sym c.in-None.is)
-    ∙ target_placed (team_rules l p.frame team c.args.padding.sites) (cells_of p.cells team) own c.in_ok-standing.standing c.in-Some.place c.broken_at.result
-    (subst (λ (cs : Cells). Some c.in_ok-standing.standing ≡ option_map placement_of (slice_get (cells_of cs team) own)) c.cells.ensures c.in_ok-standing.ensures)
+    ∙ target_placed (team_rules l p.frame team c.args.padding.sites) (cells_of p.cells team) own c.in_ok-cell_placement.cell_placement c.in-Some.place c.broken_at.result
+    (subst (λ (cs : Cells). Some c.in_ok-cell_placement.cell_placement ≡ option_map placement_of (slice_get (cells_of cs team) own)) c.cells.ensures c.in_ok-cell_placement.ensures)
     c.in-Some.is (c.broken_at.ensures l)
 
 pub returns-then-is_marked : goal.returns-then-is_marked

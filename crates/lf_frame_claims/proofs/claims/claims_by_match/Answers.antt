@@ -4,7 +4,7 @@ use Rattle.lf_names.specs.declared.partitioned.Match.{Match}
 use Rattle.lf_frame_claims.specs.declared.claim.Claim.{Claim}
 use Rattle.lf_frame_claims.specs.ClaimTables.{claim_at}
 use Rattle.lf_frame_claims.proofs.Claimed.{no_match_reported, matches_reported_more, all_unclaimed}
-use Rattle.lf_frame_claims.proofs.Tellings.{all_bounds_seen}
+use Rattle.lf_frame_claims.proofs.ClaimCounts.{all_bounds_seen}
 use Rattle.lf_frame_claims.proofs.claims.claims_by_match.Goals as goal
 
 pub loop-found-init : goal.loop-found-init

@@ -3,7 +3,7 @@ use Rattle.std.proofs.lemmas.List.{length_push}
 use Rattle.lf_def.specs.Kinds.{is_fence}
 use Rattle.lf_frame_claims.specs.Teams.{fence_names}
 use Rattle.lf_frame_claims.proofs.Named.{fence_next, fence_same}
-use Rattle.lf_frame_claims.proofs.Tellings.{all_bounds_seen}
+use Rattle.lf_frame_claims.proofs.ClaimCounts.{all_bounds_seen}
 use Rattle.lf_frame_claims.proofs.component_claims.number_fences.Goals as goal
 use Rattle.lf_frame_claims.proofs.component_claims.number_fences.Goals.{then-is_fence+in_ok-put_fence, else-is_fence}
 

@@ -2,7 +2,7 @@ use Rattle.std.proofs.Common.{◌∷◌, ◌++◌, [], take, arith}
 use Rattle.std.proofs.lemmas.List.Sorted.{IsPermutation-append_left, IsPermutation-trans}
 use Rattle.lf_frame_claims.specs.Tables.{numbered_names}
 use Rattle.lf_frame_claims.proofs.Numbered.{numbered_more}
-use Rattle.lf_frame_claims.proofs.Tellings.{all_bounds_seen}
+use Rattle.lf_frame_claims.proofs.ClaimCounts.{all_bounds_seen}
 use Rattle.lf_frame_claims.proofs.component_names.parts_of_components.Goals as goal
 
 pub loop-number-preserved : goal.loop-number-preserved

@@ -1,6 +1,6 @@
 use Rattle.std.proofs.Common.{take, arith}
 use Rattle.lf_frame_claims.specs.Claims.{all_bounds}
-use Rattle.lf_frame_claims.proofs.Tellings.{all_bounds_seen}
+use Rattle.lf_frame_claims.proofs.ClaimCounts.{all_bounds_seen}
 use Rattle.lf_frame_claims.proofs.Claimants.{bounds_more, bounds_by_number}
 use Rattle.lf_frame_claims.proofs.pattern_index.index_of.Goals as goal
 

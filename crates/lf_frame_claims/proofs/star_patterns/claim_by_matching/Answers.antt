@@ -1,5 +1,5 @@
 use Rattle.std.proofs.Common.{take, arith}
-use Rattle.lf_frame_claims.proofs.Tellings.{reports_step, one_bound_more, all_bounds_seen}
+use Rattle.lf_frame_claims.proofs.ClaimCounts.{reports_step, one_bound_more, all_bounds_seen}
 use Rattle.lf_frame_claims.proofs.star_patterns.claim_by_matching.Goals as goal
 
 pub loop-bound-preserved : goal.loop-bound-preserved

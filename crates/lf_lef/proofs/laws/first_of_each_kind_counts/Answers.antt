@@ -1,4 +1,4 @@
-use Rattle.lf_lef.proofs.Standing.{sites_are_kept, pins_are_kept, macros_are_kept, library_grows}
+use Rattle.lf_lef.proofs.FirstStatements.{sites_are_kept, pins_are_kept, macros_are_kept, library_grows}
 use Rattle.lf_lef.proofs.laws.first_of_each_kind_counts.Goals as goal
 
 pub returns : goal.returns

@@ -1,7 +1,7 @@
 use Rattle.std.proofs.Common.{◌≡◌}
 use Rattle.std.specs.Option.{option_map}
 use Rattle.lf_orient.specs.Orientation.{rail_below}
-use Rattle.lf_floorplan.specs.Standing.{rail_alternated}
+use Rattle.lf_floorplan.specs.RowSupport.{rail_alternated}
 use Rattle.lf_legalize.proofs.levels.rail_at.Given as goal
 
 abbrev pub invariant-loop : goal.invariant-loop

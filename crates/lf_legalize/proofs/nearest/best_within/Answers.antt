@@ -3,7 +3,7 @@ use Rattle.std.proofs.lemmas.Int.{ints}
 use Rattle.std.proofs.lemmas.Option.{slice_get-get_or}
 use Rattle.std.specs.Option.{option_map}
 use Rattle.lf_rules.specs.Choice.{spot_of}
-use Rattle.lf_segments.specs.RowsByY.{IsEntryOf}
+use Rattle.lf_frame_index.specs.RowsByY.{IsEntryOf}
 use Rattle.lf_legalize.specs.RowSearches.{query_of_search}
 use Rattle.lf_legalize.proofs.Rounds.{IsOnEntries, run_holds, next_entry, all_seen, chosen_near}
 use Rattle.lf_legalize.proofs.nearest.best_within.Goals as goal

@@ -34,20 +34,20 @@ returns-then-moves-eq1-clause-holds c =
 
 pub loop-next-init : goal.loop-next-init
 loop-next-init c = record {
-  standing = none_are_placed c.args.frame.now c.args.cells.now c.args.team (moved_positions c.args.moves.now) c.args.occupancy.now c.requires.may;
+  inserted = none_are_placed c.args.frame.now c.args.cells.now c.args.team (moved_positions c.args.moves.now) c.args.occupancy.now c.requires.may;
   rooms = rooms_same c.args.occupancy.now;
 }
 
 pub replace_at_working-requires-clause-may : goal.replace_at_working-requires-clause-may
 replace_at_working-requires-clause-may c =
-    may_of c.args.frame.now c.args.cells.now c.args.team (moved_positions c.args.moves.now) c.loop-next.next-index c.loop-next.occupancy c.loop-next.invariant.standing
+    may_of c.args.frame.now c.args.cells.now c.args.team (moved_positions c.args.moves.now) c.loop-next.next-index c.loop-next.occupancy c.loop-next.invariant.inserted
 
 pub loop-next-preserved : goal.loop-next-preserved
 loop-next-preserved c =
     let next = c.next-item.result in
-    let was = c.loop-next.invariant.standing in
+    let was = c.loop-next.invariant.inserted in
     record {
-      standing = one_is_placed c.args.frame.now c.args.cells.now c.args.team (moved_positions c.args.moves.now) c.loop-next.next-index next.own c.loop-next.occupancy
+      inserted = one_is_placed c.args.frame.now c.args.cells.now c.args.team (moved_positions c.args.moves.now) c.loop-next.next-index next.own c.loop-next.occupancy
           c.replace_at_working.new.occupancy (own_there c.args.moves.now c.loop-next.next-index next c.loop-next-test.true c.next-item.is)
           c.replace_at_working.ensures.rooms was
           (c.replace_at_working.ensures.holds was.boxes record { many = was.is.may.many; part = was.is.may.part } was.holds);
@@ -59,4 +59,4 @@ returns-clause-holds c =
     let many = length-map c.args.moves.now (λ (m : Move). m.own) in
     let past : length (moved_positions c.args.moves.now) ≤ c.loop-next.next-index = omega (arith, many, c.loop-next-test.false) in
     all_hold c.args.frame.now c.args.cells.now c.args.team (moved_positions c.args.moves.now) c.loop-next.next-index c.loop-next.occupancy past
-    c.loop-next.invariant.standing
+    c.loop-next.invariant.inserted

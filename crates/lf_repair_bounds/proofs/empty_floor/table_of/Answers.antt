@@ -1,6 +1,6 @@
 use Rattle.std.proofs.Common.{subst, sym}
 use Rattle.lf_repair_bounds.specs.EmptyFloors.{AreUnplaced}
-use Rattle.lf_repair_bounds.proofs.Standing.{bare_table}
+use Rattle.lf_repair_bounds.proofs.EmptyFloorPlaces.{bare_table}
 use Rattle.lf_repair_bounds.proofs.empty_floor.table_of.Goals as goal
 
 pub returns : goal.returns

@@ -8,7 +8,7 @@ use Rattle.lf_legalize.specs.Members.{best_of}
 use Rattle.lf_occupancy.specs.Floorplans.{IsOccupancyOf}
 use Rattle.lf_occupancy.specs.Views.{Occupied}
 use Rattle.lf_placement.proofs.Marks.{of_marked}
-use Rattle.lf_repair_bounds.proofs.Standing.{alone_best}
+use Rattle.lf_repair_bounds.proofs.EmptyFloorPlaces.{alone_best}
 use Rattle.lf_repair_bounds.proofs.nearest_place.nearest_of.Goals as goal
 
 pub with_boxes-filled-requires : goal.with_boxes-filled-requires

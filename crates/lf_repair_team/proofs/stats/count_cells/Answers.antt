@@ -5,7 +5,7 @@ use Rattle.lf_cells.proofs.TeamIds.{ids_long}
 use Rattle.lf_repair_strategy.specs.WantedPlaces.{target_at}
 use Rattle.lf_repair_team.specs.CellEdits.{AreStatsOfFirst}
 use Rattle.lf_repair_strategy.proofs.Ids.{id_at, ids_are, no_id, working_read}
-use Rattle.lf_repair_team.proofs.Telling.{nothing_reported, short_more, reported_at}
+use Rattle.lf_repair_team.proofs.StatsLemmas.{nothing_reported, short_more, reported_at}
 use Rattle.lf_repair_team.proofs.stats.count_cells.Goals as goal
 
 pub loop-id-init : goal.loop-id-init
@@ -14,7 +14,7 @@ loop-id-init c = record {
   left = refl;
   tally = nothing_reported (target_at c.args.wanted_places.now) (working_at (cells_of c.args.placement.now.cells c.args.number)) (λ own. slice_get c.args.marks.now own ≡ Some true)
       _ refl refl refl refl refl refl refl refl;
-  short = record { cells = omega arith; kept = omega arith; pushed = omega arith; moved = omega arith; placed = omega arith; turned = omega arith; total = omega arith };
+  short = record { cells = omega arith; kept = omega arith; displaced_legal = omega arith; moved = omega arith; placed = omega arith; turned = omega arith; total_displacement = omega arith };
 }
 
 pub loop-id-preserved : goal.loop-id-preserved

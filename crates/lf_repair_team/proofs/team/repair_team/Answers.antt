@@ -4,7 +4,7 @@ use Rattle.lf_repair_team.specs.TeamRepairs.{AllListedMove, AreLegalExcept, Only
 use Rattle.lf_repair_team.proofs.Finding.{all_move, only_move}
 use Rattle.lf_repair_team.proofs.Legal.{legal_stay, none_left}
 use Rattle.lf_repair_team.proofs.Runs.{none_cut}
-use Rattle.lf_repair_team.proofs.Telling.{team_stats_of}
+use Rattle.lf_repair_team.proofs.StatsLemmas.{team_stats_of}
 use Rattle.lf_repair_team.proofs.team.repair_team.Goals as goal
 
 items_same : (v w : Vec ℕ Global) → v ≡ w → v.items ≡ w.items
@@ -12,12 +12,12 @@ items_same v w same = ap (λ (u : Vec ℕ Global). u.items) same
 
 pub returns-in-Ok-repair_in_session-clause-kept : goal.returns-in-Ok-repair_in_session-clause-kept
 returns-in-Ok-repair_in_session-clause-kept g c = λ keep.
-    legal_stay c.args.team.now c.in-Ok.start.pass.marks.items c.args.floor.now c.repair_in_session.new.floor
+    legal_stay c.args.team.now c.in-Ok.start.pass.locked.items c.args.floor.now c.repair_in_session.new.floor
     (c.in-Ok.ensures.marked c.args.team.now keep (sym c.team_number.ensures ∙ c.in-Some.is)) (c.in-Ok-repair_in_session.ensures.marked (c.in-Ok.ensures.how ∙ keep))
 
 pub returns-clause-kept : goal.returns-clause-kept
 returns-clause-kept g c = λ keep.
-    legal_stay c.args.team.now c.in-Ok.start.pass.marks.items c.args.floor.now c.repair_in_session.new.floor
+    legal_stay c.args.team.now c.in-Ok.start.pass.locked.items c.args.floor.now c.repair_in_session.new.floor
     (c.in-Ok.ensures.marked c.args.team.now keep (sym c.team_number.ensures ∙ c.in-Some.is)) (c.in-Err.ensures.marked (c.in-Ok.ensures.how ∙ keep))
 
 pub returns-in-Ok-repair_in_session-clause-changed : goal.returns-in-Ok-repair_in_session-clause-changed
@@ -40,12 +40,12 @@ returns-in-Ok-repair_in_session-clause-moved g c =
 
 pub returns-in-Ok-repair_in_session-clause-named : goal.returns-in-Ok-repair_in_session-clause-named
 returns-in-Ok-repair_in_session-clause-named g c =
-    subst (λ (xs : List ℕ). AreLegalExcept c.args.team.now c.repair_in_session.new.floor xs) (sym (items_same c.stats_of.result.left c.in-Ok-repair_in_session.found.left c.stats_of.ensures.left))
+    subst (λ (xs : List ℕ). AreLegalExcept c.args.team.now c.repair_in_session.new.floor xs) (sym (items_same c.stats_of.result.unrepaired c.in-Ok-repair_in_session.found.left c.stats_of.ensures.left))
     c.in-Ok-repair_in_session.ensures.named
 
 pub returns-in-Ok-repair_in_session-clause-committed : goal.returns-in-Ok-repair_in_session-clause-committed
 returns-in-Ok-repair_in_session-clause-committed g c = λ l.
-    let is : c.stats_of.result.left.items ≡ c.in-Ok-repair_in_session.found.left.items = items_same c.stats_of.result.left c.in-Ok-repair_in_session.found.left c.stats_of.ensures.left in (
+    let is : c.stats_of.result.unrepaired.items ≡ c.in-Ok-repair_in_session.found.left.items = items_same c.stats_of.result.unrepaired c.in-Ok-repair_in_session.found.left c.stats_of.ensures.left in (
       λ none. c.in-Ok-repair_in_session.ensures.committed l (sym is ∙ none),
       λ all. is ∙ none_left l c.args.team.now c.repair_in_session.new.floor c.in-Ok-repair_in_session.found.left.items c.in-Ok-repair_in_session.ensures.illegal all,
     )

@@ -7,7 +7,7 @@ pub loop-phase-init : goal.loop-phase-init
 loop-phase-init g c = record {
   run = λ l. nothing l c.args.seat.now.team.now c.args.floor.now (g.K.Sink.contents c.args.lines.now);
   only = unchanged c.args.seat.now.team.now c.args.floor.now;
-  marked = none_moves c.args.seat.now.team.now c.args.pass.now.marks.items c.args.floor.now;
+  marked = none_moves c.args.seat.now.team.now c.args.pass.now.locked.items c.args.floor.now;
   committed = refl;
 }
 
@@ -21,7 +21,7 @@ returns-in-Err-clause-only g c = then_only c.args.seat.now.team.now c.args.floor
 
 pub returns-in-Err-clause-marked : goal.returns-in-Err-clause-marked
 returns-in-Err-clause-marked g c =
-    then_stay c.args.seat.now.team.now c.args.pass.now.marks.items c.args.floor.now c.loop-phase.floor c.run_edits.new.floor c.loop-phase.invariant.marked
+    then_stay c.args.seat.now.team.now c.args.pass.now.locked.items c.args.floor.now c.loop-phase.floor c.run_edits.new.floor c.loop-phase.invariant.marked
     (subst (λ (marks : List Bool). KeepsLockedPlaces c.args.seat.now.team.now marks c.loop-phase.floor c.run_edits.new.floor) c.as_slice.ensures.value c.in-Err.ensures.marked)
 
 pub returns-in-Err-clause-committed : goal.returns-in-Err-clause-committed
@@ -36,7 +36,7 @@ loop-phase-preserved g c = record {
   run = λ l. then_written l c.args.seat.now.team.now c.args.floor.now c.loop-phase.floor c.run_edits.new.floor (g.K.Sink.contents c.args.lines.now)
       (g.K.Sink.contents c.loop-phase.lines) (g.K.Sink.contents c.run_edits.new.lines) (c.loop-phase.invariant.run l) (c.in-Ok-run_edits.ensures.run l);
   only = then_only c.args.seat.now.team.now c.args.floor.now c.loop-phase.floor c.run_edits.new.floor c.loop-phase.invariant.only c.in-Ok-run_edits.ensures.only;
-  marked = then_stay c.args.seat.now.team.now c.args.pass.now.marks.items c.args.floor.now c.loop-phase.floor c.run_edits.new.floor c.loop-phase.invariant.marked
+  marked = then_stay c.args.seat.now.team.now c.args.pass.now.locked.items c.args.floor.now c.loop-phase.floor c.run_edits.new.floor c.loop-phase.invariant.marked
       (subst (λ (marks : List Bool). KeepsLockedPlaces c.args.seat.now.team.now marks c.loop-phase.floor c.run_edits.new.floor) c.as_slice.ensures.value c.in-Ok-run_edits.ensures.marked);
   committed = c.in-Ok-run_edits.ensures.committed ∙ c.loop-phase.invariant.committed;
 }

@@ -8,6 +8,6 @@ abbrev pub invariant-loop-phase : goal.invariant-loop-phase
 invariant-loop-phase g l = record {
   run : (lz : Legalizer) → IsWrittenRun lz l.seat.team.now l.fn.floor (g.K.Sink.contents l.fn.lines) (g.K.Sink.contents l.lines) l.floor;
   only : ChangesOnly l.seat.team.now l.fn.floor l.floor;
-  marked : KeepsLockedPlaces l.seat.team.now l.pass.marks.items l.fn.floor l.floor;
+  marked : KeepsLockedPlaces l.seat.team.now l.pass.locked.items l.fn.floor l.floor;
   committed : KeepsCommittedPlaces l.seat.team.now l.fn.floor l.floor;
 }

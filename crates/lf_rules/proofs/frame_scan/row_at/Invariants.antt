@@ -1,6 +1,6 @@
 use Rattle.std.proofs.Common.{ℕ, ◌<◌, get_or}
 use Rattle.lf_floorplan.specs.declared.parts.Row.{Row}
-use Rattle.lf_floorplan.specs.Standing.{ExtendsOver}
+use Rattle.lf_floorplan.specs.RowSupport.{ExtendsOver}
 use Rattle.lf_rules.proofs.frame_scan.row_at.Given as goal
 
 -- No row so far lies there.

@@ -2,7 +2,7 @@ use Rattle.std.proofs.Common.{sym, subst}
 use Rattle.std.specs.Prelude.{Contains}
 use Rattle.lf_floorplan.specs.declared.frame.Frame.{Frame}
 use Rattle.lf_floorplan.specs.Rows.{IsCoreRow}
-use Rattle.lf_floorplan.specs.Standing.{IsBottomRow}
+use Rattle.lf_floorplan.specs.RowSupport.{IsBottomRow}
 use Rattle.lf_rules.proofs.RowsAt.{no_bottom, no_other_bottom}
 use Rattle.lf_rules.proofs.rows.bottom_row.Goals as goal
 

@@ -1,7 +1,7 @@
 use Rattle.std.proofs.Common.{◌≡◌, ◌∙◌, ap, sym, subst}
 use Rattle.lf_units.specs.declared.geometry.Point.{Point}
 use Rattle.lf_floorplan.specs.declared.frame.Frame.{Frame}
-use Rattle.lf_floorplan.specs.Standing.{Supports}
+use Rattle.lf_floorplan.specs.RowSupport.{Supports}
 use Rattle.lf_rules.proofs.RowsAt.{foot, none_carries, one_carries}
 use Rattle.lf_rules.proofs.rows.is_carried.Goals as goal
 

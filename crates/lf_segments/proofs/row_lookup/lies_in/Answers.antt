@@ -1,6 +1,6 @@
 use Rattle.std.proofs.Common.{◌≡◌, ℕ, ◌≤◌, ◌+ℤ◌, ◌*ℤ◌, ◌≤ℤ◌, ◌<ℤ◌, pos, refl, sym, subst, ◌∙◌, arith, below_more, to_z, of_z, w64}
 use Rattle.std.proofs.lemmas.Int.{ints}
-use Rattle.lf_floorplan.specs.Standing.{IsSitesHigh}
+use Rattle.lf_floorplan.specs.RowSupport.{IsSitesHigh}
 use Rattle.lf_segments.specs.Laws.{LiesAt}
 use Rattle.lf_segments.proofs.OnRowLemmas.{all_lie, ends_by_level, level_lies, starts_in_def}
 use Rattle.lf_segments.proofs.row_lookup.lies_in.Goals as goal

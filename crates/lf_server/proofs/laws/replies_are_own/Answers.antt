@@ -1,6 +1,6 @@
 use Rattle.std.proofs.Common.{sym, refl}
 use Rattle.lf_floor_model.proofs.Isolation.{has_number}
-use Rattle.lf_server.proofs.Telling.{acts_at, reported_own}
+use Rattle.lf_server.proofs.OwnReplies.{acts_at, reported_own}
 use Rattle.lf_server.proofs.laws.replies_are_own.Goals as goal
 
 pub returns : goal.returns

@@ -1,7 +1,7 @@
 use Rattle.std.proofs.Common.{sym, refl}
 use Rattle.lf_floor_model.specs.Designs.{initial_floor, initial_team}
 use Rattle.lf_floor_model.proofs.Openings.{opening_is, agreeing_is}
-use Rattle.lf_server.proofs.Telling.{acts_at, reported_own}
+use Rattle.lf_server.proofs.OwnReplies.{acts_at, reported_own}
 use Rattle.lf_server.proofs.laws.replies_follow_design.Goals as goal
 
 pub returns : goal.returns

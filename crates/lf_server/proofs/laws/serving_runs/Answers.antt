@@ -1,4 +1,4 @@
-use Rattle.lf_server.proofs.Telling.{acts_at, run_of}
+use Rattle.lf_server.proofs.OwnReplies.{acts_at, run_of}
 use Rattle.lf_server.proofs.laws.serving_runs.Goals as goal
 
 pub returns : goal.returns

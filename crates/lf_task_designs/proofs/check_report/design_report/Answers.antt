@@ -7,7 +7,7 @@ use Rattle.lf_reports.specs.Reports.{IsFaultless, listed_at}
 use Rattle.lf_reports.proofs.LegalVerdicts.{unplaced_are, verdicts_moved}
 use Rattle.lf_task_designs.specs.Checks.{def_places}
 use Rattle.lf_task_designs.specs.Reporting.{listed_as_loaded}
-use Rattle.lf_task_designs.proofs.Reporting.{at_home}
+use Rattle.lf_task_designs.proofs.Reporting.{places_as_loaded}
 use Rattle.lf_task_designs.proofs.check_report.design_report.Goals as goal
 
 pub returns-clause-text : goal.returns-clause-text
@@ -16,7 +16,7 @@ returns-clause-text c = λ l.
     let at : c.deref.result.now ≡ def_places cells = c.deref.ensures.value ∙ c.in_ok-places.ensures {u = tt} in
     let again : c.deref-2.result.now ≡ def_places cells = c.deref-2.ensures.value ∙ c.in_ok-places.ensures {u = tt} in
     let listed : map listed_as_loaded cells ≡ listed_at cells c.deref.result.now =
-    sym (at_home cells) ∙ sym (ap (λ (places : List (Option Place)). listed_at cells places) at) in
+    sym (places_as_loaded cells) ∙ sym (ap (λ (places : List (Option Place)). listed_at cells places) at) in
     let unplaced = c.unplaced_in-unplaced.ensures ∙ ap (λ (places : List (Option Place)). count_by is_none places) again
     ∙ unplaced_are cells (def_places cells) (length-map cells (λ cell. cell.place)) in
     c.in_ok-text.ensures {u = tt} l unplaced (verdicts_moved l c.args.loaded.now.frame listed c.deref-3.ensures.value (c.in_ok-verdicts.ensures.each l))

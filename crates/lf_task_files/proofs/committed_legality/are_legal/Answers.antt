@@ -1,7 +1,7 @@
 use Rattle.std.proofs.Common.{◌≡◌, ◌∙◌, ap, sym, List, Option}
 use Rattle.std.specs.Prelude.{count_by, is_some}
 use Rattle.lf_rules.specs.declared.rule.Broken.{Broken}
-use Rattle.lf_task_files.proofs.Judging.{legal_list}
+use Rattle.lf_task_files.proofs.CommittedVerdicts.{legal_list}
 use Rattle.lf_task_files.proofs.committed_legality.are_legal.Goals as goal
 
 pub returns : goal.returns

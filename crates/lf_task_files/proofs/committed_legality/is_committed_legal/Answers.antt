@@ -3,7 +3,7 @@ use Rattle.std.proofs.lemmas.Bool.{false≢true}
 use Rattle.std.proofs.lemmas.Option.{slice_get_within}
 use Rattle.lf_floorplan.specs.declared.frame.Frame.{Frame}
 use Rattle.lf_floor_model.proofs.Stepping.{committed_teams, teams_committed}
-use Rattle.lf_task_files.proofs.Judging.{there_is}
+use Rattle.lf_task_files.proofs.CommittedVerdicts.{there_is}
 use Rattle.lf_task_files.proofs.committed_legality.is_committed_legal.Goals as goal
 
 pub is_team_legal-requires : goal.is_team_legal-requires

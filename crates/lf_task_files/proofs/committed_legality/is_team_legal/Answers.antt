@@ -10,7 +10,7 @@ use Rattle.lf_floor_model.specs.States.{TeamState}
 use Rattle.lf_floor_model.specs.Teams.{IsTeamOf}
 use Rattle.lf_floor_model.proofs.Parts.{each}
 use Rattle.lf_task_files.specs.CommittedLegality.{committed_listed}
-use Rattle.lf_task_files.proofs.Judging.{committed_known, checked_as}
+use Rattle.lf_task_files.proofs.CommittedVerdicts.{committed_known, checked_as}
 use Rattle.lf_task_files.proofs.committed_legality.is_team_legal.Goals as goal
 
 pub are_legal-requires-clause-listed : goal.are_legal-requires-clause-listed

@@ -6,7 +6,7 @@ use Rattle.lf_cells.specs.declared.cell.CellId.{CellId}
 use Rattle.lf_cells.specs.Cells.{cell_at, cells_of, id_of, ids_of}
 use Rattle.lf_cells.proofs.TeamIds.{ids_long, ids_read}
 use Rattle.lf_reports.specs.Reports.{with_byte_name}
-use Rattle.lf_floor_model.proofs.Standing.{there_within}
+use Rattle.lf_floor_model.proofs.LegalPlaces.{there_within}
 use Rattle.lf_task_files.specs.CommittedLegality.{committed_listed}
 use Rattle.lf_task_files.proofs.committed_legality.listed_team.Goals as goal
 

@@ -5,7 +5,7 @@ use Rattle.lf_floor_model.specs.Teams.{team_names, team_number}
 use Rattle.lf_task_repair.specs.Repairs.{how_of, is_selected}
 use Rattle.lf_task_repair.proofs.Named.{numbered}
 use Rattle.lf_task_repair.proofs.Repairing.{stay_alike}
-use Rattle.lf_task_repair.proofs.Telling.{one_reported}
+use Rattle.lf_task_repair.proofs.TeamLines.{one_reported}
 use Rattle.lf_task_repair.proofs.repair_task.repair_numbered.Goals as goal
 
 clash : true ≡ false → ⊥

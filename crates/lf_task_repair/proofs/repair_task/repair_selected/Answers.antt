@@ -1,6 +1,6 @@
 use Rattle.std.proofs.Common.{map}
 use Rattle.lf_task_repair.proofs.Repairing.{as_many}
-use Rattle.lf_task_repair.proofs.Telling.{all_reported}
+use Rattle.lf_task_repair.proofs.TeamLines.{all_reported}
 use Rattle.lf_task_repair.proofs.repair_task.repair_selected.Goals as goal
 
 pub close_report-requires : goal.close_report-requires

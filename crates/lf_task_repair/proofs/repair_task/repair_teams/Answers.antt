@@ -1,7 +1,7 @@
 use Rattle.std.proofs.Common.{◌∙◌, map, rules}
 use Rattle.lf_task_repair.specs.Repairs.{kept_text}
 use Rattle.lf_task_repair.proofs.Repairing.{all_stayed, none_changes, none_stayed, nothing_requested, one_more_stayed, then_requested, then_kept}
-use Rattle.lf_task_repair.proofs.Telling.{every_reported, next_reported, none_reported}
+use Rattle.lf_task_repair.proofs.TeamLines.{every_reported, next_reported, none_reported}
 use Rattle.lf_task_repair.proofs.repair_task.repair_teams.Goals as goal
 
 pub loop-number-init : goal.loop-number-init

@@ -3,18 +3,18 @@ use Rattle.std.proofs.lemmas.Result.{IfErr-weaker, on_ok_weaker}
 use Rattle.lf_task_serve.proofs.Answering.{service_blames, streams_blame}
 use Rattle.lf_task_serve.proofs.line_source.serve_source.Goals as goal
 
-pub returns-in-Stream-clause-err : goal.returns-in-Stream-clause-err
-returns-in-Stream-clause-err g c =
-    rw c.in-Stream.is (IfErr-weaker c.serve_reader.result _ _
+pub returns-in-Reader-clause-err : goal.returns-in-Reader-clause-err
+returns-in-Reader-clause-err g c =
+    rw c.in-Reader.is (IfErr-weaker c.serve_reader.result _ _
     (λ fault both. (
       both.0,
-      streams_blame c.in-Stream.most fault _ _ _ _ _ _ _ _ both.1
+      streams_blame c.in-Reader.max_lines fault _ _ _ _ _ _ _ _ both.1
           (λ sound. record { exports = refl; services = refl; reader = sound.0 ∙ sym c.requires.ready.readable; writer = sound.1 ∙ sym c.requires.ready.writable }),
     ))
     c.serve_reader.ensures.err)
 
-pub returns-in-Stream-clause-sound : goal.returns-in-Stream-clause-sound
-returns-in-Stream-clause-sound g c =
+pub returns-in-Reader-clause-sound : goal.returns-in-Reader-clause-sound
+returns-in-Reader-clause-sound g c =
     on_ok_weaker c.serve_reader.result
     (λ sound. record { exports = refl; services = refl; reader = sound.0 ∙ sym c.requires.ready.readable; writer = sound.1 ∙ sym c.requires.ready.writable })
     c.serve_reader.ensures.sound

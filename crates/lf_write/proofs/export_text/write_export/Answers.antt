@@ -1,6 +1,6 @@
 use Rattle.std.proofs.Common.{sym, ◌∙◌, arith}
 use Rattle.lf_write.proofs.Writing.{all_looked, listed_next, none_looked, one_looked, ready, rest_within}
-use Rattle.lf_write.proofs.Writing.{written_change, written_first, written_last, written_standing}
+use Rattle.lf_write.proofs.Writing.{written_change, written_first, written_last, written_unchanged}
 use Rattle.lf_write.proofs.export_text.write_export.Goals as goal
 use Rattle.lf_write.proofs.export_text.write_export.Goals.{then-not-is_unchanged+in_ok-at, else-not-is_unchanged}
 
@@ -31,7 +31,7 @@ loop-number-preserved g c =
             (written_change k (sym c.is_unchanged.ensures ∙ w.if-not-is_unchanged.true) c.loop-number.invariant.written w.in_ok-at.ensures.bytes
             w.in_ok-at.ensures.after_it)
         | else-not-is_unchanged w ↦
-            rw (w.out-is, w.at-is) (written_standing k (sym c.is_unchanged.ensures ∙ w.if-not-is_unchanged.false) c.loop-number.invariant.written)
+            rw (w.out-is, w.at-is) (written_unchanged k (sym c.is_unchanged.ensures ∙ w.if-not-is_unchanged.false) c.loop-number.invariant.written)
       ];
       looked = one_looked (sym c.in-Some.ensures) c.fits_text.ensures c.loop-number.invariant.looked;
     }

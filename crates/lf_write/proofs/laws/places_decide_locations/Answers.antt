@@ -1,4 +1,4 @@
-use Rattle.lf_write.proofs.Standing.{is_found_there, given_place_is_taken}
+use Rattle.lf_write.proofs.WrittenLocations.{is_found_there, given_place_is_taken}
 use Rattle.lf_write.proofs.laws.places_decide_locations.Goals as goal
 
 pub returns : goal.returns

@@ -10,7 +10,7 @@ use Rattle.lf_floor_verbs.specs.Swapping.{swap_refusal}
 use Rattle.lf_floor_verbs.specs.Tables.{table_cells, frame_of, own_team}
 use Rattle.lf_floor_verbs.proofs.Ends.{back_to}
 use Rattle.lf_floor_verbs.proofs.Fitting.{back_fits, kept_fit, only_made}
-use Rattle.lf_floor_verbs.proofs.Judging.{alone_moved}
+use Rattle.lf_floor_verbs.proofs.BrokenRules.{alone_moved}
 use Rattle.lf_floor_verbs.proofs.Moves.{none_yet}
 use Rattle.lf_floor_verbs.proofs.Swaps.{exchange_made, first_there, second_there, swap_refused}
 use Rattle.lf_floor_verbs.proofs.tables.Tables.exchange.Goals as goal

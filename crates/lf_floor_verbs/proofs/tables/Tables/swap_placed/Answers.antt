@@ -7,7 +7,7 @@ use Rattle.lf_floor_model.specs.Teams.{broken_at, team_rules}
 use Rattle.lf_floor_verbs.specs.Tables.{table_cells, context_in, team_in}
 use Rattle.lf_floor_verbs.specs.Swapping.{IsExchange}
 use Rattle.lf_floor_verbs.proofs.Fitting.{only_grown}
-use Rattle.lf_floor_verbs.proofs.Judging.{alone_anywhere, alone_moved, first_broken}
+use Rattle.lf_floor_verbs.proofs.BrokenRules.{alone_anywhere, alone_moved, first_broken}
 use Rattle.lf_floor_verbs.proofs.Swaps.{first_refused, same_both, swap_refused}
 use Rattle.lf_floor_verbs.proofs.tables.Tables.swap_placed.Goals as goal
 

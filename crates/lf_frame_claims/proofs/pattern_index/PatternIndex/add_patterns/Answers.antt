@@ -1,7 +1,7 @@
 use Rattle.std.proofs.Common.{◌≡◌, ◌+◌, [], ◌∷◌, ◌++◌, Some, take, sym, ap, ◌∙◌, arith}
 use Rattle.std.proofs.lemmas.List.{map-append}
 use Rattle.lf_frame_claims.specs.Claims.{bound_to}
-use Rattle.lf_frame_claims.proofs.Tellings.{one_bound_more, all_bounds_seen}
+use Rattle.lf_frame_claims.proofs.ClaimCounts.{one_bound_more, all_bounds_seen}
 use Rattle.lf_frame_claims.proofs.Indexes.{extends_twice, extends_by_none}
 use Rattle.lf_frame_claims.proofs.pattern_index.PatternIndex.add_patterns.Goals as goal
 

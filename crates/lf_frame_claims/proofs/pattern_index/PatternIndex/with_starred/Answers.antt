@@ -3,7 +3,7 @@ use Rattle.std.proofs.lemmas.List.{length-set}
 use Rattle.lf_frame_claims.specs.Claims.{ClaimsBy, Labels, CountsFences, merged}
 use Rattle.lf_frame_claims.specs.ClaimTables.{claim_at}
 use Rattle.lf_frame_claims.proofs.Claimed.{reported_put, same_from_put}
-use Rattle.lf_frame_claims.proofs.Tellings.{reports_merged}
+use Rattle.lf_frame_claims.proofs.ClaimCounts.{reports_merged}
 use Rattle.lf_frame_claims.proofs.pattern_index.PatternIndex.with_starred.Goals as goal
 
 pub loop-number-preserved : goal.loop-number-preserved

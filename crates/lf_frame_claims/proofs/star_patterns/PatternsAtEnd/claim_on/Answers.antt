@@ -1,5 +1,5 @@
 use Rattle.std.proofs.Common.{◌≤◌, length, arith}
-use Rattle.lf_frame_claims.proofs.Tellings.{all_bounds_seen}
+use Rattle.lf_frame_claims.proofs.ClaimCounts.{all_bounds_seen}
 use Rattle.lf_frame_claims.proofs.KeyLemmas.{reports_next_length, reports_all}
 use Rattle.lf_frame_claims.proofs.star_patterns.PatternsAtEnd.claim_on.Goals as goal
 

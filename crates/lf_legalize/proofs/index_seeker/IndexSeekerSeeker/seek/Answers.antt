@@ -14,12 +14,12 @@ returns c = record {
   best = λ l. IfOk-weaker c.best_for.result
       (λ (found : Option Place). IsChoice
       (query_from c.args.frame.now c.args.cell.team c.args.padding.sites (map member_of (cells_of c.args.cells.now c.args.cell.team)) c.args.cell.own
-      c.in-Some.standing.mac)
+      c.in-Some.cell_placement.mac)
       c.args.target.now (option_map spot_of found))
       (λ (found : Option Place). option_map spot_of found
       ≡ best_of l c.args.frame.now c.args.cell.team c.args.padding.sites (cells_of c.args.cells.now c.args.cell.team) c.args.cell.own c.args.target.now)
       (λ found. best_is l c.args.frame.now c.args.cell.team c.args.padding.sites c.args.cell.own (cells_of c.args.cells.now c.args.cell.team)
-      c.args.target.now c.in-Some.standing
+      c.args.target.now c.in-Some.cell_placement
       (option_map spot_of found) c.requires.sized (sym c.placement_of.ensures ∙ c.in-Some.is))
       c.best_for.ensures;
 }

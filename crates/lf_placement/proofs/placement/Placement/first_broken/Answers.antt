@@ -1,7 +1,7 @@
 use Rattle.std.proofs.Common.{Option, subst}
 use Rattle.lf_rules.specs.declared.rule.Rule.{Rule}
 use Rattle.lf_placement.specs.Placements.{IsBrokenFrameRule}
-use Rattle.lf_placement.proofs.Judging.{broken_alone}
+use Rattle.lf_placement.proofs.FirstBroken.{broken_alone}
 use Rattle.lf_placement.proofs.placement.Placement.first_broken.Goals as goal
 
 pub returns-in-Some : goal.returns-in-Some

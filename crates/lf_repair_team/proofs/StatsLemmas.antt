@@ -16,12 +16,12 @@ use Rattle.lf_cells.specs.declared.cell.CellId.{CellId}
 use Rattle.lf_cells.specs.Cells.{id_of, working_at}
 use Rattle.lf_floor_model.specs.States.{FloorState, TeamState}
 use Rattle.lf_floor_model.specs.Teams.{state_of, team_number}
-use Rattle.lf_floor_model.proofs.Standing.{some_one}
+use Rattle.lf_floor_model.proofs.LegalPlaces.{some_one}
 use Rattle.lf_repair_strategy.specs.declared.stats.RepairStats.{RepairStats}
 use Rattle.lf_repair_strategy.specs.WantedPlaces.{AreWorkingPlaces, target_at}
 use Rattle.lf_repair_team.specs.CellEdits.{AreLegalFlags, CountsIf, CountsOneCell, AreStatsOfFirst}
 use Rattle.lf_repair_team.specs.TeamRepairs.{ChangesOnly, IsLegalIn, place_of_cell_in}
-use Rattle.lf_repair_team.specs.Stats.{AreTurned, HowMany, AreStatsOf, AreTeamStats, displacement, total_displacement}
+use Rattle.lf_repair_team.specs.Stats.{AreTurned, HowMany, AreStatsOf, AreTeamStats, displacement, all_displacements}
 use Rattle.lf_repair_team.proofs.Finding.{team_was}
 use Rattle.lf_repair_team.proofs.Legal.{state_there}
 use Rattle.lf_repair_strategy.proofs.Lists.{before_last, last_is, one_longer}
@@ -131,54 +131,54 @@ many_as all count So Too to from many = record {
 pub record IsShortTo (all : ℕ) (reported : RepairStats) : Type 0 where
   pub cells : reported.cells ≤ all
   pub kept : reported.kept ≤ all
-  pub pushed : reported.pushed ≤ all
+  pub displaced_legal : reported.displaced_legal ≤ all
   pub moved : reported.moved ≤ all
   pub placed : reported.placed ≤ all
   pub turned : reported.turned ≤ all
-  pub total : reported.total ≤ all * 8589934590
+  pub total_displacement : reported.total_displacement ≤ all * 8589934590
 
 pub short_more : (wanted_place now : Option Place) (WasAtPlace : Type 0) (k : ℕ) (old new : RepairStats) → IsShortTo k old → CountsOneCell wanted_place now WasAtPlace old new → IsShortTo (k + 1) new
 short_more wanted_place now WasAtPlace k old new short one = record {
   cells = count_few (WasAtPlace → ⊥) k old.cells new.cells short.cells one.cells;
   kept = count_few (WasAtPlace × (now ≡ wanted_place)) k old.kept new.kept short.kept one.kept;
-  pushed = count_few (WasAtPlace × (now ≢ wanted_place)) k old.pushed new.pushed short.pushed one.pushed;
+  displaced_legal = count_few (WasAtPlace × (now ≢ wanted_place)) k old.displaced_legal new.displaced_legal short.displaced_legal one.displaced_legal;
   moved = count_few (0 < displacement wanted_place now) k old.moved new.moved short.moved one.moved;
   placed = count_few ((wanted_place ≡ None) × IsSome now) k old.placed new.placed short.placed one.placed;
   turned = count_few (AreTurned wanted_place now) k old.turned new.turned short.turned one.turned;
-  total = omega (arith, short.total, one.total, one.short);
+  total_displacement = omega (arith, short.total_displacement, one.total_displacement, one.short);
 }
 
 module _ (wanted_place now : ℕ → Option Place) (WasAtPlace : ℕ → Type 0) where
   abbrev far : ℕ → ℕ
   far own = displacement (wanted_place own) (now own)
 
-  pub nothing_reported : (reported : RepairStats) → reported.cells ≡ 0 → reported.kept ≡ 0 → reported.pushed ≡ 0 → reported.moved ≡ 0 → reported.placed ≡ 0 → reported.turned ≡ 0 → reported.total ≡ 0
-      → reported.largest ≡ 0 → AreStatsOf wanted_place now WasAtPlace 0 reported
+  pub nothing_reported : (reported : RepairStats) → reported.cells ≡ 0 → reported.kept ≡ 0 → reported.displaced_legal ≡ 0 → reported.moved ≡ 0 → reported.placed ≡ 0 → reported.turned ≡ 0 → reported.total_displacement ≡ 0
+      → reported.max_displacement ≡ 0 → AreStatsOf wanted_place now WasAtPlace 0 reported
   nothing_reported reported cells kept pushed moved placed turned total largest = record {
     cells = none_so (λ own. WasAtPlace own → ⊥) reported.cells cells;
     kept = none_so (λ own. WasAtPlace own × (now own ≡ wanted_place own)) reported.kept kept;
-    pushed = none_so (λ own. WasAtPlace own × (now own ≢ wanted_place own)) reported.pushed pushed;
+    displaced_legal = none_so (λ own. WasAtPlace own × (now own ≢ wanted_place own)) reported.displaced_legal pushed;
     moved = none_so (λ own. 0 < far own) reported.moved moved;
     placed = none_so (λ own. (wanted_place own ≡ None) × IsSome (now own)) reported.placed placed;
     turned = none_so (λ own. AreTurned (wanted_place own) (now own)) reported.turned turned;
-    total = total;
-    largest = largest;
+    total_displacement = total;
+    max_displacement = largest;
   }
 
-  total_more : (k : ℕ) (old new : RepairStats) → k < 4000000 → IsShortTo k old → CountsOneCell (wanted_place k) (now k) (WasAtPlace k) old new → new.total ≡ old.total + far k
-  total_more k old new few short one = omega (arith, few, short.total, one.total, one.short)
+  total_more : (k : ℕ) (old new : RepairStats) → k < 4000000 → IsShortTo k old → CountsOneCell (wanted_place k) (now k) (WasAtPlace k) old new → new.total_displacement ≡ old.total_displacement + far k
+  total_more k old new few short one = omega (arith, few, short.total_displacement, one.total_displacement, one.short)
 
   pub tally_more : (k : ℕ) (old new : RepairStats) → k < 4000000 → IsShortTo k old → AreStatsOf wanted_place now WasAtPlace k old → CountsOneCell (wanted_place k) (now k) (WasAtPlace k) old new
       → AreStatsOf wanted_place now WasAtPlace (k + 1) new
   tally_more k old new few short so_far one = record {
     cells = count_more (λ own. WasAtPlace own → ⊥) k old.cells new.cells (omega (arith, few, short.cells)) so_far.cells one.cells;
     kept = count_more (λ own. WasAtPlace own × (now own ≡ wanted_place own)) k old.kept new.kept (omega (arith, few, short.kept)) so_far.kept one.kept;
-    pushed = count_more (λ own. WasAtPlace own × (now own ≢ wanted_place own)) k old.pushed new.pushed (omega (arith, few, short.pushed)) so_far.pushed one.pushed;
+    displaced_legal = count_more (λ own. WasAtPlace own × (now own ≢ wanted_place own)) k old.displaced_legal new.displaced_legal (omega (arith, few, short.displaced_legal)) so_far.displaced_legal one.displaced_legal;
     moved = count_more (λ own. 0 < far own) k old.moved new.moved (omega (arith, few, short.moved)) so_far.moved one.moved;
     placed = count_more (λ own. (wanted_place own ≡ None) × IsSome (now own)) k old.placed new.placed (omega (arith, few, short.placed)) so_far.placed one.placed;
     turned = count_more (λ own. AreTurned (wanted_place own) (now own)) k old.turned new.turned (omega (arith, few, short.turned)) so_far.turned one.turned;
-    total = total_more k old new few short one ∙ ap (λ (n : ℕ). n + far k) so_far.total ∙ sym (sum_by-map-range_with_len_more (λ (n : ℕ). n) far 0 k k (zero-add k));
-    largest = one.largest ∙ ap (λ (n : ℕ). max n (far k)) so_far.largest ∙ sym (fold_push max 0 (total_displacement wanted_place now k) (far k))
+    total_displacement = total_more k old new few short one ∙ ap (λ (n : ℕ). n + far k) so_far.total_displacement ∙ sym (sum_by-map-range_with_len_more (λ (n : ℕ). n) far 0 k k (zero-add k));
+    max_displacement = one.max_displacement ∙ ap (λ (n : ℕ). max n (far k)) so_far.max_displacement ∙ sym (fold_push max 0 (all_displacements wanted_place now k) (far k))
         ∙ sym (ap (λ (ns : List ℕ). fold max 0 ns) (map-range_with_len_more far 0 k k (zero-add k)));
   }
 
@@ -188,13 +188,13 @@ one_reported_as : (wanted_place now : Option Place) (WasAtPlace Too : Type 0) (o
 one_reported_as wanted_place now WasAtPlace Too old new to from one = record {
   cells = counted_as (WasAtPlace → ⊥) (Too → ⊥) old.cells new.cells (λ never too. never (from too)) (λ never original_place. never (to original_place)) one.cells;
   kept = counted_as (WasAtPlace × (now ≡ wanted_place)) (Too × (now ≡ wanted_place)) old.kept new.kept (λ both. (to both.0, both.1)) (λ both. (from both.0, both.1)) one.kept;
-  pushed = counted_as (WasAtPlace × (now ≢ wanted_place)) (Too × (now ≢ wanted_place)) old.pushed new.pushed (λ both. (to both.0, both.1)) (λ both. (from both.0, both.1)) one.pushed;
+  displaced_legal = counted_as (WasAtPlace × (now ≢ wanted_place)) (Too × (now ≢ wanted_place)) old.displaced_legal new.displaced_legal (λ both. (to both.0, both.1)) (λ both. (from both.0, both.1)) one.displaced_legal;
   moved = one.moved;
   placed = one.placed;
   turned = one.turned;
   short = one.short;
-  total = one.total;
-  largest = one.largest;
+  total_displacement = one.total_displacement;
+  max_displacement = one.max_displacement;
 }
 
 -- the team's cell with this id is counted
@@ -223,7 +223,7 @@ map_same f g same (own ∷ owns) = ap (λ (n : ℕ). n ∷ map f owns) (same own
 module _ (wanted_place there now here : ℕ → Option Place) (WasAtPlace Too : ℕ → Type 0) (all : ℕ) (reported : RepairStats)
     (wanted_places : (own : ℕ) → wanted_place own ≡ there own) (nows : (own : ℕ) → now own ≡ here own)
     (to : (own : ℕ) → WasAtPlace own → Too own) (from : (own : ℕ) → Too own → WasAtPlace own) where
-  same_ways : total_displacement wanted_place now all ≡ total_displacement there here all
+  same_ways : all_displacements wanted_place now all ≡ all_displacements there here all
   same_ways = map_same (λ own. displacement (wanted_place own) (now own)) (λ own. displacement (there own) (here own))
       (λ own. ap (λ (h : Option Place). displacement h (now own)) (wanted_places own) ∙ ap (λ (n : Option Place). displacement (there own) n) (nows own)) (range_with_len 0 all)
 
@@ -232,9 +232,9 @@ module _ (wanted_place there now here : ℕ → Option Place) (WasAtPlace Too : 
     cells = many_as all reported.cells (λ own. WasAtPlace own → ⊥) (λ own. Too own → ⊥) (λ own never too. never (from own too)) (λ own never original_place. never (to own original_place)) tally.cells;
     kept = many_as all reported.kept (λ own. WasAtPlace own × (now own ≡ wanted_place own)) (λ own. Too own × (here own ≡ there own))
         (λ own both. (to own both.0, sym (nows own) ∙ both.1 ∙ wanted_places own)) (λ own both. (from own both.0, nows own ∙ both.1 ∙ sym (wanted_places own))) tally.kept;
-    pushed = many_as all reported.pushed (λ own. WasAtPlace own × (now own ≢ wanted_place own)) (λ own. Too own × (here own ≢ there own))
+    displaced_legal = many_as all reported.displaced_legal (λ own. WasAtPlace own × (now own ≢ wanted_place own)) (λ own. Too own × (here own ≢ there own))
         (λ own both. (to own both.0, λ same. both.1 (nows own ∙ same ∙ sym (wanted_places own))))
-        (λ own both. (from own both.0, λ same. both.1 (sym (nows own) ∙ same ∙ wanted_places own))) tally.pushed;
+        (λ own both. (from own both.0, λ same. both.1 (sym (nows own) ∙ same ∙ wanted_places own))) tally.displaced_legal;
     moved = many_as all reported.moved (λ own. 0 < displacement (wanted_place own) (now own)) (λ own. 0 < displacement (there own) (here own))
         (λ own far. moves (wanted_place own) (there own) (now own) (here own) (wanted_places own) (nows own) far)
         (λ own far. moves (there own) (wanted_place own) (here own) (now own) (sym (wanted_places own)) (sym (nows own)) far) tally.moved;
@@ -244,8 +244,8 @@ module _ (wanted_place there now here : ℕ → Option Place) (WasAtPlace Too : 
     turned = many_as all reported.turned (λ own. AreTurned (wanted_place own) (now own)) (λ own. AreTurned (there own) (here own))
         (λ own apart. turns (wanted_place own) (there own) (now own) (here own) (wanted_places own) (nows own) apart)
         (λ own apart. turns (there own) (wanted_place own) (here own) (now own) (sym (wanted_places own)) (sym (nows own)) apart) tally.turned;
-    total = tally.total ∙ ap (λ (ns : List ℕ). sum ns) same_ways;
-    largest = tally.largest ∙ ap (λ (ns : List ℕ). fold max 0 ns) same_ways;
+    total_displacement = tally.total_displacement ∙ ap (λ (ns : List ℕ). sum ns) same_ways;
+    max_displacement = tally.max_displacement ∙ ap (λ (ns : List ℕ). fold max 0 ns) same_ways;
   } where
     moves : (h i n m : Option Place) → h ≡ i → n ≡ m → 0 < displacement h n → 0 < displacement i m
     moves h i n m e f far = subst (λ (p : Option Place). 0 < displacement p m) e (subst (λ (p : Option Place). 0 < displacement h p) f far)

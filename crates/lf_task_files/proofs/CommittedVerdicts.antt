@@ -22,7 +22,7 @@ use Rattle.lf_legalize.specs.Members.{IsSizedCell}
 use Rattle.lf_floor_model.specs.Committed.{AreCommittedLegal, committed_member, committed_members}
 use Rattle.lf_floor_model.specs.States.{TeamState}
 use Rattle.lf_floor_model.proofs.Parts.{legal_teams}
-use Rattle.lf_floor_model.proofs.Standing.{some_one}
+use Rattle.lf_floor_model.proofs.LegalPlaces.{some_one}
 use Rattle.lf_task_files.specs.CommittedLegality.{committed_listed}
 
 -- ---- the cells of a list
@@ -54,12 +54,12 @@ abbrev padded : ℕ → List Member → List (List Member)
 padded zero members = members ∷ []
 padded (suc before) members = [] ∷ padded before members
 
-standing_padded : (before number : ℕ) (members : List Member) → design_cells_from number (padded before members) ≡ with_team (number + before) members []
-standing_padded zero number members =
+padded_cells : (before number : ℕ) (members : List Member) → design_cells_from number (padded before members) ≡ with_team (number + before) members []
+padded_cells zero number members =
     let same : number ≡ number + 0 = omega arith in ap (λ (n : ℕ). with_team n members []) same
-standing_padded (suc before) number members =
+padded_cells (suc before) number members =
     let same : number + 1 + before ≡ number + suc before = omega arith in
-    standing_padded before (number + 1) members ∙ ap (λ (n : ℕ). with_team n members []) same
+    padded_cells before (number + 1) members ∙ ap (λ (n : ℕ). with_team n members []) same
 
 there_padded : (before : ℕ) (members : List Member) → slice_get (padded before members) before ≡ Some members
 there_padded zero members = refl
@@ -84,7 +84,7 @@ team_alone : (f : Frame) (number : ℕ) (members : List Member)
 team_alone f number members =
     let same : with_team (0 + number) members [] ≡ with_team number members [] =
     ap (λ (n : ℕ). with_team n members []) (omega arith) in
-    let is : design_cells_from 0 (padded number members) ≡ with_team number members [] = standing_padded number 0 members ∙ same in (
+    let is : design_cells_from 0 (padded number members) ≡ with_team number members [] = padded_cells number 0 members ∙ same in (
       λ legal. legal_teams f (padded number members) (subst (λ (cs : List DesignCell). IsFullyLegal f cs) (sym is) legal) number members (there_padded number members),
       λ are_placed. subst (λ (cs : List DesignCell). IsFullyLegal f cs) is (teams_legal f (padded number members) (λ team cells there own.
           by are_placed team cells own (is_padded number members team cells there))),
@@ -95,16 +95,16 @@ team_alone f number members =
       by are_placed team cells own (inr here) =
           subst (λ (n : ℕ). IsLegalCell f n 0 cells own) (sym here.0) (subst (λ (ms : List Member). IsLegalCell f number 0 ms own) (sym here.1) (are_placed own))
 
-standing_committed : (number : ℕ) (cells : List Cell) → map design_cell_of (map (committed_listed number) cells) ≡ with_team number (map committed_member cells) []
-standing_committed number [] = refl
-standing_committed number (c ∷ cells) = ap (λ (rest : List DesignCell). design_cell_of (committed_listed number c) ∷ rest) (standing_committed number cells)
+committed_cells : (number : ℕ) (cells : List Cell) → map design_cell_of (map (committed_listed number) cells) ≡ with_team number (map committed_member cells) []
+committed_cells number [] = refl
+committed_cells number (c ∷ cells) = ap (λ (rest : List DesignCell). design_cell_of (committed_listed number c) ∷ rest) (committed_cells number cells)
 
 -- A team's cells, listed at their committed places, make a fully legal design if and only if these
 -- places are legal.
 pub team_checked : (f : Frame) (number : ℕ) (s : TeamState)
     → IsFullyLegal f (map design_cell_of (map (committed_listed number) s.cells)) ↔ AreCommittedLegal f number s
 team_checked f number s =
-    let is = standing_committed number s.cells in
+    let is = committed_cells number s.cells in
     let alone = team_alone f number (committed_members s) in (
       λ legal. alone.0 (subst (λ (cs : List DesignCell). IsFullyLegal f cs) is legal),
       λ are_placed. subst (λ (cs : List DesignCell). IsFullyLegal f cs) (sym is) (alone.1 are_placed),

@@ -2,7 +2,7 @@ use Rattle.std.proofs.Common.{◌∙◌, ℕ, List, [], ◌∷◌, ◌++◌, ap,
 use Rattle.std.proofs.lemmas.List.{map-append, map_more}
 use Rattle.lf_cells.specs.declared.cell.CellId.{CellId}
 use Rattle.lf_floor_verbs.specs.declared.by_place.ByPlace.{ByPlace}
-use Rattle.lf_floor_verbs.proofs.by_place.all_standing.Goals as goal
+use Rattle.lf_floor_verbs.proofs.by_place.all_by_place.Goals as goal
 
 abbrev no_id : CellId
 no_id = record { team = 0; own = 0 }
@@ -14,7 +14,7 @@ loop-id-preserved c =
     let ids = c.args.ids.now in
     let k = c.loop-id.id-index in
     ap (map own_of) (c.in_ok-push.ensures {u = tt}).items
-    ∙ map-append own_of c.loop-id.list.items (c.standing_cell.result ∷ [])
-    ∙ ap (λ (xs : List ℕ). xs ++ c.standing_cell.result.own ∷ []) c.loop-id.invariant
-    ∙ ap (λ (x : ℕ). map id_own (take k ids) ++ x ∷ []) c.standing_cell.ensures
+    ∙ map-append own_of c.loop-id.list.items (c.cell_by_place.result ∷ [])
+    ∙ ap (λ (xs : List ℕ). xs ++ c.cell_by_place.result.own ∷ []) c.loop-id.invariant
+    ∙ ap (λ (x : ℕ). map id_own (take k ids) ++ x ∷ []) c.cell_by_place.ensures
     ∙ sym (map_more id_own ids k no_id c.loop-id-test.true)

@@ -34,9 +34,9 @@ reported_same : (bounds : List ℕ) (old new : FloorState) (t : TeamReport) → 
     → IsTeamReport bounds old t → IsTeamReport bounds new t
 reported_same bounds old new t frame same is = record {
   least = is.least ∙ ap (λ (f : Frame). least_for bounds (team_number f t.name)) (sym frame);
-  left = is.left ∙ ap (λ (o : Option TeamState). flat_map (λ own. option_map_or (λ name. name ∷ []) (option_and_then (λ (s : TeamState). name_at s.cells own) o) []) t.became.left.items) (sym same);
+  left = is.left ∙ ap (λ (o : Option TeamState). flat_map (λ own. option_map_or (λ name. name ∷ []) (option_and_then (λ (s : TeamState). name_at s.cells own) o) []) t.became.unrepaired.items) (sym same);
   legal = λ s there own within. ⊎_elim (λ legal. inl (legal_same old new t.name own frame same legal)) (λ named. inr named) (is.legal s (sym same ∙ there) own within);
-  illegal = All-weaker (IsIllegalIn old t.name) (IsIllegalIn new t.name) (λ own. left_same old new t.name own frame same) t.became.left.items is.illegal;
+  illegal = All-weaker (IsIllegalIn old t.name) (IsIllegalIn new t.name) (λ own. left_same old new t.name own frame same) t.became.unrepaired.items is.illegal;
 }
 
 reported_still : (bounds : List ℕ) (old new : FloorState) (ts : List TeamReport) → new.frame ≡ old.frame
@@ -65,7 +65,7 @@ none_reported floor r = record {
 -- one team is reported
 pub one_reported : (f : Frame) (teams : List (List ℕ)) (number : ℕ) (name : List ℕ) (floor : FloorState) (repaired : RepairStats) (old new : RepairReport)
     → slice_get (team_names f) number ≡ Some name → is_selected teams name ≡ true → IsOneMore floor name repaired old new
-    → AreLegalExcept name floor repaired.left.items → All (IsIllegalIn floor name) repaired.left.items → AddsTeamLines (selected_at f teams number) floor old new
+    → AreLegalExcept name floor repaired.unrepaired.items → All (IsIllegalIn floor name) repaired.unrepaired.items → AddsTeamLines (selected_at f teams number) floor old new
 one_reported f teams number name floor repaired old new there requested is legal illegal = record {
   reported = t ∷ [];
   named = sym (ap (λ (o : Option (List ℕ)). filter (is_selected teams) (option_map_or (λ name. name ∷ []) o [])) there ∙ ap (λ (b : Bool). cond b (name ∷ []) []) requested);
@@ -78,7 +78,7 @@ one_reported f teams number name floor repaired old new there requested is legal
   t : TeamReport
   t = record {
     name = name;
-    left = cell_names floor name repaired.left.items;
+    left = cell_names floor name repaired.unrepaired.items;
     gaps = is.gaps;
     least = least_for old.least.items (team_number floor.frame name);
     became = repaired;

@@ -30,7 +30,8 @@ pub record ExtendsOver (f : Frame) (y x : ℤ) (r : Row) : Type 0 where
 -- The position of the row of core sites at this y that extends over x; `None` if there is no such
 -- row.
 abbrev pub IsRowAt : Frame → ℤ → ℤ → Option ℕ → Type 0
-IsRowAt f y x found = MatchOption found (All (λ r. ExtendsOver f y x r → ⊥) f.rows) (λ n. IsSomeAnd (slice_get f.rows n) (ExtendsOver f y x))
+IsRowAt f y x found = MatchOption found (All (λ r. ExtendsOver f y x r → ⊥) f.rows)
+    (λ n. IsSomeAnd (slice_get f.rows n) (ExtendsOver f y x))
 
 -- The bottom row of the box: a row of core sites that is its row 0, and whose x grid holds the
 -- box's x.
@@ -74,10 +75,12 @@ pub record RestsOnRows (f : Frame) (box : Rect) : Type 0 where
 -- A box has at most one height in sites, and a box with a width has at most one bottom row.
 pub record BottomRowIsUnique : Type 0 where
   pub height : (f : Frame) (box : Rect) (j k : ℕ) → IsSitesHigh f box j → IsSitesHigh f box k → j ≡ k
-  pub bottom : (f : Frame) (box : Rect) (r s : Row) → box.x1 <ℤ box.x2 → IsBottomRow f box r → IsBottomRow f box s → r ≡ s
+  pub bottom : (f : Frame) (box : Rect) (r s : Row) → box.x1 <ℤ box.x2 → IsBottomRow f box r
+      → IsBottomRow f box s → r ≡ s
 
 -- At most one row of a frame lies at a y and extends over an x.
 abbrev pub RowAtIsUnique : Type 0
 RowAtIsUnique =
-    (f : Frame) (y x : ℤ) (m n : ℕ) (r s : Row) → slice_get f.rows m ≡ Some r → slice_get f.rows n ≡ Some s → ExtendsOver f y x r → ExtendsOver f y x s →
+    (f : Frame) (y x : ℤ) (m n : ℕ) (r s : Row) → slice_get f.rows m ≡ Some r → slice_get f.rows n ≡ Some s
+    → ExtendsOver f y x r → ExtendsOver f y x s →
     m ≡ n

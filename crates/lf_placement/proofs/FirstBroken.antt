@@ -54,10 +54,10 @@ pub broken_alone : (p : Placing) (padding : ℕ) (id : CellId) (place : Place) (
     → IsBrokenAt p padding id place (alone rule)
 broken_alone p padding id place rule broken = alone_is_first p padding id place rule (cell_at p.cells id) broken
 
-macro_is : (f : Frame) (cells : List Cell) (own : ℕ) (c : Cell) (standing : CellPlacement) (mac : Macro) → All (λ d. IsSizedCell f d) cells
-    → slice_get cells own ≡ Some c → Some standing ≡ option_map placement_of (Some c) → mac ≡ get_or f.macros standing.mac mac → mac ≡ macro_of f c.mac
-macro_is f cells own c standing mac sized there is_in_place is =
-    let same : standing.mac ≡ c.mac = ap {B = ℕ} (λ (s : CellPlacement). s.mac) (one standing (placement_of c) is_in_place) in
+macro_is : (f : Frame) (cells : List Cell) (own : ℕ) (c : Cell) (cell_placement : CellPlacement) (mac : Macro) → All (λ d. IsSizedCell f d) cells
+    → slice_get cells own ≡ Some c → Some cell_placement ≡ option_map placement_of (Some c) → mac ≡ get_or f.macros cell_placement.mac mac → mac ≡ macro_of f c.mac
+macro_is f cells own c cell_placement mac sized there is_in_place is =
+    let same : cell_placement.mac ≡ c.mac = ap {B = ℕ} (λ (s : CellPlacement). s.mac) (one cell_placement (placement_of c) is_in_place) in
     let whole : IsSizedCell f c =
     subst (λ (d : Cell). IsSizedCell f d) (get_or_from_slice_get cells own c c there) (sized own c (slice_get_within cells own c there)) in
     macro_there f c.mac mac whole.known (is ∙ ap (λ (n : ℕ). get_or f.macros n mac) same)
@@ -74,25 +74,25 @@ macro_sized f cells own c sized there =
     whole.sized
 
 -- if the rules hold, the overlapping cell found in the strips decides
-pub overlapped_at : (p : Placing) (padding : ℕ) (id : CellId) (place : Place) (standing : CellPlacement) (mac : Macro) (rect : Rect) (overlapping_one : Option ℕ)
+pub overlapped_at : (p : Placing) (padding : ℕ) (id : CellId) (place : Place) (cell_placement : CellPlacement) (mac : Macro) (rect : Rect) (overlapping_one : Option ℕ)
     → All (λ d. IsSizedCell p.frame d) (cells_of p.cells id.team) → IsOccupancyOf p.frame p.cells p.held → WidenedStripsCover → padding ≤ 16
-    → Some standing ≡ option_map placement_of (cell_at p.cells id) → mac ≡ get_or p.frame.macros standing.mac mac
+    → Some cell_placement ≡ option_map placement_of (cell_at p.cells id) → mac ≡ get_or p.frame.macros cell_placement.mac mac
     → rect ≡ padded_box (candidate_of p.frame id.team padding mac place (boxes_beside p.frame (map member_of (cells_of p.cells id.team)) id.own))
     → IsBrokenFrameRule p id place None → IsFirstOverlappingCell p.held id rect overlapping_one
     → IsBrokenAt p padding id place (overlapping overlapping_one)
-overlapped_at p padding id place standing mac rect overlapping_one sized follows widened_cover few is_in_place is box holds first = go (cell_at p.cells id) refl is_in_place holds
+overlapped_at p padding id place cell_placement mac rect overlapping_one sized follows widened_cover few is_in_place is box holds first = go (cell_at p.cells id) refl is_in_place holds
   where
     others : List Placed
     others = boxes_beside p.frame (map member_of (cells_of p.cells id.team)) id.own
 
-    go : (o : Option Cell) → cell_at p.cells id ≡ o → Some standing ≡ option_map placement_of o
+    go : (o : Option Cell) → cell_at p.cells id ≡ o → Some cell_placement ≡ option_map placement_of o
         → MatchOption o (no_rule ≡ no_rule)
         (λ c. (sites : ℕ) (those : List Placed) → IsFrameRuleVerdict (candidate_of p.frame id.team sites (macro_of p.frame c.mac) place those) no_rule)
         → MatchOption o (overlapping overlapping_one ≡ no_broken)
         (λ c. IsVerdict (candidate_of p.frame id.team padding (macro_of p.frame c.mac) place others) (overlapping overlapping_one))
     go None there at those = absurd cc
     go (Some c) there at those =
-        let same : mac ≡ macro_of p.frame c.mac = macro_is p.frame (cells_of p.cells id.team) id.own c standing mac sized there at is in
+        let same : mac ≡ macro_of p.frame c.mac = macro_is p.frame (cells_of p.cells id.team) id.own c cell_placement mac sized there at is in
         overlapped_decides (candidate_of p.frame id.team padding (macro_of p.frame c.mac) place others) p.cells p.held id rect overlapping_one follows widened_cover few
         (macro_sized p.frame (cells_of p.cells id.team) id.own c sized there) refl refl
         (subst (λ (m : Macro). rect ≡ padded_box (candidate_of p.frame id.team padding m place others)) same box) (those padding others) first

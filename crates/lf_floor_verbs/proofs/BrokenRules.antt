@@ -14,7 +14,7 @@ use Rattle.lf_cells.specs.Cells.{cell_at, cells_of, working_at}
 use Rattle.lf_legalize.specs.Members.{IsSizedCell}
 use Rattle.lf_placement.specs.Placements.{IsBrokenFrameRule, IsBrokenAt, Placing, SameButPlaces}
 use Rattle.lf_placement.proofs.Changing.{macs_same, sized_in}
-use Rattle.lf_placement.proofs.Judging.{alone_lasts, broken_alone}
+use Rattle.lf_placement.proofs.FirstBroken.{alone_lasts, broken_alone}
 use Rattle.lf_floor_model.specs.Teams.{TeamRules, broken_at, broken_by, team_rules, candidate_of_cell}
 use Rattle.lf_floor_verbs.specs.Tables.{OnlyMovesTeam}
 

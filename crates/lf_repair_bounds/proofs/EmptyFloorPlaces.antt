@@ -86,10 +86,10 @@ alone_best l f cells own c target found sized are mac is = go (slice_get cells o
     one same = cc
   go (Some d) some =
       let same : d.mac ≡ c.mac = the_mac (ap (option_map (λ (x : Cell). x.mac)) (sym some) ∙ mac) in
-      let lift : query_from f c.team 0 (map member_of cells) own d.mac ≡ query_alone f c =
+      let query_is : query_from f c.team 0 (map member_of cells) own d.mac ≡ query_alone f c =
       ap (λ (n : ℕ). query_from f c.team 0 (map member_of cells) own n) same ∙ ap (λ (boxes : List Placed). with_others boxes) (none_beside f own cells are) in
       subst (IsChoice (query_alone f c) target)
-      (sym (is ∙ ap (λ (o : Option Cell). best_at o) some ∙ ap (λ x. l.best_place x target) lift))
+      (sym (is ∙ ap (λ (o : Option Cell). best_at o) some ∙ ap (λ x. l.best_place x target) query_is))
       (l.finds_best_place (query_alone f c) target sized) where
         the_mac : Some d.mac ≡ Some c.mac → d.mac ≡ c.mac
         the_mac e = cc
