@@ -1,5 +1,5 @@
 -- Lines by their numbers.
-use Rattle.std.proofs.Common.{◌≡◌, ℕ, zero, suc, ◌+◌, List, [], ◌∷◌, length, map, Some, refl, ◌∙◌, ap, arith, slice_get}
+use Rattle.std.proofs.Common.{◌≡◌, ℕ, zero, suc, ◌+◌, List, [], ◌∷◌, length, map, None, Some, refl, ◌∙◌, ap, arith, slice_get}
 use Rattle.std.specs.List.{enumerate_from}
 
 pub count : {X Y : Type 0} (h : ℕ × X → Y) (n : ℕ) (xs : List X) → length (map h (enumerate_from n xs)) ≡ length xs
@@ -21,3 +21,12 @@ pub line_at : {X Y : Type 0} (h : ℕ × X → Y) (k : ℕ) (xs : List X) (x : X
 line_at h k xs x at =
     let number : 0 + k ≡ k = omega arith in
     line h 0 k xs x at ∙ ap (λ (m : ℕ). Some (h (m, x))) number
+
+-- There is no line of a number that is too great.
+no_line : {X Y : Type 0} (h : ℕ × X → Y) (n k : ℕ) (xs : List X) → slice_get xs k ≡ None → slice_get (map h (enumerate_from n xs)) k ≡ None
+no_line h n k [] at = refl
+no_line h n zero (y ∷ xs) at = absurd cc
+no_line h n (suc k) (y ∷ xs) at = no_line h (n + 1) k xs at
+
+pub no_line_at : {X Y : Type 0} (h : ℕ × X → Y) (k : ℕ) (xs : List X) → slice_get xs k ≡ None → slice_get (map h (enumerate_from 0 xs)) k ≡ None
+no_line_at h k xs at = no_line h 0 k xs at

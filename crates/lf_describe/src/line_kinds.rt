@@ -1,11 +1,11 @@
 //! The parts of a description: the lines of one kind.
 
-ghost use Rattle.std.specs.Prelude.{◌≡◌, ◌<◌, ◌++◌, IfOk, OnErr, OnOk, Some, count_by, flat_map, is_none, is_some, length, map, option_map, slice_get, ◌||◌};
+ghost use Rattle.std.specs.Prelude.{◌≡◌, ◌++◌, ◌∷◌, [], IfOk, IfSome, OnErr, OnOk, Some, count_by, flat_map, is_none, is_some, length, map, option_map, slice_get, ◌||◌};
 ghost use Rattle.std.specs.Io.KnownBytes.{Appends};
 ghost use Rattle.serde_json.specs.Data.{Data};
 ghost use Rattle.serde_json.specs.View.{view};
 ghost use Rattle.lf_reports.specs.Reports.{IsListed, with_byte_name, verdict_at};
-ghost use Rattle.lf_describe.specs.Description.{fence_data, line_text, obstacle_lines, row_data, soft_data};
+ghost use Rattle.lf_describe.specs.Description.{design_data, fence_data, line_text, obstacle_lines, row_data, soft_data};
 ghost use Rattle.lf_describe.specs.Parts.{described_cells, part_lines, part_text, parts_text};
 ghost use Rattle.lf_describe.specs.Written.{AppendsFront, WritesFrontOf, is_line_output};
 
@@ -54,20 +54,24 @@ pub(crate) fn counts_in(reported: &DescribedDesign<'_>) -> Counts
     counts_of(reported.cells, reported.verdicts)
 }
 
-/// Makes the line of the row of this number.
-fn row_line(alloc: Global, frame: &Frame, number: usize) -> Result<Value, AllocError>
-    requires { number < length frame.now.rows }
-    ensures { IfOk result (λ v. Some (view v) ≡ slice_get (map (row_data frame.now) frame.now.rows) number) }
+/// Makes the line of the row of this number. `Ok(None)` if there is no such row.
+fn row_line(alloc: Global, frame: &Frame, number: usize) -> Result<Option<Value>, AllocError>
+    ensures { IfOk result (λ line. option_map view line ≡ slice_get (map (row_data frame.now) frame.now.rows) number) }
 {
-    row_value(alloc, frame, &frame.rows.as_slice()[number])
+    match frame.rows.as_slice().get(number) {
+        None => Ok(None),
+        Some(row) => Ok(Some(row_value(alloc, frame, row)?)),
+    }
 }
 
-/// Makes the line of the fence of this number.
-fn fence_line(alloc: Global, frame: &Frame, number: usize) -> Result<Value, AllocError>
-    requires { number < length frame.now.teams }
-    ensures { IfOk result (λ v. Some (view v) ≡ slice_get (map fence_data frame.now.teams) number) }
+/// Makes the line of the fence of this number. `Ok(None)` if there is no such fence.
+fn fence_line(alloc: Global, frame: &Frame, number: usize) -> Result<Option<Value>, AllocError>
+    ensures { IfOk result (λ line. option_map view line ≡ slice_get (map fence_data frame.now.teams) number) }
 {
-    fence_value(alloc, &frame.teams.as_slice()[number])
+    match frame.teams.as_slice().get(number) {
+        None => Ok(None),
+        Some(fence) => Ok(Some(fence_value(alloc, fence)?)),
+    }
 }
 
 /// Returns the name of this number, or `None` if there are fewer names.
@@ -80,65 +84,73 @@ fn name_at<'a>(names: &[&'a [u8]], number: usize) -> Option<&'a [u8]>
     }
 }
 
-/// Returns the obstacle of this number.
-fn obstacle_at(frame: &Frame, number: usize) -> &Rect
-    requires { number < length frame.now.obstacles }
-    ensures { slice_get frame.now.obstacles number ≡ Some result.now }
+/// Returns the obstacle of this number. `None` if there is no such obstacle.
+fn obstacle_at(frame: &Frame, number: usize) -> Option<&Rect>
+    ensures { option_map (λ rect. rect.now) result ≡ slice_get frame.now.obstacles number }
 {
-    &frame.obstacles.as_slice()[number]
+    frame.obstacles.as_slice().get(number)
 }
 
-/// Makes the line of the obstacle of this number.
+/// Makes the line of the obstacle of this number. `Ok(None)` if there is no such obstacle.
 fn obstacle_line(
     alloc: Global,
     frame: &Frame,
     names: &[&[u8]],
     number: usize,
-) -> Result<Value, AllocError>
-    requires { number < length frame.now.obstacles }
-    ensures { IfOk result
-        (λ v. Some (view v) ≡ slice_get (obstacle_lines (map (λ n. n.now) names.now) frame.now.obstacles) number) }
+) -> Result<Option<Value>, AllocError>
+    ensures { IfOk result (λ line. option_map view line
+        ≡ slice_get (obstacle_lines (map (λ n. n.now) names.now) frame.now.obstacles) number) }
 {
-    obstacle_value(alloc, name_at(names, number), obstacle_at(frame, number))
+    let Some(obstacle) = obstacle_at(frame, number) else {
+        return Ok(None);
+    };
+    let value = obstacle_value(alloc, name_at(names, number), obstacle)?;
+    Ok(Some(value))
 }
 
-/// Makes the line of the soft rectangle of this number.
-fn soft_line(alloc: Global, frame: &Frame, number: usize) -> Result<Value, AllocError>
-    requires { number < length frame.now.soft }
-    ensures { IfOk result (λ v. Some (view v) ≡ slice_get (map soft_data frame.now.soft) number) }
+/// Makes the line of the soft rectangle of this number. `Ok(None)` if there is no such rectangle.
+fn soft_line(alloc: Global, frame: &Frame, number: usize) -> Result<Option<Value>, AllocError>
+    ensures { IfOk result (λ line. option_map view line ≡ slice_get (map soft_data frame.now.soft) number) }
 {
-    soft_value(alloc, &frame.soft.as_slice()[number])
+    match frame.soft.as_slice().get(number) {
+        None => Ok(None),
+        Some(rect) => Ok(Some(soft_value(alloc, rect)?)),
+    }
 }
 
-/// Returns the cell of this number.
-fn cell_at<'a>(reported: &DescribedDesign<'a>, number: usize) -> &'a Listed<&'a [u8]>
-    requires { number < length (described_cells reported.now) }
-    ensures there { slice_get (described_cells reported.now) number ≡ Some (with_byte_name result.now) }
-    ensures listed { IsListed reported.now.frame.now (with_byte_name result.now) }
+/// Returns the cell of this number. `None` if there is no such cell.
+fn cell_at<'a>(reported: &DescribedDesign<'a>, number: usize) -> Option<&'a Listed<&'a [u8]>>
+    ensures there { option_map (λ cell. with_byte_name cell.now) result
+        ≡ slice_get (described_cells reported.now) number }
+    ensures listed { IfSome result (λ cell. IsListed reported.now.frame.now (with_byte_name cell.now)) }
 {
-    &reported.cells[number]
+    reported.cells.get(number)
 }
 
-/// Returns the verdict of the cell of this number.
+/// Returns the verdict of the cell of this number. `None` if there is no such cell.
 fn verdict_of(reported: &DescribedDesign<'_>, number: usize) -> Option<Broken>
-    requires { number < length (described_cells reported.now) }
     ensures { result ≡ verdict_at reported.now.verdicts.now number }
 {
-    reported.verdicts[number]
+    match reported.verdicts.get(number) {
+        Some(verdict) => *verdict,
+        None => None,
+    }
 }
 
-/// Makes the line of the cell of this number.
+/// Makes the line of the cell of this number. `Ok(None)` if there is no such cell.
 fn cell_line(
     alloc: Global,
     reported: &DescribedDesign<'_>,
     number: usize,
-) -> Result<Value, AllocError>
-    requires { number < length (described_cells reported.now) }
-    ensures { IfOk result (λ v. Some (view v) ≡ slice_get (part_lines reported.now Part.Cells) number) }
+) -> Result<Option<Value>, AllocError>
+    ensures { IfOk result (λ line. option_map view line ≡ slice_get (part_lines reported.now Part.Cells) number) }
 {
-    let cell = cell_at(reported, number);
+    let Some(cell) = cell_at(reported, number) else {
+        return Ok(None);
+    };
     let verdict = verdict_of(reported, number);
-    cell_value(alloc, reported.frame, reported.cells, cell, &verdict)
+    let value = cell_value(alloc, reported.frame, reported.cells, cell, &verdict)?;
+    Ok(Some(value))
 }
 
 /// Returns the number of lines of a part.
@@ -157,29 +169,52 @@ fn count_in(reported: &DescribedDesign<'_>, part: Part) -> usize
     }
 }
 
-/// Makes the line of this number of a part.
+/// Makes the line of the design, which has the number 0. `Ok(None)` for another number.
+fn design_line(alloc: Global, frame: &Frame, number: usize) -> Result<Option<Value>, AllocError>
+    ensures { IfOk result (λ line. option_map view line ≡ slice_get (design_data frame.now ∷ []) number) }
+{
+    if number > 0 {
+        return Ok(None);
+    }
+    Ok(Some(design_value(alloc, frame)?))
+}
+
+/// Makes the line of the totals, which has the number 0. `Ok(None)` for another number.
+fn total_line(
+    alloc: Global,
+    reported: &DescribedDesign<'_>,
+    number: usize,
+) -> Result<Option<Value>, AllocError>
+    ensures { IfOk result (λ line. option_map view line ≡ slice_get (part_lines reported.now Part.Total) number) }
+{
+    if number > 0 {
+        return Ok(None);
+    }
+    Ok(Some(total_value(alloc, reported.frame, &counts_in(reported))?))
+}
+
+/// Makes the line of this number of a part. `Ok(None)` if there is no such line.
 fn line_in(
     alloc: Global,
     reported: &DescribedDesign<'_>,
     part: Part,
     number: usize,
-) -> Result<Value, AllocError>
-    requires { number < length (part_lines reported.now part) }
-    ensures { IfOk result (λ v. Some (view v) ≡ slice_get (part_lines reported.now part) number) }
+) -> Result<Option<Value>, AllocError>
+    ensures { IfOk result (λ line. option_map view line ≡ slice_get (part_lines reported.now part) number) }
 {
     match part {
-        Part::Design => design_value(alloc, reported.frame),
+        Part::Design => design_line(alloc, reported.frame, number),
         Part::Rows => row_line(alloc, reported.frame, number),
         Part::Fences => fence_line(alloc, reported.frame, number),
         Part::Obstacles => obstacle_line(alloc, reported.frame, reported.names, number),
         Part::Soft => soft_line(alloc, reported.frame, number),
         Part::Cells => cell_line(alloc, reported, number),
-        Part::Total => total_value(alloc, reported.frame, &counts_in(reported)),
+        Part::Total => total_line(alloc, reported, number),
     }
 }
 
 /// Writes the line of this number of a part, after the buffered bytes. Bytes may remain in the
-/// buffer.
+/// buffer. Writes nothing if there is no such line.
 fn put_number<W: Sink>(
     alloc: Global,
     reported: &DescribedDesign<'_>,
@@ -188,7 +223,6 @@ fn put_number<W: Sink>(
     writer: &mut W,
     waiting: &mut Vec<u8>,
 ) -> Result<(), LineFault>
-    requires { number < length (part_lines reported.now part) }
     ensures ok { (d : Data) → slice_get (part_lines reported.now part) number ≡ Some d
         → OnOk result (WritesFrontOf (W.contents writer.old) (W.contents writer.new)
         (waiting.old.items ++ line_text d) waiting.new.items) }
@@ -198,8 +232,11 @@ fn put_number<W: Sink>(
     ensures failed { W.has_failed writer.new ≡ (is_line_output result || W.has_failed writer.old) }
     ensures held { W.holds writer.new ≡ W.holds writer.old }
 {
-    let Ok(value) = line_in(alloc, reported, part, number) else {
+    let Ok(line) = line_in(alloc, reported, part, number) else {
         return Err(LineFault::OutOfMemory);
+    };
+    let Some(value) = line else {
+        return Ok(());
     };
     put_line(alloc, writer, waiting, &value)
 }

@@ -1,54 +1,14 @@
--- The saved state of a floor, and the floor restored from it, depend on the design, not on where
--- the cells were placed.
+-- A floor that is restored depends on the design, not on where the cells were placed.
 use Rattle.std.proofs.Common.{◌≡◌, ℕ, List, [], ◌∷◌, map, refl, ap, ◌∙◌}
-use Rattle.std.specs.Prelude.{drop, slice_index_or}
 use Rattle.lf_floorplan.specs.declared.frame.Frame.{Frame}
 use Rattle.lf_cells.specs.declared.cell.Cell.{Cell}
 use Rattle.lf_undo.specs.Entries.{entries_of}
 use Rattle.lf_floor_model.specs.States.{FloorState, TeamState}
 use Rattle.lf_floor_model.specs.Steps.{floor_of}
-use Rattle.lf_floor_model.specs.Teams.{team_names}
 use Rattle.lf_state_text.specs.declared.saved_rows.SavedCell.{SavedCell}
-use Rattle.lf_state_text.specs.Designs.{NamedTeam}
 use Rattle.lf_state_text.specs.Saved.{SavedTeam}
-use Rattle.lf_state_restore.specs.Saved.{ShareDesign, fixed_cells, fixed_part, map_two, design_names, named_team, restored_floor, restored_cell, restored_team}
-
--- ---- equal lists
-
-pub same_head : {X : Type 0} {x y : X} {xs ys : List X} → ◌≡◌ {A = List X} (x ∷ xs) (y ∷ ys) → x ≡ y
-same_head {X} {x} is = ap (λ (l : List X). slice_index_or l 0 x) is
-
-pub same_tail : {X : Type 0} {x y : X} {xs ys : List X} → ◌≡◌ {A = List X} (x ∷ xs) (y ∷ ys) → xs ≡ ys
-same_tail {X} is = ap (λ (l : List X). drop 1 l) is
-
--- ---- names
-
-pub names_alike : (cells others : List Cell) → map fixed_part cells ≡ map fixed_part others → map (λ c. c.name) cells ≡ map (λ c. c.name) others
-names_alike [] [] is = refl
-names_alike [] (d ∷ ds) is = absurd cc
-names_alike (c ∷ cs) [] is = absurd cc
-names_alike (c ∷ cs) (d ∷ ds) is =
-    let first : c.name ≡ d.name = ap (λ (f : List ℕ × ℕ). f.0) (same_head is) in
-    ap (λ (n : List ℕ). n ∷ map (λ x. x.name) cs) first ∙ ap (λ (ns : List (List ℕ)). d.name ∷ ns) (names_alike cs ds (same_tail is))
-
-named_each : (names : List (List ℕ)) (teams others : List TeamState) → map fixed_cells teams ≡ map fixed_cells others
-    → map_two named_team names teams ≡ map_two named_team names others
-named_each [] teams others is = refl
-named_each (n ∷ ns) [] [] is = refl
-named_each (n ∷ ns) (t ∷ ts) [] is = absurd cc
-named_each (n ∷ ns) [] (s ∷ ss) is = absurd cc
-named_each (n ∷ ns) (t ∷ ts) (s ∷ ss) is =
-    let cells : map (λ c. c.name) t.cells ≡ map (λ c. c.name) s.cells = names_alike t.cells s.cells (same_head is) in
-    ap (λ (names : List (List ℕ)). record { name = n; cells = names } ∷ map_two named_team ns ts) cells
-    ∙ ap (λ (ms : List NamedTeam). named_team n s ∷ ms) (named_each ns ts ss (same_tail is))
-
--- floors of one design have the same names
-pub named_alike : (a b : FloorState) → ShareDesign a b → design_names b ≡ design_names a
-named_alike a b one =
-    ap (λ (f : Frame). record { teams = map_two named_team (team_names f) b.teams; limits = f.limits }) one.frame
-    ∙ ap (λ (ts : List NamedTeam). record { teams = ts; limits = a.frame.limits }) (named_each (team_names a.frame) b.teams a.teams one.cells)
-
--- ---- restored floors
+use Rattle.lf_state_restore.proofs.Restoring.{same_head, same_tail}
+use Rattle.lf_state_restore.specs.Saved.{ShareDesign, fixed_cells, fixed_part, map_two, restored_floor, restored_cell, restored_team}
 
 one_cell : (c d : Cell) (s : SavedCell) → fixed_part c ≡ fixed_part d → restored_cell c s ≡ restored_cell d s
 one_cell c d s is = ap (λ (f : List ℕ × ℕ). record { name = f.0; mac = f.1; working = s.working; committed = s.committed }) is
@@ -84,8 +44,3 @@ restored_alike a b saved one =
     ap (λ (f : Frame). floor_of f b.components (map_two restored_team b.teams saved)) one.frame
     ∙ ap (λ (cs : List (List ℕ)). floor_of a.frame cs (map_two restored_team b.teams saved)) one.components
     ∙ ap (floor_of a.frame a.components) (teams_alike b.teams a.teams saved one.cells)
-
--- sharing a design is transitive
-pub of_one_design : (a b c : FloorState) → ShareDesign a b → ShareDesign b c → ShareDesign a c
-of_one_design a b c first next =
-    record { frame = next.frame ∙ first.frame; components = next.components ∙ first.components; cells = next.cells ∙ first.cells }

@@ -99,12 +99,11 @@ reported_at tables k less =
     get_or-map-range_with_len (λ (number : ℕ). saved_team_of number tables) 0 (length tables.revisions.items) k k
     record { revision = 0; padding = 0; slots = []; cells = []; entries = [] } less (zero-add k)
 
-pub one_reported : (tables : Tables) (k : ℕ) → k < length (saved_teams_of tables) → saved_at (saved_teams_of tables) k ≡ saved_team_of k tables
-one_reported tables k less = reported_at tables k (subst (λ (n : ℕ). k < n) (reported_many tables) less)
-
--- a saved team has an undo stack
-pub there_reported : (tables : Tables) → AreTables tables → (k : ℕ) → k < length (saved_teams_of tables) → k < length tables.undo.lists
-there_reported tables are k less = subst (λ (n : ℕ). k < n) (reported_many tables ∙ are.revisions ∙ sym are.undo) less
+-- no other team is saved
+pub none_reported : (tables : Tables) (k : ℕ) → length tables.revisions.items ≤ k → saved_at (saved_teams_of tables) k ≡ record { revision = 0; padding = 0; slots = []; cells = []; entries = [] }
+none_reported tables k past =
+    past_end (saved_teams_of tables) k record { revision = 0; padding = 0; slots = []; cells = []; entries = [] }
+    (subst (λ (n : ℕ). n ≤ k) (sym (reported_many tables)) past)
 
 pub option_twice : {X Y Z : Type 0} (g : X → Y) (f : Y → Z) (o : Option X) → option_map (λ x. f (g x)) o ≡ option_map f (option_map g o)
 option_twice g f None = refl

@@ -10,14 +10,16 @@ ghost use Rattle.lf_proto.specs.declared.verb.Action.TheVariants.{Def as Request
 ghost use Rattle.lf_floor_model.specs.Committed.{IsCommittedLegal};
 ghost use Rattle.lf_floor_model.specs.Steps.{IsAnswerOf, IsTested, IsTo, Step, AllocatesNothing};
 ghost use Rattle.lf_floor_model.specs.Teams.{state_of};
-ghost use Rattle.lf_team_def.specs.Output.{IsLengthOf, PutsText};
+ghost use Rattle.lf_io.specs.Output.{PutsText};
+ghost use Rattle.lf_team_def.specs.Lengths.{IsLengthOf};
 ghost use Rattle.lf_floor.specs.Responses.{WantsText, WantsTeamText, RespondsWithText, def_text, reply_in, team_addressed};
 ghost use Rattle.lf_floor.specs.declared.response.Response.TheVariants.{DefText};
 
 use crate::floor::{Floor, team_with_name};
+use lf_io::Output;
 use lf_legalize::Seeker;
 use lf_proto::{Action, Command, Refusal, Reply, Request, TeamCommand};
-use lf_team_def::{Output, team_def_length, write_team_def};
+use lf_team_def::{team_def_length, write_team_def};
 
 /// The reply to a request; of a DEF text it has the length alone.
 #[derive(Drop)]

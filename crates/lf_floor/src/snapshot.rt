@@ -1,18 +1,16 @@
 //! The saved state of a floor, as a value from which its text is written.
 
-ghost use Rattle.std.specs.Prelude.{All, ⊤};
-ghost use Rattle.lf_team_def.specs.Output.{PutsText};
-ghost use Rattle.lf_state_text.specs.Saved.{IsSavedInRange, state_text};
+ghost use Rattle.std.specs.Prelude.{⊤};
+ghost use Rattle.lf_io.specs.Output.{PutsText};
 ghost use Rattle.lf_state_restore.specs.Saved.{IsStateText, design_names};
 ghost use Rattle.lf_floor.specs.SavedStates.{state_text_of, saved_teams_of};
 ghost use Rattle.lf_floor_verbs.specs.Tables.{AreTables, floor_in};
 
 use crate::floor::Floor;
-use crate::state_view::{StateView, fences_are_few};
+use crate::state_view::{fences_are_few, write_tables};
 use lf_floor_verbs::Tables;
+use lf_io::Output;
 use lf_legalize::Seeker;
-use lf_state_text::write_state;
-use lf_team_def::Output;
 use std::marker::Model;
 
 /// An output that drops its input.
@@ -46,17 +44,6 @@ impl<'a> Model for StateSnapshot<'a> {
     ghost view = { λ s. (design_names (floor_in s.tables.now), saved_teams_of s.tables.now) };
 
     ghost invariant = { λ s. AreTables s.tables.now };
-}
-
-/// Writes the state text of the tables.
-fn write_tables<O: Output>(out: &mut O, tables: &Tables)
-    requires { AreTables tables.now }
-    ensures text { PutsText O.took out.old out.new
-        (state_text (design_names (floor_in tables.now)) (saved_teams_of tables.now)) }
-    ensures in_range { All IsSavedInRange (saved_teams_of tables.now) }
-{
-    let reported = StateView { tables };
-    write_state(out, &reported, &reported);
 }
 
 impl<'a> StateSnapshot<'a> {

@@ -1,12 +1,12 @@
 //! A floor as the contents of a state text.
 
-ghost use Rattle.std.specs.Prelude.{◌≡◌, ◌<◌, ◌≤◌, List, ℕ, length, map, option_map, slice_get};
+ghost use Rattle.std.specs.Prelude.{All, ◌≡◌, ◌≤◌, List, ℕ, length, map, option_map, slice_get};
 ghost use Rattle.lf_cells.specs.Cells.{cells_of};
-ghost use Rattle.lf_team_def.specs.Output.{PutsText};
+ghost use Rattle.lf_io.specs.Output.{PutsText};
 ghost use Rattle.lf_floor_model.specs.Teams.{team_names};
 ghost use Rattle.lf_state_restore.specs.Saved.{IsStateText, design_names, saved_cell};
 ghost use Rattle.lf_state_text.specs.Designs.{named_team_of};
-ghost use Rattle.lf_state_text.specs.Saved.{moves_within, saved_at};
+ghost use Rattle.lf_state_text.specs.Saved.{IsSavedInRange, moves_within, saved_at, state_text};
 ghost use Rattle.lf_floor.specs.SavedStates.{saved_teams_of};
 ghost use Rattle.lf_floor_verbs.specs.Tables.{AreTables, floor_in};
 
@@ -14,10 +14,10 @@ use crate::floor::Floor;
 use lf_cells::CellTable;
 use lf_floor_verbs::Tables;
 use lf_floorplan::{Frame, Limits, PackedPlace};
+use lf_io::Output;
 use lf_legalize::Seeker;
 use lf_rules::Padding;
 use lf_state_text::{DesignSchema, SavedCell, TeamViews, write_state};
-use lf_team_def::Output;
 use lf_undo::Moves;
 use std::marker::Model;
 
@@ -107,65 +107,79 @@ fn name_of_cell(tables: &Tables, team: usize, own: usize) -> Option<&[u8]>
     cell_name(tables.placement.cells(), team, own)
 }
 
-/// Returns the saved revision of the team.
+/// Returns the saved revision of the team; 0 if there is no such team.
 fn saved_revision(tables: &Tables, team: usize) -> u32
-    requires { team < length (saved_teams_of tables.now) }
     ensures { result ≡ (saved_at (saved_teams_of tables.now) team).revision }
 {
+    if team >= tables.revisions.len() {
+        return 0;
+    }
     tables.revision(team)
 }
 
-/// Returns the saved padding of the team.
+/// Returns the saved padding of the team; 0 if there is no such team.
 fn reported_padding(tables: &Tables, team: usize) -> Padding
-    requires { team < length (saved_teams_of tables.now) }
     ensures { result.sites ≡ (saved_at (saved_teams_of tables.now) team).padding }
 {
+    if team >= tables.revisions.len() {
+        return Padding::none();
+    }
     tables.padding(team)
 }
 
-/// Returns the saved session slots of the team.
+/// Returns the saved session slots of the team. Empty if there is no such team.
 fn reported_slots(tables: &Tables, team: usize) -> &[Option<u32>]
-    requires { team < length (saved_teams_of tables.now) }
     ensures { result.now ≡ (saved_at (saved_teams_of tables.now) team).slots }
 {
+    if team >= tables.revisions.len() {
+        return &[];
+    }
     tables.sessions.slots(team)
 }
 
-/// Returns the number of the team's saved cells.
+/// Returns the number of the team's saved cells; 0 if there is no such team.
 fn reported_cells(tables: &Tables, team: usize) -> usize
-    requires { team < length (saved_teams_of tables.now) }
     ensures { result ≡ length (saved_at (saved_teams_of tables.now) team).cells }
 {
+    if team >= tables.revisions.len() {
+        return 0;
+    }
     tables.placement.cells().cells_of(team).len()
 }
 
 /// Returns the saved places of the team's cell at that position. `None` if and only if there is no
 /// such cell.
 fn reported_cell(tables: &Tables, team: usize, own: usize) -> Option<SavedCell>
-    requires { team < length (saved_teams_of tables.now) }
     ensures { result ≡ slice_get (saved_at (saved_teams_of tables.now) team).cells own }
 {
+    if team >= tables.revisions.len() {
+        return None;
+    }
     saved_cell(tables.placement.cells(), team, own)
 }
 
-/// Returns the number of the team's saved undo entries.
+/// Returns the number of the team's saved undo entries; 0 if there is no such team.
 fn reported_entries(tables: &Tables, team: usize) -> usize
-    requires tables { AreTables tables.now }
-    requires team { team < length (saved_teams_of tables.now) }
+    requires { AreTables tables.now }
     ensures { result ≡ length (saved_at (saved_teams_of tables.now) team).entries }
 {
+    if team >= tables.revisions.len() {
+        return 0;
+    }
     tables.undo.depth(team)
 }
 
 /// Returns the moves of the team's undo entry that has `newer` newer ones. `None` if and only if
 /// there is no such entry.
 fn reported_entry(tables: &Tables, team: usize, newer: usize) -> Option<&Moves>
-    requires tables { AreTables tables.now }
-    requires team { team < length (saved_teams_of tables.now) }
+    requires { AreTables tables.now }
     ensures { option_map
         (λ moves. moves_within (length (saved_at (saved_teams_of tables.now) team).cells) moves.now) result
         ≡ slice_get (saved_at (saved_teams_of tables.now) team).entries newer }
 {
+    if team >= tables.revisions.len() {
+        return None;
+    }
     tables.undo.at(team, newer)
 }
 
@@ -247,14 +261,24 @@ impl<'a> TeamViews for StateView<'a> {
     }
 }
 
+/// Writes the state text of the tables.
+pub(crate) fn write_tables<O: Output>(out: &mut O, tables: &Tables)
+    requires { AreTables tables.now }
+    ensures text { PutsText O.took out.old out.new
+        (state_text (design_names (floor_in tables.now)) (saved_teams_of tables.now)) }
+    ensures in_range { All IsSavedInRange (saved_teams_of tables.now) }
+{
+    let reported = StateView { tables };
+    write_state(out, &reported, &reported);
+}
+
 /// Writes a state text of the tables.
 fn put_tables<O: Output>(out: &mut O, tables: &Tables)
     requires { AreTables tables.now }
     ensures { (text : List ℕ) × IsStateText (floor_in tables.now) text × PutsText O.took out.old out.new text }
 {
     fences_are_few(tables.placement.frame());
-    let reported = StateView { tables };
-    write_state(out, &reported, &reported);
+    write_tables(out, tables);
 }
 
 impl<S: Seeker + Drop> Floor<S> {

@@ -9,3 +9,6 @@ pub mod Verbs
 pub mod Runs
 pub mod Slices
 pub mod EitherWay
+pub mod Lines
+pub mod Cuts
+pub mod CutsThere

@@ -5,9 +5,9 @@ use Rattle.std.proofs.Math.Seq.{take-append_seam}
 use Rattle.std.proofs.Common.{get_or, Result, Ok, Err, OnErr}
 use Rattle.std.proofs.lemmas.List.Folds.{length-flat_map-take}
 use Rattle.std.specs.List.{flat_map, join_with_byte}
-use Rattle.lf_proto.specs.ReplyText.{reply_words_line}
+use Rattle.lf_proto.specs.ReplyText.{spaced_line}
 use Rattle.lf_proto.specs.Words.{spaced_word, word_text}
-use Rattle.lf_proto.specs.declared.reply_words.Word.{Word}
+use Rattle.lf_proto.specs.declared.words.Word.{Word}
 
 pub kept_more : (old more mid new : List ℕ) (n m : ℕ) → n ≡ length old → mid ≡ old ++ more → take m new ≡ mid → take n new ≡ old
 kept_more old more mid new n m long is kept =
@@ -20,17 +20,17 @@ join_cons f c first [] = sym (append-nil first)
 join_cons f c first (x ∷ xs) = ap (λ l. first ++ (c ∷ l)) (join_cons f c (f x) xs)
 
 -- a line is its first word, then a space and the word for each other word, then a line feed
-pub line_is : (first : List ℕ) (words : List Word) → reply_words_line (first ∷ map word_text words) ≡ first ++ flat_map spaced_word words ++ 10 ∷ []
+pub line_is : (first : List ℕ) (words : List Word) → spaced_line (first ∷ map word_text words) ≡ first ++ flat_map spaced_word words ++ 10 ∷ []
 line_is first words = ap (λ l. l ++ 10 ∷ []) (join_cons word_text 32 first words)
 
-pub length_line : (first : List ℕ) (words : List Word) → length (reply_words_line (first ∷ map word_text words)) ≡ length first + length (flat_map spaced_word words) + 1
+pub length_line : (first : List ℕ) (words : List Word) → length (spaced_line (first ∷ map word_text words)) ≡ length first + length (flat_map spaced_word words) + 1
 length_line first words = rw line_is (simp length-append (omega arith))
 
 -- if room is missing for one word, it is missing for all
 pub room_for_all : (words : List Word) (w : Word) (i have len cap : ℕ) → i < length words → have ≡ len + length (flat_map spaced_word (take i words)) → cap < have + length (spaced_word (get_or words i w)) → cap < len + length (flat_map spaced_word words)
 room_for_all words w i have len cap below is want = omega (arith, length-flat_map-take spaced_word words i w below)
 
-pub line_put : (first old a b new : List ℕ) (words : List Word) → a ≡ old ++ first → b ≡ a ++ flat_map spaced_word words → new ≡ b ++ 10 ∷ [] → new ≡ old ++ reply_words_line (first ∷ map word_text words)
+pub line_put : (first old a b new : List ℕ) (words : List Word) → a ≡ old ++ first → b ≡ a ++ flat_map spaced_word words → new ≡ b ++ 10 ∷ [] → new ≡ old ++ spaced_line (first ∷ map word_text words)
 line_put first old a b new words e f g =
     g ∙ (ap (λ l. l ++ 10 ∷ []) (f ∙ ap (λ l. l ++ flat_map spaced_word words) e) ∙ ((simp append_assoc) ∙ ap (λ l. old ++ l) (sym (line_is first words ∙ append_assoc first (flat_map spaced_word words) (10 ∷ [])))))
 

@@ -32,10 +32,10 @@ use Rattle.lf_proto.specs.declared.verb.Operands.TheVariants.{Alone, Cell, CellA
 use Rattle.lf_proto.specs.declared.verb.Action.{Action}
 
 -- the text of a number below 10^10 has only digits
-decimal_digits : (n : ℕ) → n < 10 ^ 10 → Digits (decimal n)
+pub decimal_digits : (n : ℕ) → n < 10 ^ 10 → Digits (decimal n)
 decimal_digits n small = all_digits (decimal n) (decimal_is_IsNumeral n (omega arith)).0.1
 
-digits-decimal : (n : ℕ) → n < 10 ^ 10 → digits (decimal n) ≡ Some n
+pub digits-decimal : (n : ℕ) → n < 10 ^ 10 → digits (decimal n) ≡ Some n
 digits-decimal n small =
     let numeral = decimal_is_IsNumeral n (omega arith) in
     let all : list_all is_ascii_digit (decimal n) ≡ true = decimal_digits n small in
@@ -44,7 +44,7 @@ digits-decimal n small =
     let short : nat_le (length (decimal n)) 10 ≡ true = grind (arith, nat_tests) in
     rw (all, some, short) (ap Some numeral.1)
 
-below-less : (limit n : ℕ) → n < limit → below limit n ≡ Some n
+pub below-less : (limit n : ℕ) → n < limit → below limit n ≡ Some n
 below-less limit n small = ap (λ t. cond t (Some n) None) (lt-ltb n limit small)
 
 session_number-decimal : (n : ℕ) → n < 2 ^ 32 → session_number (decimal n) ≡ Some n
@@ -61,12 +61,12 @@ negative-decimal n small =
     ∙ ap (λ o. o >>= (λ size. Some (neg_ℤ (pos size)))) (below-less (2 ^ 31) n small)
 
 -- no digit is a minus
-no_minus : (text : List ℕ) → Digits text → 0 < length text → (slice_index text 0 == 45) ≡ false
+pub no_minus : (text : List ℕ) → Digits text → 0 < length text → (slice_index text 0 == 45) ≡ false
 no_minus text all some =
     let range = is_digit_at text 0 all some in
     grind (arith, nat_tests, range)
 
-coordinate-signed_decimal : (z : ℤ) → negsuc 2147483647 <ℤ z → z <ℤ pos (2 ^ 31) → coordinate (signed_decimal z) ≡ Some z
+pub coordinate-signed_decimal : (z : ℤ) → negsuc 2147483647 <ℤ z → z <ℤ pos (2 ^ 31) → coordinate (signed_decimal z) ≡ Some z
 coordinate-signed_decimal (pos n) low high =
     let small : n < 2 ^ 31 = omega (arith, ints) in
     let some = (decimal_is_IsNumeral n (omega arith)).0.0 in
@@ -76,7 +76,7 @@ coordinate-signed_decimal (negsuc n) low high =
     let small : suc n < 2 ^ 31 = omega (arith, ints) in
     negative-decimal (suc n) small
 
-orient_named-text : (o : Orient) → orient_named (orient_word o) ≡ Some o
+pub orient_named-text : (o : Orient) → orient_named (orient_word o) ≡ Some o
 orient_named-text N = refl
 orient_named-text W = refl
 orient_named-text S = refl

@@ -43,6 +43,10 @@ printed_fields (To team (Within session action)) =
 abbrev pub printed : Command (List ℕ) Place → List ℕ
 printed command = join_with_byte 32 (printed_fields command)
 
+-- the line that prints a request, with its line feed
+abbrev pub request_line : Command (List ℕ) Place → List ℕ
+request_line command = printed command ++ 10 ∷ []
+
 -- the line that prints a request reads as that request
 abbrev pub RequestReadsBack : Type 0
 RequestReadsBack = (command : Command (List ℕ) Place) → IsPlain command → command_on (printed command) ≡ Some command

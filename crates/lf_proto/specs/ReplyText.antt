@@ -11,9 +11,9 @@ use Rattle.lf_proto.specs.declared.reply.Reply.TheVariants.{Done, Opened, Revisi
 use Rattle.lf_proto.specs.declared.reply.Refusal.{Refusal}
 use Rattle.lf_proto.specs.declared.reply.Refusal.TheVariants.{BadRequest, NoTeam, NoSession, Stale, NoCell, Unplaced, Illegal, NoPlace, NothingToUndo, SessionsFull, RevisionsSpent, OutOfMemory}
 
--- words with one space between each two, and a line feed
-abbrev pub reply_words_line : List (List ℕ) → List ℕ
-reply_words_line words = join_with_byte 32 words ++ 10 ∷ []
+-- a line: words with one space between each two, and a line feed
+abbrev pub spaced_line : List (List ℕ) → List ℕ
+spaced_line words = join_with_byte 32 words ++ 10 ∷ []
 
 -- a place: its corner and its orientation
 abbrev pub reply_place_words : Place → List (List ℕ)
@@ -63,7 +63,7 @@ text_after _ = []
 
 -- the line of a reply
 abbrev pub reply_line : Reply → List ℕ → List ℕ → List ℕ
-reply_line reply cell_name other_name = reply_words_line (reply_words reply cell_name other_name)
+reply_line reply cell_name other_name = spaced_line (reply_words reply cell_name other_name)
 
 -- the text of a reply: its line, and the text after it
 abbrev pub reply_text : Reply → List ℕ → List ℕ → List ℕ

@@ -1,15 +1,16 @@
--- The words of a reply line.
+-- The words of a line.
 use Rattle.std.specs.Prelude.{ℕ, List, ◌∷◌, decimal}
 use Rattle.std.specs.Fmt.{signed_decimal}
-use Rattle.lf_proto.specs.declared.reply_words.Word.{Word}
-use Rattle.lf_proto.specs.declared.reply_words.Word.TheVariants.{Text, Number, Length, Signed}
+use Rattle.lf_proto.specs.declared.words.Word.{Word}
+use Rattle.lf_proto.specs.declared.words.Word.TheVariants.{Text, Number, Length, Signed, Long}
 
--- the text of a word of a reply
+-- the text of a word
 abbrev pub word_text : Word → List ℕ
 word_text (Text text) = text.now
 word_text (Number n) = decimal n
 word_text (Length n) = decimal n
 word_text (Signed z) = signed_decimal z
+word_text (Long z) = signed_decimal z
 
 -- a word with a space in front
 abbrev pub spaced_word : Word → List ℕ

@@ -19,6 +19,8 @@
 //! - `numbers`: the numbers of a request line
 //! - `parse`: from a line to its request
 //! - `framer`: lines of a stream that comes in pieces
+//! - `words`: words and lines, appended to a text
+//! - `request_text`: the line of a request
 //! - `reply`: replies and refusals
 //! - `reply_words`: the texts of replies
 //! - `report_text`: the text of a report
@@ -42,17 +44,22 @@ mod reply_words;
 mod report_text;
 mod request;
 mod request_list;
+mod request_text;
 mod verb;
 mod violations;
+mod words;
 
 pub use framer::{Fed, Got, LineFramer, framing_keeps_lines};
+pub use numbers::digits_of;
 pub use parse::{
-    BadRequest, blanks_around_pass, blanks_between_pass, parse_line, printed_reads_back,
+    BadRequest, blanks_around_pass, blanks_between_pass, orient_named, parse_line,
+    printed_reads_back, read_place,
 };
 pub use reply::{Refusal, Reply, Text};
 pub use reply_words::reply_text;
 pub use report_text::{put_violation, report_begun, report_closed, report_json};
 pub use request::{Command, Request, TeamCommand};
 pub use request_list::RequestList;
+pub use request_text::write_request;
 pub use verb::{Action, Change};
 pub use violations::{Names, put_verdict};

@@ -1,4 +1,4 @@
-//! The numbers of a request line.
+//! The numbers of a line.
 
 ghost use Rattle.std.specs.Prelude.{◌≡◌, ◌≤◌, ◌<ℤ◌, IfSome, length, negsuc, true};
 ghost use Rattle.std.specs.Char.{is_ascii_digit};
@@ -29,7 +29,7 @@ fn value_of(digits: &[u8]) -> u64
 }
 
 /// Returns the value of one to ten digits. `None` for another word.
-fn digits_of(word: &[u8]) -> Option<u64>
+pub fn digits_of(word: &[u8]) -> Option<u64>
     ensures { result ≡ digits word.now }
 {
     if word.is_empty() || word.len() > 10 || !are_digits(word) {

@@ -25,7 +25,7 @@ use lf_units::Point;
 pub struct BadRequest;
 
 /// Returns the orientation of that name. `None` if there is no such orientation.
-fn orient_of(word: &[u8]) -> Option<Orient>
+pub fn orient_named(word: &[u8]) -> Option<Orient>
     ensures { result ≡ orient_named word.now }
 {
     match word {
@@ -42,12 +42,12 @@ fn orient_of(word: &[u8]) -> Option<Orient>
 }
 
 /// Returns the place in three words. `None` if they are not a place.
-fn read_place(x: &[u8], y: &[u8], orient: &[u8]) -> Option<Place>
+pub fn read_place(x: &[u8], y: &[u8], orient: &[u8]) -> Option<Place>
     ensures { result ≡ place_written x.now y.now orient.now }
 {
     let x = coordinate_of(x)?;
     let y = coordinate_of(y)?;
-    let orient = orient_of(orient)?;
+    let orient = orient_named(orient)?;
     Some(Place::new(x, y, orient))
 }
 

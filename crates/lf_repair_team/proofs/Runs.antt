@@ -17,7 +17,8 @@ use Rattle.lf_floor_model.specs.Steps.{IsTo, KeepsIfRefused, Step}
 use Rattle.lf_floor_model.specs.Runs.{Run}
 use Rattle.lf_floor_model.specs.VerbLaws.{is_ok}
 use Rattle.lf_floor_model.specs.Committed.{IsCommittedLegal}
-use Rattle.lf_repair_team.specs.Runs.{AppendsSomeOf, IsRunWithCutLine, IsRunBy, IsWrittenRun, request_line, request_lines}
+use Rattle.lf_repair_team.specs.Runs.{AppendsSomeOf, IsRunWithCutLine, IsRunBy, IsWrittenRun, request_lines}
+use Rattle.lf_proto.specs.Printed.{request_line}
 use Rattle.lf_repair_team.specs.CellEdits.{KeepsLockedPlaces}
 use Rattle.lf_repair_team.specs.TeamRepairs.{ChangesOnly, team_cell_names}
 

@@ -1,4 +1,3 @@
-pub mod Words
 pub mod Runs
 pub mod TeamRepairs
 pub mod Stats

@@ -1,5 +1,5 @@
 -- Runs of one team's own commands, and their lines.
-use Rattle.std.specs.Prelude.{◌≡◌, ℕ, ◌≤◌, List, [], ◌∷◌, ◌++◌, All, Option, length, take, true}
+use Rattle.std.specs.Prelude.{◌≡◌, ℕ, ◌≤◌, List, ◌++◌, All, Option, length, take, true}
 use Rattle.std.specs.List.{flat_map}
 use Rattle.std.specs.Io.KnownBytes.{Appends}
 use Rattle.lf_floorplan.specs.declared.place.Place.{Place}
@@ -7,16 +7,12 @@ use Rattle.lf_proto.specs.Lines.{IsLineName}
 use Rattle.lf_rules.specs.Legalizer.{Legalizer}
 use Rattle.lf_proto.specs.declared.request.Command.{Command}
 use Rattle.lf_proto.specs.declared.reply.Reply.{Reply}
-use Rattle.lf_proto.specs.Printed.{printed}
+use Rattle.lf_proto.specs.Printed.{request_line}
 use Rattle.lf_proto.specs.Requests.{IsPlain}
 use Rattle.lf_floor_model.specs.States.{FloorState}
 use Rattle.lf_floor_model.specs.Steps.{IsTo}
 use Rattle.lf_floor_model.specs.Runs.{Run}
 use Rattle.lf_floor_model.specs.VerbLaws.{is_ok}
-
--- the line that prints a command, with its line feed
-abbrev pub request_line : Command (List ℕ) Place → List ℕ
-request_line command = printed command ++ 10 ∷ []
 
 -- the lines of the commands
 abbrev pub request_lines : List (Command (List ℕ) Place) → List ℕ

@@ -11,7 +11,6 @@
 //!
 //! Modules, in reading order:
 //!
-//! - `request_text`: the line of a command
 //! - `run_command`: a command sent to the floor, and its line written
 //! - `run_edits`: edits of single cells as commands
 //! - `repair_input`: a team at the start of its repair
@@ -29,7 +28,6 @@
 
 mod outcome;
 mod repair_input;
-mod request_text;
 mod run_command;
 mod run_edits;
 mod stats;
@@ -37,6 +35,5 @@ mod team;
 
 pub use lf_repair_strategy::{MovePolicy, RepairStats};
 pub use repair_input::is_team_legal;
-pub use request_text::write_request;
 pub use run_command::RepairFault;
 pub use team::repair_team;

@@ -12,11 +12,10 @@ ghost use Rattle.lf_repair_team.specs.CellEdits.{IsUnchangedOrStepped};
 ghost use Rattle.lf_repair_team.specs.Runs.{AppendsSomeOf, IsRunWithCutLine, IsWrittenRun};
 ghost use Rattle.lf_repair_team.specs.TeamRepairs.{ChangesOnly};
 
-use crate::request_text::write_request;
 use lf_floor::Floor;
 use lf_io::{DeviceFault, Sink};
 use lf_legalize::Seeker;
-use lf_proto::{Refusal, Reply, Request};
+use lf_proto::{Refusal, Reply, Request, write_request};
 use lf_rules::legalizer_exists;
 
 /// Why the repair of a team stopped early.

@@ -11,7 +11,7 @@ use Rattle.lf_proto.specs.declared.reply.Reply.TheVariants.{Refused}
 use Rattle.lf_proto.specs.declared.reply.Refusal.{Refusal}
 use Rattle.lf_proto.specs.declared.reply.Refusal.TheVariants.{BadRequest, NoTeam, NoSession, Stale, NoCell, Unplaced, Illegal, NoPlace, NothingToUndo}
 use Rattle.lf_proto.specs.declared.reply.Refusal.TheVariants.{SessionsFull, RevisionsSpent, OutOfMemory}
-use Rattle.lf_proto.specs.ReplyText.{reply_words_line, refusal_words, reply_text}
+use Rattle.lf_proto.specs.ReplyText.{spaced_line, refusal_words, reply_text}
 
 -- The bytes of the words, and one more for each word.
 abbrev pub total : List (List ℕ) → ℕ
@@ -24,9 +24,9 @@ joined_within (w ∷ []) = omega arith
 joined_within (w ∷ v ∷ ws) = omega (arith, length-append w (32 ∷ join_with_byte 32 (v ∷ ws)), joined_within (v ∷ ws))
 
 -- A line is no longer than its words with one byte for each, and its line feed.
-pub line_within : (words : List (List ℕ)) → length (reply_words_line words ++ []) ≤ total words + 1
+pub line_within : (words : List (List ℕ)) → length (spaced_line words ++ []) ≤ total words + 1
 line_within words =
-    omega (arith, length-append (reply_words_line words) [], length-append (join_with_byte 32 words) (10 ∷ []), joined_within words)
+    omega (arith, length-append (spaced_line words) [], length-append (join_with_byte 32 words) (10 ∷ []), joined_within words)
 
 number_small : (rule : Rule) → number_of rule < 10
 number_small Height = omega arith

@@ -70,12 +70,12 @@ run_of l old new (e ∷ later) (mid, answers, rest) =
 -- ---- one team's texts
 
 -- The name of the cell at this position in the team's state.
-abbrev name_for : TeamState → Option ℕ → List ℕ
+abbrev pub name_for : TeamState → Option ℕ → List ℕ
 name_for s None = []
 name_for s (Some own) = unwrap_or (name_at s.cells own) []
 
 -- The text of a reply of the team in this state.
-abbrev text_for : TeamState → Reply → List ℕ
+abbrev pub text_for : TeamState → Reply → List ℕ
 text_for s reply = reply_text reply (name_for s (reply_cells reply).0) (name_for s (reply_cells reply).1)
 
 name_for_is : (floor : FloorState) (team : List ℕ) (s : TeamState) → state_of floor team ≡ Some s → (o : Option ℕ) → name_in floor team o ≡ name_for s o

@@ -7,7 +7,7 @@ use Rattle.std.proofs.lemmas.List.{take-append-le, take_min}
 use Rattle.lf_io.proofs.Known.{Appends-more}
 use Rattle.lf_proto.specs.declared.reply.Reply.{Reply}
 use Rattle.lf_proto.specs.declared.reply.Reply.TheVariants.{Report, Def}
-use Rattle.lf_proto.specs.ReplyText.{reply_words_line}
+use Rattle.lf_proto.specs.ReplyText.{spaced_line}
 use Rattle.lf_floor_model.specs.States.{FloorState}
 use Rattle.lf_floor.specs.Responses.{def_text, reply_in}
 use Rattle.lf_floor.specs.declared.response.Response.{Response}
@@ -40,15 +40,15 @@ front_after (Err e) a b c x y first front = front_after_it a b c x y first front
 -- The parts of a report's text.
 pub report_parts : (floor : FloorState) (team : List ℕ) (reply : Reply) (text bytes : List ℕ) → reply ≡ Report text → bytes ≡ text
     → (codes "ok " ++ bytes) ++ codes "\n" ≡ reply_text_of floor team reply
-report_parts floor team reply text bytes is shown = rw (is, shown) (sym (append-nil (reply_words_line (codes "ok" ∷ text ∷ []))))
+report_parts floor team reply text bytes is shown = rw (is, shown) (sym (append-nil (spaced_line (codes "ok" ∷ text ∷ []))))
 
 -- The parts of a DEF text.
 pub def_parts : (floor : FloorState) (team : List ℕ) (reply : Reply) (text line counted bytes : List ℕ) → reply ≡ Def text → counted ≡ text
-    → line ≡ reply_words_line (codes "ok" ∷ decimal (length counted) ∷ []) → bytes ≡ text → line ++ bytes ≡ reply_text_of floor team reply
+    → line ≡ spaced_line (codes "ok" ∷ decimal (length counted) ∷ []) → bytes ≡ text → line ++ bytes ≡ reply_text_of floor team reply
 def_parts floor team reply text line counted bytes is same line_is shown = rw (is, line_is, same, shown) refl
 
 -- The line in front of a DEF text that is written in chunks, and the text.
 pub response_parts : (floor : FloorState) (team : List ℕ) (response : Response) (count : ℕ) (line : List ℕ) → response ≡ DefText count
-    → count ≡ length (def_text floor team) → line ≡ reply_words_line (codes "ok" ∷ decimal count ∷ [])
+    → count ≡ length (def_text floor team) → line ≡ spaced_line (codes "ok" ∷ decimal count ∷ [])
     → line ++ def_text floor team ≡ reply_text_of floor team (reply_in floor team response)
 response_parts floor team response count line is counted line_is = rw (is, line_is, counted) refl

@@ -1,6 +1,6 @@
 //! Replies to lines, and the texts of short replies.
 
-ghost use Rattle.std.specs.Prelude.{◌≡◌, ◌≤◌, ℕ, decimal, false, length, option_map, vec_capacity};
+ghost use Rattle.std.specs.Prelude.{◌≡◌, ◌≤◌, ℕ, decimal, false, length, option_map};
 ghost use Rattle.std.specs.Fmt.{signed_decimal};
 ghost use Rattle.lf_orient.specs.Words.{orient_word};
 ghost use Rattle.lf_rules.specs.Legalizer.{Legalizer};
@@ -13,6 +13,7 @@ ghost use Rattle.lf_server.specs.Exchanges.{requested_on, requests_end, reply_ce
 ghost use Rattle.lf_server.specs.Connections.{KeepsDesign};
 ghost use Rattle.lf_server.specs.Progress.{IsAnswered, team_requested};
 
+use crate::line_buffer::LineBuffer;
 use lf_floor::{Floor, Response};
 use lf_floorplan::Place;
 use lf_legalize::Seeker;
@@ -125,22 +126,20 @@ fn text_fits(reply: &Reply, cell_name: &[u8], other_name: &[u8])
 /// Replaces the buffer's contents with the text of a reply to one of the team's commands. The reply
 /// is neither a report nor a DEF text.
 pub(crate) fn write_short_reply<K: Seeker + Drop>(
-    text: &mut Vec<u8>,
+    text: &mut LineBuffer,
     floor: &Floor<K>,
     team: &[u8],
     reply: &Reply,
 )
-    requires room { 4096 ≤ vec_capacity text.old }
-    requires short { is_long reply.now ≡ false }
-    ensures text { text.new.items ≡ reply_text_of floor.now team.now reply.now }
-    ensures room { 4096 ≤ vec_capacity text.new }
+    requires { is_long reply.now ≡ false }
+    ensures { text.new.bytes.items ≡ reply_text_of floor.now team.now reply.now }
 {
     let (cell, other) = cells_in(reply);
     let cell_name = name_in(floor, team, cell);
     let other_name = name_in(floor, team, other);
     text_fits(reply, cell_name, other_name);
-    text.clear();
-    if reply_text(reply, cell_name, other_name, text).is_err() {
+    text.bytes.clear();
+    if reply_text(reply, cell_name, other_name, &mut text.bytes).is_err() {
         unreachable!();
     }
 }

@@ -4,9 +4,9 @@ ghost use Rattle.std.specs.Prelude.{◌≡◌, ◌≤◌, ◌++◌, ℕ, List, O
 ghost use Rattle.std.specs.Io.KnownBytes.{Appends};
 ghost use Rattle.lf_server.specs.Pieces.{IsUnderWay, has_failed_since};
 
-use crate::responses::{put, send_both};
-use lf_io::{DeviceFault, Sink, send};
-use lf_team_def::Output;
+use crate::line_buffer::put;
+use crate::responses::send_both;
+use lf_io::{DeviceFault, Output, Sink, send};
 
 /// A text that is being written to a sink. The buffer holds the bytes not sent yet. After a call of
 /// the sink has failed, no other call is made.

@@ -15,10 +15,11 @@
 //! receives and how each connection ends, and that no others were served (`AreServed`). This holds
 //! if the acceptor makes known what it accepts.
 //!
-//! Used by `lf_laws_slice_texts`, `lf_task_serve` and `lf_app`.
+//! Used by `lf_laws_slices`, `lf_task_serve` and `lf_app`.
 //!
 //! Modules, in reading order:
 //!
+//! - `line_buffer`: the buffer for the text of a line
 //! - `answer`: the reply to a line, and the texts of short replies
 //! - `buffered_output`: a text written to a sink in chunks
 //! - `responses`: replies sent to a sink
@@ -40,6 +41,7 @@ mod acceptor;
 mod answer;
 mod buffered_output;
 mod laws;
+mod line_buffer;
 mod responses;
 mod serve_loop;
 mod tcp;

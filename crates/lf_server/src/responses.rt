@@ -1,8 +1,8 @@
 //! Sending of replies.
 
-ghost use Rattle.std.specs.Prelude.{◌≡◌, ◌≤◌, ◌+◌, ◌++◌, ◌∷◌, [], ℕ, OnErr, OnOk, codes, decimal, false, length, take, true, vec_capacity, vec_len};
+ghost use Rattle.std.specs.Prelude.{◌≡◌, ◌≤◌, ◌+◌, ◌++◌, ◌∷◌, [], ℕ, OnErr, OnOk, codes, decimal, false, length, take, true, vec_capacity};
 ghost use Rattle.std.specs.Io.KnownBytes.{Appends};
-ghost use Rattle.lf_proto.specs.ReplyText.{reply_words_line};
+ghost use Rattle.lf_proto.specs.ReplyText.{spaced_line};
 ghost use Rattle.lf_floor.specs.Responses.{def_text, reply_in};
 ghost use Rattle.lf_floor.specs.declared.response.Response.TheVariants.{DefText};
 ghost use Rattle.lf_server.specs.Exchanges.{reply_text_of};
@@ -10,35 +10,22 @@ ghost use Rattle.lf_server.specs.Pieces.{IsUnderWay, has_failed_since};
 
 use crate::answer::write_short_reply;
 use crate::buffered_output::BufferedOutput;
+use crate::line_buffer::{LineBuffer, put};
 use itoa::Buffer;
 use lf_floor::{Floor, Response};
 use lf_io::{DeviceFault, Sink, send};
 use lf_legalize::Seeker;
 use lf_proto::Reply;
 
-/// Appends bytes to a buffer that has room for them.
-pub(crate) fn put(out: &mut Vec<u8>, bytes: &[u8])
-    requires room { vec_len out.old + length bytes.now ≤ vec_capacity out.old }
-    ensures items { out.new.items ≡ out.old.items ++ bytes.now }
-    ensures len { vec_len out.new ≡ vec_len out.old + length bytes.now }
-    ensures capacity { vec_capacity out.old ≤ vec_capacity out.new }
-{
-    if out.extend_from_slice(bytes).is_err() {
-        unreachable!();
-    }
-}
-
 /// Replaces the buffer's contents with the line in front of a DEF text of `count` bytes.
-fn put_def_line(text: &mut Vec<u8>, count: usize)
-    requires room { 4096 ≤ vec_capacity text.old }
-    ensures line { text.new.items ≡ reply_words_line (codes "ok" ∷ decimal count ∷ []) }
-    ensures room { 4096 ≤ vec_capacity text.new }
+fn put_def_line(text: &mut LineBuffer, count: usize)
+    ensures { text.new.bytes.items ≡ spaced_line (codes "ok" ∷ decimal count ∷ []) }
 {
     let mut number = Buffer::new();
-    text.clear();
-    put(text, b"ok ");
-    put(text, number.format(count).as_bytes());
-    put(text, b"\n");
+    text.bytes.clear();
+    put(&mut text.bytes, b"ok ");
+    put(&mut text.bytes, number.format(count).as_bytes());
+    put(&mut text.bytes, b"\n");
 }
 
 /// Sends the first bytes and then the second, as `send` does.
@@ -64,12 +51,11 @@ pub(crate) fn send_both<W: Sink>(
 /// the buffer.
 fn send_reply<K: Seeker + Drop, W: Sink>(
     sink: &mut W,
-    text: &mut Vec<u8>,
+    text: &mut LineBuffer,
     floor: &Floor<K>,
     team: &[u8],
     reply: &Reply,
 ) -> Result<(), DeviceFault>
-    requires room { 4096 ≤ vec_capacity text.old }
     ensures ok { OnOk result
         (Appends (W.contents sink.old) (W.contents sink.new) (reply_text_of floor.now team.now reply.now)) }
     ensures flushed { OnOk result (W.is_flushed sink.new ≡ true) }
@@ -78,7 +64,6 @@ fn send_reply<K: Seeker + Drop, W: Sink>(
         × Appends (W.contents sink.old) (W.contents sink.new) (take n (reply_text_of floor.now team.now reply.now))) }
     ensures failed { OnErr result (W.has_failed sink.new ≡ true) }
     ensures held { W.holds sink.new ≡ W.holds sink.old }
-    ensures room { 4096 ≤ vec_capacity text.new }
 {
     match reply {
         Reply::Report(report) => {
@@ -87,11 +72,11 @@ fn send_reply<K: Seeker + Drop, W: Sink>(
         }
         Reply::Def(def) => {
             put_def_line(text, def.as_bytes().len());
-            send_both(sink, text.as_slice(), def.as_bytes())
+            send_both(sink, text.bytes.as_slice(), def.as_bytes())
         }
         _ => {
             write_short_reply(text, floor, team, reply);
-            send(sink, text.as_slice())
+            send(sink, text.bytes.as_slice())
         }
     }
 }
@@ -142,13 +127,12 @@ fn send_def<K: Seeker + Drop, W: Sink>(
 /// line in chunks.
 pub(crate) fn send_response<K: Seeker + Drop, W: Sink>(
     sink: &mut W,
-    text: &mut Vec<u8>,
+    text: &mut LineBuffer,
     floor: &Floor<K>,
     team: &[u8],
     response: &Response,
 ) -> Result<(), DeviceFault>
-    requires room { 4096 ≤ vec_capacity text.old }
-    requires length { (count : ℕ) → response.now ≡ DefText count → count ≡ length (def_text floor.now team.now) }
+    requires { (count : ℕ) → response.now ≡ DefText count → count ≡ length (def_text floor.now team.now) }
     ensures ok { OnOk result (Appends (W.contents sink.old) (W.contents sink.new)
         (reply_text_of floor.now team.now (reply_in floor.now team.now response.now))) }
     ensures flushed { OnOk result (W.is_flushed sink.new ≡ true) }
@@ -158,13 +142,12 @@ pub(crate) fn send_response<K: Seeker + Drop, W: Sink>(
         (take n (reply_text_of floor.now team.now (reply_in floor.now team.now response.now)))) }
     ensures failed { OnErr result (W.has_failed sink.new ≡ true) }
     ensures held { W.holds sink.new ≡ W.holds sink.old }
-    ensures room { 4096 ≤ vec_capacity text.new }
 {
     match response {
         Response::Reply(reply) => send_reply(sink, text, floor, team, reply),
         Response::DefText(count) => {
             put_def_line(text, *count);
-            send_def(sink, text, floor, team)
+            send_def(sink, &mut text.bytes, floor, team)
         }
     }
 }

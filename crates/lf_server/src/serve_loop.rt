@@ -1,7 +1,7 @@
 //! The loop that serves one connection.
 
 ghost use Rattle.std.specs.Prelude.{◌≡◌, ◌≢◌, ◌<◌, ◌≤◌, ◌+◌, ◌++◌, ◌∷◌, ◌⊎◌, [], IfSome, MatchOption, Some, None, List, ℕ};
-ghost use Rattle.std.specs.Prelude.{length, drop, option_map, true, false, vec_capacity};
+ghost use Rattle.std.specs.Prelude.{length, drop, option_map, true, false};
 ghost use Rattle.lf_rules.specs.Legalizer.{Legalizer};
 ghost use Rattle.lf_server.specs.Connections.{KeepsDesign};
 ghost use Rattle.lf_server.specs.Devices.{writer};
@@ -10,6 +10,7 @@ ghost use Rattle.lf_proto.specs.Pieces.{lines_from, between_line_feeds};
 ghost use Rattle.lf_server.specs.Progress.{FinishesServing, IsGivenLine, ContinuesServing, ActsOnLine, SinkFailsAtWriteFault, StopsServing, answered_count};
 
 use crate::answer::{answer, is_end, request_in, team_requested};
+use crate::line_buffer::LineBuffer;
 use crate::responses::send_response;
 use lf_floor::Floor;
 use lf_io::{Sink, Source};
@@ -17,11 +18,8 @@ use lf_legalize::Seeker;
 use lf_proto::{Got, LineFramer};
 use std::alloc::Global;
 
-/// The most bytes of a line, and of a reply that is neither a report nor a DEF text.
+/// The bytes that are read at once, as many as the most of a line.
 const LINE: usize = 4096;
-
-/// The bytes of a DEF text that are written at once, at least those of a line.
-const PIECE: usize = 65_536;
 
 /// How serving a connection ended, which determines the lines acted on.
 #[derive(Clone, Copy, Debug, PartialEq, Eq)]
@@ -76,11 +74,9 @@ fn line_given(framer: &LineFramer, got: Got) -> Option<Option<&[u8]>>
 fn answer_line<K: Seeker + Drop, W: Sink>(
     floor: &mut Floor<K>,
     sink: &mut W,
-    text: &mut Vec<u8>,
+    text: &mut LineBuffer,
     line: Option<&[u8]>,
 ) -> Option<Ending>
-    requires room { 4096 ≤ vec_capacity text.old }
-    ensures room { 4096 ≤ vec_capacity text.new }
     ensures never { IfSome result (λ ending. (ending ≢ Ending.ReadFault) × (ending ≢ Ending.OutOfMemory)) }
     ensures health { MatchOption result (W.has_failed sink.new ≡ W.has_failed sink.old)
         (λ ending. SinkFailsAtWriteFault ending (W.has_failed sink.old) (W.has_failed sink.new)) }
@@ -108,12 +104,10 @@ fn take_line<K: Seeker + Drop, W: Sink>(
     floor: &mut Floor<K>,
     sink: &mut W,
     framer: &mut LineFramer,
-    text: &mut Vec<u8>,
+    text: &mut LineBuffer,
     left: &mut u64,
     piece: &[u8],
 ) -> (usize, Option<Ending>)
-    requires room { 4096 ≤ vec_capacity text.old }
-    ensures room { 4096 ≤ vec_capacity text.new }
     ensures used { result.0 ≤ length piece.now }
     ensures some { 0 < length piece.now → 0 < result.0 }
     ensures left { left.new ≤ left.old }
@@ -149,12 +143,10 @@ fn answer_lines_in<K: Seeker + Drop, W: Sink>(
     floor: &mut Floor<K>,
     sink: &mut W,
     framer: &mut LineFramer,
-    text: &mut Vec<u8>,
+    text: &mut LineBuffer,
     left: &mut u64,
     piece: &[u8],
 ) -> Option<Ending>
-    requires room { 4096 ≤ vec_capacity text.old }
-    ensures room { 4096 ≤ vec_capacity text.new }
     ensures left { left.new ≤ left.old }
     ensures never { IfSome result (λ ending. (ending ≢ Ending.ReadFault) × (ending ≢ Ending.OutOfMemory)) }
     ensures health { MatchOption result (W.has_failed sink.new ≡ W.has_failed sink.old)
@@ -189,10 +181,9 @@ fn finish<K: Seeker + Drop, W: Sink>(
     floor: &mut Floor<K>,
     sink: &mut W,
     framer: &mut LineFramer,
-    text: &mut Vec<u8>,
+    text: &mut LineBuffer,
     left: &mut u64,
 ) -> Ending
-    requires room { 4096 ≤ vec_capacity text.old }
     ensures left { left.new ≤ left.old }
     ensures never { (result ≢ Ending.ReadFault) × (result ≢ Ending.OutOfMemory) }
     ensures health { SinkFailsAtWriteFault result (W.has_failed sink.old) (W.has_failed sink.new) }
@@ -217,23 +208,22 @@ fn finish<K: Seeker + Drop, W: Sink>(
     }
 }
 
-/// Reads the input chunk by chunk and answers its lines, in at most `reads` reads.
+/// Reads the input chunk by chunk and answers its lines, within these limits. Counts the lines
+/// acted on down in `left.lines`.
 fn serve_lines<K: Seeker + Drop, S: Source, W: Sink>(
     floor: &mut Floor<K>,
     source: &mut S,
     sink: &mut W,
     framer: &mut LineFramer,
-    text: &mut Vec<u8>,
-    left: &mut u64,
-    reads: u64,
+    text: &mut LineBuffer,
+    left: &mut ServeLimits,
 ) -> Ending
     requires fresh { framer.old.pending ≡ Some [] }
-    requires countable { S.reads source.old + reads ≤ 18446744073709551615 }
-    requires room { 4096 ≤ vec_capacity text.old }
-    ensures left { left.new ≤ left.old }
-    ensures reads { S.reads source.new ≤ S.reads source.old + reads }
+    requires countable { S.reads source.old + left.old.reads ≤ 18446744073709551615 }
+    ensures left { left.new.lines ≤ left.old.lines }
+    ensures reads { S.reads source.new ≤ S.reads source.old + left.old.reads }
     ensures read_fault { result ≡ Ending.ReadFault
-        → (S.has_failed source.new ≡ true) ⊎ (S.reads source.new ≡ S.reads source.old + reads) }
+        → (S.has_failed source.new ≡ true) ⊎ (S.reads source.new ≡ S.reads source.old + left.old.reads) }
     ensures readable { result ≢ Ending.ReadFault → S.has_failed source.new ≡ S.has_failed source.old }
     ensures some { result ≢ Ending.OutOfMemory }
     ensures health { SinkFailsAtWriteFault result (W.has_failed sink.old) (W.has_failed sink.new) }
@@ -243,19 +233,19 @@ fn serve_lines<K: Seeker + Drop, S: Source, W: Sink>(
     ensures serves { (l : Legalizer) → FinishesServing l result (S.remaining source.old) (S.remaining source.new)
         (writer (W.contents sink.old) (W.is_flushed sink.old) (W.has_failed sink.old))
         (writer (W.contents sink.new) (W.is_flushed sink.new) (W.has_failed sink.new))
-        left.old left.new floor.old floor.new }
+        left.old.lines left.new.lines floor.old floor.new }
 {
     let mut buffer = [0u8; LINE];
-    let mut reads_left = reads;
+    let mut reads_left = left.reads;
     while reads_left > 0 {
         reads_left -= 1;
         let Ok(count) = source.read(&mut buffer) else {
             return Ending::ReadFault;
         };
         if count == 0 {
-            return finish(floor, sink, framer, text, left);
+            return finish(floor, sink, framer, text, &mut left.lines);
         }
-        match answer_lines_in(floor, sink, framer, text, left, &buffer[..count]) {
+        match answer_lines_in(floor, sink, framer, text, &mut left.lines, &buffer[..count]) {
             Some(ending) => return ending,
             None => {}
         }
@@ -325,18 +315,10 @@ pub fn serve<K: Seeker + Drop, S: Source, W: Sink>(
     let Ok(mut framer) = LineFramer::new(alloc) else {
         return served_of(0, Ending::OutOfMemory);
     };
-    let Ok(mut text) = Vec::with_capacity(alloc, PIECE) else {
+    let Ok(mut text) = LineBuffer::empty(alloc) else {
         return served_of(0, Ending::OutOfMemory);
     };
-    let mut left = limits.lines;
-    let ending = serve_lines(
-        floor,
-        source,
-        sink,
-        &mut framer,
-        &mut text,
-        &mut left,
-        limits.reads,
-    );
-    served_of(limits.lines - left, ending)
+    let mut left = limits;
+    let ending = serve_lines(floor, source, sink, &mut framer, &mut text, &mut left);
+    served_of(limits.lines - left.lines, ending)
 }

@@ -71,8 +71,9 @@ step_fixed : (l : Legalizer) (old new : FloorState) (command : Command (List ℕ
 step_fixed l old new command reply true step = design_then old old new (record { frame = refl; components = refl; cells = refl }) step.short.kept
 step_fixed l old new command reply false step = design_then old (answer_of l old command).floor new (answer_fixed l old command) step.floor_is
 
-one_after : (a b c : FloorState) → ShareDesign a b → ShareDesign b c → ShareDesign a c
-one_after a b c first next =
+-- sharing a design is transitive
+pub of_one_design : (a b c : FloorState) → ShareDesign a b → ShareDesign b c → ShareDesign a c
+of_one_design a b c first next =
     record { frame = next.frame ∙ first.frame; components = next.components ∙ first.components; cells = next.cells ∙ first.cells }
 
 run_fixed : (l : Legalizer) (commands : List (Command (List ℕ) Place)) (replies : List Reply) (begin old new : FloorState) → ShareDesign begin old
@@ -81,7 +82,7 @@ run_fixed l [] [] begin old new one run = design_then begin old new one run
 run_fixed l [] (r ∷ rs) begin old new one run = absurd run
 run_fixed l (c ∷ cs) [] begin old new one run = absurd run
 run_fixed l (c ∷ cs) (r ∷ rs) begin old new one run =
-    run_fixed l cs rs begin run.0 new (one_after begin old run.0 one (step_fixed l old run.0 c r (is_short r) run.1)) run.2
+    run_fixed l cs rs begin run.0 new (of_one_design begin old run.0 one (step_fixed l old run.0 c r (is_short r) run.1)) run.2
 
 pub keeps_design : RunKeepsDesign
 keeps_design l begin old new commands replies one run = run_fixed l commands replies begin old new one run

@@ -1,8 +1,9 @@
 -- Cells that are moved to the places of a list, one after another, and are then committed.
-use Rattle.std.proofs.Common.{◌≡◌, ◌<◌, ◌≤◌, ℕ, zero, suc, ◌+◌, List, [], ◌∷◌, length, map, set, get_or, Option, None, refl, ap, sym, ◌∙◌, arith}
+use Rattle.std.proofs.Common.{◌≡◌, ◌<◌, ◌≤◌, ℕ, zero, suc, ◌+◌, List, [], ◌∷◌, length, map, set, get_or, Option, None, Some, refl, ap, sym, ◌∙◌, arith}
+use Rattle.std.specs.Prelude.{option_map, slice_get}
 use Rattle.lf_floorplan.specs.declared.place.Place.{Place}
 use Rattle.lf_cells.specs.declared.cell.Cell.{Cell}
-use Rattle.lf_cells.specs.Cells.{Cells, as_committed, cells_of, id_in, moved}
+use Rattle.lf_cells.specs.Cells.{Cells, as_committed, cells_of, id_in, id_of, moved}
 use Rattle.lf_undo.specs.Entries.{Places}
 use Rattle.lf_placement.specs.Placements.{OtherCellsStay, SameButPlaces, committed_of, working_places_of, without_place}
 use Rattle.lf_placement.proofs.Moves.{cells_stay, cells_through, places_moved, same_moved}
@@ -99,10 +100,17 @@ read_at f [] n s d less = absurd (omega (arith, less))
 read_at f (x ∷ saved) zero s d less = refl
 read_at f (x ∷ saved) (suc n) s d less = read_at f saved n s d (omega (arith, less))
 
--- a team without a first cell has no cell
-pub none_first : (team : ℕ) (cells : List Cell) (saved : List SavedCell) → id_in cells team 0 ≡ None → cells ≡ map_two restored_cell cells saved
-none_first team [] saved none = refl
-none_first team (c ∷ cells) saved none = absurd cc
+-- a move of no cell changes nothing
+pub none_moved : (cells : List Cell) (team own : ℕ) (place : Option Place) → id_in cells team own ≡ None → moved cells own place ≡ cells
+none_moved cells team own place none = go cells own (no_cell (slice_get cells own) none) where
+  no_cell : (o : Option Cell) → option_map (λ (c : Cell). id_of team own) o ≡ None → o ≡ None
+  no_cell None e = refl
+  no_cell (Some c) e = absurd cc
+
+  go : (cs : List Cell) (n : ℕ) → slice_get cs n ≡ None → moved cs n place ≡ cs
+  go [] n e = refl
+  go (c ∷ cs) zero e = absurd cc
+  go (c ∷ cs) (suc n) e = ap (λ (xs : List Cell). c ∷ xs) (go cs n e)
 
 -- ---- committed places
 

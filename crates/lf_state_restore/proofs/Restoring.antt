@@ -18,38 +18,38 @@ use Rattle.lf_state_restore.specs.Saved.{ShareDesign, SavedRestores, StateAndTai
 
 -- ---- equal lists
 
-same_head : {X : Type 0} {x y : X} {xs ys : List X} → ◌≡◌ {A = List X} (x ∷ xs) (y ∷ ys) → x ≡ y
+pub same_head : {X : Type 0} {x y : X} {xs ys : List X} → ◌≡◌ {A = List X} (x ∷ xs) (y ∷ ys) → x ≡ y
 same_head {X} {x} is = ap (λ (l : List X). slice_index_or l 0 x) is
 
-same_tail : {X : Type 0} {x y : X} {xs ys : List X} → ◌≡◌ {A = List X} (x ∷ xs) (y ∷ ys) → xs ≡ ys
+pub same_tail : {X : Type 0} {x y : X} {xs ys : List X} → ◌≡◌ {A = List X} (x ∷ xs) (y ∷ ys) → xs ≡ ys
 same_tail {X} is = ap (λ (l : List X). drop 1 l) is
 
 -- ---- names
 
-same_names : (cells others : List Cell) → map fixed_part cells ≡ map fixed_part others → map (λ c. c.name) cells ≡ map (λ c. c.name) others
-same_names [] [] is = refl
-same_names [] (d ∷ ds) is = absurd cc
-same_names (c ∷ cs) [] is = absurd cc
-same_names (c ∷ cs) (d ∷ ds) is =
+pub names_alike : (cells others : List Cell) → map fixed_part cells ≡ map fixed_part others → map (λ c. c.name) cells ≡ map (λ c. c.name) others
+names_alike [] [] is = refl
+names_alike [] (d ∷ ds) is = absurd cc
+names_alike (c ∷ cs) [] is = absurd cc
+names_alike (c ∷ cs) (d ∷ ds) is =
     let first : c.name ≡ d.name = ap (λ (f : List ℕ × ℕ). f.0) (same_head is) in
-    ap (λ (n : List ℕ). n ∷ map (λ x. x.name) cs) first ∙ ap (λ (ns : List (List ℕ)). d.name ∷ ns) (same_names cs ds (same_tail is))
+    ap (λ (n : List ℕ). n ∷ map (λ x. x.name) cs) first ∙ ap (λ (ns : List (List ℕ)). d.name ∷ ns) (names_alike cs ds (same_tail is))
 
-same_named : (names : List (List ℕ)) (teams others : List TeamState) → map fixed_cells teams ≡ map fixed_cells others
+named_each : (names : List (List ℕ)) (teams others : List TeamState) → map fixed_cells teams ≡ map fixed_cells others
     → map_two named_team names teams ≡ map_two named_team names others
-same_named [] teams others is = refl
-same_named (n ∷ ns) [] [] is = refl
-same_named (n ∷ ns) [] (s ∷ ss) is = absurd cc
-same_named (n ∷ ns) (t ∷ ts) [] is = absurd cc
-same_named (n ∷ ns) (t ∷ ts) (s ∷ ss) is =
-    let cells : map (λ c. c.name) t.cells ≡ map (λ c. c.name) s.cells = same_names t.cells s.cells (same_head is) in
+named_each [] teams others is = refl
+named_each (n ∷ ns) [] [] is = refl
+named_each (n ∷ ns) [] (s ∷ ss) is = absurd cc
+named_each (n ∷ ns) (t ∷ ts) [] is = absurd cc
+named_each (n ∷ ns) (t ∷ ts) (s ∷ ss) is =
+    let cells : map (λ c. c.name) t.cells ≡ map (λ c. c.name) s.cells = names_alike t.cells s.cells (same_head is) in
     ap (λ (names : List (List ℕ)). record { name = n; cells = names } ∷ map_two named_team ns ts) cells
-    ∙ ap (λ (ms : List NamedTeam). named_team n s ∷ ms) (same_named ns ts ss (same_tail is))
+    ∙ ap (λ (ms : List NamedTeam). named_team n s ∷ ms) (named_each ns ts ss (same_tail is))
 
 -- floors of one design have the same names
-same_design : (a b : FloorState) → ShareDesign a b → design_names b ≡ design_names a
-same_design a b one =
+pub named_alike : (a b : FloorState) → ShareDesign a b → design_names b ≡ design_names a
+named_alike a b one =
     ap (λ (f : Frame). record { teams = map_two named_team (team_names f) b.teams; limits = f.limits }) one.frame
-    ∙ ap (λ (ts : List NamedTeam). record { teams = ts; limits = a.frame.limits }) (same_named (team_names a.frame) b.teams a.teams one.cells)
+    ∙ ap (λ (ts : List NamedTeam). record { teams = ts; limits = a.frame.limits }) (named_each (team_names a.frame) b.teams a.teams one.cells)
 
 -- ---- places
 
@@ -106,7 +106,7 @@ pub saved_back : SavedRestores
 saved_back begin floor text one (saved, decides, is) =
     let read : saved_state_of (design_names begin) text ≡ Ok saved =
     ap (saved_state_of (design_names begin)) is
-    ∙ ap (λ (d : NamedDesign). saved_state_of d (state_text (design_names floor) saved)) (sym (same_design begin floor one))
+    ∙ ap (λ (d : NamedDesign). saved_state_of d (state_text (design_names floor) saved)) (sym (named_alike begin floor one))
     ∙ state-again (design_names floor) saved decides.words in (
       saved,
       read,

@@ -1,8 +1,8 @@
 //! The cells of all teams are placed at their saved places.
 
-ghost use Rattle.std.specs.Prelude.{◌≡◌, ◌≤◌, ℕ, IfOk, length, map};
+ghost use Rattle.std.specs.Prelude.{◌≡◌, IfOk, length, map};
 ghost use Rattle.lf_cells.specs.Cells.{as_committed, cells_of, moved};
-ghost use Rattle.lf_placement.specs.Placements.{OtherCellsStay, SameButPlaces, committed_of, working_places_of};
+ghost use Rattle.lf_placement.specs.Placements.{OtherCellsStay, SameButPlaces, working_places_of};
 ghost use Rattle.lf_state_text.specs.Saved.{team_view, team_views};
 ghost use Rattle.lf_state_restore.specs.Saved.{map_two, restored_cell};
 ghost use Rattle.lf_state_restore.specs.Placed.{AreAsMany, ArePlaced, without_cells};
@@ -14,24 +14,31 @@ use lf_state_text::{SavedCell, TeamRow};
 use std::alloc::{AllocError, Global};
 use std::mem;
 
-/// Sets the working place of the team's cell at that position, and changes nothing else.
-fn put_at(cells: &mut CellTable, team: u32, own: usize, place: Option<Place>)
-    requires { own ≤ 4000000 }
+/// Sets the working place of the cell, and changes nothing else. Changes nothing if there is no such
+/// cell.
+fn put_cell(cells: &mut CellTable, id: CellId, place: Option<Place>)
+    ensures own { cells_of cells.new id.team ≡ moved (cells_of cells.old id.team) id.own place }
+    ensures others { OtherCellsStay id.team cells.old cells.new }
+{
+    cells.set_working(id, place);
+}
+
+/// Sets the working place of the team's cell at that position, and changes nothing else. Changes
+/// nothing if there is no such cell.
+fn put_at(cells: &mut CellTable, team: usize, own: usize, place: Option<Place>)
     ensures own { cells_of cells.new team ≡ moved (cells_of cells.old team) own place }
     ensures others { OtherCellsStay team cells.old cells.new }
 {
-    let id = CellId {
-        team,
-        own: own as u32,
-    };
-    cells.set_working(id, place);
+    match cells.cell_of(team, own) {
+        Some(id) => put_cell(cells, id, place),
+        None => {}
+    }
 }
 
 /// Sets the working places of the team's cells to the saved committed places. There is a saved cell
 /// for each cell.
-fn committed_are_in_place(cells: &mut CellTable, team: u32, saved: &[SavedCell])
-    requires many { length saved.now ≡ length (cells_of cells.old team) }
-    requires few { length saved.now ≤ 4000000 }
+fn committed_are_in_place(cells: &mut CellTable, team: usize, saved: &[SavedCell])
+    requires { length saved.now ≡ length (cells_of cells.old team) }
     ensures places { working_places_of (cells_of cells.new team) ≡ map (λ c. c.committed) saved.now }
     ensures same { SameButPlaces (cells_of cells.old team) (cells_of cells.new team) }
     ensures others { OtherCellsStay team cells.old cells.new }
@@ -43,9 +50,8 @@ fn committed_are_in_place(cells: &mut CellTable, team: u32, saved: &[SavedCell])
 
 /// Sets the working places of the team's cells to the saved working places. They are at the saved
 /// committed places so far, and a cell whose two places are equal is not touched.
-fn working_are_in_place(cells: &mut CellTable, team: u32, saved: &[SavedCell])
-    requires are_placed { working_places_of (cells_of cells.old team) ≡ map (λ c. c.committed) saved.now }
-    requires few { length saved.now ≤ 4000000 }
+fn working_are_in_place(cells: &mut CellTable, team: usize, saved: &[SavedCell])
+    requires { working_places_of (cells_of cells.old team) ≡ map (λ c. c.committed) saved.now }
     ensures places { working_places_of (cells_of cells.new team) ≡ map (λ c. c.working) saved.now }
     ensures same { SameButPlaces (cells_of cells.old team) (cells_of cells.new team) }
     ensures others { OtherCellsStay team cells.old cells.new }
@@ -59,36 +65,22 @@ fn working_are_in_place(cells: &mut CellTable, team: u32, saved: &[SavedCell])
 }
 
 /// Commits the working places of the team's cells.
-fn commit(cells: &mut CellTable, team: u32)
+fn commit(cells: &mut CellTable, team: usize)
     ensures own { cells_of cells.new team ≡ map as_committed (cells_of cells.old team) }
     ensures others { OtherCellsStay team cells.old cells.new }
 {
-    cells.commit_team(team as usize);
+    cells.commit_team(team);
 }
 
 /// Sets the places of the team's cells to the saved ones. There is a saved cell for each cell.
-fn place_team(cells: &mut CellTable, team: u32, saved: &[SavedCell])
-    requires many { length saved.now ≡ length (cells_of cells.old team) }
-    requires few { length saved.now ≤ 4000000 }
+fn place_team(cells: &mut CellTable, team: usize, saved: &[SavedCell])
+    requires { length saved.now ≡ length (cells_of cells.old team) }
     ensures own { cells_of cells.new team ≡ map_two restored_cell (cells_of cells.old team) saved.now }
     ensures others { OtherCellsStay team cells.old cells.new }
 {
     committed_are_in_place(cells, team, saved);
     commit(cells, team);
     working_are_in_place(cells, team, saved);
-}
-
-/// The same for the team of that number, if it has a cell.
-fn place_numbered(cells: &mut CellTable, team: usize, saved: &[SavedCell])
-    requires many { length saved.now ≡ length (cells_of cells.old team) }
-    requires few { length saved.now ≤ 4000000 }
-    ensures own { cells_of cells.new team ≡ map_two restored_cell (cells_of cells.old team) saved.now }
-    ensures others { OtherCellsStay team cells.old cells.new }
-{
-    match cells.cell_of(team, 0) {
-        Some(first) => place_team(cells, first.team, saved),
-        None => {}
-    }
 }
 
 /// Removes the saved cells from the row and returns them.
@@ -102,14 +94,13 @@ fn take_cells(alloc: Global, row: &mut TeamRow) -> Vec<SavedCell>
 /// Sets the places of each team's cells to those of its row, and removes these from the row. There
 /// is a saved cell for each cell.
 fn place_in_table(alloc: Global, cells: &mut CellTable, rows: &mut [TeamRow])
-    requires many { AreAsMany (team_views rows.old) cells.old }
-    requires few { (team : ℕ) → length (cells_of cells.old team) ≤ 4000000 }
+    requires { AreAsMany (team_views rows.old) cells.old }
     ensures placed { ArePlaced (team_views rows.old) cells.old cells.new }
     ensures rows { team_views rows.new ≡ map without_cells (team_views rows.old) }
 {
     for team in 0..rows.len() {
         let saved = take_cells(alloc, &mut rows[team]);
-        place_numbered(cells, team, &saved);
+        place_team(cells, team, &saved);
     }
 }
 

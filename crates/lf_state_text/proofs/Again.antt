@@ -6,7 +6,7 @@ use Rattle.std.specs.List.{flat_map, AllByRecursion}
 use Rattle.std.proofs.lemmas.List.{append-nil}
 use Rattle.lf_floorplan.specs.declared.limits.Limits.{Limits}
 use Rattle.lf_undo.specs.declared.moves.Move.{Move}
-use Rattle.lf_team_def.specs.TeamText.{words_line}
+use Rattle.lf_proto.specs.ReplyText.{spaced_line}
 use Rattle.lf_state_text.specs.declared.fault.StateFaultNumber.{StateFaultNumber}
 use Rattle.lf_state_text.specs.declared.fault.StateFaultNumber.TheVariants.{Unexpected, OtherDesign}
 use Rattle.lf_state_text.specs.declared.saved_rows.SavedCell.{SavedCell}
@@ -66,7 +66,7 @@ entry_lines-again cells small ms rest fits =
     let moves = flat_map move_line ms ++ rest in
     let counted = decimal (length ms) ++ (10 ∷ moves) in
     let undo : due_at Unexpected (codes "undo ") (codes "undo" ++ (32 ∷ counted)) ≡ Ok counted = due-again Unexpected (codes "undo ") counted in
-    ap (entry_at cells) (append_assoc (words_line (codes "undo" ∷ decimal (length ms) ∷ [])) (flat_map move_line ms) rest ∙ line-rest (codes "undo") (decimal (length ms) ∷ []) moves)
+    ap (entry_at cells) (append_assoc (spaced_line (codes "undo" ∷ decimal (length ms) ∷ [])) (flat_map move_line ms) rest ∙ line-rest (codes "undo") (decimal (length ms) ∷ []) moves)
     ∙ rw (undo, number-again 10 (length ms) moves (omega arith) fits.1.0)
     (many-again (move_at cells) move_line (λ m. (m.own < cells) × IfSome m.old IsSpot) (move_line-again cells small) ms rest
     (both_all (λ (m : Move). m.own < cells) (λ (m : Move). IfSome m.old IsSpot) ms fits.0 fits.1.1))
@@ -157,10 +157,10 @@ unfolding all_at opening_at
 all-again design ts saved =
     let teams = lines_by saved_team_lines design.teams ts in
     let counted = decimal (length design.teams) ++ (10 ∷ teams) in
-    let of_line : words_line (codes "teams" ∷ decimal (length design.teams) ∷ []) ++ teams ≡ codes "teams" ++ (32 ∷ counted) =
+    let of_line : spaced_line (codes "teams" ∷ decimal (length design.teams) ∷ []) ++ teams ≡ codes "teams" ++ (32 ∷ counted) =
     line-rest (codes "teams") (decimal (length design.teams) ∷ []) teams in
     let written : state_text design ts ≡ title ++ (codes "teams" ++ (32 ∷ counted)) =
-    append_assoc title (words_line (codes "teams" ∷ decimal (length design.teams) ∷ [])) teams ∙ ap (λ (l : List ℕ). title ++ l) of_line in
+    append_assoc title (spaced_line (codes "teams" ∷ decimal (length design.teams) ∷ [])) teams ∙ ap (λ (l : List ℕ). title ++ l) of_line in
     let teams_due : due_at Unexpected (codes "teams ") (codes "teams" ++ (32 ∷ counted)) ≡ Ok counted = due-again Unexpected (codes "teams ") counted in
     let each : each_at (team_at design.limits) design.teams teams ≡ Ok (ts, []) =
     ap (each_at (team_at design.limits) design.teams) (sym (append-nil teams))

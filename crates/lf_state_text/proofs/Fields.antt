@@ -1,8 +1,7 @@
 -- A word that was written is read back, whatever bytes follow.
-use Rattle.std.proofs.Common.{◌≡◌, ℕ, suc, ◌+◌, ◌<◌, ◌≤◌, ◌^◌, Bool, true, false, not, ◌==◌, cond, nat_lt, nat_le, List, [], ◌∷◌, ◌++◌, length, drop, Option, None, Some, Ok, refl, ap, subst, ◌∙◌, arith, ℤ, pos, negsuc, neg_ℤ, ◌<ℤ◌}
+use Rattle.std.proofs.Common.{◌≡◌, ℕ, suc, ◌+◌, ◌<◌, ◌≤◌, ◌^◌, Bool, true, false, not, ◌==◌, nat_lt, List, [], ◌∷◌, ◌++◌, length, drop, Option, None, Some, Ok, refl, subst, ◌∙◌, arith, ℤ, pos, negsuc, ◌<ℤ◌}
 use Rattle.std.proofs.lemmas.Bool.Decides.{nat_tests}
 use Rattle.std.proofs.lemmas.Bool.{and_parts, le-leb, lt-ltb}
-use Rattle.std.proofs.lemmas.Fmt.{decimal_is_IsNumeral, length-decimal-le}
 use Rattle.std.proofs.lemmas.Int.{ints}
 use Rattle.std.proofs.lemmas.List.{take_at, length-append}
 use Rattle.std.proofs.lemmas.List.Folds.{list_all-append}
@@ -10,17 +9,16 @@ use Rattle.std.proofs.lemmas.Slice.Eq.{bytes_eq-Decides}
 use Rattle.std.specs.Char.{is_ascii_digit}
 use Rattle.std.specs.Fmt.{decimal, signed_decimal}
 use Rattle.std.specs.List.{list_all, position_or_len}
-use Rattle.std.specs.Prelude.{slice_index, IfSome, codes, take}
+use Rattle.std.specs.Prelude.{IfSome, codes, take}
 use Rattle.std.specs.Str.{bytes_eq}
 use Rattle.lf_orient.specs.declared.Orient.{Orient}
 use Rattle.lf_orient.specs.declared.Orient.TheVariants.{N, W, S, E, FN, FW, FS, FE}
 use Rattle.lf_orient.specs.Words.{orient_word}
 use Rattle.lf_floorplan.specs.declared.place.Place.{Place}
 use Rattle.std.proofs.Math.Seq.{take-append_seam}
-use Rattle.lf_proto.specs.Numbers.{digits, below, negative, positive, coordinate}
-use Rattle.lf_proto.specs.Requests.{orient_named}
-use Rattle.lf_proto.proofs.Digits.{all_digits, is_digit_at, Digits}
+use Rattle.lf_proto.specs.Numbers.{below}
 use Rattle.lf_proto.proofs.Places.{place_written-some}
+use Rattle.lf_proto.proofs.Printing.{below-less, coordinate-signed_decimal, decimal_digits, digits-decimal, orient_named-text}
 use Rattle.lf_state_text.specs.declared.fault.StateFaultNumber.{StateFaultNumber}
 use Rattle.lf_state_text.specs.Words.{bytes_after, number, cut, place_in_word, place_or_dash, slot_on, place_text, slot_text}
 use Rattle.lf_state_text.specs.Saved.{IsSpot}
@@ -64,45 +62,8 @@ after_it-front due rest =
 
 -- ---- numbers
 
-decimal_digits : (n : ℕ) → n < 10 ^ 10 → Digits (decimal n)
-decimal_digits n small = all_digits (decimal n) (decimal_is_IsNumeral n (omega arith)).0.1
-
-digits-decimal : (n : ℕ) → n < 10 ^ 10 → digits (decimal n) ≡ Some n
-digits-decimal n small =
-    let numeral = decimal_is_IsNumeral n (omega arith) in
-    let all : list_all is_ascii_digit (decimal n) ≡ true = decimal_digits n small in
-    let some : nat_lt 0 (length (decimal n)) ≡ true = lt-ltb 0 (length (decimal n)) numeral.0.0 in
-    let few : length (decimal n) ≤ 10 = length-decimal-le 10 n (omega arith) small (omega arith) in
-    let short : nat_le (length (decimal n)) 10 ≡ true = grind (arith, nat_tests) in
-    rw (all, some, short) (ap Some numeral.1)
-
-pub below-less : (limit n : ℕ) → n < limit → below limit n ≡ Some n
-below-less limit n small = ap (λ t. cond t (Some n) None) (lt-ltb n limit small)
-
 pub number-decimal : (n : ℕ) → n < 2 ^ 32 → number (decimal n) ≡ Some n
 number-decimal n small = rw (digits-decimal n (omega arith)) (below-less (2 ^ 32) n small)
-
-positive-decimal : (n : ℕ) → n < 2 ^ 31 → positive (decimal n) ≡ Some (pos n)
-positive-decimal n small = rw (digits-decimal n (omega arith), below-less (2 ^ 31) n small) refl
-
-negative-decimal : (n : ℕ) → n < 2 ^ 31 → negative (decimal n) ≡ Some (neg_ℤ (pos n))
-negative-decimal n small = rw (digits-decimal n (omega arith), below-less (2 ^ 31) n small) refl
-
--- no digit is a minus
-pub no_minus : (text : List ℕ) → Digits text → 0 < length text → (slice_index text 0 == 45) ≡ false
-no_minus text all some =
-    let range = is_digit_at text 0 all some in
-    grind (arith, nat_tests, range)
-
-coordinate-signed_decimal : (z : ℤ) → negsuc 2147483647 <ℤ z → z <ℤ pos (2 ^ 31) → coordinate (signed_decimal z) ≡ Some z
-coordinate-signed_decimal (pos n) low high =
-    let small : n < 2 ^ 31 = omega (arith, ints) in
-    let some = (decimal_is_IsNumeral n (omega arith)).0.0 in
-    ap (λ t. cond t (negative (drop 1 (decimal n))) (positive (decimal n))) (no_minus (decimal n) (decimal_digits n (omega arith)) some)
-    ∙ positive-decimal n small
-coordinate-signed_decimal (negsuc n) low high =
-    let small : suc n < 2 ^ 31 = omega (arith, ints) in
-    negative-decimal (suc n) small
 
 -- ---- bytes that words lack
 
@@ -143,16 +104,6 @@ pub lacks-both : (byte comma : ℕ) (a b : List ℕ) → (comma == byte) ≡ fal
 lacks-both byte comma a b other in_a in_b = list_all-append (λ x. not (x == byte)) a (comma ∷ b) ∙ rw (in_a, other, in_b) refl
 
 -- ---- places
-
-orient_named-text : (o : Orient) → orient_named (orient_word o) ≡ Some o
-orient_named-text N = refl
-orient_named-text W = refl
-orient_named-text S = refl
-orient_named-text E = refl
-orient_named-text FN = refl
-orient_named-text FW = refl
-orient_named-text FS = refl
-orient_named-text FE = refl
 
 mark32 : IsMark 32
 mark32 = record { below = omega arith; other = refl }

@@ -21,9 +21,10 @@ use Rattle.lf_proto.specs.Numbers.{digits, negative, positive, coordinate}
 use Rattle.lf_proto.specs.Requests.{orient_named}
 use Rattle.lf_proto.proofs.Digits.{Digits, short_value}
 use Rattle.lf_proto.proofs.Places.{place_written-some}
+use Rattle.lf_proto.proofs.Printing.{below-less}
 use Rattle.lf_state_text.specs.Words.{Begins, place_in_word, place_or_dash}
 use Rattle.lf_state_text.specs.Reading.{number_at, read_spot, word_at}
-use Rattle.lf_state_text.proofs.Fields.{lacks, lacks-weaker, lacks-both, digit-no_mark, no_dash, below-less, cut-word, drop_front, IsMark, mark44}
+use Rattle.lf_state_text.proofs.Fields.{lacks, lacks-weaker, lacks-both, digit-no_mark, no_dash, cut-word, drop_front, IsMark, mark44}
 
 -- ---- a word up to a byte
 

@@ -5,3 +5,4 @@ pub mod Again
 pub mod Within
 pub mod Held
 pub mod Fronts
+pub mod Names

@@ -5,38 +5,38 @@ use Rattle.std.specs.Fmt.{decimal}
 use Rattle.std.proofs.lemmas.List.Concat.{flat_map-cons}
 use Rattle.std.proofs.lemmas.List.Elements.{All-cons, All-filter, All-head, All-nil, All-tail, recursion_from_All}
 use Rattle.std.proofs.lemmas.List.Sums.{length-filter}
-use Rattle.std.specs.List.{flat_map}
+use Rattle.std.specs.List.{flat_map, join_with_byte}
+use Rattle.lf_proto.proofs.Fronts.{join_cons}
 use Rattle.std.proofs.lemmas.List.{take_all}
-use Rattle.lf_lex.specs.Splices.{spaced}
-use Rattle.lf_team_def.specs.TeamText.{words_line}
+use Rattle.lf_proto.specs.ReplyText.{spaced_line}
 use Rattle.lf_undo.specs.declared.moves.Move.{Move}
 use Rattle.lf_state_text.specs.Saved.{IsSpot, IsSpottedEntry, entry_lines, lines_by, move_line, moves_within}
-use Rattle.lf_state_text.specs.Writing.{entry_if, line_of_pair, line_if, move_within}
+use Rattle.lf_state_text.specs.Writing.{entry_if, line_of_pair, line_if, move_within, spaced_state_word, state_word_text}
+use Rattle.lf_state_text.specs.declared.write.Word.{Word}
 
 -- the words of a line after its first, and the bytes after the line
 abbrev pub line_rest : List (List ℕ) → List ℕ → List ℕ
 line_rest [] rest = 10 ∷ rest
 line_rest (w ∷ ws) rest = 32 ∷ (w ++ line_rest ws rest)
 
-spaced-rest : (ws : List (List ℕ)) (rest : List ℕ) → (spaced ws ++ 10 ∷ []) ++ rest ≡ line_rest ws rest
-spaced-rest [] rest = refl
-spaced-rest (w ∷ ws) rest =
-    ap (λ (l : List ℕ). 32 ∷ l) (regroup w (spaced ws) (10 ∷ []) rest ∙ ap (λ (l : List ℕ). w ++ l) (spaced-rest ws rest))
-  where
-    regroup : (a b c d : List ℕ) → ((a ++ b) ++ c) ++ d ≡ a ++ ((b ++ c) ++ d)
-    regroup a b c d = simp append_assoc
+joined-rest : (w : List ℕ) (ws : List (List ℕ)) (rest : List ℕ) → join_with_byte 32 (w ∷ ws) ++ 10 ∷ rest ≡ w ++ line_rest ws rest
+joined-rest w [] rest = refl
+joined-rest w (v ∷ ws) rest =
+    append_assoc w (32 ∷ join_with_byte 32 (v ∷ ws)) (10 ∷ rest) ∙ ap (λ (l : List ℕ). w ++ 32 ∷ l) (joined-rest v ws rest)
 
-pub line-rest : (w : List ℕ) (ws : List (List ℕ)) (rest : List ℕ) → words_line (w ∷ ws) ++ rest ≡ w ++ line_rest ws rest
-line-rest w ws rest = regroup w (spaced ws) (10 ∷ []) rest ∙ ap (λ (l : List ℕ). w ++ l) (spaced-rest ws rest)
+pub line-rest : (w : List ℕ) (ws : List (List ℕ)) (rest : List ℕ) → spaced_line (w ∷ ws) ++ rest ≡ w ++ line_rest ws rest
+line-rest w ws rest = append_assoc (join_with_byte 32 (w ∷ ws)) (10 ∷ []) rest ∙ joined-rest w ws rest
+
+-- a line is its first word, then a space and the word for each other word, then a line feed
+pub line_put : (before first : List ℕ) (words : List Word) → ((before ++ first) ++ flat_map spaced_state_word words) ++ 10 ∷ [] ≡ before ++ spaced_line (first ∷ map state_word_text words)
+line_put before first words =
+    regroup before first (flat_map spaced_state_word words) (10 ∷ [])
+    ∙ ap (λ (l : List ℕ). before ++ (l ++ 10 ∷ [])) (sym (join_cons state_word_text 32 first words))
   where
     regroup : (a b c d : List ℕ) → ((a ++ b) ++ c) ++ d ≡ a ++ ((b ++ c) ++ d)
     regroup a b c d = simp append_assoc
 
 -- ---- pieces that are written
-
-pub spaced_map : {X : Type 0} (f : X → List ℕ) (xs : List X) → spaced (map f xs) ≡ flat_map (λ x. 32 ∷ f x) xs
-spaced_map f [] = refl
-spaced_map f (x ∷ xs) = ap (λ (l : List ℕ). 32 ∷ (f x ++ l)) (spaced_map f xs)
 
 pub put_all : {X : Type 0} (g : X → List ℕ) (old a : List ℕ) (xs : List X) (i : ℕ) → length xs ≤ i → a ≡ old ++ flat_map g (take i xs)
     → a ≡ old ++ flat_map g xs
@@ -121,11 +121,11 @@ moves_put cells (m ∷ moves) =
 
 -- an entry, whose moves are counted first
 pub entry_put : (cells count : ℕ) (moves : List Move) → count ≡ count_by (λ m. nat_lt m.own cells) moves
-    → words_line (codes "undo" ∷ decimal count ∷ []) ++ flat_map (move_within cells) moves ≡ entry_lines (moves_within cells moves)
+    → spaced_line (codes "undo" ∷ decimal count ∷ []) ++ flat_map (move_within cells) moves ≡ entry_lines (moves_within cells moves)
 entry_put cells count moves is =
     let many : count ≡ length (moves_within cells moves) = is ∙ sym (length-filter (λ (m : Move). nat_lt m.own cells) moves) in
-    ap (λ (n : ℕ). words_line (codes "undo" ∷ decimal n ∷ []) ++ flat_map (move_within cells) moves) many
-    ∙ ap (λ (l : List ℕ). words_line (codes "undo" ∷ decimal (length (moves_within cells moves)) ∷ []) ++ l) (moves_put cells moves)
+    ap (λ (n : ℕ). spaced_line (codes "undo" ∷ decimal n ∷ []) ++ flat_map (move_within cells) moves) many
+    ∙ ap (λ (l : List ℕ). spaced_line (codes "undo" ∷ decimal (length (moves_within cells moves)) ∷ []) ++ l) (moves_put cells moves)
 
 -- ---- states that have a text
 

@@ -12,6 +12,6 @@ pub record NamedDesign : Type 0 where
   pub teams : List NamedTeam
   pub limits : Limits
 
--- the team of that number, which must exist
+-- the team of that number; empty if there is none
 abbrev pub named_team_of : NamedDesign → ℕ → NamedTeam
 named_team_of design team = slice_index_or design.teams team record { name = []; cells = [] }

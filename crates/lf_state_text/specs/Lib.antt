@@ -5,3 +5,4 @@ pub mod Reading
 pub mod Writing
 pub mod Pieces
 pub mod Refused
+pub mod WordEnds

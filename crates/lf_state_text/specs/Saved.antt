@@ -5,7 +5,7 @@ use Rattle.std.specs.Fmt.{decimal}
 use Rattle.lf_floorplan.specs.declared.limits.Limits.{Limits}
 use Rattle.lf_floorplan.specs.declared.place.Place.{Place}
 use Rattle.lf_undo.specs.declared.moves.Move.{Move}
-use Rattle.lf_team_def.specs.TeamText.{words_line}
+use Rattle.lf_proto.specs.ReplyText.{spaced_line}
 use Rattle.lf_state_text.specs.declared.saved_rows.SavedCell.{SavedCell}
 use Rattle.lf_state_text.specs.declared.saved_rows.TeamRow.{TeamRow}
 use Rattle.lf_state_text.specs.Designs.{NamedDesign, NamedTeam}
@@ -34,7 +34,7 @@ team_view t = record {
 abbrev pub team_views : List TeamRow → List SavedTeam
 team_views teams = map team_view teams
 
--- the team of that number, which must exist
+-- the team of that number; empty if there is none
 abbrev pub saved_at : List SavedTeam → ℕ → SavedTeam
 saved_at teams team = slice_index_or teams team record {
   revision = 0;
@@ -58,24 +58,24 @@ lines_by line (a ∷ firsts) (b ∷ seconds) = line a b ++ lines_by line firsts 
 
 -- - or the revision that the session has seen
 abbrev pub slot_line : Option ℕ → List ℕ
-slot_line seen = words_line (slot_text seen ∷ [])
+slot_line seen = spaced_line (slot_text seen ∷ [])
 
 -- NAME WORKING COMMITTED
 abbrev pub cell_line : List ℕ → SavedCell → List ℕ
-cell_line name c = words_line (name ∷ place_text c.working ∷ place_text c.committed ∷ [])
+cell_line name c = spaced_line (name ∷ place_text c.working ∷ place_text c.committed ∷ [])
 
 -- CELL PLACE: the cell's position among the team's, and the place that it had
 abbrev pub move_line : Move → List ℕ
-move_line m = words_line (decimal m.own ∷ place_text m.old ∷ [])
+move_line m = spaced_line (decimal m.own ∷ place_text m.old ∷ [])
 
 -- undo MOVES, and a line for each move
 abbrev pub entry_lines : List Move → List ℕ
-entry_lines moves = words_line (codes "undo" ∷ decimal (length moves) ∷ []) ++ flat_map move_line moves
+entry_lines moves = spaced_line (codes "undo" ∷ decimal (length moves) ∷ []) ++ flat_map move_line moves
 
 -- team NAME REVISION PADDING SLOTS CELLS ENTRIES
 abbrev pub head_line : List ℕ → SavedTeam → List ℕ
 head_line name t =
-    words_line
+    spaced_line
     (codes "team" ∷ name ∷ decimal t.revision ∷ decimal t.padding ∷ decimal (length t.slots) ∷ decimal (length t.cells)
     ∷ decimal (length t.entries) ∷ [])
 
@@ -87,11 +87,11 @@ saved_team_lines named t =
 
 -- lefence-state 1
 abbrev pub title : List ℕ
-title = words_line (codes "lefence-state" ∷ codes "1" ∷ [])
+title = spaced_line (codes "lefence-state" ∷ codes "1" ∷ [])
 
 -- the title with the version, and the number of teams
 abbrev pub opening_lines : ℕ → List ℕ
-opening_lines count = title ++ words_line (codes "teams" ∷ decimal count ∷ [])
+opening_lines count = title ++ spaced_line (codes "teams" ∷ decimal count ∷ [])
 
 -- the opening lines, and the lines of each team
 abbrev pub state_text : NamedDesign → List SavedTeam → List ℕ

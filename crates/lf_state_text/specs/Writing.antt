@@ -1,5 +1,5 @@
 -- The words of a line, lines by their positions, and a team's numbers in the program.
-use Rattle.std.specs.Prelude.{ℕ, List, [], Option, None, Some, cond, nat_lt, slice_get, decimal}
+use Rattle.std.specs.Prelude.{ℕ, List, [], ◌∷◌, Option, None, Some, cond, nat_lt, slice_get, decimal}
 use Rattle.lf_state_text.specs.declared.read.Numbers.{Numbers as KeptNumbers}
 use Rattle.lf_state_text.specs.declared.write.Word.{Word}
 use Rattle.lf_state_text.specs.declared.write.Word.TheVariants.{Text, Count, Spot, Slot}
@@ -14,6 +14,10 @@ state_word_text (Text text) = text.now
 state_word_text (Count n) = decimal n
 state_word_text (Spot place) = place_text place
 state_word_text (Slot seen) = slot_text seen
+
+-- a word with a space in front
+abbrev pub spaced_state_word : Word → List ℕ
+spaced_state_word word = 32 ∷ state_word_text word
 
 -- the numbers of a team's first line
 abbrev pub numbers_view : KeptNumbers → Numbers

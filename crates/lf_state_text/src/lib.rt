@@ -23,6 +23,7 @@
 //! - `refusal`: refused texts in chunks, with their end
 //! - `read_numbers`: numbers
 //! - `read_places`: places as words
+//! - `word_end`: the bytes that end words
 //! - `read_words`: words at the cursor
 //! - `read_lists`: lists of lines
 //! - `read`: a state text is read
@@ -50,6 +51,7 @@ mod refusal;
 mod saved_rows;
 mod schema;
 mod team_views;
+mod word_end;
 mod write;
 
 pub use fault::{StateError, StateFault, StateFaultNumber};

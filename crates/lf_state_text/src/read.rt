@@ -1,6 +1,6 @@
 //! A state text is read.
 
-ghost use Rattle.std.specs.Prelude.{◌≡◌, ◌<◌, IfErr, IfOk, List, Ok, Result, ℕ, length};
+ghost use Rattle.std.specs.Prelude.{◌≡◌, ◌<◌, IfErr, IfOk, List, Ok, Result, ℕ};
 ghost use Rattle.lf_state_text.specs.declared.fault.StateFault.{StateFault};
 ghost use Rattle.lf_state_text.specs.Designs.{named_team_of};
 ghost use Rattle.lf_state_text.specs.Pieces.{IsEnd, text_of_chunks, rest};
@@ -17,6 +17,7 @@ use crate::read_words::{below_at, count_at, expect_bytes};
 use crate::refusal::{ChunkError, refusal_at};
 use crate::saved_rows::TeamRow;
 use crate::schema::{DesignSchema, name_of_team};
+use crate::word_end::WordEnd;
 use lf_floorplan::Limits;
 use lf_rules::Padding;
 use std::alloc::Global;
@@ -60,11 +61,11 @@ fn numbers_at(limits: &Limits, cells: usize, cursor: &mut Cursor) -> Result<Numb
         (numbers_at limits.now cells (rest cursor.old)) (rest cursor.new) }
     ensures ends { (text : List ℕ) → IsEnd text cursor.old → IsEnd text cursor.new }
 {
-    let revision = below_at(limits.revisions as usize + 1, b' ', cursor)?;
-    let sites = below_at(17, b' ', cursor)?;
-    count_at(limits.sessions as usize, b' ', cursor)?;
-    count_at(cells, b' ', cursor)?;
-    let entries = below_at(limits.undo as usize + 1, b'\n', cursor)?;
+    let revision = below_at(limits.revisions as usize + 1, WordEnd::Space, cursor)?;
+    let sites = below_at(17, WordEnd::Space, cursor)?;
+    count_at(limits.sessions as usize, WordEnd::Space, cursor)?;
+    count_at(cells, WordEnd::Space, cursor)?;
+    let entries = below_at(limits.undo as usize + 1, WordEnd::LineFeed, cursor)?;
     Ok(Numbers {
         revision,
         padding: padding_of(sites),
@@ -107,7 +108,6 @@ fn read_team<D: DesignSchema>(
     team: usize,
     cursor: &mut Cursor,
 ) -> Result<TeamRow, ReadError>
-    requires { team < length (D.named design.now).teams }
     ensures read { ReadsState (λ row left. (team_view row, left)) result
         (team_at (D.named design.now).limits (named_team_of (D.named design.now) team) (rest cursor.old))
         (rest cursor.new) }
@@ -159,7 +159,7 @@ fn read_opening<D: DesignSchema>(design: &D, cursor: &mut Cursor) -> Result<(), 
 {
     read_title(cursor)?;
     expect_bytes(StateFaultNumber::Unexpected, b"teams ", cursor)?;
-    count_at(design.team_count(), b'\n', cursor)
+    count_at(design.team_count(), WordEnd::LineFeed, cursor)
 }
 
 /// Reads the whole text.

@@ -10,6 +10,7 @@ use crate::fault::{ReadError, StateFaultNumber};
 use crate::read_words::{below_at, expect_bytes, number_at, read_place_or_none, slot_at};
 use crate::saved_rows::SavedCell;
 use crate::schema::{DesignSchema, name_of_cell};
+use crate::word_end::WordEnd;
 use lf_undo::{Move, Moves};
 use std::alloc::Global;
 
@@ -22,8 +23,8 @@ fn cell_at(name: &[u8], cursor: &mut Cursor) -> Result<SavedCell, ReadError>
 {
     expect_bytes(StateFaultNumber::OtherDesign, name, cursor)?;
     expect_bytes(StateFaultNumber::OtherDesign, b" ", cursor)?;
-    let working = read_place_or_none(b' ', cursor)?;
-    let committed = read_place_or_none(b'\n', cursor)?;
+    let working = read_place_or_none(WordEnd::Space, cursor)?;
+    let committed = read_place_or_none(WordEnd::LineFeed, cursor)?;
     Ok(SavedCell { working, committed })
 }
 
@@ -33,8 +34,8 @@ fn move_at(cells: usize, cursor: &mut Cursor) -> Result<Move, ReadError>
     ensures read { ReadsState (λ made left. (made, left)) result (move_at cells (rest cursor.old)) (rest cursor.new) }
     ensures ends { (text : List ℕ) → IsEnd text cursor.old → IsEnd text cursor.new }
 {
-    let own = below_at(cells, b' ', cursor)?;
-    let old = read_place_or_none(b'\n', cursor)?;
+    let own = below_at(cells, WordEnd::Space, cursor)?;
+    let old = read_place_or_none(WordEnd::LineFeed, cursor)?;
     Ok(Move { own, old })
 }
 
@@ -105,7 +106,7 @@ fn entry_at(alloc: Global, cells: usize, cursor: &mut Cursor) -> Result<Moves, R
     ensures ends { (text : List ℕ) → IsEnd text cursor.old → IsEnd text cursor.new }
 {
     expect_bytes(StateFaultNumber::Unexpected, b"undo ", cursor)?;
-    let count = number_at(b'\n', cursor)?;
+    let count = number_at(WordEnd::LineFeed, cursor)?;
     read_moves(alloc, cells, count, cursor)
 }
 

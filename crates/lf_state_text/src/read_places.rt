@@ -1,13 +1,14 @@
 //! Places as words.
 
 ghost use Rattle.std.specs.Prelude.{◌≡◌, ◌<◌, ◌≤◌, ◌==◌, ◌++◌, IfSome, List, Ok, Some, ℕ, drop, length, option_map, position, slice_index};
-ghost use Rattle.lf_proto.specs.Requests.{orient_named, place_written};
+ghost use Rattle.lf_proto.specs.Requests.{orient_named};
 ghost use Rattle.lf_state_text.specs.Reading.{read_spot};
 ghost use Rattle.lf_state_text.specs.Words.{Begins, cut, place_in_word, place_or_dash};
 
-use crate::read_numbers::{coordinate_of, front_coordinate};
+use crate::read_numbers::front_coordinate;
 use lf_floorplan::{PackedPlace, Place};
 use lf_orient::Orient;
+use lf_proto::{orient_named, read_place};
 
 /// Returns the bytes in front of and after the first `byte`. `None` if there is no `byte`.
 #[tactic(auto, unfolding(crate::specs::Words::cut))]
@@ -24,33 +25,6 @@ pub(crate) fn position_of(byte: u8, bytes: &[u8]) -> Option<usize>
     ensures within { IfSome result (λ at. at < length bytes.now) }
 {
     bytes.iter().position(|b| *b == byte)
-}
-
-/// Returns the orientation of that name. `None` if there is no such orientation.
-fn orient_of(word: &[u8]) -> Option<Orient>
-    ensures { result ≡ orient_named word.now }
-{
-    match word {
-        b"N" => Some(Orient::N),
-        b"W" => Some(Orient::W),
-        b"S" => Some(Orient::S),
-        b"E" => Some(Orient::E),
-        b"FN" => Some(Orient::FN),
-        b"FW" => Some(Orient::FW),
-        b"FS" => Some(Orient::FS),
-        b"FE" => Some(Orient::FE),
-        _ => None,
-    }
-}
-
-/// Returns the place in three words. `None` if they are not a place.
-fn read_place(x: &[u8], y: &[u8], orient: &[u8]) -> Option<Place>
-    ensures { result ≡ place_written x.now y.now orient.now }
-{
-    let x = coordinate_of(x)?;
-    let y = coordinate_of(y)?;
-    let orient = orient_of(orient)?;
-    Some(Place::new(x, y, orient))
 }
 
 /// Returns the place in a word with commas between its parts. `None` if it is not a place.
@@ -94,7 +68,7 @@ fn front_orient(byte: u8, bytes: &[u8]) -> Option<(Orient, &[u8])>
     ensures { IfSome result (λ x. Begins orient_named byte bytes.now x.0 x.1.now) }
 {
     let len = short_len(byte, bytes)?;
-    let orient = orient_of(&bytes[..len])?;
+    let orient = orient_named(&bytes[..len])?;
     Some((orient, &bytes[len + 1..]))
 }
 

@@ -2,6 +2,7 @@
 
 ghost use Rattle.std.specs.Prelude.{◌≡◌, ◌+◌, ◌<◌, ◌≤◌, List, ℕ, IfOk, drop, length, take};
 ghost use Rattle.lf_state_text.specs.Words.{slot_on};
+ghost use Rattle.lf_state_text.specs.WordEnds.{end_byte};
 ghost use Rattle.lf_state_text.specs.Pieces.{IsEnd, front, rest};
 ghost use Rattle.lf_state_text.specs.Reading.{ReadsState, below_at, count_at, due_at, is_seen_by, number_at, slot_at, read_spot, mismatch, word_at};
 
@@ -10,6 +11,7 @@ use crate::cursor_steps::{begins, find, front, skip, word};
 use crate::fault::{ReadError, StateFaultNumber};
 use crate::read_numbers::{front_u32, number_of};
 use crate::read_places::{front_place, place_on};
+use crate::word_end::WordEnd;
 use lf_floorplan::PackedPlace;
 use std::alloc::AllocError;
 
@@ -64,14 +66,14 @@ fn word_len(byte: u8, cursor: &mut Cursor) -> Result<usize, ReadError>
 /// Returns the next number, below 2^32, and the count of bytes up to and including the one that
 /// ends it. Does not take these bytes.
 #[tactic(auto, unfolding(crate::specs::Reading::number_at))]
-fn next_number(byte: u8, cursor: &mut Cursor) -> Result<(u32, usize), ReadError>
-    requires { byte < 48 }
-    ensures read { ReadsState (λ x left. (x.0, drop x.1 left)) result (number_at byte (rest cursor.old))
-        (rest cursor.new) }
+fn next_number(end: WordEnd, cursor: &mut Cursor) -> Result<(u32, usize), ReadError>
+    ensures read { ReadsState (λ x left. (x.0, drop x.1 left)) result
+        (number_at (end_byte end) (rest cursor.old)) (rest cursor.new) }
     ensures within { IfOk result (λ x. x.1 ≤ length (front cursor.new)) }
     ensures rest { rest cursor.new ≡ rest cursor.old }
     ensures ends { (text : List ℕ) → IsEnd text cursor.old → IsEnd text cursor.new }
 {
+    let byte = end.byte();
     if let Some(next) = front_u32(byte, front(cursor)) {
         return Ok(next);
     }
@@ -83,24 +85,24 @@ fn next_number(byte: u8, cursor: &mut Cursor) -> Result<(u32, usize), ReadError>
 }
 
 /// Reads a number below 2^32.
-pub(crate) fn number_at(byte: u8, cursor: &mut Cursor) -> Result<u32, ReadError>
-    requires { byte < 48 }
-    ensures read { ReadsState (λ n left. (n, left)) result (number_at byte (rest cursor.old)) (rest cursor.new) }
+pub(crate) fn number_at(end: WordEnd, cursor: &mut Cursor) -> Result<u32, ReadError>
+    ensures read { ReadsState (λ n left. (n, left)) result
+        (number_at (end_byte end) (rest cursor.old)) (rest cursor.new) }
     ensures ends { (text : List ℕ) → IsEnd text cursor.old → IsEnd text cursor.new }
 {
-    let (number, len) = next_number(byte, cursor)?;
+    let (number, len) = next_number(end, cursor)?;
     skip(len, cursor);
     Ok(number)
 }
 
 /// Reads a number below a limit.
 #[tactic(auto, unfolding(crate::specs::Reading::below_at))]
-pub(crate) fn below_at(limit: usize, byte: u8, cursor: &mut Cursor) -> Result<u32, ReadError>
-    requires { byte < 48 }
-    ensures read { ReadsState (λ n left. (n, left)) result (below_at limit byte (rest cursor.old)) (rest cursor.new) }
+pub(crate) fn below_at(limit: usize, end: WordEnd, cursor: &mut Cursor) -> Result<u32, ReadError>
+    ensures read { ReadsState (λ n left. (n, left)) result
+        (below_at limit (end_byte end) (rest cursor.old)) (rest cursor.new) }
     ensures ends { (text : List ℕ) → IsEnd text cursor.old → IsEnd text cursor.new }
 {
-    let (number, len) = next_number(byte, cursor)?;
+    let (number, len) = next_number(end, cursor)?;
     if (number as usize) < limit {
         skip(len, cursor);
         return Ok(number);
@@ -110,12 +112,12 @@ pub(crate) fn below_at(limit: usize, byte: u8, cursor: &mut Cursor) -> Result<u3
 
 /// Takes the expected number.
 #[tactic(auto, unfolding(crate::specs::Reading::count_at))]
-pub(crate) fn count_at(count: usize, byte: u8, cursor: &mut Cursor) -> Result<(), ReadError>
-    requires { byte < 48 }
-    ensures read { ReadsState (λ _ left. left) result (count_at count byte (rest cursor.old)) (rest cursor.new) }
+pub(crate) fn count_at(count: usize, end: WordEnd, cursor: &mut Cursor) -> Result<(), ReadError>
+    ensures read { ReadsState (λ _ left. left) result
+        (count_at count (end_byte end) (rest cursor.old)) (rest cursor.new) }
     ensures ends { (text : List ℕ) → IsEnd text cursor.old → IsEnd text cursor.new }
 {
-    let (number, len) = next_number(byte, cursor)?;
+    let (number, len) = next_number(end, cursor)?;
     if number as usize == count {
         skip(len, cursor);
         return Ok(());
@@ -125,12 +127,15 @@ pub(crate) fn count_at(count: usize, byte: u8, cursor: &mut Cursor) -> Result<()
 
 /// Reads a place, or a minus for no place.
 #[tactic(auto, unfolding(crate::specs::Reading::read_spot))]
-pub(crate) fn read_place_or_none(byte: u8, cursor: &mut Cursor) -> Result<PackedPlace, ReadError>
-    requires { byte ≤ 32 }
-    ensures read { ReadsState (λ place left. (place, left)) result (read_spot byte (rest cursor.old))
-        (rest cursor.new) }
+pub(crate) fn read_place_or_none(
+    end: WordEnd,
+    cursor: &mut Cursor,
+) -> Result<PackedPlace, ReadError>
+    ensures read { ReadsState (λ place left. (place, left)) result
+        (read_spot (end_byte end) (rest cursor.old)) (rest cursor.new) }
     ensures ends { (text : List ℕ) → IsEnd text cursor.old → IsEnd text cursor.new }
 {
+    let byte = end.byte();
     if let Some((place, len)) = front_place(byte, front(cursor)) {
         skip(len, cursor);
         return Ok(PackedPlace::of(Some(place)));

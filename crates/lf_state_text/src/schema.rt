@@ -1,6 +1,6 @@
 //! The names and limits of a design.
 
-ghost use Rattle.std.specs.Prelude.{◌≡◌, ◌<◌, length, option_map, slice_get, slice_index_or, []};
+ghost use Rattle.std.specs.Prelude.{◌≡◌, length, option_map, slice_get, slice_index_or, []};
 ghost use Rattle.lf_state_text.specs.Designs.{named_team_of};
 
 use lf_floorplan::Limits;
@@ -34,24 +34,22 @@ pub trait DesignSchema {
         ensures { option_map (λ name. name.now) result ≡ slice_get (named_team_of (named self.now) team).cells own };
 }
 
-/// Returns the name of a team, which must exist.
+/// Returns the name of a team. Empty if there is no such team.
 pub(crate) fn name_of_team<D: DesignSchema>(design: &D, team: usize) -> &[u8]
-    requires { team < length (D.named design.now).teams }
     ensures { result.now ≡ (named_team_of (D.named design.now) team).name }
 {
     match design.team_name(team) {
         Some(name) => name,
-        None => unreachable!(),
+        None => b"",
     }
 }
 
-/// Returns the name of a team's cell, which must exist.
+/// Returns the name of a team's cell. Empty if there is no such cell.
 pub(crate) fn name_of_cell<D: DesignSchema>(design: &D, team: usize, own: usize) -> &[u8]
-    requires { own < length (named_team_of (D.named design.now) team).cells }
     ensures { result.now ≡ slice_index_or (named_team_of (D.named design.now) team).cells own [] }
 {
     match design.cell_name(team, own) {
         Some(name) => name,
-        None => unreachable!(),
+        None => b"",
     }
 }

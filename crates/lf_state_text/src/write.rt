@@ -1,15 +1,14 @@
 //! A state text is written.
 
-ghost use Rattle.std.specs.Prelude.{◌≡◌, ◌∷◌, ◌<◌, ◌≤◌, All, IfSome, Some, count_by, length, map, nat_lt, slice_get};
+ghost use Rattle.std.specs.Prelude.{◌≡◌, ◌∷◌, ◌≤◌, All, IfSome, Some, count_by, length, map, nat_lt, slice_get};
 ghost use Rattle.std.specs.List.{flat_map};
-ghost use Rattle.lf_lex.specs.Splices.{spaced};
-ghost use Rattle.lf_team_def.specs.Output.{PutsText};
-ghost use Rattle.lf_team_def.specs.TeamText.{words_line};
+ghost use Rattle.lf_io.specs.Output.{PutsText};
+ghost use Rattle.lf_proto.specs.ReplyText.{spaced_line};
 ghost use Rattle.lf_state_text.specs.Designs.{named_team_of};
 ghost use Rattle.lf_state_text.specs.Saved.{IsSavedInRange, IsSpottedCell, IsSpottedEntry};
 ghost use Rattle.lf_state_text.specs.Saved.{cell_line, entry_lines, head_line, lines_by, move_line, moves_within, opening_lines};
 ghost use Rattle.lf_state_text.specs.Saved.{slot_line, state_text, saved_at, saved_team_lines};
-ghost use Rattle.lf_state_text.specs.Writing.{entry_if, line_of_pair, move_within, state_word_text};
+ghost use Rattle.lf_state_text.specs.Writing.{entry_if, line_of_pair, move_within, spaced_state_word, state_word_text};
 ghost use Rattle.lf_state_text.specs.Words.{place_text};
 
 use crate::known_ranges::{cell_known, moves_known};
@@ -18,9 +17,9 @@ use crate::schema::{DesignSchema, name_of_team};
 use crate::team_views::TeamViews;
 use itoa::Buffer;
 use lf_floorplan::{PackedPlace, Place};
+use lf_io::Output;
 use lf_orient::orient_word;
 use lf_rules::Padding;
-use lf_team_def::Output;
 use lf_undo::{Move, Moves};
 
 /// A word of a line.
@@ -61,7 +60,7 @@ fn put_word<O: Output>(out: &mut O, word: &Word<'_>)
 
 /// Writes the words, each after a space.
 fn put_spaced<O: Output>(out: &mut O, words: &[Word<'_>])
-    ensures { PutsText O.took out.old out.new (spaced (map state_word_text words.now)) }
+    ensures { PutsText O.took out.old out.new (flat_map spaced_state_word words.now) }
 {
     for word in words {
         out.put(b" ");
@@ -71,7 +70,8 @@ fn put_spaced<O: Output>(out: &mut O, words: &[Word<'_>])
 
 /// Writes a line of words, given its first word and the others.
 fn put_line<O: Output>(out: &mut O, first: &Word<'_>, words: &[Word<'_>])
-    ensures { PutsText O.took out.old out.new (words_line (state_word_text first.now ∷ map state_word_text words.now)) }
+    ensures { PutsText O.took out.old out.new
+        (spaced_line (state_word_text first.now ∷ map state_word_text words.now)) }
 {
     put_word(out, first);
     put_spaced(out, words);
@@ -106,7 +106,6 @@ fn put_cell_at<O: Output, D: DesignSchema, T: TeamViews>(
     team: usize,
     own: usize,
 )
-    requires { team < length (T.saved teams.now) }
     ensures text { PutsText O.took out.old out.new
         (line_of_pair cell_line (named_team_of (D.named design.now) team).cells
         (saved_at (T.saved teams.now) team).cells own) }
@@ -127,7 +126,6 @@ fn put_cells<O: Output, D: DesignSchema, T: TeamViews>(
     teams: &T,
     team: usize,
 )
-    requires { team < length (T.saved teams.now) }
     ensures text { PutsText O.took out.old out.new
         (lines_by cell_line (named_team_of (D.named design.now) team).cells (saved_at (T.saved teams.now) team).cells) }
     ensures spotted { All IsSpottedCell (saved_at (T.saved teams.now) team).cells }
@@ -191,7 +189,6 @@ fn put_entry<O: Output>(out: &mut O, cells: usize, entry: &Moves)
 
 /// Writes the lines of the team's undo entry that has `newer` newer ones, if there is one.
 fn put_entry_at<O: Output, T: TeamViews>(out: &mut O, teams: &T, team: usize, newer: usize)
-    requires { team < length (T.saved teams.now) }
     ensures text { PutsText O.took out.old out.new
         (entry_if (slice_get (saved_at (T.saved teams.now) team).entries newer)) }
     ensures spotted { IfSome (slice_get (saved_at (T.saved teams.now) team).entries newer) IsSpottedEntry }
@@ -205,7 +202,6 @@ fn put_entry_at<O: Output, T: TeamViews>(out: &mut O, teams: &T, team: usize, ne
 
 /// Writes the lines of the team's undo entries.
 fn put_entries<O: Output, T: TeamViews>(out: &mut O, teams: &T, team: usize)
-    requires { team < length (T.saved teams.now) }
     ensures text { PutsText O.took out.old out.new (flat_map entry_lines (saved_at (T.saved teams.now) team).entries) }
     ensures spotted { All IsSpottedEntry (saved_at (T.saved teams.now) team).entries }
 {
@@ -224,7 +220,6 @@ fn sites_of(padding: Padding) -> usize
 
 /// Writes the first line of the team of that name.
 fn put_head<O: Output, T: TeamViews>(out: &mut O, name: &[u8], teams: &T, team: usize)
-    requires { team < length (T.saved teams.now) }
     ensures text { PutsText O.took out.old out.new (head_line name.now (saved_at (T.saved teams.now) team)) }
     ensures padding { (saved_at (T.saved teams.now) team).padding ≤ 16 }
 {
@@ -250,8 +245,6 @@ fn put_team<O: Output, D: DesignSchema, T: TeamViews>(
     teams: &T,
     team: usize,
 )
-    requires named { team < length (D.named design.now).teams }
-    requires reported { team < length (T.saved teams.now) }
     ensures text { PutsText O.took out.old out.new
         (saved_team_lines (named_team_of (D.named design.now) team) (saved_at (T.saved teams.now) team)) }
     ensures in_range { IsSavedInRange (saved_at (T.saved teams.now) team) }

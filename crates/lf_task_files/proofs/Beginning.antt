@@ -4,7 +4,8 @@ use Rattle.lf_state_text.specs.Designs.{NamedDesign}
 use Rattle.lf_state_text.specs.Reading.{saved_state_of}
 use Rattle.lf_floor_model.specs.States.{FloorState}
 use Rattle.lf_state_restore.specs.Saved.{ShareDesign}
-use Rattle.lf_floor.proofs.Alike.{named_alike, restored_alike}
+use Rattle.lf_state_restore.proofs.Restoring.{named_alike}
+use Rattle.lf_floor.proofs.Alike.{restored_alike}
 use Rattle.lf_task_designs.specs.declared.faults.Fault.{Fault}
 use Rattle.lf_task_designs.specs.Designs.{ReadsFile}
 use Rattle.lf_task_files.specs.States.{IsFileState, IsStateFileFault}

@@ -9,10 +9,10 @@ ghost use Rattle.lf_task_files.specs.States.{IsSaved};
 ghost use Rattle.lf_task_files.specs.Inputs.{path_of};
 
 use lf_floor::{Floor, StateSnapshot};
+use lf_io::Output;
 use lf_io_files::{OutputFiles, TextSource, WriteFailure};
 use lf_legalize::IndexSeeker;
 use lf_task_designs::Fault;
-use lf_team_def::Output;
 use std::io;
 use std::io::Write;
 use std::marker::Model;

@@ -26,7 +26,8 @@ use Rattle.lf_floor_model.specs.Steps.{IsAnswerOf, MayRunOutOfMemory, answer_at,
 use Rattle.lf_floor_model.specs.Runs.{Run}
 use Rattle.lf_floor_model.specs.VerbLaws.{is_ok}
 use Rattle.lf_repair_team.specs.TeamRepairs.{IsLegalIn, KeepsLegalPlaces, place_of_cell_in}
-use Rattle.lf_repair_team.specs.Runs.{IsWrittenRun, request_line, request_lines}
+use Rattle.lf_repair_team.specs.Runs.{IsWrittenRun, request_lines}
+use Rattle.lf_proto.specs.Printed.{request_line}
 use Rattle.lf_floorplan.specs.declared.frame.Frame.{Frame}
 use Rattle.lf_task_designs.specs.declared.faults.Fault.{Fault}
 use Rattle.lf_task_designs.specs.declared.faults.Fault.TheVariants.{Refused, File, RefusedState, NoTeam, ReadFault, WriteFault, TooManyLines, OutOfMemory, Output, Bind, Accept, Unwritten, Unsaved, Unlisted, SetupOutOfMemory, OutputOutOfMemory}

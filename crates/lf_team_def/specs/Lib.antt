@@ -1,4 +1,4 @@
-pub mod Output
+pub mod Lengths
 pub mod Clauses
 pub mod TeamText
 pub mod Words

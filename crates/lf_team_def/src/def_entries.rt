@@ -6,13 +6,13 @@ ghost use Rattle.lf_floorplan.specs.Boxes.{macro_of};
 ghost use Rattle.lf_lex.specs.Splices.{spaced};
 ghost use Rattle.lf_cells.specs.Cells.{cell_at, cells_of};
 ghost use Rattle.lf_team_def.specs.Entries.{component_line, placed_words, spaced_name};
-ghost use Rattle.lf_team_def.specs.Output.{PutsText};
+ghost use Rattle.lf_io.specs.Output.{PutsText};
 ghost use Rattle.lf_team_def.specs.TeamText.{team_component_words, team_group_words, words_line, team_rect_words, team_region_words};
 
-use crate::output::Output;
 use crate::words::{Word, put_line, put_spaced};
 use lf_cells::{CellId, CellTable};
 use lf_floorplan::{Frame, Place, Team};
+use lf_io::Output;
 use lf_orient::orient_word;
 use lf_units::Rect;
 

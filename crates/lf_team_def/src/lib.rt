@@ -1,17 +1,15 @@
-//! The DEF text of a team, and where a text goes piece by piece.
+//! The DEF text of a team.
 //!
 //! The text follows LEF/DEF 5.8. It has a header and the REGIONS, COMPONENTS and GROUPS of one
 //! team. It has no rows. `write_team_def` writes it to an `Output`, `team_def_length` counts its
 //! bytes, and `team_def` returns the whole text.
 //!
-//! A contract sees of an `Output` what its implementation promises by its relation `took`: the text
-//! that was written between one state and a later one.
-//!
-//! Used by most other crates.
+//! Used by `lf_write`, `lf_laws_roundtrip`, `lf_floor_model`, `lf_floor_verbs`, `lf_floor` and
+//! `lf_laws_slices`.
 //!
 //! Modules, in reading order:
 //!
-//! - `output`: outputs, which take a text piece by piece
+//! - `outputs`: outputs that count or store a text
 //! - `words`: words and lines
 //! - `def_entries`: the entries of a team's sections: its fence, its cells and its group
 //! - `team_text`: the DEF text of a team
@@ -29,9 +27,8 @@
 #![tactic(auto)]
 
 mod def_entries;
-mod output;
+mod outputs;
 mod team_text;
 mod words;
 
-pub use output::Output;
 pub use team_text::{team_def, team_def_length, write_team_def};

@@ -3,14 +3,16 @@
 ghost use Rattle.std.specs.Prelude.{◌≡◌, ◌∷◌, [], IfOk, codes, decimal, map, slice_get};
 ghost use Rattle.std.specs.List.{flat_map};
 ghost use Rattle.lf_cells.specs.Cells.{cells_of};
-ghost use Rattle.lf_team_def.specs.Output.{IsLengthOf, PutsText};
+ghost use Rattle.lf_io.specs.Output.{PutsText};
+ghost use Rattle.lf_team_def.specs.Lengths.{IsLengthOf};
 ghost use Rattle.lf_team_def.specs.TeamText.{team_component_words, group_lines, header_lines, words_line, region_lines, section_lines, team_text};
 
 use crate::def_entries::{put_components, put_group, put_region};
-use crate::output::{Kept, Length, Output};
+use crate::outputs::{Kept, Length};
 use crate::words::{Word, put_line};
 use lf_cells::CellTable;
 use lf_floorplan::{Frame, Header};
+use lf_io::Output;
 use std::alloc::{AllocError, Global};
 
 /// Writes the lines of the header.

@@ -2,12 +2,12 @@
 
 ghost use Rattle.std.specs.Prelude.{◌∷◌, map};
 ghost use Rattle.lf_lex.specs.Splices.{spaced};
-ghost use Rattle.lf_team_def.specs.Output.{PutsText};
+ghost use Rattle.lf_io.specs.Output.{PutsText};
 ghost use Rattle.lf_team_def.specs.TeamText.{words_line};
 ghost use Rattle.lf_team_def.specs.Words.{def_word_text};
 
-use crate::output::Output;
 use itoa::Buffer;
+use lf_io::Output;
 
 /// A word of a line.
 #[derive(Clone, Copy)]

@@ -6,12 +6,12 @@ use crate::starts::floor_of;
 use lf_def::DEMO_DEF;
 use lf_floor::{Floor, Response};
 use lf_frame::Place;
+use lf_io::Output;
 use lf_legalize::PlainSeeker;
 use lf_orient::Orient;
 use lf_proto::{
     Action, Change, Command, Refusal, Reply, Request, RequestList, TeamCommand, reply_text,
 };
-use lf_team_def::Output;
 use lf_tests_support::with_line;
 use std::alloc::{AllocError, Global};
 use std::test::Fail;

@@ -1,7 +1,6 @@
 //! The lines of requests.
 
-use lf_proto::parse_line;
-use lf_repair_team::write_request;
+use lf_proto::{parse_line, write_request};
 use std::alloc::{AllocError, Global};
 use std::test::Fail;
 

@@ -1,7 +1,8 @@
 use Rattle.std.proofs.Common.{◌≡◌, ◌∙◌, ◌++◌, inl, inr, refl, sym, ap}
 use Rattle.std.specs.Io.KnownBytes.{Appends}
 use Rattle.lf_proto.specs.Commands.{command_with_names}
-use Rattle.lf_repair_team.specs.Runs.{AppendsSomeOf, request_line}
+use Rattle.lf_repair_team.specs.Runs.{AppendsSomeOf}
+use Rattle.lf_proto.specs.Printed.{request_line}
 use Rattle.lf_repair_team.proofs.Results.{err_is, ok_is}
 use Rattle.lf_repair_team.proofs.Runs.{left_out, none_cut, one_cut, one_written, step_only, unchanged}
 use Rattle.lf_repair_team.proofs.Steps.{step_names}

@@ -19,4 +19,4 @@ pub returns-in-Def-clause-front : goal.returns-in-Def-clause-front
 returns-in-Def-clause-front g c =
     subst (λ (t : List ℕ). OnErr c.send_both-in-Def.result (Front (g.W.Sink.contents c.args.sink.now) (g.W.Sink.contents c.send_both-in-Def.new.sink) t))
     (def_parts c.args.floor.now c.args.team.now c.args.reply.now c.in-Def.def c.as_slice.result.now c.as_bytes-in-Def.result.now c.as_bytes-in-Def-2.result.now
-    c.in-Def.is c.as_bytes-in-Def.ensures (c.as_slice.ensures.value ∙ c.put_def_line.ensures.line) c.as_bytes-in-Def-2.ensures) c.send_both-in-Def.ensures.front
+    c.in-Def.is c.as_bytes-in-Def.ensures (c.as_slice.ensures.value ∙ c.put_def_line.ensures) c.as_bytes-in-Def-2.ensures) c.send_both-in-Def.ensures.front

@@ -8,5 +8,5 @@ returns-in-Reply-clause-front g c = rw c.in-Reply.is c.send_reply.ensures.front
 pub returns-in-DefText-clause-front : goal.returns-in-DefText-clause-front
 returns-in-DefText-clause-front g c =
     subst (λ (t : List ℕ). OnErr c.send_def.result (Front (g.W.Sink.contents c.args.sink.now) (g.W.Sink.contents c.send_def.new.sink) t))
-    (response_parts c.args.floor.now c.args.team.now c.args.response.now c.in-DefText.count c.put_def_line.new.text.items c.in-DefText.is
-    (c.requires.length c.in-DefText.count c.in-DefText.is) c.put_def_line.ensures.line) c.send_def.ensures.front
+    (response_parts c.args.floor.now c.args.team.now c.args.response.now c.in-DefText.count c.put_def_line.new.text.bytes.items c.in-DefText.is
+    (c.requires c.in-DefText.count c.in-DefText.is) c.put_def_line.ensures) c.send_def.ensures.front

@@ -12,7 +12,6 @@ loop-at-preserved g c = record {
   within = omega (arith, c.take_line-used.ensures.used);
   counts = omega (arith, c.take_line-used.ensures.left, c.loop-at.invariant.counts);
   stays = stays_join c.args.floor.now c.loop-at.floor c.take_line-used.new.floor c.loop-at.invariant.stays c.take_line-used.ensures.stays;
-  room = c.take_line-used.ensures.room;
   sink = search rules;
   held = c.take_line-used.ensures.held ∙ c.loop-at.invariant.held;
   goes = λ l. piece_on l _ _ _ c.args.left.now c.loop-at.left c.take_line-used.new.left c.args.floor.now c.loop-at.floor c.take_line-used.new.floor c.args.framer.now.pending c.loop-at.framer.pending c.take_line-used.new.framer.pending

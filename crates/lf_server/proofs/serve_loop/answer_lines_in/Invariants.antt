@@ -1,5 +1,4 @@
 use Rattle.std.proofs.Common.{◌≡◌, length, ◌-◌, ◌≤◌, drop}
-use Rattle.std.specs.Prelude.{vec_capacity}
 use Rattle.lf_rules.specs.Legalizer.{Legalizer}
 use Rattle.lf_server.specs.Connections.{KeepsDesign}
 use Rattle.lf_server.specs.Devices.{writer}
@@ -11,7 +10,6 @@ invariant-loop-at g l = record {
   within : l.at ≤ length l.piece;
   counts : l.left ≤ l.fn.left;
   stays : KeepsDesign l.fn.floor l.floor;
-  room : 4096 ≤ vec_capacity l.text;
   sink : g.W.Sink.has_failed l.sink ≡ g.W.Sink.has_failed l.fn.sink;
   held : g.W.Sink.holds l.sink ≡ g.W.Sink.holds l.fn.sink;
   goes : (z : Legalizer) → ContinuesServing z (writer (g.W.Sink.contents l.fn.sink) (g.W.Sink.is_flushed l.fn.sink) (g.W.Sink.has_failed l.fn.sink))

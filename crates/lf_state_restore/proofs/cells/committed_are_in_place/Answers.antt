@@ -14,7 +14,7 @@ loop-own-preserved c =
     let n = c.loop-own.own in
     let long = length-map saved (λ (s : SavedCell). s.committed) in
     one_so_far c.args.team n (map (λ c. c.committed) saved) c.args.cells.now c.loop-own.cells (omega (arith, c.loop-own-test.true, long))
-    (long ∙ c.requires.many ∙ sym (many_places (cells_of c.args.cells.now c.args.team))) c.loop-own.invariant c.put_at.new.cells c.place.result
+    (long ∙ c.requires ∙ sym (many_places (cells_of c.args.cells.now c.args.team))) c.loop-own.invariant c.put_at.new.cells c.place.result
     (c.place.ensures ∙ read_at (λ s. s.committed) saved n c.index-saved-own.result c.place.result c.loop-own-test.true)
     c.put_at.ensures.own c.put_at.ensures.others
 
@@ -23,4 +23,4 @@ returns-clause-places c =
     let saved = c.args.saved.now in
     let long = length-map saved (λ (s : SavedCell). s.committed) in
     all_so_far c.args.team c.loop-own.own (map (λ c. c.committed) saved) c.args.cells.now c.loop-own.cells (omega (arith, c.loop-own-test.false, long))
-    (long ∙ c.requires.many ∙ sym (many_places (cells_of c.args.cells.now c.args.team))) c.loop-own.invariant
+    (long ∙ c.requires ∙ sym (many_places (cells_of c.args.cells.now c.args.team))) c.loop-own.invariant

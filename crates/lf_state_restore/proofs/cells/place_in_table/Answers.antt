@@ -1,4 +1,4 @@
-use Rattle.std.proofs.Common.{◌≡◌, ◌≤◌, List, length, ap, subst, sym, arith, ◌∙◌}
+use Rattle.std.proofs.Common.{List, length, ap, arith, ◌∙◌}
 use Rattle.lf_cells.specs.Cells.{cells_of}
 use Rattle.lf_state_text.specs.declared.saved_rows.SavedCell.{SavedCell}
 use Rattle.lf_state_restore.specs.Saved.{map_two, restored_cell}
@@ -8,17 +8,11 @@ use Rattle.lf_state_restore.proofs.cells.place_in_table.Goals as goal
 pub loop-team-init : goal.loop-team-init
 loop-team-init c = none_placed c.args.cells.now c.args.rows.now
 
-pub place_numbered-requires : goal.place_numbered-requires
-place_numbered-requires c =
+pub place_team-requires : goal.place_team-requires
+place_team-requires c =
     let n = c.loop-team.team in
-    let old = c.args.cells.now in
-    let now = c.loop-team.cells in
-    let many : length c.deref.result.now ≡ length (cells_of now n) =
     ap (λ (cs : List SavedCell). length cs) (c.deref.ensures.value ∙ c.take_cells-saved.ensures.cells)
-    ∙ next_many n c.args.rows.now c.loop-team.rows old now c.loop-team-test.true c.loop-team.auto.rows c.loop-team.invariant c.index-rows-team.result c.requires.many in
-    let few : length (cells_of now n) ≤ 4000000 =
-    subst (λ cs. length cs ≤ 4000000) (sym (c.loop-team.invariant.others n (omega arith))) (c.requires.few n) in
-    record { many = many; few = omega (arith, many, few) }
+    ∙ next_many n c.args.rows.now c.loop-team.rows c.args.cells.now c.loop-team.cells c.loop-team-test.true c.loop-team.auto.rows c.loop-team.invariant c.index-rows-team.result c.requires
 
 pub loop-team-preserved : goal.loop-team-preserved
 loop-team-preserved c =
@@ -26,10 +20,10 @@ loop-team-preserved c =
     let old = c.args.cells.now in
     let now = c.loop-team.cells in
     next_placed n c.args.rows.now c.loop-team.rows old now c.loop-team-test.true c.loop-team.auto.rows c.loop-team.invariant c.index-rows-team.result
-    c.place_numbered.new.cells c.take_cells-saved.new.row c.take_cells-saved.ensures.row
-    (c.place_numbered.ensures.own
+    c.place_team.new.cells c.take_cells-saved.new.row c.take_cells-saved.ensures.row
+    (c.place_team.ensures.own
     ∙ ap (λ (cs : List SavedCell). map_two restored_cell (cells_of now n) cs) (c.deref.ensures.value ∙ c.take_cells-saved.ensures.cells))
-    c.place_numbered.ensures.others
+    c.place_team.ensures.others
 
 pub returns-clause-placed : goal.returns-clause-placed
 returns-clause-placed c =

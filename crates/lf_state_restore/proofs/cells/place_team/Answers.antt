@@ -7,8 +7,8 @@ use Rattle.lf_state_restore.proofs.KeepingDesign.{committed_fixed}
 use Rattle.lf_state_restore.proofs.Placed.{cells_restored, committed_now, committed_same, fixed_same, places_committed}
 use Rattle.lf_state_restore.proofs.cells.place_team.Goals as goal
 
-pub working_are_in_place-requires-clause-are_placed : goal.working_are_in_place-requires-clause-are_placed
-working_are_in_place-requires-clause-are_placed c =
+pub working_are_in_place-requires : goal.working_are_in_place-requires
+working_are_in_place-requires c =
     ap (λ (cs : List Cell). working_places_of cs) c.commit.ensures.own
     ∙ places_committed (cells_of c.committed_are_in_place.new.cells c.args.team)
     ∙ c.committed_are_in_place.ensures.places

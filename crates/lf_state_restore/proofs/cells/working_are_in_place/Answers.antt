@@ -22,7 +22,7 @@ loop-own-preserved c =
     let working = length-map saved (λ (s : SavedCell). s.working) in
     let committed = length-map saved (λ (s : SavedCell). s.committed) in
     let less : n < length to = omega (arith, c.loop-own-test.true, working) in
-    let many : length to ≡ length (working_places_of (cells_of old k)) = working ∙ sym committed ∙ ap (λ (ps : Places). length ps) (sym c.requires.are_placed) in
+    let many : length to ≡ length (working_places_of (cells_of old k)) = working ∙ sym committed ∙ ap (λ (ps : Places). length ps) (sym c.requires) in
     let place = c.place-place.result in
     let is : place ≡ get_or to n place = c.place-place.ensures ∙ read_at (λ s. s.working) saved n c.index-saved-own.result place c.loop-own-test.true in
     elim c.if-not-same_place.branch [
@@ -32,7 +32,7 @@ loop-own-preserved c =
       | else-not-same_place w ↦
           let alike : place ≡ c.place.result = (w.if-not-same_place.ensures {u = tt}).0 refl in
           let there : get_or (working_places_of (cells_of old k)) n place ≡ get_or to n place =
-          ap (λ (ps : Places). get_or ps n place) c.requires.are_placed
+          ap (λ (ps : Places). get_or ps n place) c.requires
           ∙ sym (read_at (λ s. s.committed) saved n c.index-saved-own-in-loop-own.result place c.loop-own-test.true)
           ∙ sym c.place.ensures ∙ sym alike ∙ is in
           subst (λ (cells : Cells). ArePlacedSoFar k (n + 1) to old cells) (sym w.cells-is)
@@ -45,4 +45,4 @@ returns-clause-places c =
     let working = length-map saved (λ (s : SavedCell). s.working) in
     let committed = length-map saved (λ (s : SavedCell). s.committed) in
     all_so_far c.args.team c.loop-own.own (map (λ c. c.working) saved) c.args.cells.now c.loop-own.cells (omega (arith, c.loop-own-test.false, working))
-    (working ∙ sym committed ∙ ap (λ (ps : Places). length ps) (sym c.requires.are_placed)) c.loop-own.invariant
+    (working ∙ sym committed ∙ ap (λ (ps : Places). length ps) (sym c.requires)) c.loop-own.invariant

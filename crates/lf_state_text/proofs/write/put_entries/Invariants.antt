@@ -1,7 +1,7 @@
 use Rattle.std.proofs.Common.{take}
 use Rattle.std.specs.Prelude.{All}
 use Rattle.std.specs.List.{flat_map}
-use Rattle.lf_team_def.specs.Output.{PutsText}
+use Rattle.lf_io.specs.Output.{PutsText}
 use Rattle.lf_state_text.specs.Saved.{IsSpottedEntry, entry_lines, saved_at}
 use Rattle.lf_state_text.proofs.write.put_entries.Given as goal
 

@@ -3,7 +3,7 @@ use Rattle.std.specs.Prelude.{codes, count_by, nat_lt}
 use Rattle.std.specs.List.{flat_map}
 use Rattle.std.specs.Fmt.{decimal}
 use Rattle.lf_undo.specs.declared.moves.Move.{Move}
-use Rattle.lf_team_def.specs.TeamText.{words_line}
+use Rattle.lf_proto.specs.ReplyText.{spaced_line}
 use Rattle.lf_state_text.specs.Writing.{move_within}
 use Rattle.lf_state_text.proofs.Lines.{entry_put, entry_spotted}
 use Rattle.lf_state_text.proofs.write.put_entry.Goals as goal
@@ -11,7 +11,7 @@ use Rattle.lf_state_text.proofs.write.put_entry.Goals as goal
 pub returns-clause-text : goal.returns-clause-text
 returns-clause-text g c = λ start before had.
     let moves = c.args.entry.now in
-    let first = words_line (codes "undo" ∷ decimal c.count_within-count.result ∷ []) in
+    let first = spaced_line (codes "undo" ∷ decimal c.count_within-count.result ∷ []) in
     let others = flat_map (move_within c.args.cells) c.as_slice-moves.result.now in
     subst (g.O.Output.took start c.put_moves.new.out)
     (append_assoc before first others

@@ -1,6 +1,6 @@
 use Rattle.std.proofs.Common.{take}
 use Rattle.std.specs.List.{flat_map}
-use Rattle.lf_team_def.specs.Output.{PutsText}
+use Rattle.lf_io.specs.Output.{PutsText}
 use Rattle.lf_state_text.specs.Saved.{slot_line}
 use Rattle.lf_state_text.proofs.write.put_slots.Given as goal
 

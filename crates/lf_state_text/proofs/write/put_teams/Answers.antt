@@ -13,12 +13,6 @@ no_named = record { name = []; cells = [] }
 abbrev no_saved : SavedTeam
 no_saved = record { revision = 0; padding = 0; slots = []; cells = []; entries = [] }
 
-pub put_team-requires : goal.put_team-requires
-put_team-requires g c = record {
-  named = omega (arith, c.loop-team-test.true, c.team_count-team-end.ensures);
-  reported = omega (arith, c.loop-team-test.true, c.team_count-team-end.ensures, c.requires);
-}
-
 pub loop-team-init : goal.loop-team-init
 loop-team-init g c = record {
   text = λ start before had. subst (g.O.Output.took start c.args.out.now) (no_line saved_team_lines before (g.D.DesignSchema.named c.args.design.now).teams) had;

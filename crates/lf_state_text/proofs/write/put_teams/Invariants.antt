@@ -1,6 +1,6 @@
 use Rattle.std.proofs.Common.{take}
 use Rattle.std.specs.Prelude.{All}
-use Rattle.lf_team_def.specs.Output.{PutsText}
+use Rattle.lf_io.specs.Output.{PutsText}
 use Rattle.lf_state_text.specs.Saved.{IsSavedInRange, lines_by, saved_team_lines}
 use Rattle.lf_state_text.proofs.write.put_teams.Given as goal
 

@@ -1,7 +1,7 @@
 use Rattle.std.proofs.Common.{take}
 use Rattle.std.specs.List.{flat_map}
 use Rattle.lf_lex.specs.Splices.{spaced}
-use Rattle.lf_team_def.specs.Output.{PutsText}
+use Rattle.lf_io.specs.Output.{PutsText}
 use Rattle.lf_team_def.specs.TeamText.{team_rect_words}
 use Rattle.lf_team_def.proofs.def_entries.put_rects.Given as goal
 

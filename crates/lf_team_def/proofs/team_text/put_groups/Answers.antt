@@ -6,7 +6,7 @@ use Rattle.lf_floorplan.specs.declared.parts.Team.{Team}
 use Rattle.lf_cells.specs.declared.cell.Cell.{Cell}
 use Rattle.lf_cells.specs.Cells.{cells_of}
 use Rattle.lf_cells.proofs.TeamIds.{ids_long}
-use Rattle.lf_team_def.specs.Output.{PutsText}
+use Rattle.lf_io.specs.Output.{PutsText}
 use Rattle.lf_team_def.specs.TeamText.{words_line, group_lines, team_group_words, section_lines}
 use Rattle.lf_team_def.proofs.Lines.{put_three}
 use Rattle.lf_team_def.proofs.team_text.put_groups.Goals as goal

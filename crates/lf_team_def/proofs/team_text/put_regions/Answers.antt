@@ -2,7 +2,7 @@ use Rattle.std.proofs.Common.{[], ◌∷◌, sym, subst, refl, rules}
 use Rattle.std.specs.Prelude.{codes, decimal}
 use Rattle.std.specs.List.{flat_map}
 use Rattle.std.proofs.lemmas.Option.{slice_get_read}
-use Rattle.lf_team_def.specs.Output.{PutsText}
+use Rattle.lf_io.specs.Output.{PutsText}
 use Rattle.lf_team_def.specs.TeamText.{words_line, region_lines, team_region_words}
 use Rattle.lf_team_def.proofs.Lines.{put_three}
 use Rattle.lf_team_def.proofs.team_text.put_regions.Goals as goal

@@ -1,6 +1,6 @@
 use Rattle.std.proofs.Common.{◌∷◌, take}
 use Rattle.std.specs.List.{flat_map}
-use Rattle.lf_team_def.specs.Output.{PutsText}
+use Rattle.lf_io.specs.Output.{PutsText}
 use Rattle.lf_team_def.specs.Words.{def_word_text}
 use Rattle.lf_team_def.proofs.words.put_spaced.Given as goal
 

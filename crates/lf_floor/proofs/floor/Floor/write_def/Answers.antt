@@ -1,7 +1,7 @@
 use Rattle.std.proofs.Common.{◌≡◌, ◌<◌, ◌+◌, length, sym, ap, ◌∙◌, Some, subst}
 use Rattle.lf_floorplan.specs.declared.frame.Frame.{Frame}
 use Rattle.lf_cells.specs.Cells.{Cells, cells_of}
-use Rattle.lf_team_def.specs.Output.{PutsText}
+use Rattle.lf_io.specs.Output.{PutsText}
 use Rattle.lf_team_def.specs.TeamText.{team_text}
 use Rattle.lf_floor_model.specs.States.{FloorState}
 use Rattle.lf_floor_model.specs.Teams.{team_number}

@@ -1,5 +1,0 @@
-use Rattle.lf_laws_slice_texts.proofs.CutsThere.{cut_there}
-use Rattle.lf_laws_slice_texts.proofs.laws.cuts_exist.Goals as goal
-
-pub returns : goal.returns
-returns c = λ number whole a loaded. cut_there number whole a loaded
