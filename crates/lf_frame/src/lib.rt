@@ -7,7 +7,7 @@
 //!
 //! Most public items of `lf_floorplan` can be named from here too.
 //!
-//! Used by `lf_laws_roundtrip`, `lf_laws_slice_texts`, `lf_task_designs`, `lf_task_files`,
+//! Used by `lf_laws_roundtrip`, `lf_laws_slices`, `lf_task_designs`, `lf_task_files`,
 //! `lf_task_serve` and `lf_app`.
 //!
 //! Modules, in reading order:

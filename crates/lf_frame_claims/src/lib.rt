@@ -10,7 +10,7 @@
 //! names differ, it also sees the claim on each component: by no fence, by one, or by two different
 //! ones.
 //!
-//! Used by `lf_frame_checks`, `lf_frame`, `lf_laws_roundtrip` and `lf_laws_slice_texts`.
+//! Used by `lf_frame_checks`, `lf_frame`, `lf_laws_roundtrip` and `lf_laws_slices`.
 //!
 //! Modules, in reading order:
 //!
