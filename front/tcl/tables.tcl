@@ -16,7 +16,8 @@ namespace eval lefence {
             does {every cell that is unplaced or illegal goes to its best place, in loading order}}
         unplace {fields {CELL} reply {REV} does {the cell becomes unplaced}}
         swap {fields {CELL CELL} reply {REV} does {the two cells exchange their whole places}}
-        undo {fields {} reply {REV} does {brings back the places before the newest change that is kept, unchecked}}
+        undo {fields {} reply {REV}
+            does {restores the working places before the newest change in the undo list; tests no rule}}
         commit {fields {} reply {REV} does {the working places become the committed ones}}
         revert {fields {} reply {REV} does {the committed places become the working ones, unchecked}}
         pad {fields {P} reply {REV}

@@ -31,7 +31,7 @@ pub enum LegalCells {
     MoveAsNeeded,
     /// They stay.
     KeepLegal,
-    /// They move if that makes the total displacement smaller.
+    /// Those of one row's height may move, to make the total displacement small.
     MoveAll,
 }
 
@@ -91,8 +91,8 @@ pub enum Task<'a> {
     Repair {
         def: &'a str,
         lefs: Sequence<&'a str>,
-        /// The names of the teams whose cells are repaired, in order. If empty, all teams are
-        /// repaired.
+        /// The names of the teams to repair, in the order of the words. They are repaired in the
+        /// order of the fences, `-` last. If empty, all teams are repaired.
         teams: Sequence<&'a str>,
         legal: LegalCells,
         /// The path of the exported DEF file, if any.

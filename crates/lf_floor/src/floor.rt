@@ -61,7 +61,7 @@ impl<S: Seeker> Model for Floor<S> {
     ghost invariant = { λ f. AreTables f.tables };
 }
 
-/// Returns true if this is the name of the team outside all fences.
+/// Returns true if this is the name of the ground team, `-`.
 fn is_outside(name: &[u8]) -> bool
     ensures { result ≡ bytes_eq ground_name name.now }
 {

@@ -23,8 +23,8 @@
 //! - `committed`: the committed places of all cells
 //! - `queries`: queries of teams by their numbers
 //! - `response`: replies whose DEF text is written separately
-//! - `state_view`: a floor as the contents of a state text
-//! - `snapshot`: the saved state of a floor as a value
+//! - `state_view`: the names and saved values of a floor, as the writer of state texts reads them
+//! - `snapshot`: the state of a floor for `--save`: it borrows the floor and writes its text
 //! - `start_unplaced`: the floor of a design without placed cells
 //! - `restore`: floors restored from state texts
 //!

@@ -52,8 +52,9 @@ fn set_numbers(
     tables.sessions.set_slots(number, slots);
 }
 
-/// Restores the team of that number from its row, except its cells, which are placed already. The
-/// team has no undo entry, and the tally bounds its working places.
+/// Restores the revision, padding, session slots and undo entries of the team of that number. Its
+/// cells are placed already, and it has no undo entry yet. `tally` has the number of its boxes in
+/// each strip.
 ///
 /// `Err` if an allocation fails.
 fn restore_team(
@@ -128,8 +129,8 @@ fn restore_teams(
     Ok(())
 }
 
-/// Returns the tables with the cells of all teams at the places of the rows, and without undo
-/// entries. Removes the cells from the rows.
+/// Returns the tables with the cells of all teams at their saved places, and without undo entries.
+/// Empties the list of cells of each saved team (`TeamRow`), which frees its memory.
 ///
 /// `Err` if an allocation fails; the tables are then dropped.
 fn place_cells(alloc: Global, tables: Tables, rows: &mut [TeamRow]) -> Result<Tables, AllocError>

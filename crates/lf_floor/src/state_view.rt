@@ -283,7 +283,7 @@ fn put_tables<O: Output>(out: &mut O, tables: &Tables)
 
 impl<S: Seeker + Drop> Floor<S> {
     /// Writes a text of the floor's state, from which `restore` restores the floor. Does not
-    /// allocate.
+    /// allocate. Only tests call it: the program writes a state by `snapshot`.
     pub fn write_state<O: Output>(&self, out: &mut O)
         ensures { (text : List ℕ) × IsStateText self.now text × PutsText O.took out.old out.new text }
     {

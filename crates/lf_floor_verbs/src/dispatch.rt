@@ -18,9 +18,9 @@ use lf_proto::{Action, Change, Refusal, Reply, TeamCommand};
 use std::alloc::AllocError;
 
 impl Tables {
-    /// Makes a change, if the session may. Refuses with `Stale` if the session has not seen the
+    /// Runs a change of an open session. Refuses with `Stale` if the session has not seen the
     /// team's revision, then with `RevisionsSpent` if the team's revision is at the limit. These
-    /// come before all other refusals.
+    /// come before the refusals of the change itself.
     ///
     /// `Err` if an allocation fails; then the team is unchanged.
     fn check_session<S: Seeker>(

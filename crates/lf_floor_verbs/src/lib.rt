@@ -21,7 +21,8 @@
 //! - `report`: the report of a team's cells
 //! - `queries`: `where`, `check`, `def` and `find`
 //! - `recording`: room for a change, and its undo entry
-//! - `single_cell`: changes of one cell: `place`, `legalize` and `unplace`
+//! - `single_cell`: `run_change`, which calls the method of a change; the changes of one cell:
+//!   `place`, `legalize` and `unplace`
 //! - `swap`: `swap`
 //! - `tidy`: `tidy`
 //! - `whole_team`: changes of a whole team: `revert`, `undo`, `commit` and `pad`

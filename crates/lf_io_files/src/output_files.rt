@@ -74,7 +74,7 @@ fn write_to<T: Files + AllocGlobal, P: TextSource>(
     replace(files, path, text)
 }
 
-/// Takes exported texts, by the paths of their files.
+/// Writes texts to files, given by their paths: the exported text, a state, the lines of a repair.
 pub trait OutputFiles {
     // The texts written so far, the latest first, if known.
     ghost puts: { Self → Option (List Put) } = { λ _. None };

@@ -67,7 +67,7 @@ pub enum Change<N, P = Place> {
     ///
     /// Reply: `ok REV`. Refusals: 3, 4, 11, 5, 6, 7.
     Swap { first: N, second: N },
-    /// Brings back the places before the newest change that is kept, unchecked.
+    /// Restores the working places before the newest change in the undo list; tests no rule.
     ///
     /// Reply: `ok REV`. Refusals: 3, 4, 11, 9.
     Undo,

@@ -1,5 +1,5 @@
 //! Lists the edits of a repair: which cells of a team to unplace or place, and which legal cells to
-//! free.
+//! unlock.
 //!
 //! It reads a placement, and no floor. A *pass* has for each cell whether it is *locked*, and its
 //! target. Each phase of a pass (`Phase`) lists edits. `lf_repair_planner` plans those for the

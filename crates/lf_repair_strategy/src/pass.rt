@@ -23,7 +23,8 @@ pub enum MovePolicy {
 }
 
 /// One pass over a team. `locked` says whether each cell is locked, and `wanted_places` has its
-/// target. Both lists are indexed by the cell's position in loading order.
+/// target place. In the first pass this is the cell's original place, or `None` if it had none.
+/// Both lists are indexed by the cell's position in loading order.
 #[derive(Drop)]
 pub struct Pass {
     pub locked: Vec<bool>,

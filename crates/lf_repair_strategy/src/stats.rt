@@ -1,12 +1,13 @@
 //! The result of repairing a team.
 
 /// The result of repairing one team. Displacement is |dx| + |dy| between a cell's old and new
-/// place, in database units.
+/// place, in database units. In the report `displaced_legal` has the key `pushed`,
+/// `total_displacement` `total`, `max_displacement` `largest`, and `unrepaired` `left`.
 #[derive(Drop)]
 pub struct RepairStats {
     /// The number of cells that broke a rule or had no place.
     pub cells: u32,
-    /// The number of legal cells that did not move.
+    /// The number of legal cells whose place and orientation are unchanged.
     pub kept: u32,
     /// The number of cells that had a place and now have another corner.
     pub moved: u32,

@@ -31,7 +31,7 @@ pub struct FenceLine {
 #[derive(Drop)]
 pub struct TextRefusal {
     pub number: FaultNumber,
-    /// The line, if the fault has one.
+    /// The line of a reader's fault. `None` for a fault of loading, which has a name instead.
     pub line: Option<usize>,
     /// The name, if the fault has one.
     pub name: Option<Vec<u8>>,

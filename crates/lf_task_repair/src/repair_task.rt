@@ -116,7 +116,8 @@ fn all_known<'a>(floor: &Floor<IndexSeeker>, teams: &'a [&'a str]) -> Result<(),
     Ok(())
 }
 
-/// Repairs the team with this name, and adds its line to the report.
+/// Repairs the team with this name, and adds its line to the report. `Err` only if an allocation
+/// fails: the team exists, its floor has a free session slot, and lines are kept in memory.
 fn repair_named<'f, P: Progress>(
     alloc: Global,
     floor: &mut Floor<IndexSeeker>,

@@ -18,7 +18,7 @@ pub(crate) const MOST_LINES: u32 = 1_000_000;
 /// The most reads for each line: some more than the longest line has bytes.
 const READS: u64 = 4_200;
 
-/// Returns the limits on a session of `lines` lines.
+/// Returns the limits for a reader or a connection on which at most `lines` lines are answered.
 pub(crate) fn limits_of(lines: u32) -> ServeLimits
     ensures lines { result.lines ≡ lines }
     ensures reads { result.reads ≡ reads_for lines }

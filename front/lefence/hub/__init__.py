@@ -3,8 +3,8 @@
 Modules in reading order:
 - `hub`: the main loop, from a client's line to the journal and back.
 - `hub_client`, `clients`: one connected client; all clients, and their limits.
-- `sockets`: the listening sockets, their groups and modes.
-- `server`: the program as a process of the hub.
+- `sockets`: binds the sockets, with their groups and modes; `listen` of `lefence.tools.hub` listens on them.
+- `server`: the program `lefence replay` as a child process of the hub. It serves no socket.
 - `checkpoints`, `exporter`: saved states and exports, made by programs at the side.
 - `status`, `metrics`, `log_limit`, `notify`: what an operator and systemd see.
 

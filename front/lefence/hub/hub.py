@@ -29,7 +29,7 @@ from .notify import notify_alive
 from .server import Note, Server, ServerLost, described_teams
 from .status import status_text, uncommitted_text
 
-# The weight of a batch. A line of one cell weighs 1, one of a whole team _WHOLE.
+# The most weight of a batch, which `_adjust_budget` lowers. A line of one cell weighs 1, one of a whole team _WHOLE.
 _BATCH = 1024
 _WHOLE = 64
 _WHOLE_TEAM = frozenset((b"tidy", b"commit", b"revert", b"undo"))
