@@ -30,7 +30,8 @@ class Pipes(InFolder):
 
     def through_pipes(self, words: list[str | Path], lines: str = "") -> tuple[int, str, str]:
         """Runs the program with these words, in which each path is that of a pipe out of the file."""
-        cats = {word: subprocess.Popen(["cat", word], stdout=subprocess.PIPE) for word in words if isinstance(word, Path)}
+        paths = [word for word in words if isinstance(word, Path)]
+        cats = {path: subprocess.Popen(["cat", path], stdout=subprocess.PIPE) for path in paths}
         files = {word: cat.stdout.fileno() for word, cat in cats.items() if cat.stdout}
         try:
             named = [f"/dev/fd/{files[word]}" if isinstance(word, Path) else word for word in words]
