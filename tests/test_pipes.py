@@ -1,6 +1,6 @@
 """Designs and states that are read through pipes, and replies over them.
 
-No contract knows when a flushed byte comes out of a pipe, or how long a text in a pipe is.
+No contract knows when a flushed byte comes out of a pipe, how long a text in a pipe is, or who reads a pipe.
 """
 
 from __future__ import annotations
@@ -11,7 +11,7 @@ import subprocess
 import unittest
 from pathlib import Path
 
-from program import DEF, LEF, PATIENCE, InFolder, Session, Start, run
+from program import DEF, DESIGN, LEF, PATIENCE, InFolder, Session, Start, run
 
 # More lines than a pipe holds.
 COMMENTS = "# a line that no design needs\n" * 10_000
@@ -91,6 +91,31 @@ class Replies(unittest.TestCase):
                 self.assertEqual(session.reply(line), reply)
         finally:
             self.assertEqual(session.end(), (0, ""))
+
+
+class Closed(unittest.TestCase):
+    """Standard output that is a pipe which nobody reads any more."""
+
+    def unread(self, words: list[str], lines: str = "") -> tuple[int, str, str]:
+        reader, writer = os.pipe()
+        os.close(reader)
+        try:
+            return run(words, lines, Start(stdout=writer))
+        finally:
+            os.close(writer)
+
+    def test_a_report_a_description_and_a_help_end_without_a_message(self) -> None:
+        for words in (["check", *DESIGN], ["describe", *DESIGN], ["--help"], ["check", "--help"]):
+            with self.subTest(words):
+                self.assertEqual(self.unread(words), (3, "", ""))
+
+    def test_a_fault_of_the_design_is_reported(self) -> None:
+        said = "lefence: File\nlefence: DEF file no.def cannot be read: there is no such file\n"
+        self.assertEqual(self.unread(["check", "no.def", *DESIGN]), (3, "", said))
+
+    def test_what_would_have_written_more_says_why_it_ends(self) -> None:
+        self.assertEqual(self.unread(["repair", *DESIGN]), (3, "", "lefence: Output\n"))
+        self.assertEqual(self.unread(["replay", *DESIGN], "open A\n"), (3, "", "lefence: WriteFault\n"))
 
 
 if __name__ == "__main__":
