@@ -160,6 +160,25 @@ class Repairs(InFolder):
         self.assertEqual((status, [line["cells"] for line in report]), (0, [0, 1, 0, 1]))
         self.assertEqual([(line["moved"], line["turned"]) for line in report], [(0, 0), (0, 1), (0, 0), (0, 1)])
 
+    def test_a_cell_that_moves_faces_as_it_did(self) -> None:
+        status, report = self.repair({**PLACED_CELLS, "- a2 INV + UNPLACED ;": "- a2 INV + PLACED ( 200 0 ) FN ;"})
+        self.assertEqual((status, report[0]["moved"], report[0]["turned"]), (0, 1, 0))
+
+    def test_cells_left_of_the_origin_stay_near(self) -> None:
+        # d is higher than a row, and s is not.
+        rows = "".join(
+            f"ROW r{row} core -8000 {2_000 * row} {facing} DO 80 BY 1 STEP 200 0 ;\n"
+            for row, facing in enumerate(("N", "FS"))
+        )
+        self.text.write_text(
+            f"VERSION 5.8 ;\nDESIGN w ;\nUNITS DISTANCE MICRONS 1000 ;\n{rows}COMPONENTS 2 ;\n"
+            "- d DBL + PLACED ( -4100 0 ) N ;\n- s INV + PLACED ( -6100 0 ) N ;\nEND COMPONENTS\nEND DESIGN\n"
+        )
+        status, written, said = run(["repair", str(self.text), str(LEF)])
+        self.assertEqual((status, said), (0, ""))
+        last = json.loads(written.splitlines()[-1])
+        self.assertEqual((last["moved"], last["total"], last["largest"]), (2, 200, 100))
+
     def test_a_cell_of_a_long_name_moves(self) -> None:
         name = "b" * 1_024
         changes = {**PLACED_CELLS, "- b1 INV ;": f"- {name} INV + PLACED ( 6100 0 ) N ;", "- gb b1 ": "- gb b* "}
