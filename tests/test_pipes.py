@@ -111,7 +111,7 @@ class Closed(unittest.TestCase):
 
     def test_a_fault_of_the_design_is_reported(self) -> None:
         said = "lefence: File\nlefence: DEF file no.def cannot be read: there is no such file\n"
-        self.assertEqual(self.unread(["check", "no.def", *DESIGN]), (3, "", said))
+        self.assertEqual(self.unread(["check", "no.def", str(LEF)]), (3, "", said))
 
     def test_what_would_have_written_more_says_why_it_ends(self) -> None:
         self.assertEqual(self.unread(["repair", *DESIGN]), (3, "", "lefence: Output\n"))
