@@ -1,17 +1,20 @@
 /* Preloaded into the program: makes time pass faster. A socket's write time-out is a sixtieth of the requested one: a
-   minute becomes a second. Each time the clock is read, it is three seconds later than the time before. */
+   minute becomes a second. Each time the clock is read, it is later than the time before: by HASTEN milliseconds, or by
+   three seconds if the environment has no such number. */
 #define _GNU_SOURCE
 #include <dlfcn.h>
+#include <stdlib.h>
 #include <sys/socket.h>
 #include <sys/time.h>
 #include <time.h>
 
 int clock_gettime(clockid_t clock, struct timespec *now) {
-    static time_t seconds;
+    static long time;
+    const char *step = getenv("HASTEN");
     (void)clock;
-    seconds += 3;
-    now->tv_sec = seconds;
-    now->tv_nsec = 0;
+    time += step ? atol(step) : 3000;
+    now->tv_sec = time / 1000;
+    now->tv_nsec = time % 1000 * 1000000;
     return 0;
 }
 

@@ -29,14 +29,17 @@ PATIENCE = 30
 @dataclass(frozen=True)
 class Start:
     """How to start the program: its standard input instead of lines, its standard output instead of a pipe, its folder
-    and environment, the umask of new files (-1: that of the tests), and what its process does first."""
+    and environment, the umask of new files (-1: that of the tests), further open files, what its process does first,
+    and the seconds that it may take."""
 
     stdin: int | None = None
     stdout: int | IO[bytes] = subprocess.PIPE
     folder: str | Path | None = None
     environment: dict[str, str] | None = None
     umask: int = -1
+    files: tuple[int, ...] = ()
     first: Callable[[], None] | None = None
+    patience: int = PATIENCE
 
 
 def run(words: list[str], lines: str | bytes = "", start: Start = Start()) -> tuple[int, str, str]:
@@ -52,8 +55,9 @@ def run(words: list[str], lines: str | bytes = "", start: Start = Start()) -> tu
         cwd=start.folder,
         env=start.environment,
         umask=start.umask,
+        pass_fds=start.files,
         preexec_fn=start.first,
-        timeout=PATIENCE,
+        timeout=start.patience,
     )
     return ran.returncode, (ran.stdout or b"").decode(), ran.stderr.decode()
 

@@ -11,6 +11,7 @@ import stat
 import subprocess
 import unittest
 from pathlib import Path
+from typing import IO
 
 from program import DEF, DESIGN, LEF, InFolder, Service, Session, Start, free_port, preloading, run, small_files
 
@@ -109,12 +110,24 @@ class Exported(Exports):
         self.assertEqual((within / "made.def").read_text(), EXPORTED)
         self.assertEqual((self.names(), sorted(os.listdir(within))), (["new.def", "within"], ["made.def", "next.def"]))
 
+    def test_through_a_long_chain_of_links(self) -> None:
+        chain = [self.target, *(self.folder / f"link{number}" for number in range(20)), self.folder / "made.def"]
+        for link, named in zip(chain, chain[1:]):
+            link.symlink_to(named.name)
+        for older in (None, "older"):
+            with self.subTest(older):
+                self.assertEqual(self.export(self.target), DONE)
+                self.assertEqual([link.is_symlink() for link in chain], [True] * 21 + [False])
+                self.assertEqual(chain[-1].read_text(), EXPORTED)
+                chain[-1].write_text("older")
+
     def test_next_to_temporary_files_of_other_runs(self) -> None:
-        left = self.folder / "new.def.partial0"
-        left.write_text("left")
+        left = [self.folder / f"new.def.partial{number}" for number in (0, 1, 2, 3, 4, 6)]
+        for path in left:
+            path.write_text("left")
         self.assertEqual(self.export(self.target), DONE)
-        self.assertEqual((self.target.read_text(), left.read_text()), (EXPORTED, "left"))
-        self.assertEqual(self.names(), ["new.def", "new.def.partial0"])
+        self.assertEqual((self.target.read_text(), [path.read_text() for path in left]), (EXPORTED, ["left"] * 6))
+        self.assertEqual(self.names(), ["new.def", *(path.name for path in left)])
 
     def test_what_holds_the_older_file_keeps_the_older_text(self) -> None:
         self.target.write_text("older")
@@ -124,12 +137,36 @@ class Exported(Exports):
             self.assertEqual(held.read(), "older")
         self.assertEqual((self.target.read_text(), (self.folder / "second.def").read_text()), (EXPORTED, "older"))
 
-    def test_is_stored_before_it_takes_the_older_files_name(self) -> None:
+    def calls(self, path: Path | str, stdout: int | IO[bytes] = subprocess.PIPE) -> list[str]:
+        """Exports to this path. Returns the calls that fill, store and rename files."""
         calls = self.folder / "calls"
-        calls.touch()
+        calls.write_text("")
         environment = {**preloading("record.c", self.folder), "RECORD": str(calls)}
-        self.assertEqual(self.export(self.target, Start(environment=environment)), DONE)
-        self.assertEqual(calls.read_text(), "fsync\nrename\n")
+        done = DONE if stdout == subprocess.PIPE else (0, "", "")
+        self.assertEqual(self.export(path, Start(stdout=stdout, environment=environment)), done)
+        return calls.read_text().split()
+
+    def test_is_stored_before_it_takes_the_older_files_name(self) -> None:
+        self.assertEqual(self.calls(self.target), ["write", "fsync", "rename"])
+
+    def test_has_the_mode_of_a_private_file_before_its_text_is_in_it(self) -> None:
+        self.target.write_text("older")
+        self.target.chmod(0o600)
+        self.assertEqual(self.calls(self.target), ["fchmod", "write", "fsync", "rename"])
+
+    def test_is_stored_in_the_file_of_standard_output(self) -> None:
+        with open(self.target, "wb") as output:
+            self.assertEqual(self.calls("/dev/stdout", output), ["write", "fsync"])
+
+    def test_over_a_file_of_three_gigabytes(self) -> None:
+        # (a file without blocks on the disk)
+        self.target.touch()
+        os.truncate(self.target, 3_000_000_000)
+        with open(self.target) as held:
+            self.assertEqual(self.export(self.target), DONE)
+            self.assertEqual(os.fstat(held.fileno()).st_size, 3_000_000_000)
+        self.assertEqual(self.target.stat().st_size, len(EXPORTED))
+        self.assertEqual(self.target.read_text(), EXPORTED)
 
     def test_to_a_pipe(self) -> None:
         os.mkfifo(self.target)

@@ -13,6 +13,11 @@ from program import DEF, DESIGN, LEF, TESTS, Start, free_port, run
 
 W_DEF, W_LEF = DESIGN
 USAGE = "lefence: usage"
+# The last lines of a usage fault.
+HINT = """\
+  lefence --help                all subcommands and their options
+  lefence demo --help           what a subcommand does, with an example (so for each of them)
+"""
 
 
 def line_of(text: str, entry: str) -> int:
@@ -24,7 +29,7 @@ class Mistakes(unittest.TestCase):
     """Each mistake: the status, the text on standard error, and nothing on standard output."""
 
     def said(self, words: list[str], status: int, first: str, second: str = "", start: Start = Start()) -> None:
-        """A second line, if given, says where the fault is. After a usage fault, the wrong word and the usage are
+        """A second line, if given, says where the fault is. After a usage fault, the wrong word and how to get help are
         printed."""
         with self.subTest(" ".join(words)):
             found, written, said = run(words, "", start)
@@ -43,7 +48,7 @@ class Mistakes(unittest.TestCase):
             self.said([verb], 2, USAGE)
             self.said([verb, W_DEF], 2, USAGE)
 
-    def test_the_wrong_word_and_a_tip_come_before_the_usage(self) -> None:
+    def test_the_wrong_word_and_a_tip_come_before_the_hint(self) -> None:
         for words, messages in (
             (["chekc", *DESIGN], ["unrecognized subcommand 'chekc'", "tip: a similar subcommand exists: 'check'"]),
             (
@@ -88,9 +93,7 @@ class Mistakes(unittest.TestCase):
             with self.subTest(" ".join(words)):
                 status, written, said = run(words)
                 self.assertEqual((status, written), (2, ""))
-                lines = said.split("\n")
-                self.assertEqual(lines[: len(messages) + 1], [USAGE, *(f"lefence: {line}" for line in messages)])
-                self.assertTrue(lines[len(messages) + 1].startswith("  lefence [demo] "), said)
+                self.assertEqual(said, "\n".join([USAGE, *(f"lefence: {line}" for line in messages), HINT]))
 
     def test_a_text_that_is_read_is_not_written_over(self) -> None:
         with tempfile.TemporaryDirectory() as folder:
@@ -297,11 +300,12 @@ class Help(unittest.TestCase):
     """The help of the program, on standard output."""
 
     def test_the_usage(self) -> None:
-        _, _, said = run(["help"])
-        usage = said.removeprefix("lefence: usage\n")
+        self.assertEqual(run(["help"]), (2, "", f"{USAGE}\n{HINT}"))
         status, written, said = run(["--help"])
         self.assertEqual((status, said), (0, ""))
-        self.assertTrue(written.startswith(usage) and len(usage) > 500, written)
+        self.assertTrue(written.startswith("  lefence [demo] "), written)
+        for verb in ("check", "describe", "replay", "serve", "repair"):
+            self.assertIn(f"\n  lefence {verb} DEF LEF...", written)
 
     def test_each_subcommand_has_its_help_with_an_example(self) -> None:
         for verb in ("demo", "check", "describe", "replay", "serve", "repair"):

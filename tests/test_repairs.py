@@ -69,6 +69,19 @@ def design(changes: dict[str, str]) -> str:
     return text
 
 
+def half_a_site_off(cells: int) -> str:
+    """A design without fences. Each of its cells is half a site off, with room next to it."""
+    rows = [
+        f"ROW r{row} core 0 {2_000 * row} {'FS' if row % 2 else 'N'} DO 200 BY 1 STEP 200 0 ;\n"
+        for row in range(cells // 60 + 1)
+    ]
+    places = [
+        f"- c{cell} INV + PLACED ( {600 * (cell % 60) + 100} {2_000 * (cell // 60)} ) N ;\n" for cell in range(cells)
+    ]
+    header = "VERSION 5.8 ;\nDESIGN w ;\nUNITS DISTANCE MICRONS 1000 ;\n"
+    return "".join([header, *rows, f"COMPONENTS {cells} ;\n", *places, "END COMPONENTS\nEND DESIGN\n"])
+
+
 class Repairs(InFolder):
     """Repairs of the small design, in their own folder."""
 
@@ -101,16 +114,97 @@ class Repairs(InFolder):
         begun += progress("-", 3, teams.count("A") + teams.count("B"))
         self.assertEqual(slowly, (0, run(words)[1], begun))
 
+    def test_one_of_a_large_team_says_how_far_it_is_every_two_seconds(self) -> None:
+        # The clock is read once in 1,024 commands. It is then half a second later, or a little more if the test's
+        # program reads it for itself.
+        self.text.write_text(half_a_site_off(2_200))
+        hastened = {**preloading("hasten.c", self.folder), "HASTEN": "500"}
+        words = ["repair", str(self.text), str(LEF), "--lines", str(self.lines)]
+        status, written, said = run(words, start=Start(environment=hastened))
+        self.assertEqual((status, json.loads(written.splitlines()[0])["cells"]), (0, 2_200))
+        self.assertGreater(len(self.lines.read_text().splitlines()), 4_096)
+        begin, end = 'lefence: repairing "-", team 1 of 1: ', " commands so far"
+        counts = [int(line.removeprefix(begin).removesuffix(end)) for line in said.splitlines()]
+        within = [count for count in counts if count]
+        self.assertEqual([count for count in within if count % 1_024], [])
+        self.assertTrue(within)
+        self.assertEqual([(old, new) for old, new in zip(within, within[1:]) if new - old < 2_048], [])
+
+    def test_one_of_50_000_cells_takes_seconds(self) -> None:
+        # (an unproved program, as tools/planted.py builds it, takes minutes)
+        text = half_a_site_off(50_000)
+        self.text.write_text(
+            text.replace("COMPONENTS 50000 ;", "COMPONENTS 50001 ;").replace("END COMP", "- d DBL ;\nEND COMP")
+        )
+        status, written, said = run(["repair", str(self.text), str(LEF)], start=Start(patience=300))
+        self.assertEqual((status, [line for line in said.splitlines() if " commands so far" not in line]), (0, []))
+        last = json.loads(written.splitlines()[-1])
+        self.assertEqual((last["cells"], last["left_cells"], last["least_largest"]), (50_001, 0, 100))
+
     def test_a_cell_that_overlaps_moves(self) -> None:
         status, report = self.repair(PLACED_CELLS, "--export", str(self.new))
         self.assertEqual((status, self.check(self.new)), (0, 0))
         self.assertEqual([line["team"] for line in report[:-1]], ["A", "B", "-"])
         first, last = report[0], report[-1]
         self.assertEqual((first["cells"], first["kept"], first["placed"], first["left"]), (2, 1, 0, []))
+        self.assertEqual([(line["moved"], line["turned"]) for line in report], [(1, 0), (0, 0), (0, 0), (1, 0)])
+        self.assertEqual([(line["total"], line["mean"]) for line in report], [(200, 200), (0, 0), (0, 0), (200, 200)])
         self.assertEqual(
             (last["cells"], last["kept"], last["teams"], last["left_cells"], last["legal"]), (2, 3, 3, 0, True)
         )
         self.assertEqual(last["total"], first["total"])
+
+    def test_a_cell_that_faces_the_wrong_way_turns(self) -> None:
+        legal = {**PLACED_CELLS, "- a2 INV + UNPLACED ;": "- a2 INV + PLACED ( 400 0 ) N ;"}
+        status, report = self.repair({**legal, "- b1 INV ;": "- b1 INV + PLACED ( 6000 2000 ) N ;"})
+        self.assertEqual((status, [line["cells"] for line in report]), (0, [0, 1, 0, 1]))
+        self.assertEqual([(line["moved"], line["turned"]) for line in report], [(0, 0), (0, 1), (0, 0), (0, 1)])
+
+    def test_a_cell_that_moves_faces_as_it_did(self) -> None:
+        status, report = self.repair({**PLACED_CELLS, "- a2 INV + UNPLACED ;": "- a2 INV + PLACED ( 200 0 ) FN ;"})
+        self.assertEqual((status, report[0]["moved"], report[0]["turned"]), (0, 1, 0))
+
+    def test_cells_left_of_the_origin_stay_near(self) -> None:
+        # d is higher than a row, and s is not.
+        rows = "".join(
+            f"ROW r{row} core -8000 {2_000 * row} {facing} DO 80 BY 1 STEP 200 0 ;\n"
+            for row, facing in enumerate(("N", "FS"))
+        )
+        self.text.write_text(
+            f"VERSION 5.8 ;\nDESIGN w ;\nUNITS DISTANCE MICRONS 1000 ;\n{rows}COMPONENTS 2 ;\n"
+            "- d DBL + PLACED ( -4100 0 ) N ;\n- s INV + PLACED ( -6100 0 ) N ;\nEND COMPONENTS\nEND DESIGN\n"
+        )
+        status, written, said = run(["repair", str(self.text), str(LEF)])
+        self.assertEqual((status, said), (0, ""))
+        last = json.loads(written.splitlines()[-1])
+        self.assertEqual((last["moved"], last["total"], last["largest"]), (2, 200, 100))
+
+    def test_a_cell_of_a_long_name_moves(self) -> None:
+        name = "b" * 1_024
+        changes = {**PLACED_CELLS, "- b1 INV ;": f"- {name} INV + PLACED ( 6100 0 ) N ;", "- gb b1 ": "- gb b* "}
+        status, report = self.repair(changes, "--lines", str(self.lines))
+        self.assertEqual((status, report[1]["cells"], report[1]["left"]), (0, 1, []))
+        self.assertIn(f"place B 0 {name} ", self.lines.read_text())
+
+    def test_each_session_is_closed_at_the_end(self) -> None:
+        for changes in (PLACED_CELLS, {**PLACED_CELLS, **NARROW}):
+            self.repair(changes, "--lines", str(self.lines))
+            lines = self.lines.read_text().splitlines()
+            for team in ("A", "B", "-"):
+                own = [line for line in lines if line.split()[1] == team]
+                self.assertEqual((own[0], own[-1]), (f"open {team}", f"close {team} 0"))
+
+    def test_gaps_are_those_of_the_cells_team_in_rows_near_it(self) -> None:
+        # b1 is between two rows. It needs three sites, and each row of its fence has two.
+        changes = {
+            **tight(4, 1),
+            "- a2 INV + UNPLACED ;": "- a2 INV + PLACED ( 600 2000 ) FS ;",
+            "- B ( 6000 0 ) ( 10000 8000 ) + TYPE FENCE ;": "- B ( 6000 0 ) ( 6400 8000 ) + TYPE FENCE ;",
+            "- b1 INV ;": "- b1 DBL + PLACED ( 6000 3000 ) N ;",
+        }
+        status, report = self.repair(changes, "--keep")
+        self.assertEqual((status, [line["left"] for line in report[:-1]]), (4, [["a2"], ["b1"], []]))
+        self.assertEqual([line["gaps"] for line in report[:-1]], [[200], [400], []])
 
     def test_cells_without_a_place_get_one(self) -> None:
         status, report = self.repair({}, "--export", str(self.new))

@@ -257,6 +257,26 @@ class Saved(States):
         self.assertEqual((os.readlink(self.state), self.names()), ("real.state", ["real.state", "w.state"]))
 
 
+class Long(InFolder):
+    """A state text of more than two megabytes."""
+
+    def test_all_of_it_is_read(self) -> None:
+        text, state = self.folder / "x.def", self.folder / "x.state"
+        names = [f"{cell:04}{'c' * 1_020}" for cell in range(2_100)]
+        rows = "ROW r0 core 0 0 N DO 4200 BY 1 STEP 200 0 ;\n"
+        cells = "".join(f"- {name} INV + PLACED ( {400 * at} 0 ) N ;\n" for at, name in enumerate(names))
+        text.write_text(
+            f"VERSION 5.8 ;\nDESIGN w ;\nUNITS DISTANCE MICRONS 1000 ;\n{rows}"
+            f"COMPONENTS {len(names)} ;\n{cells}END COMPONENTS\nEND DESIGN\n"
+        )
+        words = ["replay", str(text), str(LEF)]
+        lines = f"open -\nunplace - 0 {names[-1]}\n"
+        self.assertEqual(run([*words, "--save", str(state)], lines), (0, "ok 0 0\nok 1\n", ""))
+        self.assertGreater(state.stat().st_size, 1 << 21)
+        ran = run([*words, "--state", str(state)], "".join(f"where - 0 {name}\n" for name in names[-2:]))
+        self.assertEqual(ran, (0, f"ok {400 * 2_098} 0 N\nno 6 Unplaced {names[-1]}\n", ""))
+
+
 class NotSaved(States):
     """States that are not written: older files are unchanged."""
 

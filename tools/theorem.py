@@ -4,6 +4,8 @@
 usage: tools/theorem.py            (from the top) prints each quote that differs, and whether the table does; status 1
                                    if anything differs
        tools/theorem.py --write    writes the texts of the sources into the quotes, and the table
+       tools/theorem.py --read ROW    prints the definitions of this row of the table, as `--read "the headline"`: each
+                                      with its comment and after those that it uses
 
 A quote is a comment that names what is quoted, and the fenced block after it:
 
@@ -12,7 +14,8 @@ A quote is a comment that names what is quoted, and the fenced block after it:
     <!-- crates/lf_cells/src/cell.rt: pub struct Cell -->               a type, or likewise some of its fields
     <!-- crates/lf_floor_model/specs/Runs.antt: own_replies, own_state -->    definitions, with the comments above them
 
-A row of the table says how many definitions a statement depends on, and how many of them the page quotes. A comment
+A row of the table says how many definitions a statement depends on, how many types of the code and names of the kit's
+libraries and of ported crates these use, and how many of them the page quotes. A comment
 above the table names the statement's definitions, one comment for each row. After a + the definitions of the row above
 are included:
 
@@ -27,7 +30,7 @@ import sys
 from dataclasses import dataclass
 from pathlib import Path
 
-from depth import Name, depth_of, lines_of, module
+from depth import Depth, Name, depth_of, lines_of, module, text_of
 
 PAGE = Path("docs/THEOREM.md")
 QUOTE = re.compile(r"<!-- (crates/\S+?):? (.*?) ?-->")
@@ -41,7 +44,8 @@ FIELD = re.compile(r"\s*pub (?:ghost )?(\w+):")
 # The comment of a row of the table of depth, and the head of the table.
 ROW = re.compile(r"<!-- depth: (.*?): (\+ )?(.*) -->")
 HEADING = [
-    "| what it rests on | definitions | their lines | types of the code | quoted here |", "|---|---|---|---|---|"
+    "| what it rests on | definitions | their lines | types of the code | names of the kit | quoted here |",
+    "|---|---|---|---|---|---|",
 ]
 
 
@@ -141,14 +145,24 @@ def source_of(quote: Quote) -> list[str]:
     return [line for text in texts for line in ["", *text]][1:]
 
 
-def row_of(title: str, roots: list[Name], quoted: set[Name]) -> str:
+def depths_in(page: list[str]) -> dict[str, Depth]:
+    """The depth of each row of the table, by the comments above it."""
+    found: dict[str, Depth] = {}
+    roots: list[Name] = []
+    for row in filter(None, map(ROW.match, page)):
+        roots = [*(roots if row[2] else []), *(Name(*name.split(".")) for name in row[3].split(", "))]
+        if any(root.name not in module(root.crate, root.module).texts for root in roots):
+            raise NotThere
+        found[row[1]] = depth_of(roots)
+    return found
+
+
+def row_of(title: str, depth: Depth, quoted: set[Name]) -> str:
     """A row of the table of depth. `quoted` are the definitions that the page quotes."""
-    if any(root.name not in module(root.crate, root.module).texts for root in roots):
-        raise NotThere
-    depth = depth_of(roots)
     here = depth.definitions & quoted
-    counts = f"{len(depth.definitions):,} | {depth.lines:,} | {len(depth.types):,}"
-    return f"| {title} | {counts} | {len(here):,} ({sum(map(lines_of, here)):,} lines) |"
+    counts = [len(depth.definitions), depth.lines, len(depth.types), len(depth.borrowed)]
+    cells = [title, *(f"{count:,}" for count in counts), f"{len(here):,} ({sum(map(lines_of, here)):,} lines)"]
+    return f"| {' | '.join(cells)} |"
 
 
 def quoted_on(page: list[str]) -> set[Name]:
@@ -163,26 +177,36 @@ def quoted_on(page: list[str]) -> set[Name]:
 
 def tabled(page: list[str]) -> list[str]:
     """The page with the correct table of depth."""
-    rows = {at: found for at, line in enumerate(page) if (found := ROW.match(line))}
+    rows = [at for at, line in enumerate(page) if ROW.match(line)]
     if not rows:
         return page
-    start = stop = max(rows) + 1
+    start = stop = rows[-1] + 1
     while stop < len(page) and page[stop].startswith("|"):
         stop += 1
     quoted = quoted_on(page)
-    made: list[str] = []
-    roots: list[Name] = []
-    for row in rows.values():
-        roots = [*(roots if row[2] else []), *(Name(*name.split(".")) for name in row[3].split(", "))]
-        made.append(row_of(row[1], roots, quoted))
+    made = [row_of(title, depth, quoted) for title, depth in depths_in(page).items()]
     return [*page[:start], *HEADING, *made, *page[stop:]]
 
 
+def read(page: list[str], title: str) -> int:
+    """Prints the definitions of this row. Returns the exit status."""
+    depths = depths_in(page)
+    if title not in depths:
+        print(f"{PAGE}: its rows are: {', '.join(depths)}", file=sys.stderr)
+        return 1
+    depth = depths[title]
+    print(f"-- {title}: {len(depth.definitions):,} definitions of {depth.lines:,} lines")
+    print("\n".join(text_of(depth)))
+    return 0
+
+
 def main(words: list[str]) -> int:
+    page = PAGE.read_text(encoding="utf-8").split("\n")
+    if len(words) == 2 and words[0] == "--read":
+        return read(page, words[1])
     if words not in ([], ["--write"]):
         print(__doc__, file=sys.stderr)
         return 2
-    page = PAGE.read_text(encoding="utf-8").split("\n")
     written: list[str] = []
     done = agree = differ = 0
     for quote in quotes_in(page):

@@ -2,8 +2,13 @@
 
 use lf_app::{Help, Subcommand};
 
+/// What is printed after the message about a wrong command line.
+pub(crate) const HINT: &str = "  lefence --help                all subcommands and their options
+  lefence demo --help           what a subcommand does, with an example (so for each of them)
+";
+
 /// The usage: all subcommands and their options.
-pub(crate) const USAGE: &str =
+const USAGE: &str =
     "  lefence [demo]                answers the lines of standard input over the built-in design
   lefence check DEF LEF... [--state FILE] [--sessions N]
                                 writes a report of the design

@@ -1,22 +1,29 @@
 //! The program `lefence`: it passes its words and the standard streams to `lf_app`.
 //!
 //! Its exit status is that of the task (`lf_app::perform_over`). If the words name no task, it
-//! prints the help that they request, with status 0, or else the usage, with status 2. The status
-//! is 1 if an allocation for the words fails, and 3 if the help cannot be written.
+//! prints the help that they request, with status 0, or else how to get it, with status 2. The
+//! status is 1 if an allocation for the words fails, and 3 if the help cannot be written.
+//!
+//! If the reader of a report, a description or a help text closes the pipe early, as `head` does,
+//! the status is 3 without a message.
 //!
 //! Modules, in reading order:
 //!
 //! - `help`: the help texts
+//! - `closed_pipe`: standard output whose reader may have gone away
 #![tactic(auto)]
 
+mod closed_pipe;
 mod help;
 
-use crate::help::{USAGE, texts_of};
+use crate::closed_pipe::{MessageWriter, WatchedWriter};
+use crate::help::{HINT, texts_of};
 use lf_app::{
     Environment, FromRead, FsInputFiles, FsOutputFiles, Help, NetListener, Task, TaskExit,
     TimedProgress, ToWrite, UsageFault, perform_over,
 };
 use std::alloc::{AllocError, Global};
+use std::cell::Cell;
 use std::io;
 use std::io::Write;
 use std::process::ExitCode;
@@ -69,8 +76,10 @@ fn put_help(rt: &HostRuntime, help: Help) -> io::Result<()> {
 fn show(rt: &HostRuntime, help: Help) -> u8 {
     match put_help(rt, help) {
         Ok(()) => 0,
-        Err(_) => {
-            let _ = eprintln!(rt; "lefence: Output");
+        Err(error) => {
+            if error.kind() != io::ErrorKind::BrokenPipe {
+                let _ = eprintln!(rt; "lefence: Output");
+            }
             3
         }
     }
@@ -109,11 +118,24 @@ fn answer(rt: &HostRuntime, words: &[&str], fault: UsageFault) -> u8 {
 /// The seconds between progress messages of a repair.
 const PAUSE: u64 = 2;
 
+/// Whether the task only writes to standard output. If nobody reads that any more, nothing is lost.
+fn only_writes(task: &Task<'_>) -> bool {
+    matches!(task, Task::Check { .. } | Task::Describe { .. })
+}
+
 /// Does the task over the files, the network and the standard streams.
 fn perform(rt: &HostRuntime, task: &Task<'_>) -> TaskExit {
+    let closed = Cell::new(false);
     let mut reader = rt.reader();
-    let mut writer = io::writer(rt);
-    let mut faults = rt.stderr();
+    let mut writer = WatchedWriter {
+        writer: io::writer(rt),
+        closed: &closed,
+    };
+    let mut faults = MessageWriter {
+        writer: rt.stderr(),
+        closed: &closed,
+        is_silent: only_writes(task),
+    };
     let mut around = Environment {
         texts: FsInputFiles::new(rt),
         exports: FsOutputFiles::new(rt),
@@ -137,12 +159,13 @@ fn run(rt: &HostRuntime) -> Result<u8, UsageFault> {
     Ok(perform(rt, &task).status)
 }
 
-/// Prints a usage fault of these words, and the usage. A failure to write it is no further fault.
+/// Prints a usage fault of these words, and how to get help. A failure to write it is no further
+/// fault.
 fn report_it(rt: &HostRuntime, fault: &UsageFault, words: &[&str]) {
     let _ = eprintln!(rt; "lefence: {fault}");
     if matches!(fault, UsageFault::Usage) {
         complain(rt, words);
-        let _ = eprint!(rt; "{USAGE}");
+        let _ = eprint!(rt; "{HINT}");
     }
 }
 
