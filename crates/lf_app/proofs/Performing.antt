@@ -1,9 +1,9 @@
 -- A task over std's reader and writers, which its devices hold.
 use Rattle.std.proofs.Common.{◌≡◌, Bool, ℕ, List, Option, ap, false, not, sym}
 use Rattle.lf_cli.specs.Command.{Job}
-use Rattle.lf_task_designs.specs.declared.faults.TaskExit.{TaskExit}
+use Rattle.lf_task_faults.specs.declared.faults.TaskExit.{TaskExit}
 use Rattle.lf_task_designs.specs.Designs.{ReadsFile}
-use Rattle.lf_task_designs.specs.Faults.{BlamesDevices, IsEarly}
+use Rattle.lf_task_faults.specs.Faults.{BlamesDevices, IsEarly}
 use Rattle.lf_app.specs.Exits.{EndsTask, IsJobFault, IsJobOutcome}
 use Rattle.lf_task_serve.specs.Exits.{streams_alone}
 

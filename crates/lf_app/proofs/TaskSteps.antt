@@ -3,10 +3,10 @@ use Rattle.std.proofs.Common.{◌≡◌, arith, inl, inr, ℕ}
 use Rattle.lf_cli.specs.declared.parse.Task.{Task}
 use Rattle.lf_cli.specs.declared.parse.Task.TheVariants.{Demo, Replay, Serve, Check, Describe, Repair}
 use Rattle.lf_cli.specs.Command.{Job, ReadsNone, as_job, check, demo, describe, repair, replay, serve}
-use Rattle.lf_task_designs.specs.declared.faults.Fault.{Fault}
-use Rattle.lf_task_designs.specs.declared.faults.Fault.TheVariants.{Refused, File, RefusedState, NoTeam, ReadFault, WriteFault, TooManyLines, OutOfMemory, Output, Bind, Accept, Unwritten, Unsaved, Unlisted, SetupOutOfMemory, OutputOutOfMemory}
+use Rattle.lf_task_faults.specs.declared.faults.Fault.{Fault}
+use Rattle.lf_task_faults.specs.declared.faults.Fault.TheVariants.{Refused, File, RefusedState, NoTeam, ReadFault, WriteFault, TooManyLines, OutOfMemory, Output, Bind, Accept, NotWritten, SetupOutOfMemory, OutputOutOfMemory}
 use Rattle.lf_task_designs.specs.Designs.{ReadsFile}
-use Rattle.lf_task_designs.specs.Faults.{status_of}
+use Rattle.lf_task_faults.specs.Faults.{status_of}
 use Rattle.lf_app.specs.Exits.{IsJobOutcome}
 use Rattle.lf_task_serve.specs.Exits.{Streams}
 use Rattle.lf_task_files.specs.Faults.{IsDone, IsFailure}
@@ -24,9 +24,7 @@ failing OutOfMemory status is = inr is
 failing Output status is = inr is
 failing (Bind port why) status is = inr is
 failing Accept status is = inr is
-failing (Unwritten path why) status is = inr is
-failing (Unsaved path why) status is = inr is
-failing (Unlisted path why) status is = inr is
+failing (NotWritten its_kind path why) status is = inr is
 failing SetupOutOfMemory status is = inl is
 failing OutputOutOfMemory status is = inl is
 

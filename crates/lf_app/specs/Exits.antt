@@ -7,11 +7,11 @@ use Rattle.lf_def.specs.declared.built_in.TheConstants.{DEMO_DEF}
 use Rattle.lf_floor_model.specs.States.{FloorState}
 use Rattle.lf_floor_model.specs.Designs.{initial_floor}
 use Rattle.lf_cli.specs.Command.{Job, demo, replay, serve, check, describe, repair}
-use Rattle.lf_task_designs.specs.declared.faults.Fault.{Fault}
-use Rattle.lf_task_designs.specs.declared.faults.TaskExit.{TaskExit}
+use Rattle.lf_task_faults.specs.declared.faults.Fault.{Fault}
+use Rattle.lf_task_faults.specs.declared.faults.TaskExit.{TaskExit}
 use Rattle.lf_task_designs.specs.Checks.{IsNotReported}
 use Rattle.lf_task_designs.specs.Designs.{AreWithSlots, ReadsFile, IsDesignFault, IsTextDesign, IsTextFault}
-use Rattle.lf_task_designs.specs.Faults.{EndsWith}
+use Rattle.lf_task_faults.specs.Faults.{EndsWith}
 use Rattle.lf_task_serve.specs.Lines.{default_most_lines}
 use Rattle.lf_task_files.specs.States.{IsFloorFault, IsViewedDesignOf}
 use Rattle.lf_task_files.specs.Exits.{IsOpenDescribed}

@@ -3,9 +3,10 @@
 //! `perform` does a `Task` over the files and the network of a runtime. `perform_over` does it over
 //! any input files (`InputFiles`), output files (`OutputFiles`), services (`PortListener`) and
 //! other devices. Its contract states what was done with each of them. `Task`, `UsageFault`,
-//! `command_of`, `Help` and `help_of` come from `lf_cli`. `InputFiles`, `Fault` and `TaskExit` come
-//! from `lf_task_designs`, which reads and loads designs and reports faults. `PortListener` and
-//! `serve_lines_within` come from `lf_task_serve`, and `Progress` from `lf_task_repair`.
+//! `command_of`, `Help` and `help_of` come from `lf_cli`. `InputFiles` comes from
+//! `lf_task_designs`, which reads and loads designs. `Fault` and `TaskExit` come from
+//! `lf_task_faults`, which prints faults. `PortListener` and `serve_lines_within` come from
+//! `lf_task_serve`, and `Progress` from `lf_task_repair`.
 //!
 //! Status 0 or 4: the task succeeded, and no fault is written. The design is that of the LEF files,
 //! in the order of the words, and of the DEF file. Its limits are the standard ones, except the
@@ -67,9 +68,10 @@ pub use lf_cli::{
 pub use lf_io::{FromRead, ToWrite};
 pub use lf_io_files::FsOutputFiles;
 pub use lf_server::{Acceptor, ClientReader, ClientWriter, Connection, ServiceConfig};
-pub use lf_task_designs::{
-    BindFailure, Fault, FenceLine, FsInputFiles, Hint, InputFiles, ReadFailure, ReadFailureKind,
-    StateRefusal, TaskExit, TextFile, TextKind, TextRefusal, single_chunk, status_of, write_fault,
+pub use lf_task_designs::{FsInputFiles, InputFiles, single_chunk};
+pub use lf_task_faults::{
+    BindFailure, Fault, FenceLine, Hint, OutputKind, ReadFailure, ReadFailureKind, StateRefusal,
+    TaskExit, TextFile, TextKind, TextRefusal, status_of, write_fault,
 };
 pub use lf_task_repair::{NoProgress, Progress, TimedProgress};
 pub use lf_task_serve::{Environment, NetListener, PortListener, serve_lines_within};

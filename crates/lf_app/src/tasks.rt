@@ -1,30 +1,31 @@
 //! What the program does for each task.
 
-ghost use Rattle.std.specs.Prelude.{◌≡◌, ◌⊎◌, false, not, ⊤, IfErr, IfOk, IsTrue, OnErr, OnOk};
+ghost use Rattle.std.specs.Prelude.{◌≡◌, ◌⊎◌, false, map, not, ⊤, IfErr, IfOk, IsTrue, OnErr, OnOk};
 ghost use Rattle.lf_cli.specs.Command.{ReadsNone, as_job};
 ghost use Rattle.lf_floorplan.specs.declared.loaded.Loaded.{Loaded};
 ghost use Rattle.lf_floor_model.specs.Designs.{initial_floor};
 ghost use Rattle.lf_floor_model.specs.States.{FloorState};
 ghost use Rattle.lf_task_designs.specs.Designs.{IsTextDesign, IsTextFault};
-ghost use Rattle.lf_task_designs.specs.Faults.{IsEarly};
+ghost use Rattle.lf_task_faults.specs.Faults.{IsEarly};
 ghost use Rattle.lf_task_serve.specs.Exits.{AnswersInput, IsJobStop, IsLinesFault, streams_alone};
 ghost use Rattle.lf_task_files.specs.Faults.{IsDone, IsFailure};
+ghost use Rattle.lf_task_files.specs.Inputs.{path_of};
 ghost use Rattle.lf_task_serve.specs.Faults.{BlamesStreams};
 ghost use Rattle.lf_task_serve.specs.Lines.{default_most_lines};
 ghost use Rattle.lf_task_serve.specs.Surroundings.{BlamesEnvironment, IsReady, KeepsDevices, io_of};
 ghost use Rattle.lf_app.specs.Exits.{NamesNoFile, NamesNoState, EndsTask, IsJobFault, IsJobFaultWithin, IsJobOutcome, IsOutcomeWithin, ReadsNoInput, RepairsNothing};
 ghost use Rattle.lf_app.specs.Exits.{reads_of, job_slots};
+ghost use Rattle.lf_app.specs.JobFiles.{AreOutputsOf, IsInputAt, IsInputOf};
 ghost use Rattle.lf_app.specs.Offers.{IsOfferOf};
 
-use lf_cli::{Slots, Task};
+use lf_cli::{LegalCells, Slots, Task};
 use lf_def::DEMO_DEF;
 use lf_frame::Limits;
 use lf_io::{FromRead, Sink, Source, ToWrite};
 use lf_io_files::{FsOutputFiles, OutputFiles};
 use lf_lef::DEMO_LEF;
-use lf_task_designs::{
-    Fault, FsInputFiles, InputFiles, TaskExit, exit_with, limits_for, load_texts, report_fault,
-};
+use lf_task_designs::{FsInputFiles, InputFiles, limits_for, load_texts};
+use lf_task_faults::{Fault, TaskExit, exit_with, report_fault};
 use lf_task_files::{DesignInput, OutputPaths, check, describe_files};
 use lf_task_repair::{NoProgress, Progress, RepairJob, repair};
 use lf_task_serve::{
@@ -64,6 +65,105 @@ fn demo<'a, R: Source, W: Sink>(
     serve_loaded(alloc, loaded, reader, writer)
 }
 
+/// Returns the files of this DEF path and these LEF paths, with this state.
+fn input_at<'a>(
+    def: &'a str,
+    lefs: &'a [&'a str],
+    state: Option<&'a str>,
+    limits: Limits,
+) -> DesignInput<'a>
+    ensures { IsInputAt limits def.now (map (λ lef. lef.now) lefs.now) (path_of state.entry) result }
+{
+    DesignInput {
+        def,
+        lefs,
+        state,
+        limits,
+    }
+}
+
+/// Returns the files that the task reads, with these limits. The paths are empty for the demo, which
+/// reads no file.
+fn input_of<'a>(task: &'a Task<'_>, limits: Limits) -> DesignInput<'a>
+    ensures { IsInputOf limits (as_job task.now) result }
+{
+    match task {
+        Task::Demo => input_at("", &[], None, limits),
+        Task::Check {
+            def,
+            lefs,
+            state,
+            ..
+        } => input_at(*def, lefs.as_slice(), *state, limits),
+        Task::Describe {
+            def,
+            lefs,
+            state,
+            ..
+        } => input_at(*def, lefs.as_slice(), *state, limits),
+        Task::Replay {
+            def,
+            lefs,
+            state,
+            ..
+        } => input_at(*def, lefs.as_slice(), *state, limits),
+        Task::Serve {
+            def,
+            lefs,
+            state,
+            ..
+        } => input_at(*def, lefs.as_slice(), *state, limits),
+        Task::Repair { def, lefs, .. } => input_at(*def, lefs.as_slice(), None, limits),
+    }
+}
+
+/// Returns the paths of the files that a task writes after its lines. Other tasks have none.
+fn outputs_of<'a>(task: &'a Task<'_>) -> OutputPaths<'a>
+    ensures { AreOutputsOf (as_job task.now) result }
+{
+    match task {
+        Task::Replay { save, export, .. } => OutputPaths {
+            export: *export,
+            save: *save,
+        },
+        Task::Serve { save, export, .. } => OutputPaths {
+            export: *export,
+            save: *save,
+        },
+        _ => OutputPaths {
+            export: None,
+            save: None,
+        },
+    }
+}
+
+/// Returns the repair of these teams of the design of the files.
+fn repair_job<'a>(
+    inputs: DesignInput<'a>,
+    teams: &'a [&'a str],
+    legal: LegalCells,
+    export: Option<&'a str>,
+    lines: Option<&'a str>,
+) -> RepairJob<'a>
+    ensures def { result.def ≡ inputs.entry.def }
+    ensures lefs { result.lefs ≡ inputs.entry.lefs }
+    ensures teams { result.teams.now ≡ teams.now }
+    ensures legal { result.legal ≡ legal }
+    ensures export { path_of result.export ≡ path_of export.entry }
+    ensures lines { path_of result.lines ≡ path_of lines.entry }
+    ensures limits { result.limits ≡ inputs.entry.limits }
+{
+    RepairJob {
+        def: inputs.def,
+        lefs: inputs.lefs,
+        teams,
+        legal,
+        export,
+        lines,
+        limits: inputs.limits,
+    }
+}
+
 /// Does the task on a design within these limits, and returns its exit status.
 fn outcome_within<
     'a,
@@ -98,101 +198,34 @@ fn outcome_within<
     ensures silent { RepairsNothing (as_job task.now) → around.new.progress ≡ around.old.progress }
     ensures keeps { KeepsDevices R.holds W.holds around.old around.new }
 {
+    let inputs = input_of(task, limits);
     match task {
         Task::Demo => demo(alloc, limits, &mut around.reader, &mut around.writer),
-        Task::Replay {
-            def,
-            lefs,
-            state,
-            lines,
-            save,
-            export,
-            ..
-        } => {
-            let inputs = DesignInput {
-                def: *def,
-                lefs: lefs.as_slice(),
-                state: *state,
-                limits,
-            };
+        Task::Replay { lines, .. } => {
             let lines = LineSource::Reader { max_lines: *lines };
-            let outputs = OutputPaths {
-                export: *export,
-                save: *save,
-            };
-            serve_files(alloc, around, inputs, lines, outputs)
+            serve_files(alloc, around, inputs, lines, outputs_of(task))
         }
         Task::Serve {
-            def,
-            lefs,
-            state,
             port,
             connections,
-            save,
-            export,
             ..
         } => {
-            let inputs = DesignInput {
-                def: *def,
-                lefs: lefs.as_slice(),
-                state: *state,
-                limits,
-            };
             let lines = LineSource::Port {
                 port: *port,
                 connections: *connections,
             };
-            let outputs = OutputPaths {
-                export: *export,
-                save: *save,
-            };
-            serve_files(alloc, around, inputs, lines, outputs)
+            serve_files(alloc, around, inputs, lines, outputs_of(task))
         }
-        Task::Check {
-            def,
-            lefs,
-            state,
-            ..
-        } => {
-            let inputs = DesignInput {
-                def: *def,
-                lefs: lefs.as_slice(),
-                state: *state,
-                limits,
-            };
-            check(alloc, &around.texts, inputs, &mut around.writer)
-        }
-        Task::Describe {
-            def,
-            lefs,
-            state,
-            ..
-        } => {
-            let inputs = DesignInput {
-                def: *def,
-                lefs: lefs.as_slice(),
-                state: *state,
-                limits,
-            };
-            describe_files(alloc, &around.texts, inputs, &mut around.writer)
-        }
+        Task::Check { .. } => check(alloc, &around.texts, inputs, &mut around.writer),
+        Task::Describe { .. } => describe_files(alloc, &around.texts, inputs, &mut around.writer),
         Task::Repair {
-            def,
-            lefs,
             teams,
             legal,
             export,
             lines,
+            ..
         } => {
-            let requested = RepairJob {
-                def: *def,
-                lefs: lefs.as_slice(),
-                teams: teams.as_slice(),
-                legal: *legal,
-                export: *export,
-                lines: *lines,
-                limits,
-            };
+            let requested = repair_job(inputs, teams.as_slice(), *legal, *export, *lines);
             let exports = &mut around.exports;
             let writer = &mut around.writer;
             let progress = &mut around.progress;

@@ -6,7 +6,8 @@
 //! has CLASS CORE and a SIZE with both lengths above 0. Rows of other sites are ignored, except in
 //! NoSite.
 //!
-//! Used by `lf_frame`, `lf_laws_roundtrip`, `lf_laws_slices` and `lf_task_designs`.
+//! Used by `lf_frame`, `lf_laws_roundtrip`, `lf_laws_slices`, `lf_task_faults` and
+//! `lf_task_designs`.
 //!
 //! Modules, in reading order:
 //!

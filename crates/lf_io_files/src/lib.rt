@@ -10,7 +10,7 @@
 //! first, or `None` if the implementation does not make them known. They also see whether a file
 //! could not be written (`has_failed`). The `puts` of `FsOutputFiles` are unknown.
 //!
-//! Used by `lf_task_designs`, `lf_task_files`, `lf_task_serve`, `lf_task_repair` and `lf_app`.
+//! Used by `lf_task_faults`, `lf_task_files`, `lf_task_serve`, `lf_task_repair` and `lf_app`.
 //!
 //! Modules, in reading order:
 //!
@@ -18,12 +18,12 @@
 //! - `replace`: replacement of a file by a new one
 //! - `output_files`: the trait of what takes texts, and its implementation for files
 //!
-//! From `crates/lf_task_files/src/export.rt`:
+//! From `crates/lf_task_files/src/output_file.rt`:
 //!
 //! ```
-//! match exports.put(path, &exported) {
+//! match exports.put(path, text) {
 //!     Ok(()) => Ok(()),
-//!     Err(unwritten) => Err(export_fault(path, unwritten)),
+//!     Err(unwritten) => Err(output_fault(kind, path, unwritten)),
 //! }
 //! ```
 #![tactic(auto)]

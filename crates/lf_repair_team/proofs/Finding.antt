@@ -19,7 +19,7 @@ use Rattle.lf_repair_strategy.specs.WantedPlaces.{AreWorkingPlaces, target_at}
 use Rattle.lf_repair_team.specs.CellEdits.{AreAtTargetsExcept, HaveLeftTargets, IsLegalOrListed, HoldsOrIsListed, KeepsPlaces, TeamHasLeftTargets, TeamIsAtTargetsExcept}
 use Rattle.lf_repair_team.specs.TeamRepairs.{AllListedMove, AreLegalExcept, IsIllegalIn, IsLegalIn, OnlyListedMove, team_cell_names, place_of_cell_in}
 use Rattle.lf_repair_team.proofs.Legal.{legal_is_reported, state_there, reported_legal}
-use Rattle.lf_repair_team.proofs.Lists.{AreNamedTo, one_more_named, one_more_not}
+use Rattle.lf_repair_team.proofs.Lists.{AreNamedTo, RisesTo, one_more_named, one_more_not, one_more_rises}
 use Rattle.lf_repair_team.proofs.Steps.{place_of_state}
 
 -- ---- cells whose place changed
@@ -186,6 +186,11 @@ pub left_at : (team : List ℕ) (floor : FloorState) (number k : ℕ) (id : Cell
 left_at team floor number k id old new is within so_far named =
     one_more_not (λ own. IsIllegalIn floor team own) (IsLegalIfKnown team floor k) (IsLegalIn floor team k → ⊥) k old new
     (λ illegal. record { within = within; illegal = illegal }) so_far (subst (λ (i : CellId). IsLegalOrListed team floor i.own old new) is named)
+
+pub rises_at : (team : List ℕ) (floor : FloorState) (number k : ℕ) (id : CellId) (old new : List ℕ) → id ≡ id_of number k → RisesTo k old
+    → IsLegalOrListed team floor id.own old new → RisesTo (k + 1) new
+rises_at team floor number k id old new is so_far named =
+    one_more_rises (IsLegalIfKnown team floor k) (IsLegalIn floor team k → ⊥) k old new so_far (subst (λ (i : CellId). IsLegalOrListed team floor i.own old new) is named)
 
 -- ---- a whole team
 

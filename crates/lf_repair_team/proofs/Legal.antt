@@ -16,8 +16,8 @@ use Rattle.lf_floor_model.specs.Outcomes.{places_of}
 use Rattle.lf_floor_model.specs.Steps.{AllCommittedIn}
 use Rattle.lf_floor_model.specs.VerbLaws.{AreLegal, KeepsCells, committed_places}
 use Rattle.lf_floor_model.proofs.LegalPlaces.{some_one}
-use Rattle.lf_repair_team.specs.CellEdits.{AreLegalFlags, KeepsCommittedPlaces, KeepsLockedPlaces, KeepsPlaces, SameCells}
-use Rattle.lf_repair_team.specs.TeamRepairs.{AreLegalExcept, IsIllegalIn, IsLegalIn, KeepsLegalPlaces}
+use Rattle.lf_repair_team.specs.CellEdits.{KeepsCommittedPlaces, KeepsPlaces, SameCells}
+use Rattle.lf_repair_team.specs.TeamRepairs.{AreLegalExcept, IsIllegalIn, IsLegalIn}
 
 -- the state of the team with this number
 pub state_there : (floor : FloorState) (team : List ℕ) (number : ℕ) (s : TeamState) → team_number floor.frame team ≡ Some number → state_of floor team ≡ Some s
@@ -165,9 +165,6 @@ none_left l team floor (own ∷ others) all committed =
       within = first.within committed.state committed.there;
       legal = committed.legal own;
     }))
-
-pub legal_stay : (team : List ℕ) (marks : List Bool) (old new : FloorState) → AreLegalFlags team old marks → KeepsLockedPlaces team marks old new → KeepsLegalPlaces team old new
-legal_stay team marks old new marked stay own legal = stay own (marked.legal own legal)
 
 -- a cell that the floor reports as legal is legal
 pub reported_legal : (team : List ℕ) (floor : FloorState) (number own : ℕ) (s : TeamState) → team_number floor.frame team ≡ Some number → state_of floor team ≡ Some s

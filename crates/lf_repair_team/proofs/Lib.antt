@@ -9,3 +9,6 @@ mod Marking
 mod StatsLemmas
 mod Finding
 mod Results
+mod OthersLegal
+mod WithoutPlace
+mod LastPass

@@ -1,9 +1,10 @@
 -- Positions that are listed in lists that grow by one.
 use Rattle.std.proofs.Common.{◌≡◌, ◌≢◌, ◌⊎◌, inl, inr, ⊎_elim, ℕ, ◌+◌, ◌<◌, List, [], ◌∷◌, ◌++◌, length, Option, ap, sym, ◌∙◌, subst, arith}
-use Rattle.std.specs.Prelude.{All, Contains}
+use Rattle.std.specs.Prelude.{All, AllPairs, Contains}
 use Rattle.std.specs.Option.{unwrap_or}
 use Rattle.std.proofs.lemmas.Bool.{cases_eq}
-use Rattle.std.proofs.lemmas.List.Elements.{All-push, All-same}
+use Rattle.std.proofs.lemmas.List.Elements.{All-get_or, All-nil, All-push, All-same, All-weaker}
+use Rattle.std.proofs.lemmas.List.Quantifiers.{all_pairs_push}
 use Rattle.std.proofs.lemmas.Option.{get_or_from_slice_get, unwrap_or-slice_get}
 use Rattle.lf_repair_strategy.proofs.Lists.{before_last, last_is, one_longer}
 use Rattle.lf_repair_team.specs.CellEdits.{HoldsOrIsListed}
@@ -43,3 +44,29 @@ one_more_named So Not own old new so_far (inr (more, not)) k within =
 pub one_more_not : (Such : ℕ → Type 0) (So Not : Type 0) (own : ℕ) (old new : List ℕ) → (Not → Such own) → All Such old → HoldsOrIsListed So Not own old new → All Such new
 one_more_not Such So Not own old new such so_far (inl (same, is)) = All-same Such new old same so_far
 one_more_not Such So Not own old new such so_far (inr (more, not)) = All-same Such new (old ++ own ∷ []) more (All-push Such old own so_far (such not))
+
+-- the list rises, and its positions are below this one
+pub record RisesTo (count : ℕ) (named : List ℕ) : Type 0 where
+  pub rise : AllPairs (λ own later. own < later) named
+  pub below : All (λ own. own < count) named
+
+pub none_rise : (named : List ℕ) → named ≡ [] → RisesTo 0 named
+none_rise named none = record {
+  rise = subst (λ (xs : List ℕ). AllPairs (λ own later. own < later) xs) (sym none) (λ i j d less within. absurd (omega (arith, within)));
+  below = All-same (λ own. own < 0) named [] none (All-nil (λ own. own < 0));
+}
+
+pub one_more_rises : (So Not : Type 0) (own : ℕ) (old new : List ℕ) → RisesTo own old → HoldsOrIsListed So Not own old new → RisesTo (own + 1) new
+one_more_rises So Not own old new so_far listed = elim listed [
+  | inl same ↦ record {
+    rise = subst (λ (xs : List ℕ). AllPairs (λ own later. own < later) xs) (sym same.0) so_far.rise;
+    below = All-same (λ k. k < own + 1) new old same.0 wider;
+  }
+  | inr more ↦ record {
+    rise = subst (λ (xs : List ℕ). AllPairs (λ own later. own < later) xs) (sym more.0)
+        (all_pairs_push (λ own later. own < later) old own so_far.rise (λ k d within. All-get_or (λ k. k < own) old k d within so_far.below));
+    below = All-same (λ k. k < own + 1) new (old ++ own ∷ []) more.0 (All-push (λ k. k < own + 1) old own wider (omega arith));
+  }
+] where
+  wider : All (λ k. k < own + 1) old
+  wider = All-weaker (λ k. k < own) (λ k. k < own + 1) (λ k less. omega (arith, less)) old so_far.below

@@ -1,15 +1,17 @@
 -- Changes of one cell, and what is read at the start and at the end of a repair. No public clause
 -- cites this module.
-use Rattle.std.specs.Prelude.{◌≡◌, ◌≢◌, ◌⊎◌, ℕ, ◌<◌, ◌≤◌, ◌+◌, ◌++◌, ◌∷◌, [], List, Bool, true, All, Contains, IsSome, None, Option, Some, length, map, max, min, slice_get}
+use Rattle.std.specs.Prelude.{◌≡◌, ◌≢◌, ◌⊎◌, ℕ, ◌<◌, ◌≤◌, ◌+◌, ◌++◌, ◌∷◌, [], List, Bool, true, All, AllPairs, Contains, IsSome, None, Option, Some, length, map, max, min, slice_get}
 use Rattle.lf_floorplan.specs.declared.place.Place.{Place}
 use Rattle.lf_rules.specs.Legalizer.{Legalizer}
 use Rattle.lf_rules.specs.Team.{IsLegalCell}
 use Rattle.lf_proto.specs.declared.request.Command.{Command}
 use Rattle.lf_proto.specs.declared.reply.Reply.{Reply}
+use Rattle.lf_proto.specs.declared.reply.Reply.TheVariants.{Refused}
+use Rattle.lf_proto.specs.declared.reply.Refusal.TheVariants.{NoPlace}
 use Rattle.lf_proto.specs.declared.verb.Change.{Change}
 use Rattle.lf_proto.specs.declared.verb.Change.TheVariants.{Place as PlaceAt, Legalize, Unplace}
 use Rattle.lf_cells.specs.declared.cell.Cell.{Cell}
-use Rattle.lf_cells.specs.Cells.{working_at}
+use Rattle.lf_cells.specs.Cells.{cell_named, working_at}
 use Rattle.lf_legalize.specs.Members.{member_of}
 use Rattle.lf_floor_model.specs.States.{FloorState, TeamState}
 use Rattle.lf_floor_model.specs.Steps.{Step}
@@ -17,7 +19,7 @@ use Rattle.lf_floor_model.specs.Teams.{state_of}
 use Rattle.lf_floor_model.specs.VerbLaws.{KeepsCells}
 use Rattle.lf_repair_strategy.specs.WantedPlaces.{target_at}
 use Rattle.lf_repair_strategy.specs.declared.stats.RepairStats.{RepairStats}
-use Rattle.lf_repair_team.specs.TeamRepairs.{IsLegalIn, committed_in, team_cell_names, place_of_cell_in}
+use Rattle.lf_repair_team.specs.TeamRepairs.{AreLegalExcept, HasNoPlace, IsIllegalIn, IsLegalIn, committed_in, team_cell_names, place_of_cell_in}
 use Rattle.lf_repair_team.specs.Stats.{AreTurned, AreStatsOf, displacement}
 
 -- the floor is unchanged, or has executed the command
@@ -53,6 +55,23 @@ KeepsPlaces team old new = (own : ℕ) → place_of_cell_in new team own ≡ pla
 abbrev pub KeepsLockedPlaces : List ℕ → List Bool → FloorState → FloorState → Type 0
 KeepsLockedPlaces team marks old new = (own : ℕ) → slice_get marks own ≡ Some true
     → place_of_cell_in new team own ≡ place_of_cell_in old team own
+
+-- the cell remains legal if it is
+abbrev pub RemainsLegal : List ℕ → FloorState → FloorState → ℕ → Type 0
+RemainsLegal team old new own = IsLegalIn old team own → IsLegalIn new team own
+
+-- the locked cells that are legal remain legal
+abbrev pub KeepsLockedLegal : List ℕ → List Bool → FloorState → FloorState → Type 0
+KeepsLockedLegal team marks old new = (own : ℕ) → slice_get marks own ≡ Some true → RemainsLegal team old new own
+
+-- the locked cells are legal
+abbrev pub AreLockedLegal : List ℕ → List Bool → FloorState → Type 0
+AreLockedLegal team marks floor = (own : ℕ) → slice_get marks own ≡ Some true → IsLegalIn floor team own
+
+-- the legal cells remain legal and at the same places
+abbrev pub KeepsLegalCells : List ℕ → FloorState → FloorState → Type 0
+KeepsLegalCells team old new = (own : ℕ) → IsLegalIn old team own
+    → IsLegalIn new team own × (place_of_cell_in new team own ≡ place_of_cell_in old team own)
 
 -- the committed places are unchanged
 abbrev pub KeepsCommittedPlaces : List ℕ → FloorState → FloorState → Type 0
@@ -107,6 +126,33 @@ abbrev pub TeamHasLeftTargets : List ℕ → List (Option Place) → FloorState 
 TeamHasLeftTargets team wanted_places floor changed =
     (s : TeamState) → state_of floor team ≡ Some s
     → All (λ own. place_of_cell_in floor team own ≢ target_at wanted_places own) changed
+
+-- ---- the last pass
+
+-- the reply says that the cell has no best place
+abbrev pub SaysNoPlace : Reply → Type 0
+SaysNoPlace reply = (own : ℕ) × (reply ≡ Refused (NoPlace own))
+
+-- the cell at this position is legal or unplaced
+abbrev pub IsLegalOrUnplaced : FloorState → List ℕ → ℕ → Type 0
+IsLegalOrUnplaced floor team own = IsLegalIn floor team own ⊎ (place_of_cell_in floor team own ≡ None)
+
+-- the cell at this position is legal or has no place
+abbrev pub IsLegalOrWithoutPlace : FloorState → List ℕ → ℕ → Type 0
+IsLegalOrWithoutPlace floor team own = IsLegalIn floor team own ⊎ HasNoPlace floor team own
+
+-- these are the unrepaired cells, in loading order: they are illegal and have no place, and all
+-- others are legal
+pub record AreUnrepaired (team : List ℕ) (floor : FloorState) (left : List ℕ) : Type 0 where
+  pub named : AreLegalExcept team floor left
+  pub illegal : All (λ own. IsIllegalIn floor team own) left
+  pub without : All (λ own. HasNoPlace floor team own) left
+  pub rise : AllPairs (λ own later. own < later) left
+
+-- the team's cell of this name is not the one at this position
+abbrev pub IsAnotherCell : FloorState → List ℕ → List ℕ → ℕ → Type 0
+IsAnotherCell floor team cell other = (s : TeamState) → state_of floor team ≡ Some s
+    → cell_named cell s.cells ≡ Some other → ⊥
 
 -- ---- the statistics
 

@@ -1,7 +1,9 @@
 -- The result of repairing a team.
-use Rattle.std.specs.Prelude.{◌≡◌, ◌≢◌, ◌⊎◌, ℕ, ◌<◌, List, Option, Some, All, Contains, length, map, option_and_then, option_map}
+use Rattle.std.specs.Prelude.{◌≡◌, ◌≢◌, ◌⊎◌, ℕ, ◌<◌, List, Option, None, Some, All, Contains, length, map, slice_get, option_and_then, option_map}
 use Rattle.lf_floorplan.specs.declared.place.Place.{Place}
-use Rattle.lf_rules.specs.Team.{IsLegalCell}
+use Rattle.lf_rules.specs.Choice.{SpotPlace, IsAllowedPlace}
+use Rattle.lf_rules.specs.Team.{IsLegalCell, query_from}
+use Rattle.lf_cells.specs.declared.cell.Cell.{Cell}
 use Rattle.lf_cells.specs.Cells.{working_at}
 use Rattle.lf_legalize.specs.Members.{member_of}
 use Rattle.lf_floor_model.specs.States.{FloorState, TeamState}
@@ -63,3 +65,16 @@ AreLegalExcept team floor left = (s : TeamState) → state_of floor team ≡ Som
 pub record IsIllegalIn (floor : FloorState) (team : List ℕ) (own : ℕ) : Type 0 where
   pub within : (s : TeamState) → state_of floor team ≡ Some s → own < length s.cells
   pub illegal : IsLegalIn floor team own → ⊥
+
+-- the team's cell at this position is unplaced, and has no place: next to the team's other cells no
+-- place off soft blockages is legal for it
+pub record HasNoPlace (floor : FloorState) (team : List ℕ) (own : ℕ) : Type 0 where
+  pub number : ℕ
+  pub state : TeamState
+  pub cell : Cell
+  pub named : team_number floor.frame team ≡ Some number
+  pub there : state_of floor team ≡ Some state
+  pub cell_is : slice_get state.cells own ≡ Some cell
+  pub unplaced : cell.working ≡ None
+  pub none : (p : SpotPlace)
+      → IsAllowedPlace (query_from floor.frame number state.padding (map member_of state.cells) own cell.mac) p → ⊥

@@ -15,6 +15,7 @@
 //! - `run_edits`: edits of single cells as commands
 //! - `repair_input`: a team at the start of its repair
 //! - `outcome`: the changed and the unrepaired cells
+//! - `last_pass`: the last pass, over cells that are still illegal
 //! - `stats`: the result of a repair, counted
 //! - `team`: the repair of one team
 //!
@@ -26,6 +27,7 @@
 //! ```
 #![tactic(auto)]
 
+mod last_pass;
 mod outcome;
 mod repair_input;
 mod run_command;

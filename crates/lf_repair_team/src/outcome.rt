@@ -1,7 +1,7 @@
 //! A team after the passes of its repair: the cells whose place changed, and those that are
 //! unrepaired.
 
-ghost use Rattle.std.specs.Prelude.{◌≡◌, All, IfOk, OnOk, Some};
+ghost use Rattle.std.specs.Prelude.{◌≡◌, ◌<◌, All, AllPairs, IfOk, OnOk, Some};
 ghost use Rattle.lf_cells.specs.Cells.{cells_of};
 ghost use Rattle.lf_floor_model.specs.Teams.{team_number};
 ghost use Rattle.lf_repair_strategy.specs.WantedPlaces.{target_at};
@@ -38,8 +38,8 @@ fn name_changed(
     own: u32,
     changed: &mut Vec<u32>,
 ) -> Result<(), AllocError>
-    ensures { OnOk result
-        (HoldsOrIsListed (now ≡ wanted_place) (now ≡ wanted_place → ⊥) own changed.old.items changed.new.items) }
+    ensures { OnOk result (HoldsOrIsListed (now ≡ wanted_place) (now ≡ wanted_place
+        → ⊥) own changed.old.items changed.new.items) }
 {
     if same_place(now, wanted_place) {
         return Ok(());
@@ -55,10 +55,10 @@ fn changed_cells(
     number: usize,
     wanted_places: &[Option<Place>],
 ) -> Result<Vec<u32>, AllocError>
-    ensures changed { IfOk result
-        (λ changed. AreAtTargetsExcept (cells_of placement.now.cells number) wanted_places.now changed.items) }
-    ensures moved { IfOk result
-        (λ changed. HaveLeftTargets (cells_of placement.now.cells number) wanted_places.now changed.items) }
+    ensures changed { IfOk result (λ changed.
+        AreAtTargetsExcept (cells_of placement.now.cells number) wanted_places.now changed.items) }
+    ensures moved { IfOk result (λ changed.
+        HaveLeftTargets (cells_of placement.now.cells number) wanted_places.now changed.items) }
 {
     let mut changed = Vec::new(alloc);
     for id in placement.cells().cells_of(number) {
@@ -87,7 +87,7 @@ fn note_illegal<S: Seeker + Drop>(
 }
 
 /// The positions of the team's cells that are not legal.
-fn illegal_cells<S: Seeker + Drop>(
+pub(crate) fn illegal_cells<S: Seeker + Drop>(
     alloc: Global,
     floor: &Floor<S>,
     seat: &TeamSession<'_>,
@@ -95,6 +95,7 @@ fn illegal_cells<S: Seeker + Drop>(
     requires { team_number floor.now.frame seat.now.team.now ≡ Some seat.now.number }
     ensures named { IfOk result (λ left. AreLegalExcept seat.now.team.now floor.now left.items) }
     ensures illegal { IfOk result (λ left. All (λ own. IsIllegalIn floor.now seat.now.team.now own) left.items) }
+    ensures rise { IfOk result (λ left. AllPairs (λ own later. own < later) left.items) }
 {
     let mut left = Vec::new(alloc);
     for id in floor.placement().cells().cells_of(seat.number) {
@@ -103,22 +104,22 @@ fn illegal_cells<S: Seeker + Drop>(
     Ok(left)
 }
 
-/// The outcome for the team, whose cells had these original places. `Err` if an allocation fails.
+/// The outcome for the team, whose cells had these original places. `left` has the cells that are
+/// not legal. `Err` if an allocation fails.
 pub(crate) fn found_of<S: Seeker + Drop>(
     alloc: Global,
     floor: &Floor<S>,
     seat: &TeamSession<'_>,
     wanted_places: &[Option<Place>],
+    left: Vec<u32>,
 ) -> Result<RepairOutcome, AllocError>
     requires { team_number floor.now.frame seat.now.team.now ≡ Some seat.now.number }
-    ensures changed { IfOk result
-        (λ found. TeamIsAtTargetsExcept seat.now.team.now wanted_places.now floor.now found.changed.items) }
-    ensures moved { IfOk result
-        (λ found. TeamHasLeftTargets seat.now.team.now wanted_places.now floor.now found.changed.items) }
-    ensures named { IfOk result (λ found. AreLegalExcept seat.now.team.now floor.now found.left.items) }
-    ensures illegal { IfOk result (λ found. All (λ own. IsIllegalIn floor.now seat.now.team.now own) found.left.items) }
+    ensures changed { IfOk result (λ found.
+        TeamIsAtTargetsExcept seat.now.team.now wanted_places.now floor.now found.changed.items) }
+    ensures moved { IfOk result (λ found.
+        TeamHasLeftTargets seat.now.team.now wanted_places.now floor.now found.changed.items) }
+    ensures left { IfOk result (λ found. found.left.items ≡ left.items) }
 {
     let changed = changed_cells(alloc, floor.placement(), seat.number, wanted_places)?;
-    let left = illegal_cells(alloc, floor, seat)?;
     Ok(RepairOutcome { changed, left })
 }

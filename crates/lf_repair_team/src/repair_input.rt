@@ -18,8 +18,8 @@ use std::alloc::{AllocError, Global};
 /// no such team. Does not allocate.
 pub fn is_team_legal<S: Seeker + Drop>(floor: &Floor<S>, team: &[u8]) -> bool
     ensures whole { IsTrue result → AreLegalExcept team.now floor.now [] }
-    ensures reported { (s : TeamState) → state_of floor.now team.now ≡ Some s
-        → AreLegalExcept team.now floor.now [] → IsTrue result }
+    ensures reported { (s : TeamState) → state_of floor.now team.now ≡ Some s → AreLegalExcept team.now floor.now []
+        → IsTrue result }
 {
     let Some(number) = floor.team_number(team) else {
         return false;
@@ -70,10 +70,10 @@ pub(crate) fn repair_input<S: Seeker + Drop>(
 ) -> Result<RepairInput, AllocError>
     ensures marked { (team : List ℕ) → how ≡ KeepLegal → team_number floor.now.frame team ≡ Some number
         → IfOk result (λ start. AreLegalFlags team floor.now start.pass.locked.items) }
-    ensures legal { (team : List ℕ) → team_number floor.now.frame team ≡ Some number
-        → IfOk result (λ start. AreLegalFlags team floor.now start.legal.items) }
-    ensures wanted_places { (s : TeamState) → slice_get floor.now.teams number ≡ Some s
-        → IfOk result (λ start. AreWorkingPlaces s.cells start.pass.wanted_places.items) }
+    ensures legal { (team : List ℕ) → team_number floor.now.frame team ≡ Some number → IfOk result (λ start.
+        AreLegalFlags team floor.now start.legal.items) }
+    ensures wanted_places { (s : TeamState) → slice_get floor.now.teams number ≡ Some s → IfOk result (λ start.
+        AreWorkingPlaces s.cells start.pass.wanted_places.items) }
     ensures how { IfOk result (λ start. start.how ≡ how) }
 {
     let legal = legal_of(alloc, floor, number)?;

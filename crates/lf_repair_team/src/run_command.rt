@@ -7,7 +7,7 @@ ghost use Rattle.lf_rules.specs.Legalizer.{Legalizer};
 ghost use Rattle.lf_proto.specs.Commands.{command_with_names};
 ghost use Rattle.lf_proto.specs.Requests.{IsPlain};
 ghost use Rattle.lf_floor_model.specs.VerbLaws.{is_ok};
-ghost use Rattle.lf_floor_model.specs.Steps.{CommitsLegally, IsTo};
+ghost use Rattle.lf_floor_model.specs.Steps.{CommitsLegally, IsTo, Step};
 ghost use Rattle.lf_repair_team.specs.CellEdits.{IsUnchangedOrStepped};
 ghost use Rattle.lf_repair_team.specs.Runs.{AppendsSomeOf, IsRunWithCutLine, IsWrittenRun};
 ghost use Rattle.lf_repair_team.specs.TeamRepairs.{ChangesOnly};
@@ -28,7 +28,8 @@ pub enum RepairFault {
     /// The lines could not be written. A prefix of the last command's line, possibly empty, was
     /// written.
     Lines,
-    /// The floor refused to open a session, or to commit the team.
+    /// The floor refused to open a session, to commit the team, or to unplace or legalize an
+    /// unrepaired cell.
     Refused(Refusal),
 }
 
@@ -59,16 +60,18 @@ pub(crate) fn run_command<S: Seeker + Drop, K: Sink>(
     line: &mut Vec<u8>,
     lines: &mut K,
 ) -> Result<Reply, RepairFault>
-    ensures run { (l : Legalizer) (team : List ℕ) → IsTo team (command_with_names request.now)
-        → (IsLineName team → IsPlain (command_with_names request.now))
+    ensures run { (l : Legalizer) (team : List ℕ) → IsTo team (command_with_names request.now) → (IsLineName team
+        → IsPlain (command_with_names request.now))
         → IfOk result (λ _. IsWrittenRun l team floor.old (K.contents lines.old) (K.contents lines.new) floor.new) }
-    ensures err { (l : Legalizer) (team : List ℕ) → IsTo team (command_with_names request.now)
-        → (IsLineName team → IsPlain (command_with_names request.now))
+    ensures err { (l : Legalizer) (team : List ℕ) → IsTo team (command_with_names request.now) → (IsLineName team
+        → IsPlain (command_with_names request.now))
         → OnErr result (IsRunWithCutLine l team floor.old (K.contents lines.old) (K.contents lines.new) floor.new) }
     ensures only { (team : List ℕ) → IsTo team (command_with_names request.now) → ChangesOnly team floor.old floor.new }
     ensures requested { (l : Legalizer) → IsUnchangedOrStepped l floor.old (command_with_names request.now) floor.new }
-    ensures committed { (l : Legalizer)
-        → IfOk result (λ reply. CommitsLegally l (command_with_names request.now) reply floor.new) }
+    ensures replied { (l : Legalizer) → IfOk result (λ reply.
+        Step l floor.old (command_with_names request.now) reply floor.new) }
+    ensures committed { (l : Legalizer) → IfOk result (λ reply.
+        CommitsLegally l (command_with_names request.now) reply floor.new) }
 {
     legalizer_exists();
     line.clear();

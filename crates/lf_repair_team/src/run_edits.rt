@@ -1,16 +1,18 @@
 //! Changes single cells, and leaves all other cells at their places.
 
-ghost use Rattle.std.specs.Prelude.{◌≡◌, ◌≢◌, ◌↔◌, IfOk, IsTrue, OnErr, Some, ℕ, slice_get, true};
+ghost use Rattle.std.specs.Prelude.{◌≡◌, ◌≢◌, ◌↔◌, [], IfOk, IsTrue, List, OnErr, Some, ℕ, false, option_and_then, slice_get, true};
 ghost use Rattle.lf_proto.specs.Lines.{IsLineName};
 ghost use Rattle.lf_rules.specs.Legalizer.{Legalizer};
 ghost use Rattle.lf_proto.specs.Requests.{IsInRange, IsPlainAction, IsTarget};
-ghost use Rattle.lf_proto.specs.Verbs.{change_of};
+ghost use Rattle.lf_proto.specs.Verbs.{action_of, change_of};
+ghost use Rattle.lf_proto.specs.declared.request.Command.TheVariants.{To};
+ghost use Rattle.lf_proto.specs.declared.request.TeamCommand.TheVariants.{Within};
 ghost use Rattle.lf_proto.specs.declared.verb.Action.TheVariants.{Change as Changing};
-ghost use Rattle.lf_cells.specs.Cells.{cell_named};
 ghost use Rattle.lf_floor_model.specs.States.{TeamState};
 ghost use Rattle.lf_floor_model.specs.Outcomes.{name_at};
+ghost use Rattle.lf_floor_model.specs.Steps.{CommitsLegally, Step};
 ghost use Rattle.lf_floor_model.specs.Teams.{state_of};
-ghost use Rattle.lf_repair_team.specs.CellEdits.{KeepsCommittedPlaces, IsOfCell, KeepsLockedPlaces};
+ghost use Rattle.lf_repair_team.specs.CellEdits.{IsAnotherCell, IsOfCell, IsUnchangedOrStepped, KeepsCommittedPlaces, KeepsLockedLegal, KeepsLockedPlaces, RemainsLegal};
 ghost use Rattle.lf_repair_team.specs.TeamRepairs.{ChangesOnly, place_of_cell_in};
 ghost use Rattle.lf_repair_team.specs.Runs.{IsRunWithCutLine, IsWrittenRun};
 
@@ -21,7 +23,7 @@ use lf_io::Sink;
 use lf_legalize::Seeker;
 use lf_proto::{Action, Change, Command, Refusal, Reply, TeamCommand};
 use lf_repair_strategy::{CellEdit, Edit};
-use lf_rules::legalizer_exists;
+use lf_rules::{legal_in_range, legalizer_exists};
 use lf_units::Point;
 use std::alloc::{AllocError, Global};
 
@@ -51,7 +53,7 @@ impl Buffers {
 }
 
 /// The target, limited to the range of coordinates that a line can contain.
-fn target_in_range(target: &Point) -> Point
+pub(crate) fn target_in_range(target: &Point) -> Point
     ensures { IsTarget result }
 {
     Point {
@@ -95,6 +97,38 @@ pub(crate) fn continue_unless_out_of_memory(reply: &Reply) -> Result<(), RepairF
     }
 }
 
+/// Sends an action of the session.
+pub(crate) fn run_action<S: Seeker + Drop, K: Sink>(
+    floor: &mut Floor<S>,
+    seat: &TeamSession<'_>,
+    action: Action<&[u8]>,
+    line: &mut Vec<u8>,
+    lines: &mut K,
+) -> Result<Reply, RepairFault>
+    requires { IsPlainAction (action_of action) }
+    ensures run { (l : Legalizer) → IfOk result (λ _.
+        IsWrittenRun l seat.now.team.now floor.old (K.contents lines.old) (K.contents lines.new) floor.new) }
+    ensures err { (l : Legalizer) → OnErr result (
+        IsRunWithCutLine l seat.now.team.now floor.old (K.contents lines.old) (K.contents lines.new) floor.new) }
+    ensures only { ChangesOnly seat.now.team.now floor.old floor.new }
+    ensures requested { (l : Legalizer) → IsUnchangedOrStepped l floor.old
+        (To seat.now.team.now (Within seat.now.session (action_of action.entry))) floor.new }
+    ensures replied { (l : Legalizer) → IfOk result (λ reply.
+        Step l floor.old (To seat.now.team.now (Within seat.now.session (action_of action.entry))) reply floor.new) }
+    ensures committed { (l : Legalizer)
+        → IfOk result (λ reply. CommitsLegally l
+        (To seat.now.team.now (Within seat.now.session (action_of action.entry))) reply floor.new) }
+{
+    let request = Command::To {
+        team: seat.team,
+        order: TeamCommand::Within {
+            session: seat.session,
+            action,
+        },
+    };
+    run_command(floor, &request, line, lines)
+}
+
 /// Sends the edit of the cell with this name.
 fn run_edit_of<S: Seeker + Drop, K: Sink>(
     floor: &mut Floor<S>,
@@ -105,41 +139,43 @@ fn run_edit_of<S: Seeker + Drop, K: Sink>(
     lines: &mut K,
 ) -> Result<(), RepairFault>
     requires { IsLineName cell.now }
-    ensures run { (l : Legalizer) → IfOk result
-        (λ _. IsWrittenRun l seat.now.team.now floor.old (K.contents lines.old) (K.contents lines.new) floor.new) }
-    ensures err { (l : Legalizer) → OnErr result
-        (IsRunWithCutLine l seat.now.team.now floor.old (K.contents lines.old) (K.contents lines.new) floor.new) }
+    ensures run { (l : Legalizer) → IfOk result (λ _.
+        IsWrittenRun l seat.now.team.now floor.old (K.contents lines.old) (K.contents lines.new) floor.new) }
+    ensures err { (l : Legalizer) → OnErr result (
+        IsRunWithCutLine l seat.now.team.now floor.old (K.contents lines.old) (K.contents lines.new) floor.new) }
     ensures only { ChangesOnly seat.now.team.now floor.old floor.new }
-    ensures cells { (other : ℕ) → ((s : TeamState) → state_of floor.old seat.now.team.now ≡ Some s
-        → cell_named cell.now s.cells ≡ Some other → ⊥)
+    ensures cells { (other : ℕ) → IsAnotherCell floor.old seat.now.team.now cell.now other
         → place_of_cell_in floor.new seat.now.team.now other ≡ place_of_cell_in floor.old seat.now.team.now other }
+    ensures legal { (other : ℕ) → IsAnotherCell floor.old seat.now.team.now cell.now other
+        → RemainsLegal seat.now.team.now floor.old floor.new other }
     ensures committed { KeepsCommittedPlaces seat.now.team.now floor.old floor.new }
 {
     legalizer_exists();
-    let request = Command::To {
-        team: seat.team,
-        order: TeamCommand::Within {
-            session: seat.session,
-            action: Action::Change(change_of(step, cell)),
-        },
-    };
-    match run_command(floor, &request, line, lines) {
+    legal_in_range();
+    floor.teams_match_frame();
+    let action = Action::Change(change_of(step, cell));
+    match run_action(floor, seat, action, line, lines) {
         Ok(reply) => continue_unless_out_of_memory(&reply),
         Err(fault) => Err(fault),
     }
 }
 
-/// Copies the name of the team's cell at position `own`. Returns false if there is no such cell, or
-/// if no line can contain its name.
-fn copy_name<S: Seeker + Drop>(
+/// Copies the name of the team's cell at position `own`. Returns false only if there is no such
+/// cell, or if its name is empty. A line can contain each other name.
+pub(crate) fn copy_name<S: Seeker + Drop>(
     floor: &Floor<S>,
     team: &[u8],
     own: usize,
     name: &mut Vec<u8>,
 ) -> Result<bool, AllocError>
-    ensures name { (s : TeamState) → IfOk result (λ there. IsTrue there → state_of floor.now team.now ≡ Some s
-        → name_at s.cells own ≡ Some name.new.items) }
+    ensures name { (s : TeamState) → IfOk result (λ there.
+        IsTrue there → state_of floor.now team.now ≡ Some s → name_at s.cells own ≡ Some name.new.items) }
+    ensures known { IfOk result (λ there.
+        IsTrue there → option_and_then (λ s. name_at s.cells own) (state_of floor.now team.now) ≡ Some name.new.items) }
     ensures plain { IfOk result (λ there. IsTrue there → IsLineName name.new.items) }
+    ensures skipped { (its : List ℕ)
+        → option_and_then (λ s. name_at s.cells own) (state_of floor.now team.now) ≡ Some its
+        → IfOk result (λ there. there ≡ false → its ≡ []) }
 {
     name.clear();
     let Some(bytes) = floor.name_of(team, own) else {
@@ -150,7 +186,7 @@ fn copy_name<S: Seeker + Drop>(
 }
 
 /// Sends the edit of the team's cell at position `own`.
-fn run_edit<S: Seeker + Drop, K: Sink>(
+pub(crate) fn run_edit<S: Seeker + Drop, K: Sink>(
     floor: &mut Floor<S>,
     seat: &TeamSession<'_>,
     own: usize,
@@ -158,13 +194,14 @@ fn run_edit<S: Seeker + Drop, K: Sink>(
     texts: &mut Buffers,
     lines: &mut K,
 ) -> Result<(), RepairFault>
-    ensures run { (l : Legalizer) → IfOk result
-        (λ _. IsWrittenRun l seat.now.team.now floor.old (K.contents lines.old) (K.contents lines.new) floor.new) }
-    ensures err { (l : Legalizer) → OnErr result
-        (IsRunWithCutLine l seat.now.team.now floor.old (K.contents lines.old) (K.contents lines.new) floor.new) }
+    ensures run { (l : Legalizer) → IfOk result (λ _.
+        IsWrittenRun l seat.now.team.now floor.old (K.contents lines.old) (K.contents lines.new) floor.new) }
+    ensures err { (l : Legalizer) → OnErr result (
+        IsRunWithCutLine l seat.now.team.now floor.old (K.contents lines.old) (K.contents lines.new) floor.new) }
     ensures only { ChangesOnly seat.now.team.now floor.old floor.new }
     ensures cells { (other : ℕ) → other ≢ own
         → place_of_cell_in floor.new seat.now.team.now other ≡ place_of_cell_in floor.old seat.now.team.now other }
+    ensures legal { (other : ℕ) → other ≢ own → RemainsLegal seat.now.team.now floor.old floor.new other }
     ensures committed { KeepsCommittedPlaces seat.now.team.now floor.old floor.new }
 {
     floor.teams_match_frame();
@@ -195,12 +232,13 @@ fn run_edit_unless_locked<S: Seeker + Drop, K: Sink>(
     texts: &mut Buffers,
     lines: &mut K,
 ) -> Result<(), RepairFault>
-    ensures run { (l : Legalizer) → IfOk result
-        (λ _. IsWrittenRun l seat.now.team.now floor.old (K.contents lines.old) (K.contents lines.new) floor.new) }
-    ensures err { (l : Legalizer) → OnErr result
-        (IsRunWithCutLine l seat.now.team.now floor.old (K.contents lines.old) (K.contents lines.new) floor.new) }
+    ensures run { (l : Legalizer) → IfOk result (λ _.
+        IsWrittenRun l seat.now.team.now floor.old (K.contents lines.old) (K.contents lines.new) floor.new) }
+    ensures err { (l : Legalizer) → OnErr result (
+        IsRunWithCutLine l seat.now.team.now floor.old (K.contents lines.old) (K.contents lines.new) floor.new) }
     ensures only { ChangesOnly seat.now.team.now floor.old floor.new }
     ensures marked { KeepsLockedPlaces seat.now.team.now marks.now floor.old floor.new }
+    ensures legal { KeepsLockedLegal seat.now.team.now marks.now floor.old floor.new }
     ensures committed { KeepsCommittedPlaces seat.now.team.now floor.old floor.new }
 {
     let own = cell_edit.own as usize;
@@ -219,12 +257,13 @@ pub(crate) fn run_edits<S: Seeker + Drop, K: Sink>(
     texts: &mut Buffers,
     lines: &mut K,
 ) -> Result<(), RepairFault>
-    ensures run { (l : Legalizer) → IfOk result
-        (λ _. IsWrittenRun l seat.now.team.now floor.old (K.contents lines.old) (K.contents lines.new) floor.new) }
-    ensures err { (l : Legalizer) → OnErr result
-        (IsRunWithCutLine l seat.now.team.now floor.old (K.contents lines.old) (K.contents lines.new) floor.new) }
+    ensures run { (l : Legalizer) → IfOk result (λ _.
+        IsWrittenRun l seat.now.team.now floor.old (K.contents lines.old) (K.contents lines.new) floor.new) }
+    ensures err { (l : Legalizer) → OnErr result (
+        IsRunWithCutLine l seat.now.team.now floor.old (K.contents lines.old) (K.contents lines.new) floor.new) }
     ensures only { ChangesOnly seat.now.team.now floor.old floor.new }
     ensures marked { KeepsLockedPlaces seat.now.team.now marks.now floor.old floor.new }
+    ensures legal { KeepsLockedLegal seat.now.team.now marks.now floor.old floor.new }
     ensures committed { KeepsCommittedPlaces seat.now.team.now floor.old floor.new }
 {
     for cell_edit in cell_edits {

@@ -1,20 +1,23 @@
 //! The repair of one team.
 
-ghost use Rattle.std.specs.Prelude.{◌≡◌, ◌≢◌, ◌↔◌, [], All, IfOk, OnErr, Some, false, true};
+ghost use Rattle.std.specs.Prelude.{◌≡◌, ◌≢◌, ◌↔◌, ◌<◌, [], All, AllPairs, IfOk, OnErr, Some, false, true};
 ghost use Rattle.lf_rules.specs.Legalizer.{Legalizer};
 ghost use Rattle.lf_floor_model.specs.Steps.{AllCommittedIn};
 ghost use Rattle.lf_floor_model.specs.Teams.{team_number};
 ghost use Rattle.lf_floor_model.specs.VerbLaws.{is_ok};
 ghost use Rattle.lf_repair_strategy.specs.declared.pass.MovePolicy.TheVariants.{KeepLegal};
-ghost use Rattle.lf_repair_team.specs.CellEdits.{KeepsCommittedPlaces, KeepsLockedPlaces, KeepsPlaces, SameCells, TeamHasLeftTargets, TeamIsAtTargetsExcept};
-ghost use Rattle.lf_repair_team.specs.TeamRepairs.{AllListedMove, AreLegalExcept, ChangesOnly, IsIllegalIn, KeepsLegalPlaces, OnlyListedMove, committed_in};
+ghost use Rattle.lf_repair_team.specs.CellEdits.{AreLockedLegal, AreUnrepaired, KeepsCommittedPlaces, KeepsLockedLegal, KeepsLockedPlaces, KeepsPlaces, SameCells, TeamHasLeftTargets, TeamIsAtTargetsExcept};
+ghost use Rattle.lf_repair_team.specs.TeamRepairs.{AllListedMove, AreLegalExcept, ChangesOnly, HasNoPlace, IsIllegalIn, KeepsLegalPlaces, OnlyListedMove, committed_in};
 ghost use Rattle.lf_repair_team.specs.Runs.{IsRunWithCutLine, IsWrittenRun};
 ghost use Rattle.lf_repair_team.specs.Stats.{AreTeamStats};
 
+use crate::last_pass::run_last_pass;
 use crate::outcome::{RepairOutcome, found_of};
 use crate::repair_input::repair_input;
 use crate::run_command::{RepairFault, run_command};
-use crate::run_edits::{Buffers, TeamSession, continue_unless_out_of_memory, run_edits};
+use crate::run_edits::{
+    Buffers, TeamSession, continue_unless_out_of_memory, run_action, run_edits,
+};
 use crate::stats::stats_of;
 use lf_floor::{Floor, query_keeps_state};
 use lf_floorplan::Place;
@@ -35,10 +38,10 @@ fn open<S: Seeker + Drop, K: Sink>(
     texts: &mut Buffers,
     lines: &mut K,
 ) -> Result<u32, RepairFault>
-    ensures run { (l : Legalizer)
-        → IfOk result (λ _. IsWrittenRun l team.now floor.old (K.contents lines.old) (K.contents lines.new) floor.new) }
-    ensures err { (l : Legalizer)
-        → OnErr result (IsRunWithCutLine l team.now floor.old (K.contents lines.old) (K.contents lines.new) floor.new) }
+    ensures run { (l : Legalizer) → IfOk result (λ _.
+        IsWrittenRun l team.now floor.old (K.contents lines.old) (K.contents lines.new) floor.new) }
+    ensures err { (l : Legalizer) → OnErr result (
+        IsRunWithCutLine l team.now floor.old (K.contents lines.old) (K.contents lines.new) floor.new) }
     ensures only { ChangesOnly team.now floor.old floor.new }
     ensures cells { SameCells team.now floor.old floor.new }
 {
@@ -70,23 +73,17 @@ fn commit<S: Seeker + Drop, K: Sink>(
     texts: &mut Buffers,
     lines: &mut K,
 ) -> Result<(), RepairFault>
-    ensures run { (l : Legalizer) → IfOk result
-        (λ _. IsWrittenRun l seat.now.team.now floor.old (K.contents lines.old) (K.contents lines.new) floor.new) }
-    ensures err { (l : Legalizer) → OnErr result
-        (IsRunWithCutLine l seat.now.team.now floor.old (K.contents lines.old) (K.contents lines.new) floor.new) }
+    ensures run { (l : Legalizer) → IfOk result (λ _.
+        IsWrittenRun l seat.now.team.now floor.old (K.contents lines.old) (K.contents lines.new) floor.new) }
+    ensures err { (l : Legalizer) → OnErr result (
+        IsRunWithCutLine l seat.now.team.now floor.old (K.contents lines.old) (K.contents lines.new) floor.new) }
     ensures only { ChangesOnly seat.now.team.now floor.old floor.new }
     ensures places { KeepsPlaces seat.now.team.now floor.old floor.new }
     ensures committed { (l : Legalizer) → IfOk result (λ _. AllCommittedIn l floor.new seat.now.team.now) }
 {
     legalizer_exists();
-    let request = Command::To {
-        team: seat.team,
-        order: TeamCommand::Within {
-            session: seat.session,
-            action: Action::Change(Change::Commit),
-        },
-    };
-    match run_command(floor, &request, &mut texts.line, lines) {
+    let action = Action::Change(Change::Commit);
+    match run_action(floor, seat, action, &mut texts.line, lines) {
         Ok(reply) => accepted(&reply),
         Err(fault) => Err(fault),
     }
@@ -110,14 +107,14 @@ fn commit_if_clean<S: Seeker + Drop, K: Sink>(
     texts: &mut Buffers,
     lines: &mut K,
 ) -> Result<(), RepairFault>
-    ensures run { (l : Legalizer) → IfOk result
-        (λ _. IsWrittenRun l seat.now.team.now floor.old (K.contents lines.old) (K.contents lines.new) floor.new) }
-    ensures err { (l : Legalizer) → OnErr result
-        (IsRunWithCutLine l seat.now.team.now floor.old (K.contents lines.old) (K.contents lines.new) floor.new) }
+    ensures run { (l : Legalizer) → IfOk result (λ _.
+        IsWrittenRun l seat.now.team.now floor.old (K.contents lines.old) (K.contents lines.new) floor.new) }
+    ensures err { (l : Legalizer) → OnErr result (
+        IsRunWithCutLine l seat.now.team.now floor.old (K.contents lines.old) (K.contents lines.new) floor.new) }
     ensures only { ChangesOnly seat.now.team.now floor.old floor.new }
     ensures places { KeepsPlaces seat.now.team.now floor.old floor.new }
-    ensures committed { (l : Legalizer) → left.now ≡ []
-        → IfOk result (λ _. AllCommittedIn l floor.new seat.now.team.now) }
+    ensures committed { (l : Legalizer) → left.now ≡ [] → IfOk result (λ _.
+        AllCommittedIn l floor.new seat.now.team.now) }
     ensures kept { left.now ≢ [] → floor.new ≡ floor.old }
 {
     legalizer_exists();
@@ -134,65 +131,59 @@ fn close<S: Seeker + Drop, K: Sink>(
     texts: &mut Buffers,
     lines: &mut K,
 ) -> Result<(), RepairFault>
-    ensures run { (l : Legalizer) → IfOk result
-        (λ _. IsWrittenRun l seat.now.team.now floor.old (K.contents lines.old) (K.contents lines.new) floor.new) }
-    ensures err { (l : Legalizer) → OnErr result
-        (IsRunWithCutLine l seat.now.team.now floor.old (K.contents lines.old) (K.contents lines.new) floor.new) }
+    ensures run { (l : Legalizer) → IfOk result (λ _.
+        IsWrittenRun l seat.now.team.now floor.old (K.contents lines.old) (K.contents lines.new) floor.new) }
+    ensures err { (l : Legalizer) → OnErr result (
+        IsRunWithCutLine l seat.now.team.now floor.old (K.contents lines.old) (K.contents lines.new) floor.new) }
     ensures only { ChangesOnly seat.now.team.now floor.old floor.new }
     ensures cells { SameCells seat.now.team.now floor.old floor.new }
 {
     legalizer_exists();
     query_keeps_state();
-    let request = Command::To {
-        team: seat.team,
-        order: TeamCommand::Within {
-            session: seat.session,
-            action: Action::Close,
-        },
-    };
-    match run_command(floor, &request, &mut texts.line, lines) {
+    match run_action(floor, seat, Action::Close, &mut texts.line, lines) {
         Ok(reply) => continue_unless_out_of_memory(&reply),
         Err(fault) => Err(fault),
     }
 }
 
-/// Finds the outcome of the passes, commits the team if no cell is unrepaired, and closes the
-/// session.
+/// Lists the cells whose place changed, commits the team if no cell is unrepaired, and closes the
+/// session. `left` has the unrepaired cells.
 fn finish<S: Seeker + Drop, K: Sink>(
     alloc: Global,
     floor: &mut Floor<S>,
     seat: &TeamSession<'_>,
     wanted_places: &[Option<Place>],
-    texts: &mut Buffers,
+    left: Vec<u32>,
     lines: &mut K,
 ) -> Result<RepairOutcome, RepairFault>
-    requires { team_number floor.old.frame seat.now.team.now ≡ Some seat.now.number }
-    ensures run { (l : Legalizer) → IfOk result
-        (λ _. IsWrittenRun l seat.now.team.now floor.old (K.contents lines.old) (K.contents lines.new) floor.new) }
-    ensures err { (l : Legalizer) → OnErr result
-        (IsRunWithCutLine l seat.now.team.now floor.old (K.contents lines.old) (K.contents lines.new) floor.new) }
+    requires number { team_number floor.old.frame seat.now.team.now ≡ Some seat.now.number }
+    requires unrepaired { AreUnrepaired seat.now.team.now floor.old left.items }
+    ensures run { (l : Legalizer) → IfOk result (λ _.
+        IsWrittenRun l seat.now.team.now floor.old (K.contents lines.old) (K.contents lines.new) floor.new) }
+    ensures err { (l : Legalizer) → OnErr result (
+        IsRunWithCutLine l seat.now.team.now floor.old (K.contents lines.old) (K.contents lines.new) floor.new) }
     ensures only { ChangesOnly seat.now.team.now floor.old floor.new }
     ensures places { KeepsPlaces seat.now.team.now floor.old floor.new }
-    ensures changed { IfOk result
-        (λ found. TeamIsAtTargetsExcept seat.now.team.now wanted_places.now floor.new found.changed.items) }
-    ensures moved { IfOk result
-        (λ found. TeamHasLeftTargets seat.now.team.now wanted_places.now floor.new found.changed.items) }
-    ensures named { IfOk result (λ found. AreLegalExcept seat.now.team.now floor.new found.left.items) }
-    ensures illegal { IfOk result (λ found. All (λ own. IsIllegalIn floor.new seat.now.team.now own) found.left.items) }
-    ensures committed { (l : Legalizer)
-        → IfOk result (λ found. found.left.items ≡ [] → AllCommittedIn l floor.new seat.now.team.now) }
-    ensures uncommitted { IfOk result
-        (λ found. found.left.items ≢ [] → KeepsCommittedPlaces seat.now.team.now floor.old floor.new) }
+    ensures changed { IfOk result (λ found.
+        TeamIsAtTargetsExcept seat.now.team.now wanted_places.now floor.new found.changed.items) }
+    ensures moved { IfOk result (λ found.
+        TeamHasLeftTargets seat.now.team.now wanted_places.now floor.new found.changed.items) }
+    ensures unrepaired { IfOk result (λ found. AreUnrepaired seat.now.team.now floor.new found.left.items) }
+    ensures committed { (l : Legalizer) → IfOk result (λ found.
+        found.left.items ≡ [] → AllCommittedIn l floor.new seat.now.team.now) }
+    ensures uncommitted { IfOk result (λ found.
+        found.left.items ≢ [] → KeepsCommittedPlaces seat.now.team.now floor.old floor.new) }
 {
     legalizer_exists();
-    let Ok(found) = found_of(alloc, floor, seat, wanted_places) else {
+    let Ok(found) = found_of(alloc, floor, seat, wanted_places, left) else {
         return Err(RepairFault::OutOfMemory);
     };
-    match commit_if_clean(floor, seat, found.left.as_slice(), texts, lines) {
+    let mut texts = Buffers::new(alloc);
+    match commit_if_clean(floor, seat, found.left.as_slice(), &mut texts, lines) {
         Ok(()) => {}
         Err(fault) => return Err(fault),
     }
-    match close(floor, seat, texts, lines) {
+    match close(floor, seat, &mut texts, lines) {
         Ok(()) => Ok(found),
         Err(fault) => Err(fault),
     }
@@ -229,12 +220,13 @@ fn run_pass<S: Seeker + Drop, K: Sink>(
     texts: &mut Buffers,
     lines: &mut K,
 ) -> Result<(), RepairFault>
-    ensures run { (l : Legalizer) → IfOk result
-        (λ _. IsWrittenRun l seat.now.team.now floor.old (K.contents lines.old) (K.contents lines.new) floor.new) }
-    ensures err { (l : Legalizer) → OnErr result
-        (IsRunWithCutLine l seat.now.team.now floor.old (K.contents lines.old) (K.contents lines.new) floor.new) }
+    ensures run { (l : Legalizer) → IfOk result (λ _.
+        IsWrittenRun l seat.now.team.now floor.old (K.contents lines.old) (K.contents lines.new) floor.new) }
+    ensures err { (l : Legalizer) → OnErr result (
+        IsRunWithCutLine l seat.now.team.now floor.old (K.contents lines.old) (K.contents lines.new) floor.new) }
     ensures only { ChangesOnly seat.now.team.now floor.old floor.new }
     ensures marked { KeepsLockedPlaces seat.now.team.now pass.now.locked.items floor.old floor.new }
+    ensures legal { KeepsLockedLegal seat.now.team.now pass.now.locked.items floor.old floor.new }
     ensures committed { KeepsCommittedPlaces seat.now.team.now floor.old floor.new }
 {
     for phase in &PHASES {
@@ -277,10 +269,10 @@ fn run_local_pass<S: Seeker + Drop, K: Sink>(
     reach: &Neighborhood,
     lines: &mut K,
 ) -> Result<(), RepairFault>
-    ensures run { (l : Legalizer) → IfOk result
-        (λ _. IsWrittenRun l seat.now.team.now floor.old (K.contents lines.old) (K.contents lines.new) floor.new) }
-    ensures err { (l : Legalizer) → OnErr result
-        (IsRunWithCutLine l seat.now.team.now floor.old (K.contents lines.old) (K.contents lines.new) floor.new) }
+    ensures run { (l : Legalizer) → IfOk result (λ _.
+        IsWrittenRun l seat.now.team.now floor.old (K.contents lines.old) (K.contents lines.new) floor.new) }
+    ensures err { (l : Legalizer) → OnErr result (
+        IsRunWithCutLine l seat.now.team.now floor.old (K.contents lines.old) (K.contents lines.new) floor.new) }
     ensures only { ChangesOnly seat.now.team.now floor.old floor.new }
     ensures committed { KeepsCommittedPlaces seat.now.team.now floor.old floor.new }
 {
@@ -325,10 +317,10 @@ fn run_local_passes<S: Seeker + Drop, K: Sink>(
     start: &RepairInput,
     lines: &mut K,
 ) -> Result<(), RepairFault>
-    ensures run { (l : Legalizer) → IfOk result
-        (λ _. IsWrittenRun l seat.now.team.now floor.old (K.contents lines.old) (K.contents lines.new) floor.new) }
-    ensures err { (l : Legalizer) → OnErr result
-        (IsRunWithCutLine l seat.now.team.now floor.old (K.contents lines.old) (K.contents lines.new) floor.new) }
+    ensures run { (l : Legalizer) → IfOk result (λ _.
+        IsWrittenRun l seat.now.team.now floor.old (K.contents lines.old) (K.contents lines.new) floor.new) }
+    ensures err { (l : Legalizer) → OnErr result (
+        IsRunWithCutLine l seat.now.team.now floor.old (K.contents lines.old) (K.contents lines.new) floor.new) }
     ensures only { ChangesOnly seat.now.team.now floor.old floor.new }
     ensures kept { start.now.how ≡ KeepLegal → floor.new ≡ floor.old }
     ensures committed { KeepsCommittedPlaces seat.now.team.now floor.old floor.new }
@@ -345,6 +337,38 @@ fn run_local_passes<S: Seeker + Drop, K: Sink>(
     Ok(())
 }
 
+/// Runs all passes. Returns the positions of the unrepaired cells, in loading order.
+fn run_passes<S: Seeker + Drop, K: Sink>(
+    alloc: Global,
+    floor: &mut Floor<S>,
+    seat: &TeamSession<'_>,
+    start: &RepairInput,
+    lines: &mut K,
+) -> Result<Vec<u32>, RepairFault>
+    requires { team_number floor.old.frame seat.now.team.now ≡ Some seat.now.number }
+    ensures run { (l : Legalizer) → IfOk result (λ _.
+        IsWrittenRun l seat.now.team.now floor.old (K.contents lines.old) (K.contents lines.new) floor.new) }
+    ensures err { (l : Legalizer) → OnErr result (
+        IsRunWithCutLine l seat.now.team.now floor.old (K.contents lines.old) (K.contents lines.new) floor.new) }
+    ensures only { ChangesOnly seat.now.team.now floor.old floor.new }
+    ensures marked { start.now.how ≡ KeepLegal → AreLockedLegal seat.now.team.now start.now.pass.locked.items floor.old
+        → KeepsLockedPlaces seat.now.team.now start.now.pass.locked.items floor.old floor.new }
+    ensures committed { KeepsCommittedPlaces seat.now.team.now floor.old floor.new }
+    ensures unrepaired { IfOk result (λ left. AreUnrepaired seat.now.team.now floor.new left.items) }
+{
+    let mut texts = Buffers::new(alloc);
+    match run_pass(alloc, floor, seat, &start.pass, &mut texts, lines) {
+        Ok(()) => {}
+        Err(fault) => return Err(fault),
+    }
+    match run_local_passes(alloc, floor, seat, start, lines) {
+        Ok(()) => {}
+        Err(fault) => return Err(fault),
+    }
+    let wanted_places = start.pass.wanted_places.as_slice();
+    run_last_pass(alloc, floor, seat, wanted_places, &mut texts, lines)
+}
+
 /// Opens a session, runs all passes, and finishes.
 fn repair_in_session<S: Seeker + Drop, K: Sink>(
     alloc: Global,
@@ -355,23 +379,22 @@ fn repair_in_session<S: Seeker + Drop, K: Sink>(
     lines: &mut K,
 ) -> Result<RepairOutcome, RepairFault>
     requires { team_number floor.old.frame team.now ≡ Some number }
-    ensures run { (l : Legalizer)
-        → IfOk result (λ _. IsWrittenRun l team.now floor.old (K.contents lines.old) (K.contents lines.new) floor.new) }
-    ensures err { (l : Legalizer)
-        → OnErr result (IsRunWithCutLine l team.now floor.old (K.contents lines.old) (K.contents lines.new) floor.new) }
+    ensures run { (l : Legalizer) → IfOk result (λ _.
+        IsWrittenRun l team.now floor.old (K.contents lines.old) (K.contents lines.new) floor.new) }
+    ensures err { (l : Legalizer) → OnErr result (
+        IsRunWithCutLine l team.now floor.old (K.contents lines.old) (K.contents lines.new) floor.new) }
     ensures only { ChangesOnly team.now floor.old floor.new }
-    ensures marked { start.now.how ≡ KeepLegal
+    ensures marked { start.now.how ≡ KeepLegal → AreLockedLegal team.now start.now.pass.locked.items floor.old
         → KeepsLockedPlaces team.now start.now.pass.locked.items floor.old floor.new }
-    ensures changed { IfOk result
-        (λ found. TeamIsAtTargetsExcept team.now start.now.pass.wanted_places.items floor.new found.changed.items) }
-    ensures moved { IfOk result
-        (λ found. TeamHasLeftTargets team.now start.now.pass.wanted_places.items floor.new found.changed.items) }
-    ensures named { IfOk result (λ found. AreLegalExcept team.now floor.new found.left.items) }
-    ensures illegal { IfOk result (λ found. All (λ own. IsIllegalIn floor.new team.now own) found.left.items) }
-    ensures committed { (l : Legalizer)
-        → IfOk result (λ found. found.left.items ≡ [] → AllCommittedIn l floor.new team.now) }
-    ensures uncommitted { IfOk result
-        (λ found. found.left.items ≢ [] → KeepsCommittedPlaces team.now floor.old floor.new) }
+    ensures changed { IfOk result (λ found.
+        TeamIsAtTargetsExcept team.now start.now.pass.wanted_places.items floor.new found.changed.items) }
+    ensures moved { IfOk result (λ found.
+        TeamHasLeftTargets team.now start.now.pass.wanted_places.items floor.new found.changed.items) }
+    ensures unrepaired { IfOk result (λ found. AreUnrepaired team.now floor.new found.left.items) }
+    ensures committed { (l : Legalizer) → IfOk result (λ found.
+        found.left.items ≡ [] → AllCommittedIn l floor.new team.now) }
+    ensures uncommitted { IfOk result (λ found.
+        found.left.items ≢ [] → KeepsCommittedPlaces team.now floor.old floor.new) }
 {
     let mut texts = Buffers::new(alloc);
     let session = match open(floor, team, &mut texts, lines) {
@@ -383,22 +406,12 @@ fn repair_in_session<S: Seeker + Drop, K: Sink>(
         number,
         session,
     };
-    match run_pass(alloc, floor, &seat, &start.pass, &mut texts, lines) {
-        Ok(()) => {}
+    let left = match run_passes(alloc, floor, &seat, start, lines) {
+        Ok(left) => left,
         Err(fault) => return Err(fault),
-    }
-    match run_local_passes(alloc, floor, &seat, start, lines) {
-        Ok(()) => {}
-        Err(fault) => return Err(fault),
-    }
-    finish(
-        alloc,
-        floor,
-        &seat,
-        start.pass.wanted_places.as_slice(),
-        &mut texts,
-        lines,
-    )
+    };
+    let wanted_places = start.pass.wanted_places.as_slice();
+    finish(alloc, floor, &seat, wanted_places, left, lines)
 }
 
 /// Repairs a team: moves its cells that break a rule or have no place to legal places.
@@ -410,10 +423,13 @@ fn repair_in_session<S: Seeker + Drop, K: Sink>(
 /// Each command is sent to the floor, and its line is written exactly if the floor accepts it. If a
 /// line can contain the team's name, each line reads as its command.
 ///
+/// A cell is unrepaired only if it has no place: it is unplaced, and next to the team's other cells
+/// no place off soft blockages is legal for it. All other cells are legal. The unrepaired cells are
+/// listed in loading order.
+///
 /// The team is committed if and only if no cell is unrepaired. Otherwise its cells stay at their
-/// working places, the unrepaired ones are unplaced or illegal, and the committed places are
-/// unchanged. No other team changes, and a fully legal committed design stays fully legal. The
-/// numbers in the result are exact.
+/// working places, and the committed places are unchanged. No other team changes, and a fully legal
+/// committed design stays fully legal. The numbers in the result are exact.
 ///
 /// `Err` says why the repair stopped early. The floor is then as the accepted commands left it, and
 /// their lines are written; of the last line perhaps only a prefix.
@@ -424,10 +440,10 @@ pub fn repair_team<S: Seeker + Drop, K: Sink>(
     how: MovePolicy,
     lines: &mut K,
 ) -> Result<RepairStats, RepairFault>
-    ensures run { (l : Legalizer)
-        → IfOk result (λ _. IsWrittenRun l team.now floor.old (K.contents lines.old) (K.contents lines.new) floor.new) }
-    ensures err { (l : Legalizer)
-        → OnErr result (IsRunWithCutLine l team.now floor.old (K.contents lines.old) (K.contents lines.new) floor.new) }
+    ensures run { (l : Legalizer) → IfOk result (λ _.
+        IsWrittenRun l team.now floor.old (K.contents lines.old) (K.contents lines.new) floor.new) }
+    ensures err { (l : Legalizer) → OnErr result (
+        IsRunWithCutLine l team.now floor.old (K.contents lines.old) (K.contents lines.new) floor.new) }
     ensures only { ChangesOnly team.now floor.old floor.new }
     ensures unknown { team_number floor.old.frame team.now ≡ None → result ≡ Err RepairFault.NoTeam }
     ensures kept { how ≡ KeepLegal → KeepsLegalPlaces team.now floor.old floor.new }
@@ -436,10 +452,13 @@ pub fn repair_team<S: Seeker + Drop, K: Sink>(
     ensures named { IfOk result (λ repaired. AreLegalExcept team.now floor.new repaired.unrepaired.items) }
     ensures illegal { IfOk result
         (λ repaired. All (λ own. IsIllegalIn floor.new team.now own) repaired.unrepaired.items) }
-    ensures committed { (l : Legalizer)
-        → IfOk result (λ repaired. repaired.unrepaired.items ≡ [] ↔ AllCommittedIn l floor.new team.now) }
-    ensures uncommitted { IfOk result (λ repaired. repaired.unrepaired.items ≢ []
-        → committed_in floor.new team.now ≡ committed_in floor.old team.now) }
+    ensures complete { IfOk result
+        (λ repaired. All (λ own. HasNoPlace floor.new team.now own) repaired.unrepaired.items) }
+    ensures rise { IfOk result (λ repaired. AllPairs (λ own later. own < later) repaired.unrepaired.items) }
+    ensures committed { (l : Legalizer) → IfOk result (λ repaired.
+        repaired.unrepaired.items ≡ [] ↔ AllCommittedIn l floor.new team.now) }
+    ensures uncommitted { IfOk result (λ repaired.
+        repaired.unrepaired.items ≢ [] → committed_in floor.new team.now ≡ committed_in floor.old team.now) }
     ensures reported { IfOk result (λ repaired. AreTeamStats team.now floor.old floor.new repaired) }
 {
     let Some(number) = floor.team_number(team) else {

@@ -11,11 +11,11 @@ use Rattle.lf_lef.specs.Contents.{Contents}
 use Rattle.lf_def.specs.Document.{Document, document_of}
 use Rattle.lf_floorplan.specs.declared.limits.Limits.{Limits}
 use Rattle.lf_frame_checks.specs.Conflicts.{Conflict, no_fence}
-use Rattle.lf_task_designs.specs.declared.faults.Fault.{Fault}
-use Rattle.lf_task_designs.specs.declared.faults.Fault.TheVariants.{Refused, File, RefusedState, NoTeam, ReadFault, WriteFault, TooManyLines, OutOfMemory, Output, Bind, Accept, Unwritten, Unsaved, Unlisted, SetupOutOfMemory, OutputOutOfMemory}
-use Rattle.lf_task_designs.specs.declared.faults.TextKind.{TextKind}
-use Rattle.lf_task_designs.specs.declared.faults.TextKind.TheVariants.{Lef, Def}
-use Rattle.lf_task_designs.specs.Refusals.{IsReportedConflict}
+use Rattle.lf_task_faults.specs.declared.faults.Fault.{Fault}
+use Rattle.lf_task_faults.specs.declared.faults.Fault.TheVariants.{Refused, File, RefusedState, NoTeam, ReadFault, WriteFault, TooManyLines, OutOfMemory, Output, Bind, Accept, NotWritten, SetupOutOfMemory, OutputOutOfMemory}
+use Rattle.lf_task_faults.specs.declared.faults.TextKind.{TextKind}
+use Rattle.lf_task_faults.specs.declared.faults.TextKind.TheVariants.{Lef, Def}
+use Rattle.lf_task_faults.specs.Refusals.{IsReportedConflict}
 use Rattle.lf_task_designs.specs.Designs.{AddsFile, RefusalCause, ReadsFile, IsDefRefusal, IsFileFault, IsLefRefusal, IsLibraryFault, IsLibraryOf, IsLoadRefusal, IsRefusedText, ConflictsIn}
 
 -- A refusal for one cause is a refusal for a cause that includes it.
@@ -32,9 +32,7 @@ refused_as kind path text P Q OutOfMemory is gives = absurd is
 refused_as kind path text P Q Output is gives = absurd is
 refused_as kind path text P Q (Bind port why) is gives = absurd is
 refused_as kind path text P Q Accept is gives = absurd is
-refused_as kind path text P Q (Unwritten its_path why) is gives = absurd is
-refused_as kind path text P Q (Unsaved its_path why) is gives = absurd is
-refused_as kind path text P Q (Unlisted its_path why) is gives = absurd is
+refused_as kind path text P Q (NotWritten its_kind its_path why) is gives = absurd is
 refused_as kind path text P Q SetupOutOfMemory is gives = absurd is
 refused_as kind path text P Q OutputOutOfMemory is gives = absurd is
 

@@ -1,5 +1,4 @@
 pub mod DesignSteps
+mod Fronts
 mod OpenedTexts
 mod Reporting
-mod Shown
-pub mod Ends

@@ -9,8 +9,8 @@ use Rattle.lf_rules.specs.FullyLegal.{IsFullyLegal, design_cells_at}
 use Rattle.lf_rules.specs.Legalizer.{Legalizer}
 use Rattle.lf_reports.specs.Reports.{listed_at, report_of}
 use Rattle.lf_proto.specs.ReportText.{report_text}
-use Rattle.lf_task_designs.specs.declared.faults.Fault.{Fault}
-use Rattle.lf_task_designs.specs.Faults.{IsReportFault}
+use Rattle.lf_task_faults.specs.declared.faults.Fault.{Fault}
+use Rattle.lf_task_faults.specs.Faults.{IsReportFault}
 
 -- The cells' places in the DEF text, in loading order; `None` if a cell is unplaced there.
 abbrev pub def_places : List LoadedCell → List (Option Place)

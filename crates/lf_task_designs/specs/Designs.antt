@@ -13,13 +13,13 @@ use Rattle.lf_frame_checks.specs.Conflicts.{ConflictsWith, Conflict, no_fence}
 use Rattle.lf_frame.specs.Loads.{IsLoadedFrom}
 use Rattle.lf_write.specs.Export.{ClauseFacts, clause_of}
 use Rattle.lf_task_designs.specs.declared.loading.TheConstants.{BUILT_IN}
-use Rattle.lf_task_designs.specs.declared.faults.Fault.{Fault}
-use Rattle.lf_task_designs.specs.declared.faults.Fault.TheVariants.{Refused, File, SetupOutOfMemory}
-use Rattle.lf_task_designs.specs.declared.faults.TextKind.{TextKind}
-use Rattle.lf_task_designs.specs.declared.faults.TextKind.TheVariants.{Lef, Def}
+use Rattle.lf_task_faults.specs.declared.faults.Fault.{Fault}
+use Rattle.lf_task_faults.specs.declared.faults.Fault.TheVariants.{Refused, File, SetupOutOfMemory}
+use Rattle.lf_task_faults.specs.declared.faults.TextKind.{TextKind}
+use Rattle.lf_task_faults.specs.declared.faults.TextKind.TheVariants.{Lef, Def}
 use Rattle.lf_task_designs.specs.declared.opening.OpenedDesign.{OpenedDesign}
-use Rattle.lf_task_designs.specs.Faults.{IsFile}
-use Rattle.lf_task_designs.specs.Refusals.{ReportsFault}
+use Rattle.lf_task_faults.specs.Faults.{IsFile}
+use Rattle.lf_task_faults.specs.Refusals.{ReportsFault}
 
 -- What reading the file of a path may return: its text, or `None` if it cannot be read.
 abbrev pub ReadsFile : Type 1

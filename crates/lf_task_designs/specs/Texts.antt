@@ -1,9 +1,9 @@
 -- Texts that are not read.
 use Rattle.std.specs.declared.io.ErrorKind.{ErrorKind}
 use Rattle.std.specs.declared.io.ErrorKind.TheVariants as kind
-use Rattle.lf_task_designs.specs.declared.input_files.ReadFailure.{ReadFailure}
-use Rattle.lf_task_designs.specs.declared.input_files.ReadFailure.TheVariants.{File, OutOfMemory}
-use Rattle.lf_task_designs.specs.declared.input_files.ReadFailureKind.TheVariants.{Missing, Folder, Denied, Other}
+use Rattle.lf_task_faults.specs.declared.read_failure.ReadFailure.{ReadFailure}
+use Rattle.lf_task_faults.specs.declared.read_failure.ReadFailure.TheVariants.{File, OutOfMemory}
+use Rattle.lf_task_faults.specs.declared.read_failure.ReadFailureKind.TheVariants.{Missing, Folder, Denied, Other}
 
 -- Holds if the file cannot be read.
 abbrev pub IsOfFile : ReadFailure → Type 0

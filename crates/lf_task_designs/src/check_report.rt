@@ -8,15 +8,15 @@ ghost use Rattle.lf_rules.specs.Legalizer.{Legalizer};
 ghost use Rattle.lf_reports.specs.Reports.{AreVerdicts, IsFaultless, violations_in};
 ghost use Rattle.lf_proto.specs.ReportText.{report_text, violations_text};
 ghost use Rattle.lf_task_designs.specs.Checks.{IsLegalDesign, IsNotReported, def_places, design_report, report_line};
-ghost use Rattle.lf_task_designs.specs.Faults.{BlamesWriter};
+ghost use Rattle.lf_task_faults.specs.Faults.{BlamesWriter};
 ghost use Rattle.lf_task_designs.specs.Reporting.{listed_as_loaded, cell_names_of};
 
-use crate::faults::Fault;
 use lf_frame::{Loaded, LoadedCells, Place};
 use lf_io::{DeviceFault, Sink, send};
 use lf_proto::{Names, Text, put_verdict, report_begun, report_closed};
 use lf_reports::verdicts_of_all;
 use lf_rules::Broken;
+use lf_task_faults::Fault;
 use std::alloc::{AllocError, Global};
 
 /// The report of a design.

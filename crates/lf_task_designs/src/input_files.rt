@@ -5,6 +5,7 @@ ghost use Rattle.std.specs.IoError.{error_kind};
 ghost use Rattle.lf_state_text.specs.Pieces.{text_of_chunks};
 ghost use Rattle.lf_task_designs.specs.Texts.{unread_of};
 
+use lf_task_faults::{ReadFailure, ReadFailureKind};
 use std::alloc::Global;
 use std::collections::VecDeque;
 use std::fs::{File, OpenFile};
@@ -14,28 +15,6 @@ use std::rt::Files;
 
 /// The number of bytes of each chunk of a file, except the last.
 const PIECE: usize = 1_048_576;
-
-/// Why a file cannot be read, if the system reports it.
-#[derive(Clone, Copy, Debug, PartialEq, Eq)]
-pub enum ReadFailureKind {
-    /// The file does not exist.
-    Missing,
-    /// The path is that of a folder.
-    Folder,
-    /// This user may not read the file.
-    Denied,
-    /// Another reason.
-    Other,
-}
-
-/// Why the text of a file was not read.
-#[derive(Clone, Copy, Debug, PartialEq, Eq)]
-pub enum ReadFailure {
-    /// The file cannot be read.
-    File(ReadFailureKind),
-    /// An allocation failed.
-    OutOfMemory,
-}
 
 /// Reads texts, by the paths of their files.
 pub trait InputFiles {

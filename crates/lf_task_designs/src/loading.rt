@@ -5,25 +5,24 @@
 
 ghost use Rattle.std.specs.Prelude.{◌≡◌, Ok, Some, map, IfErr, IfOk, OnOk};
 ghost use Rattle.lf_state_text.specs.Pieces.{text_of_chunks};
-ghost use Rattle.lf_task_designs.specs.declared.faults.TextKind.TheVariants.{Lef, Def};
+ghost use Rattle.lf_task_faults.specs.declared.faults.TextKind.TheVariants.{Lef, Def};
 ghost use Rattle.lf_lef.specs.Library.{library_after};
 ghost use Rattle.lf_def.specs.Contents.{contents};
 ghost use Rattle.lf_def.specs.Document.{document_of};
 ghost use Rattle.lf_frame_checks.specs.Conflicts.{ConflictsWith, Conflict, no_fence};
-ghost use Rattle.lf_task_designs.specs.Refusals.{IsReportedConflict};
+ghost use Rattle.lf_task_faults.specs.Refusals.{IsReportedConflict};
 ghost use Rattle.lf_task_designs.specs.Designs.{AddsFile, AreWithSlots, IsDefRefusal, IsDesignFault, IsDesignIn, IsDesignOf, IsFileDesign, IsFileFault};
 ghost use Rattle.lf_task_designs.specs.Designs.{IsLefRefusal, IsLibraryFault, IsLibraryOf, IsLoadRefusal, IsLoadedIn, IsReadRefusal, IsRefusedText};
 ghost use Rattle.lf_task_designs.specs.Designs.{IsTextDesign, IsTextFault, IsUnread, no_library};
 
-use crate::faults::{Fault, TextFile, TextKind, unread_fault};
 use crate::input_files::InputFiles;
-use crate::text_refusal::TextRefusal;
 use lf_cli::Slots;
 use lf_def::{DefDoc, read_def};
 use lf_frame::{Limits, Loaded, load};
 use lf_frame_checks::conflicting_fences;
 use lf_lef::{Library, read_lef};
 use lf_lex::LoadFault;
+use lf_task_faults::{Fault, TextFile, TextKind, TextRefusal, unread_fault};
 use std::alloc::Global;
 use std::collections::VecDeque;
 

@@ -4,19 +4,19 @@
 //! every drop at every return separately.
 
 ghost use Rattle.std.specs.Prelude.{◌≡◌, Some, map, IfErr, IfOk};
-ghost use Rattle.lf_task_designs.specs.declared.faults.TextKind.TheVariants.{Def};
+ghost use Rattle.lf_task_faults.specs.declared.faults.TextKind.TheVariants.{Def};
 ghost use Rattle.lf_def.specs.Contents.{contents};
 ghost use Rattle.lf_def.specs.Document.{Document};
 ghost use Rattle.lf_write.specs.Export.{clause_of};
 ghost use Rattle.lf_task_designs.specs.Designs.{IsDefRefusal, IsDesignFault, IsFileFault, IsLoadedText, IsLoadRefusal, IsLoadedIn, IsOpenedOf, IsRefusedText};
 
-use crate::faults::Fault;
 use crate::input_files::InputFiles;
 use crate::loading::{def_file, library_of, load_document, read_document, read_text, refused};
 use lf_def::DefDoc;
 use lf_frame::{Limits, Loaded};
 use lf_lef::Library;
 use lf_lex::ReadError;
+use lf_task_faults::Fault;
 use lf_write::{KeptClauses, clauses_of};
 use std::alloc::Global;
 

@@ -6,7 +6,7 @@ use Rattle.lf_floor_model.specs.States.{FloorState}
 use Rattle.lf_state_restore.specs.Saved.{ShareDesign}
 use Rattle.lf_state_restore.proofs.Restoring.{named_alike}
 use Rattle.lf_floor.proofs.Alike.{restored_alike}
-use Rattle.lf_task_designs.specs.declared.faults.Fault.{Fault}
+use Rattle.lf_task_faults.specs.declared.faults.Fault.{Fault}
 use Rattle.lf_task_designs.specs.Designs.{ReadsFile}
 use Rattle.lf_task_files.specs.States.{IsFileState, IsStateFileFault}
 

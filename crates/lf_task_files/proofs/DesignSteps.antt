@@ -3,7 +3,7 @@ use Rattle.std.proofs.Common.{◌⊎◌, inr, ℕ}
 use Rattle.std.specs.Prelude.{IfErr, IfOk, Result}
 use Rattle.std.proofs.lemmas.Result.{IfErr-weaker, IfOk-weaker}
 use Rattle.lf_floorplan.specs.declared.loaded.Loaded.{Loaded}
-use Rattle.lf_task_designs.specs.declared.faults.Fault.{Fault}
+use Rattle.lf_task_faults.specs.declared.faults.Fault.{Fault}
 
 -- The outcome after loading is the outcome of a task over a design.
 module _ (IsDesign : Loaded → Type 0) (loaded : Loaded) (design : IsDesign loaded) (r : Result ℕ Fault) where

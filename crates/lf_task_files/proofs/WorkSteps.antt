@@ -6,14 +6,14 @@ use Rattle.lf_lef.specs.Contents.{Contents}
 use Rattle.lf_def.specs.Document.{Document, document_of}
 use Rattle.lf_floorplan.specs.declared.limits.Limits.{Limits}
 use Rattle.lf_floorplan.specs.declared.loaded.Loaded.{Loaded}
-use Rattle.lf_task_designs.specs.declared.faults.Fault.{Fault}
-use Rattle.lf_task_designs.specs.declared.faults.Fault.TheVariants.{Refused, File, RefusedState, NoTeam, ReadFault, WriteFault, TooManyLines, OutOfMemory, Output, Bind, Accept, Unwritten, Unsaved, Unlisted, SetupOutOfMemory, OutputOutOfMemory}
-use Rattle.lf_task_designs.specs.declared.faults.TextKind.{TextKind}
-use Rattle.lf_task_designs.specs.declared.faults.TextKind.TheVariants.{Lef, Def, State}
+use Rattle.lf_task_faults.specs.declared.faults.Fault.{Fault}
+use Rattle.lf_task_faults.specs.declared.faults.Fault.TheVariants.{Refused, File, RefusedState, NoTeam, ReadFault, WriteFault, TooManyLines, OutOfMemory, Output, Bind, Accept, NotWritten, SetupOutOfMemory, OutputOutOfMemory}
+use Rattle.lf_task_faults.specs.declared.faults.TextKind.{TextKind}
+use Rattle.lf_task_faults.specs.declared.faults.TextKind.TheVariants.{Lef, Def, State}
 use Rattle.lf_task_designs.specs.Designs.{RefusalCause, ReadsFile, IsDefRefusal, IsDesignFault, IsDesignOf, IsFileFault, IsLefRefusal, IsLibraryFault, IsLibraryOf}
 use Rattle.lf_task_designs.specs.Designs.{IsLoadRefusal, IsLoadedIn, IsOpened, IsRefusedText, IsUnread, no_library}
 use Rattle.lf_task_designs.proofs.DesignSteps.{text_refused}
-use Rattle.lf_task_designs.specs.Faults.{BlamesDevices, BlamesWriter, IsEarly}
+use Rattle.lf_task_faults.specs.Faults.{BlamesDevices, BlamesWriter, IsEarly}
 use Rattle.lf_task_files.specs.Exits.{IsOpenUndescribed, IsViewNotDescribed}
 use Rattle.lf_task_files.specs.Faults.{ExportFails}
 use Rattle.lf_task_files.specs.States.{IsFloorFault, IsStateFault, IsStateRefused, IsStateTextFault, IsNotOpened}
@@ -36,9 +36,7 @@ IsRoom OutputOutOfMemory = Unit {0}
 IsRoom _ = ⊥
 
 abbrev IsPath : Fault → Type 0
-IsPath (Unwritten path why) = Unit {0}
-IsPath (Unsaved path why) = Unit {0}
-IsPath (Unlisted path why) = Unit {0}
+IsPath (NotWritten its_kind path why) = Unit {0}
 IsPath _ = ⊥
 
 -- A further claim about the same fault.
@@ -85,9 +83,7 @@ early_blames kept reader writer export service sound OutOfMemory keeps sounds ea
 early_blames kept reader writer export service sound Output keeps sounds early = absurd early
 early_blames kept reader writer export service sound (Bind port why) keeps sounds early = absurd early
 early_blames kept reader writer export service sound Accept keeps sounds early = absurd early
-early_blames kept reader writer export service sound (Unwritten path why) keeps sounds early = absurd early
-early_blames kept reader writer export service sound (Unsaved path why) keeps sounds early = absurd early
-early_blames kept reader writer export service sound (Unlisted path why) keeps sounds early = absurd early
+early_blames kept reader writer export service sound (NotWritten its_kind path why) keeps sounds early = absurd early
 early_blames kept reader writer export service sound SetupOutOfMemory keeps sounds early =
     record { early = λ _. keeps; reading = λ same. absurd (subst IsEarly same tt); writing = λ of. absurd of; exporting = λ of. absurd of; serving = λ of. absurd of; sparing = λ _. sounds }
 early_blames kept reader writer export service sound OutputOutOfMemory keeps sounds early = absurd early
@@ -106,11 +102,7 @@ export_blames kept reader writer export service sound OutOfMemory before now is 
 export_blames kept reader writer export service sound Output before now is fails sounds = absurd is
 export_blames kept reader writer export service sound (Bind port why) before now is fails sounds = absurd is
 export_blames kept reader writer export service sound Accept before now is fails sounds = absurd is
-export_blames kept reader writer export service sound (Unwritten path why) before now is fails sounds =
-    record { early = λ of. absurd of; reading = λ same. absurd (subst IsPath same tt); writing = λ of. absurd of; exporting = λ _. fails is; serving = λ of. absurd of; sparing = λ of. absurd of }
-export_blames kept reader writer export service sound (Unsaved path why) before now is fails sounds =
-    record { early = λ of. absurd of; reading = λ same. absurd (subst IsPath same tt); writing = λ of. absurd of; exporting = λ _. fails is; serving = λ of. absurd of; sparing = λ of. absurd of }
-export_blames kept reader writer export service sound (Unlisted path why) before now is fails sounds =
+export_blames kept reader writer export service sound (NotWritten its_kind path why) before now is fails sounds =
     record { early = λ of. absurd of; reading = λ same. absurd (subst IsPath same tt); writing = λ of. absurd of; exporting = λ _. fails is; serving = λ of. absurd of; sparing = λ of. absurd of }
 export_blames kept reader writer export service sound SetupOutOfMemory before now is fails sounds = absurd is
 export_blames kept reader writer export service sound OutputOutOfMemory before now is fails sounds =
@@ -129,9 +121,7 @@ refused_early kind path text why OutOfMemory is = absurd is
 refused_early kind path text why Output is = absurd is
 refused_early kind path text why (Bind port cause) is = absurd is
 refused_early kind path text why Accept is = absurd is
-refused_early kind path text why (Unwritten its_path its_why) is = absurd is
-refused_early kind path text why (Unsaved its_path its_why) is = absurd is
-refused_early kind path text why (Unlisted its_path its_why) is = absurd is
+refused_early kind path text why (NotWritten its_kind its_path its_why) is = absurd is
 refused_early kind path text why SetupOutOfMemory is = absurd is
 refused_early kind path text why OutputOutOfMemory is = absurd is
 
@@ -148,9 +138,7 @@ unread_early gives kind path OutOfMemory is = absurd is
 unread_early gives kind path Output is = absurd is
 unread_early gives kind path (Bind port why) is = absurd is
 unread_early gives kind path Accept is = absurd is
-unread_early gives kind path (Unwritten its_path its_why) is = absurd is
-unread_early gives kind path (Unsaved its_path its_why) is = absurd is
-unread_early gives kind path (Unlisted its_path its_why) is = absurd is
+unread_early gives kind path (NotWritten its_kind its_path its_why) is = absurd is
 unread_early gives kind path SetupOutOfMemory is = tt
 unread_early gives kind path OutputOutOfMemory is = absurd is
 
@@ -227,9 +215,7 @@ refused_state_early path text why OutOfMemory is = absurd is
 refused_state_early path text why Output is = absurd is
 refused_state_early path text why (Bind port cause) is = absurd is
 refused_state_early path text why Accept is = absurd is
-refused_state_early path text why (Unwritten its_path its_why) is = absurd is
-refused_state_early path text why (Unsaved its_path its_why) is = absurd is
-refused_state_early path text why (Unlisted its_path its_why) is = absurd is
+refused_state_early path text why (NotWritten its_kind its_path its_why) is = absurd is
 refused_state_early path text why SetupOutOfMemory is = tt
 refused_state_early path text why OutputOutOfMemory is = absurd is
 

@@ -11,7 +11,7 @@ use Rattle.lf_io_files.specs.Shelf.{Put, PutsFile}
 use Rattle.lf_describe.specs.Description.{description}
 use Rattle.lf_floor_model.specs.States.{FloorState}
 use Rattle.lf_floor_model.specs.Places.{AreCommittedPlaces}
-use Rattle.lf_task_designs.specs.declared.faults.Fault.{Fault}
+use Rattle.lf_task_faults.specs.declared.faults.Fault.{Fault}
 use Rattle.lf_task_designs.specs.declared.opening.SourceText.{SourceText}
 use Rattle.lf_task_designs.specs.Checks.{IsLegalDesign, report_line}
 use Rattle.lf_task_designs.specs.Designs.{ReadsFile, IsOpened}

@@ -1,11 +1,12 @@
 -- Faults of the files that a task writes, the exit statuses of tasks, and which device is to blame.
 use Rattle.std.specs.Prelude.{◌≡◌, ◌⊎◌, ℕ, Bool, true, List, Option, Some, None}
 use Rattle.std.specs.Borrow.{Bor}
-use Rattle.lf_io_files.specs.declared.output_files.WriteFailure.{WriteFailure as NotWritten}
-use Rattle.lf_io_files.specs.declared.output_files.WriteFailure.TheVariants as not_written
-use Rattle.lf_task_designs.specs.declared.faults.Fault.{Fault}
-use Rattle.lf_task_designs.specs.declared.faults.Fault.TheVariants.{Unwritten, Unsaved, Unlisted, OutputOutOfMemory}
-use Rattle.lf_task_designs.specs.Faults.{IsReportFault}
+use Rattle.lf_io_files.specs.declared.output_files.WriteFailure.{WriteFailure}
+use Rattle.lf_io_files.specs.declared.output_files.WriteFailure.TheVariants as failure
+use Rattle.lf_task_faults.specs.declared.faults.Fault.{Fault}
+use Rattle.lf_task_faults.specs.declared.faults.Fault.TheVariants.{NotWritten, OutputOutOfMemory}
+use Rattle.lf_task_faults.specs.declared.faults.OutputKind.{OutputKind}
+use Rattle.lf_task_faults.specs.Faults.{IsReportFault}
 
 -- ---- the exit statuses
 
@@ -25,44 +26,27 @@ IsDone status = (status ≡ 0) ⊎ (status ≡ 4)
 abbrev pub IsDescriptionFault : Fault → Type 0
 IsDescriptionFault fault = IsReportFault fault ⊎ (fault ≡ OutputOutOfMemory)
 
--- The fault of the exported text or the state that is not written to the file of this path.
-abbrev pub export_fault : Bor (List ℕ) → NotWritten → Fault
-export_fault path (not_written.File why) = Unwritten path why
-export_fault path not_written.OutOfMemory = OutputOutOfMemory
+-- The fault of a file of this kind that is not written to this path.
+abbrev pub output_fault : OutputKind → Bor (List ℕ) → WriteFailure → Fault
+output_fault kind path (failure.File why) = NotWritten kind path why
+output_fault kind path failure.OutOfMemory = OutputOutOfMemory
 
-abbrev pub save_fault : Bor (List ℕ) → NotWritten → Fault
-save_fault path (not_written.File why) = Unsaved path why
-save_fault path not_written.OutOfMemory = OutputOutOfMemory
+-- The file of this kind cannot be written to this path.
+abbrev pub IsNotWritten : OutputKind → List ℕ → Fault → Type 0
+IsNotWritten kind path (NotWritten its_kind its why) = (its_kind ≡ kind) × (its.now ≡ path)
+IsNotWritten kind path _ = ⊥
 
--- The exported text of this path is not written.
-abbrev pub IsUnwritten : List ℕ → Fault → Type 0
-IsUnwritten path (Unwritten its why) = its.now ≡ path
-IsUnwritten path _ = ⊥
-
--- Why the requested exported text is not written to its file: an allocation for it failed, or the
+-- Why a file of this kind is not written to the requested path: an allocation for it failed, or the
 -- file cannot be written.
-abbrev pub IsExportFault : Option (List ℕ) → Fault → Type 0
-IsExportFault None fault = ⊥
-IsExportFault (Some path) fault = (fault ≡ OutputOutOfMemory) ⊎ IsUnwritten path fault
-
--- The state is not written to this path.
-abbrev pub IsNotSaved : List ℕ → Fault → Type 0
-IsNotSaved path (Unsaved its why) = its.now ≡ path
-IsNotSaved path _ = ⊥
-
--- Why the requested state is not written to its file: an allocation for it failed, or the file
--- cannot be written.
-abbrev pub IsSaveFault : Option (List ℕ) → Fault → Type 0
-IsSaveFault None fault = ⊥
-IsSaveFault (Some path) fault = (fault ≡ OutputOutOfMemory) ⊎ IsNotSaved path fault
+abbrev pub IsOutputFault : OutputKind → Option (List ℕ) → Fault → Type 0
+IsOutputFault kind None fault = ⊥
+IsOutputFault kind (Some path) fault = (fault ≡ OutputOutOfMemory) ⊎ IsNotWritten kind path fault
 
 -- ---- which device is to blame
 
--- Whether the file of the exported text, of the state or of the commands has failed. It has if it
--- cannot be written, and not if memory ran out.
+-- Whether the file that is not written has failed. It has if it cannot be written, and not if
+-- memory ran out.
 abbrev pub ExportFails : Fault → Bool → Bool → Type 0
-ExportFails (Unwritten path why) before now = now ≡ true
-ExportFails (Unsaved path why) before now = now ≡ true
-ExportFails (Unlisted path why) before now = now ≡ true
+ExportFails (NotWritten kind path why) before now = now ≡ true
 ExportFails OutputOutOfMemory before now = now ≡ before
 ExportFails _ before now = ⊥

@@ -9,11 +9,11 @@ use Rattle.lf_floorplan.specs.declared.loaded.Loaded.{Loaded}
 use Rattle.lf_floor_model.specs.States.{FloorState}
 use Rattle.lf_floor_model.specs.Designs.{initial_floor}
 use Rattle.lf_state_restore.specs.Saved.{IsRestoredFrom, IsStateText, design_names}
-use Rattle.lf_task_designs.specs.declared.faults.Fault.{Fault}
-use Rattle.lf_task_designs.specs.declared.faults.Fault.TheVariants.{SetupOutOfMemory, RefusedState}
-use Rattle.lf_task_designs.specs.declared.faults.TextKind.TheVariants.{State}
+use Rattle.lf_task_faults.specs.declared.faults.Fault.{Fault}
+use Rattle.lf_task_faults.specs.declared.faults.Fault.TheVariants.{SetupOutOfMemory, RefusedState}
+use Rattle.lf_task_faults.specs.declared.faults.TextKind.TheVariants.{State}
 use Rattle.lf_task_designs.specs.Designs.{ReadsFile, IsDesignFault, IsDesignOf, IsUnread}
-use Rattle.lf_task_designs.specs.Refusals.{ReportsStateFault}
+use Rattle.lf_task_faults.specs.Refusals.{ReportsStateFault}
 use Rattle.lf_task_files.specs.PlacedDesigns.{IsPlacedOnFloor}
 
 -- ---- the state with which work begins

@@ -3,7 +3,7 @@
 ghost use Rattle.std.specs.Prelude.{◌≡◌, ◌⊎◌, map, IfErr, IfOk};
 ghost use Rattle.lf_floorplan.specs.declared.loaded.Loaded.{Loaded};
 ghost use Rattle.lf_task_designs.specs.Checks.{IsNotReported};
-ghost use Rattle.lf_task_designs.specs.Faults.{BlamesWriter};
+ghost use Rattle.lf_task_faults.specs.Faults.{BlamesWriter};
 ghost use Rattle.lf_task_files.specs.Exits.{IsReported};
 ghost use Rattle.lf_task_files.specs.States.{IsFloorFault, IsViewedDesignOf};
 ghost use Rattle.lf_task_files.specs.Inputs.{path_of};
@@ -13,7 +13,8 @@ use crate::inputs::DesignInput;
 use crate::viewed::viewed_design;
 use lf_frame::Loaded;
 use lf_io::Sink;
-use lf_task_designs::{Fault, InputFiles, load_files, report_design};
+use lf_task_designs::{InputFiles, load_files, report_design};
+use lf_task_faults::Fault;
 use std::alloc::Global;
 
 /// Writes the report of the design, and returns the exit status.

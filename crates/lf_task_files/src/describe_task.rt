@@ -4,9 +4,9 @@ ghost use Rattle.std.specs.Prelude.{◌≡◌, ◌⊎◌, List, ℕ, Ok, Some, I
 ghost use Rattle.lf_def.specs.Contents.{contents};
 ghost use Rattle.lf_def.specs.Document.{Document, document_of};
 ghost use Rattle.lf_floorplan.specs.declared.loaded.Loaded.{Loaded};
-ghost use Rattle.lf_task_designs.specs.declared.faults.TextKind.TheVariants.{Def};
+ghost use Rattle.lf_task_faults.specs.declared.faults.TextKind.TheVariants.{Def};
 ghost use Rattle.lf_task_designs.specs.Designs.{IsDefRefusal, IsDesignFault, IsFileFault, IsLoadRefusal, IsLoadedIn, IsRefusedText};
-ghost use Rattle.lf_task_designs.specs.Faults.{BlamesWriter};
+ghost use Rattle.lf_task_faults.specs.Faults.{BlamesWriter};
 ghost use Rattle.lf_task_files.specs.Exits.{IsDescribed, IsOpenDescribed, IsOpenUndescribed, IsViewDescribed, IsUndescribed, IsViewNotDescribed};
 ghost use Rattle.lf_task_files.specs.States.{IsViewedDesign, IsNotOpened};
 ghost use Rattle.lf_task_files.specs.Inputs.{path_of};
@@ -19,9 +19,8 @@ use lf_describe::{DescribeFailure, describe};
 use lf_frame::Loaded;
 use lf_io::Sink;
 use lf_lef::Library;
-use lf_task_designs::{
-    Fault, InputFiles, def_file, library_of, load_document, read_document, read_text,
-};
+use lf_task_designs::{InputFiles, def_file, library_of, load_document, read_document, read_text};
+use lf_task_faults::Fault;
 use std::alloc::Global;
 
 /// Describes the design of the document, and returns the exit status.

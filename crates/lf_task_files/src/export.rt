@@ -1,19 +1,20 @@
 //! The exported text: that of the design, with the committed places of a floor.
 
-ghost use Rattle.std.specs.Prelude.{◌≡◌, ◌||◌, ℕ, Bool, List, None, Option, Some, IfErr, OnErr, OnOk, map, option_map};
-ghost use Rattle.lf_io_files.specs.Shelf.{is_file};
+ghost use Rattle.std.specs.Prelude.{◌≡◌, ℕ, List, None, Option, IfErr, OnErr, OnOk, map, option_map};
 ghost use Rattle.lf_def.specs.Document.{Document};
 ghost use Rattle.lf_floorplan.specs.declared.place.Place.{Place};
 ghost use Rattle.lf_floor_model.specs.Places.{AreCommittedPlaces};
 ghost use Rattle.lf_write.specs.Export.{CanBeRenewed, clause_of, renewed};
 ghost use Rattle.lf_task_files.specs.Exits.{IsExported};
-ghost use Rattle.lf_task_files.specs.Faults.{ExportFails, IsExportFault, export_fault};
+ghost use Rattle.lf_task_files.specs.Faults.{ExportFails, IsOutputFault};
 
+use crate::output_file::put_file;
 use lf_floor::{CommittedPlaces, Floor};
 use lf_floorplan::Place;
-use lf_io_files::{OutputFiles, TextSource, WriteFailure};
+use lf_io_files::{OutputFiles, TextSource};
 use lf_legalize::IndexSeeker;
-use lf_task_designs::{Fault, SourceText};
+use lf_task_designs::SourceText;
+use lf_task_faults::{Fault, OutputKind};
 use lf_write::{KeptClauses, NewPlaces, kept_clauses_suffice, write_export};
 use std::io;
 use std::io::Write;
@@ -80,39 +81,6 @@ fn exported_text<'a>(
     }
 }
 
-/// Makes the fault of an exported text that is not written to its file.
-fn export_fault<'f>(path: &'f str, unwritten: WriteFailure) -> Fault<'f>
-    ensures reported { result ≡ export_fault path.entry unwritten }
-    ensures fault { IsExportFault (Some path.now) result }
-    ensures fails { (before now : Bool) → now ≡ (is_file unwritten || before) → ExportFails result before now }
-{
-    match unwritten {
-        WriteFailure::File(why) => Fault::Unwritten(path, why),
-        WriteFailure::OutOfMemory => Fault::OutputOutOfMemory,
-    }
-}
-
-/// Checks that a text can be written to the file of this path, if one is given, as far as this can
-/// be known in advance.
-pub fn check_export_path<'a, E: OutputFiles>(
-    path: Option<&'a str>,
-    exports: &mut E,
-) -> Result<(), Fault<'a>>
-    ensures err { IfErr result (IsExportFault (option_map (λ path. path.now) path.entry)) }
-    ensures fails { IfErr result (λ fault. ExportFails fault (E.has_failed exports.old) (E.has_failed exports.new)) }
-    ensures sound { OnOk result (E.has_failed exports.new ≡ E.has_failed exports.old) }
-    ensures unput { E.puts exports.new ≡ E.puts exports.old }
-    ensures unasked { option_map (λ path. path.now) path.entry ≡ None → exports.new ≡ exports.old }
-{
-    match path {
-        None => Ok(()),
-        Some(path) => match exports.try_path(path) {
-            Ok(()) => Ok(()),
-            Err(unwritten) => Err(export_fault(path, unwritten)),
-        },
-    }
-}
-
 /// Writes the exported text to the file of this path, if one is given.
 pub fn save_export<'a, E: OutputFiles>(
     floor: &Floor<IndexSeeker>,
@@ -126,7 +94,7 @@ pub fn save_export<'a, E: OutputFiles>(
         → original.now.clauses ≡ map (clause_of original.now.text.items) document.components
         → OnOk result (IsExported (option_map (λ path. path.now) path.entry) original.now.text.items document floor.now
         (E.puts exports.old) (E.puts exports.new)) }
-    ensures err { IfErr result (IsExportFault (option_map (λ path. path.now) path.entry)) }
+    ensures err { IfErr result (IsOutputFault OutputKind.Export (option_map (λ path. path.now) path.entry)) }
     ensures fails { IfErr result (λ fault. ExportFails fault (E.has_failed exports.old) (E.has_failed exports.new)) }
     ensures sound { OnOk result (E.has_failed exports.new ≡ E.has_failed exports.old) }
     ensures unput { OnErr result (E.puts exports.new ≡ E.puts exports.old) }
@@ -137,8 +105,5 @@ pub fn save_export<'a, E: OutputFiles>(
         return Ok(());
     };
     let exported = exported_text(floor, &original.text, &original.clauses);
-    match exports.put(path, &exported) {
-        Ok(()) => Ok(()),
-        Err(unwritten) => Err(export_fault(path, unwritten)),
-    }
+    put_file(OutputKind::Export, path, &exported, exports)
 }

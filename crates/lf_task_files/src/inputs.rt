@@ -9,7 +9,8 @@ use crate::restore::floor_in_state;
 use lf_floor::Floor;
 use lf_frame::{Limits, Loaded};
 use lf_legalize::IndexSeeker;
-use lf_task_designs::{Fault, InputFiles};
+use lf_task_designs::InputFiles;
+use lf_task_faults::Fault;
 use std::alloc::{AllocError, Global};
 
 /// The files that a task reads: those of its design and the state with which it begins. It also has

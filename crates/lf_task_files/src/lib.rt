@@ -5,7 +5,7 @@
 //! file if one is given. `check` writes the report of the design, and `describe_files` its
 //! description. `is_committed_legal` checks the committed places of a floor. `write_outputs` writes
 //! the exported text and the state, each if requested. `check_outputs` tries their paths before any
-//! work begins.
+//! work begins. `put_file` writes any file of a task, and names its fault.
 //!
 //! Functions that are a whole task return the exit status: 0, or 4 if the design is not fully
 //! legal. Otherwise they return the fault, which is not printed here.
@@ -22,6 +22,7 @@
 //! - `check_task`: the check of a design
 //! - `describe_task`: the description of a design
 //! - `committed_legality`: whether the committed design of a floor is fully legal
+//! - `output_file`: a file that a task writes
 //! - `export`: the exported text
 //! - `save`: the saved state
 //! - `outputs`: the exported text and the state, written after the work
@@ -43,6 +44,7 @@ mod describe_task;
 mod exit_status;
 mod export;
 mod inputs;
+mod output_file;
 mod outputs;
 mod restore;
 mod save;
@@ -52,6 +54,7 @@ pub use check_task::check;
 pub use committed_legality::is_committed_legal;
 pub use describe_task::describe_files;
 pub use exit_status::{ILLEGAL_STATUS, LEGAL_STATUS};
-pub use export::{check_export_path, save_export};
+pub use export::save_export;
 pub use inputs::{DesignInput, open_floor, start_floor};
+pub use output_file::{check_output_path, put_file};
 pub use outputs::{OutputPaths, check_outputs, write_outputs};

@@ -6,16 +6,18 @@ ghost use Rattle.lf_io_files.specs.Shelf.{Put};
 ghost use Rattle.lf_floorplan.specs.declared.place.Place.{Place};
 ghost use Rattle.lf_floor_model.specs.Places.{AreCommittedPlaces};
 ghost use Rattle.lf_task_files.specs.Exits.{AreKept, CanBePut, IsExported};
-ghost use Rattle.lf_task_files.specs.Faults.{ExportFails, IsExportFault, IsSaveFault};
+ghost use Rattle.lf_task_files.specs.Faults.{ExportFails, IsOutputFault};
 ghost use Rattle.lf_task_files.specs.States.{IsSaved};
 ghost use Rattle.lf_task_files.specs.Inputs.{path_of};
 
-use crate::export::{check_export_path, save_export};
-use crate::save::{save_to, try_save};
+use crate::export::save_export;
+use crate::output_file::check_output_path;
+use crate::save::save_to;
 use lf_floor::Floor;
 use lf_io_files::OutputFiles;
 use lf_legalize::IndexSeeker;
-use lf_task_designs::{Fault, SourceText};
+use lf_task_designs::SourceText;
+use lf_task_faults::{Fault, OutputKind};
 
 /// The paths of the files to write, each if requested.
 #[derive(Clone, Copy)]
@@ -31,16 +33,16 @@ pub fn check_outputs<'a, E: OutputFiles>(
     outputs: OutputPaths<'a>,
     exports: &mut E,
 ) -> Result<(), Fault<'a>>
-    ensures err { IfErr result (λ fault. IsExportFault (path_of outputs.entry.export) fault
-        ⊎ IsSaveFault (path_of outputs.entry.save) fault) }
+    ensures err { IfErr result (λ fault. IsOutputFault OutputKind.Export (path_of outputs.entry.export) fault
+        ⊎ IsOutputFault OutputKind.Save (path_of outputs.entry.save) fault) }
     ensures fails { IfErr result (λ fault. ExportFails fault (E.has_failed exports.old) (E.has_failed exports.new)) }
     ensures sound { OnOk result (E.has_failed exports.new ≡ E.has_failed exports.old) }
     ensures unput { E.puts exports.new ≡ E.puts exports.old }
     ensures unasked { path_of outputs.entry.save ≡ None → path_of outputs.entry.export
         ≡ None → exports.new ≡ exports.old }
 {
-    check_export_path(outputs.export, exports)?;
-    try_save(outputs.save, exports)
+    check_output_path(OutputKind::Export, outputs.export, exports)?;
+    check_output_path(OutputKind::Save, outputs.save, exports)
 }
 
 /// Writes the requested files: the exported text, and then the state of the floor. `original` is
@@ -59,9 +61,9 @@ pub fn write_outputs<'a, E: OutputFiles>(
         × IsExported (path_of outputs.entry.export) text document floor.now (E.puts exports.old) between
         × IsSaved (path_of outputs.entry.save) floor.now between (E.puts exports.new)) }
     ensures err { (text : List ℕ) (document : Document) → AreKept (option_copied original.entry) text document
-        → IfErr result
-        (λ fault. (IsExportFault (path_of outputs.entry.export) fault × (E.puts exports.new ≡ E.puts exports.old))
-        ⊎ (IsSaveFault (path_of outputs.entry.save) fault
+        → IfErr result (λ fault. (IsOutputFault OutputKind.Export (path_of outputs.entry.export) fault
+        × (E.puts exports.new ≡ E.puts exports.old))
+        ⊎ (IsOutputFault OutputKind.Save (path_of outputs.entry.save) fault
         × IsExported (path_of outputs.entry.export) text document floor.now (E.puts exports.old)
         (E.puts exports.new))) }
     ensures fails { IfErr result (λ fault. ExportFails fault (E.has_failed exports.old) (E.has_failed exports.new)) }

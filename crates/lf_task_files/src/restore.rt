@@ -7,15 +7,16 @@ ghost use Rattle.lf_floor_model.specs.Designs.{initial_floor};
 ghost use Rattle.lf_state_restore.specs.Saved.{MatchDesign, ShareDesign, design_names};
 ghost use Rattle.lf_state_text.specs.Reading.{saved_state_of};
 ghost use Rattle.lf_state_text.specs.Saved.{team_views};
-ghost use Rattle.lf_task_designs.specs.declared.faults.Fault.TheVariants.{SetupOutOfMemory};
-ghost use Rattle.lf_task_designs.specs.declared.faults.TextKind.TheVariants.{State};
+ghost use Rattle.lf_task_faults.specs.declared.faults.Fault.TheVariants.{SetupOutOfMemory};
+ghost use Rattle.lf_task_faults.specs.declared.faults.TextKind.TheVariants.{State};
 ghost use Rattle.lf_task_files.specs.States.{FileHasState, IsFileState, IsStateFileFault, IsStateRefused, IsStateTextFault};
 
 use lf_floor::Floor;
 use lf_floorplan::Loaded;
 use lf_legalize::IndexSeeker;
 use lf_state_text::{ChunkError, StateRefused, TeamRow};
-use lf_task_designs::{Fault, InputFiles, StateRefusal, TextFile, TextKind, read_file_chunks};
+use lf_task_designs::{InputFiles, read_file_chunks};
+use lf_task_faults::{Fault, StateRefusal, TextFile, TextKind};
 use std::alloc::{AllocError, Global};
 use std::collections::VecDeque;
 

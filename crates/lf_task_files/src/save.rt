@@ -1,18 +1,18 @@
 //! The saved state: a text from which the floor is restored.
 
-ghost use Rattle.std.specs.Prelude.{◌≡◌, ◌||◌, Bool, None, Some, IfErr, OnErr, OnOk};
+ghost use Rattle.std.specs.Prelude.{◌≡◌, None, IfErr, OnErr, OnOk};
 ghost use Rattle.std.specs.Io.KnownBytes.{Appends};
-ghost use Rattle.lf_io_files.specs.Shelf.{is_file};
 ghost use Rattle.lf_floor.specs.SavedStates.{state_text_of};
-ghost use Rattle.lf_task_files.specs.Faults.{ExportFails, IsSaveFault, save_fault};
+ghost use Rattle.lf_task_files.specs.Faults.{ExportFails, IsOutputFault};
 ghost use Rattle.lf_task_files.specs.States.{IsSaved};
 ghost use Rattle.lf_task_files.specs.Inputs.{path_of};
 
+use crate::output_file::put_file;
 use lf_floor::{Floor, StateSnapshot};
 use lf_io::Output;
-use lf_io_files::{OutputFiles, TextSource, WriteFailure};
+use lf_io_files::{OutputFiles, TextSource};
 use lf_legalize::IndexSeeker;
-use lf_task_designs::Fault;
+use lf_task_faults::{Fault, OutputKind};
 use std::io;
 use std::io::Write;
 use std::marker::Model;
@@ -78,36 +78,6 @@ impl<'a> TextSource for StateText<'a> {
     }
 }
 
-/// Makes the fault of a state that is not written to its file.
-fn save_fault<'f>(path: &'f str, unwritten: WriteFailure) -> Fault<'f>
-    ensures reported { result ≡ save_fault path.entry unwritten }
-    ensures fault { IsSaveFault (Some path.now) result }
-    ensures fails { (before now : Bool) → now ≡ (is_file unwritten || before) → ExportFails result before now }
-{
-    match unwritten {
-        WriteFailure::File(why) => Fault::Unsaved(path, why),
-        WriteFailure::OutOfMemory => Fault::OutputOutOfMemory,
-    }
-}
-
-/// Checks that a state can be written to the file of this path, if one is given, as far as this can
-/// be known in advance.
-pub fn try_save<'a, E: OutputFiles>(path: Option<&'a str>, exports: &mut E) -> Result<(), Fault<'a>>
-    ensures err { IfErr result (IsSaveFault (path_of path.entry)) }
-    ensures fails { IfErr result (λ fault. ExportFails fault (E.has_failed exports.old) (E.has_failed exports.new)) }
-    ensures sound { OnOk result (E.has_failed exports.new ≡ E.has_failed exports.old) }
-    ensures unput { E.puts exports.new ≡ E.puts exports.old }
-    ensures unasked { path_of path.entry ≡ None → exports.new ≡ exports.old }
-{
-    match path {
-        None => Ok(()),
-        Some(path) => match exports.try_path(path) {
-            Ok(()) => Ok(()),
-            Err(unwritten) => Err(save_fault(path, unwritten)),
-        },
-    }
-}
-
 /// Writes the state of the floor to the file of this path, if one is given.
 pub fn save_to<'a, E: OutputFiles>(
     floor: &Floor<IndexSeeker>,
@@ -115,7 +85,7 @@ pub fn save_to<'a, E: OutputFiles>(
     exports: &mut E,
 ) -> Result<(), Fault<'a>>
     ensures ok { OnOk result (IsSaved (path_of path.entry) floor.now (E.puts exports.old) (E.puts exports.new)) }
-    ensures err { IfErr result (IsSaveFault (path_of path.entry)) }
+    ensures err { IfErr result (IsOutputFault OutputKind.Save (path_of path.entry)) }
     ensures fails { IfErr result (λ fault. ExportFails fault (E.has_failed exports.old) (E.has_failed exports.new)) }
     ensures sound { OnOk result (E.has_failed exports.new ≡ E.has_failed exports.old) }
     ensures unput { OnErr result (E.puts exports.new ≡ E.puts exports.old) }
@@ -127,8 +97,5 @@ pub fn save_to<'a, E: OutputFiles>(
     let text = StateText {
         state: floor.snapshot(),
     };
-    match exports.put(path, &text) {
-        Ok(()) => Ok(()),
-        Err(unwritten) => Err(save_fault(path, unwritten)),
-    }
+    put_file(OutputKind::Save, path, &text, exports)
 }

@@ -9,7 +9,7 @@ ghost use Rattle.lf_floorplan.specs.declared.loaded.Loaded.{Loaded};
 ghost use Rattle.lf_floorplan.specs.Design.{MakeDesign};
 ghost use Rattle.lf_floor_model.specs.Designs.{initial_floor};
 ghost use Rattle.lf_floor_model.specs.States.{FloorState};
-ghost use Rattle.lf_task_designs.specs.declared.faults.Fault.TheVariants.{SetupOutOfMemory};
+ghost use Rattle.lf_task_faults.specs.declared.faults.Fault.TheVariants.{SetupOutOfMemory};
 ghost use Rattle.lf_task_files.specs.PlacedDesigns.{placed_on_floor};
 ghost use Rattle.lf_task_files.specs.States.{IsFileState, IsViewedDesign, IsStateFileFault, IsDesignInState, IsNotOpened};
 ghost use Rattle.lf_task_files.specs.Copies.{cells_of_parts};
@@ -18,7 +18,8 @@ ghost use Rattle.lf_task_files.specs.Inputs.{path_of};
 use crate::copies::{copy_cells, copy_of_design, design_of};
 use crate::restore::floor_in_state;
 use lf_floorplan::{CellParts, Frame, Loaded, LoadedCells};
-use lf_task_designs::{Fault, InputFiles};
+use lf_task_designs::InputFiles;
+use lf_task_faults::Fault;
 use std::alloc::Global;
 
 /// Returns the cells of a design of this frame, with their working places in the state of the file

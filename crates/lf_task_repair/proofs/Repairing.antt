@@ -29,10 +29,12 @@ use Rattle.lf_repair_team.specs.TeamRepairs.{IsLegalIn, KeepsLegalPlaces, place_
 use Rattle.lf_repair_team.specs.Runs.{IsWrittenRun, request_lines}
 use Rattle.lf_proto.specs.Printed.{request_line}
 use Rattle.lf_floorplan.specs.declared.frame.Frame.{Frame}
-use Rattle.lf_task_designs.specs.declared.faults.Fault.{Fault}
-use Rattle.lf_task_designs.specs.declared.faults.Fault.TheVariants.{Refused, File, RefusedState, NoTeam, ReadFault, WriteFault, TooManyLines, OutOfMemory, Output, Bind, Accept, Unwritten, Unsaved, Unlisted, SetupOutOfMemory, OutputOutOfMemory}
-use Rattle.lf_task_designs.specs.Faults.{BlamesDevices, IsEarly, IsOfWriter}
-use Rattle.lf_task_repair.specs.Repairs.{IsLinesFileFault, KeepsAllLegalPlaces, IsKeptRun, IsUnknown, OnlySelectedChange, is_selected}
+use Rattle.lf_task_faults.specs.declared.faults.Fault.{Fault}
+use Rattle.lf_task_faults.specs.declared.faults.Fault.TheVariants.{Refused, File, RefusedState, NoTeam, ReadFault, WriteFault, TooManyLines, OutOfMemory, Output, Bind, Accept, NotWritten, SetupOutOfMemory, OutputOutOfMemory}
+use Rattle.lf_task_faults.specs.Faults.{BlamesDevices, IsEarly, IsOfWriter}
+use Rattle.lf_task_faults.specs.declared.faults.OutputKind.TheVariants.{Lines}
+use Rattle.lf_task_files.specs.Faults.{IsOutputFault}
+use Rattle.lf_task_repair.specs.Repairs.{KeepsAllLegalPlaces, IsKeptRun, IsUnknown, OnlySelectedChange, is_selected}
 
 -- ---- runs
 
@@ -228,8 +230,8 @@ as_many l teams old new before after run only many =
 -- ---- what is written
 
 -- if no lines are requested, their file cannot fail
-pub none_unlisted : (lines : Option (List ℕ)) (fault : Fault) → lines ≡ None → IsLinesFileFault lines fault → ⊥
-none_unlisted lines fault none is = subst (λ (l : Option (List ℕ)). IsLinesFileFault l fault) none is
+pub none_unlisted : (lines : Option (List ℕ)) (fault : Fault) → lines ≡ None → IsOutputFault Lines lines fault → ⊥
+none_unlisted lines fault none is = subst (λ (l : Option (List ℕ)). IsOutputFault Lines l fault) none is
 
 -- an unknown name is reported when nothing is written yet
 pub unknown_early : (f : Frame) (teams : List (List ℕ)) (fault : Fault) → IsUnknown f teams fault → IsEarly fault
@@ -244,9 +246,7 @@ unknown_early f teams OutOfMemory is = absurd is
 unknown_early f teams Output is = absurd is
 unknown_early f teams (Bind port why) is = absurd is
 unknown_early f teams Accept is = absurd is
-unknown_early f teams (Unwritten path why) is = absurd is
-unknown_early f teams (Unsaved path why) is = absurd is
-unknown_early f teams (Unlisted path why) is = absurd is
+unknown_early f teams (NotWritten its_kind path why) is = absurd is
 unknown_early f teams SetupOutOfMemory is = absurd is
 unknown_early f teams OutputOutOfMemory is = absurd is
 

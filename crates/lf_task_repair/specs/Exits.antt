@@ -10,13 +10,14 @@ use Rattle.lf_floor_model.specs.States.{FloorState}
 use Rattle.lf_floor_model.specs.Designs.{initial_floor}
 use Rattle.lf_cli.specs.declared.parse.LegalCells.{LegalCells}
 use Rattle.lf_cli.specs.declared.parse.LegalCells.TheVariants.{KeepLegal}
-use Rattle.lf_task_designs.specs.declared.faults.Fault.{Fault}
-use Rattle.lf_task_designs.specs.declared.faults.Fault.TheVariants.{Output}
+use Rattle.lf_task_faults.specs.declared.faults.Fault.{Fault}
+use Rattle.lf_task_faults.specs.declared.faults.Fault.TheVariants.{Output}
 use Rattle.lf_task_designs.specs.Designs.{ReadsFile, IsOpened}
+use Rattle.lf_task_faults.specs.declared.faults.OutputKind.TheVariants.{Export, Lines}
 use Rattle.lf_task_files.specs.Exits.{IsExported}
-use Rattle.lf_task_files.specs.Faults.{IsExportFault}
+use Rattle.lf_task_files.specs.Faults.{IsOutputFault}
 use Rattle.lf_task_files.specs.States.{IsFloorFault}
-use Rattle.lf_task_repair.specs.Repairs.{KeepsAllLegalPlaces, AreKnown, IsStatusOf, IsKeptRun, IsLinesFileFault, WritesLines, IsRepairFault, OnlySelectedChange, initial_lines}
+use Rattle.lf_task_repair.specs.Repairs.{KeepsAllLegalPlaces, AreKnown, IsStatusOf, IsKeptRun, WritesLines, IsRepairFault, OnlySelectedChange, initial_lines}
 use Rattle.lf_task_repair.specs.Reports.{AreBounds, IsReport}
 
 -- the report is written; then the exported text is written if requested, and then the command lines
@@ -77,8 +78,8 @@ pub record IsOpenRepaired (limits : Limits) (gives : ReadsFile) (def : List ℕ)
 abbrev pub AreNotPut : Option (List ℕ) → Option (List ℕ) → List ℕ → Document → FloorState → Option (List Put)
     → Option (List Put) → Fault → Type 0
 AreNotPut export lines text document floor old new fault =
-    (IsExportFault export fault × (new ≡ old))
-    ⊎ (IsLinesFileFault lines fault × IsExported export text document floor old new)
+    (IsOutputFault Export export fault × (new ≡ old))
+    ⊎ (IsOutputFault Lines lines fault × IsExported export text document floor old new)
 
 -- the report is not written, or only a prefix of it, and no file is written; or the report is
 -- written, and the requested files are not

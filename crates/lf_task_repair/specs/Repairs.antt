@@ -1,13 +1,10 @@
 -- Repaired teams of a design.
 use Rattle.std.specs.Prelude.{◌≡◌, ◌≢◌, ◌==◌, ◌||◌, ◌⊎◌, ℕ, Bool, true, false, All, List, [], Contains, Option, Some, None, bytes_eq, is_some, length, option_map, position, unwrap_or}
-use Rattle.std.specs.Borrow.{Bor}
 use Rattle.std.specs.Io.KnownBytes.{Appends}
 use Rattle.lf_floorplan.specs.declared.frame.Frame.{Frame}
 use Rattle.lf_floorplan.specs.declared.place.Place.{Place}
 use Rattle.lf_rules.specs.Legalizer.{Legalizer}
 use Rattle.lf_io_files.specs.Shelf.{Put, PutsFile}
-use Rattle.lf_io_files.specs.declared.output_files.WriteFailure.{WriteFailure as NotWritten}
-use Rattle.lf_io_files.specs.declared.output_files.WriteFailure.TheVariants as not_written
 use Rattle.lf_cli.specs.declared.parse.LegalCells.{LegalCells}
 use Rattle.lf_cli.specs.declared.parse.LegalCells.TheVariants.{KeepLegal, MoveAsNeeded, MoveAll}
 use Rattle.lf_repair_strategy.specs.declared.pass.MovePolicy.{MovePolicy}
@@ -21,10 +18,11 @@ use Rattle.lf_floor_model.specs.VerbLaws.{is_ok}
 use Rattle.lf_floor_model.specs.Committed.{IsCommittedLegal}
 use Rattle.lf_repair_team.specs.Runs.{request_lines}
 use Rattle.lf_repair_team.specs.TeamRepairs.{KeepsLegalPlaces}
-use Rattle.lf_task_designs.specs.declared.faults.Fault.{Fault}
-use Rattle.lf_task_designs.specs.declared.faults.Fault.TheVariants.{SetupOutOfMemory, OutputOutOfMemory, NoTeam, Unlisted}
-use Rattle.lf_task_designs.specs.Faults.{BlamesDevices}
-use Rattle.lf_task_files.specs.Faults.{IsDone, IsExportFault}
+use Rattle.lf_task_faults.specs.declared.faults.Fault.{Fault}
+use Rattle.lf_task_faults.specs.declared.faults.Fault.TheVariants.{SetupOutOfMemory, NoTeam}
+use Rattle.lf_task_faults.specs.Faults.{BlamesDevices}
+use Rattle.lf_task_faults.specs.declared.faults.OutputKind.TheVariants.{Export, Lines}
+use Rattle.lf_task_files.specs.Faults.{IsDone, IsOutputFault}
 use Rattle.lf_task_repair.specs.declared.command_log.CommandLog.{CommandLog}
 
 -- ---- the teams
@@ -102,27 +100,12 @@ WritesLines (Some path) kept old new = PutsFile old new path (kept_bytes kept)
 
 -- ---- faults
 
--- the fault of lines that are not written to the file at this path
-abbrev pub lines_fault : Bor (List ℕ) → NotWritten → Fault
-lines_fault path (not_written.File why) = Unlisted path why
-lines_fault path not_written.OutOfMemory = OutputOutOfMemory
-
--- the lines of a repair cannot be written to this path
-abbrev pub IsNotListed : List ℕ → Fault → Type 0
-IsNotListed path (Unlisted its why) = its.now ≡ path
-IsNotListed path _ = ⊥
-
--- why the requested lines are not written to their file: an allocation for them failed, or the file
--- cannot be written
-abbrev pub IsLinesFileFault : Option (List ℕ) → Fault → Type 0
-IsLinesFileFault None fault = ⊥
-IsLinesFileFault (Some path) fault = (fault ≡ OutputOutOfMemory) ⊎ IsNotListed path fault
-
 -- why no repair is made on this frame: a requested name is not a team's; a requested file cannot be
 -- written; or an allocation fails
 abbrev pub IsRepairFault : Frame → List (List ℕ) → Option (List ℕ) → Option (List ℕ) → Fault → Type 0
 IsRepairFault f teams export lines fault =
-    IsUnknown f teams fault ⊎ (IsExportFault export fault ⊎ (IsLinesFileFault lines fault ⊎ (fault ≡ SetupOutOfMemory)))
+    IsUnknown f teams fault
+    ⊎ (IsOutputFault Export export fault ⊎ (IsOutputFault Lines lines fault ⊎ (fault ≡ SetupOutOfMemory)))
 
 -- what a fault means if the task uses only a writer and files, given whether each had failed
 -- earlier and has failed now

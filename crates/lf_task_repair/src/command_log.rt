@@ -1,16 +1,16 @@
 //! Keeps the command lines of a repair if they are requested, and writes them to their file at the
 //! end.
 
-ghost use Rattle.std.specs.Prelude.{◌≡◌, ◌||◌, Bool, None, Some, IfErr, OnErr, OnOk, option_map};
+ghost use Rattle.std.specs.Prelude.{◌≡◌, None, IfErr, OnErr, OnOk, option_map};
 ghost use Rattle.std.specs.Io.KnownBytes.{Appends, Keeps};
-ghost use Rattle.lf_io_files.specs.Shelf.{is_file};
-ghost use Rattle.lf_task_files.specs.Faults.{ExportFails};
+ghost use Rattle.lf_task_files.specs.Faults.{ExportFails, IsOutputFault};
 ghost use Rattle.lf_task_files.specs.Inputs.{path_of};
-ghost use Rattle.lf_task_repair.specs.Repairs.{IsLinesFileFault, WritesLines, initial_lines, kept_bytes, kept_text, lines_fault};
+ghost use Rattle.lf_task_repair.specs.Repairs.{WritesLines, initial_lines, kept_bytes, kept_text};
 
 use lf_io::{DeviceFault, Sink};
-use lf_io_files::{OutputFiles, TextSource, WriteFailure};
-use lf_task_designs::Fault;
+use lf_io_files::{OutputFiles, TextSource};
+use lf_task_faults::{Fault, OutputKind};
+use lf_task_files::put_file;
 use std::alloc::{AllocError, Global};
 use std::io;
 use std::io::Write;
@@ -102,39 +102,6 @@ impl<'a> TextSource for WholeText<'a> {
     }
 }
 
-/// The fault of lines that are not written to their file.
-fn lines_fault<'f>(path: &'f str, unwritten: WriteFailure) -> Fault<'f>
-    ensures reported { result ≡ lines_fault path.entry unwritten }
-    ensures fault { IsLinesFileFault (Some path.now) result }
-    ensures fails { (before now : Bool) → now ≡ (is_file unwritten || before) → ExportFails result before now }
-{
-    match unwritten {
-        WriteFailure::File(why) => Fault::Unlisted(path, why),
-        WriteFailure::OutOfMemory => Fault::OutputOutOfMemory,
-    }
-}
-
-/// Tests whether the lines can be written to the file at this path, as far as this can be known in
-/// advance. Does nothing if no path is given.
-pub(crate) fn check_lines_path<'a, E: OutputFiles>(
-    path: Option<&'a str>,
-    exports: &mut E,
-) -> Result<(), Fault<'a>>
-    ensures err { IfErr result (IsLinesFileFault (path_of path.entry)) }
-    ensures fails { IfErr result (λ fault. ExportFails fault (E.has_failed exports.old) (E.has_failed exports.new)) }
-    ensures sound { OnOk result (E.has_failed exports.new ≡ E.has_failed exports.old) }
-    ensures unput { E.puts exports.new ≡ E.puts exports.old }
-    ensures unasked { path_of path.entry ≡ None → exports.new ≡ exports.old }
-{
-    match path {
-        None => Ok(()),
-        Some(path) => match exports.try_path(path) {
-            Ok(()) => Ok(()),
-            Err(unwritten) => Err(lines_fault(path, unwritten)),
-        },
-    }
-}
-
 /// Writes the lines to the file at this path, if one is given.
 pub(crate) fn save_lines<'a, E: OutputFiles>(
     lines: &CommandLog,
@@ -143,7 +110,7 @@ pub(crate) fn save_lines<'a, E: OutputFiles>(
 ) -> Result<(), Fault<'a>>
     ensures ok { OnOk result
         (WritesLines (path_of path.entry) (kept_text lines.now) (E.puts exports.old) (E.puts exports.new)) }
-    ensures err { IfErr result (IsLinesFileFault (path_of path.entry)) }
+    ensures err { IfErr result (IsOutputFault OutputKind.Lines (path_of path.entry)) }
     ensures fails { IfErr result (λ fault. ExportFails fault (E.has_failed exports.old) (E.has_failed exports.new)) }
     ensures sound { OnOk result (E.has_failed exports.new ≡ E.has_failed exports.old) }
     ensures unput { OnErr result (E.puts exports.new ≡ E.puts exports.old) }
@@ -155,8 +122,5 @@ pub(crate) fn save_lines<'a, E: OutputFiles>(
     let text = WholeText {
         bytes: bytes_of(lines),
     };
-    match exports.put(path, &text) {
-        Ok(()) => Ok(()),
-        Err(unwritten) => Err(lines_fault(path, unwritten)),
-    }
+    put_file(OutputKind::Lines, path, &text, exports)
 }

@@ -19,17 +19,17 @@ ghost use Rattle.lf_repair_strategy.specs.declared.pass.MovePolicy.TheVariants.{
 ghost use Rattle.lf_repair_team.specs.TeamRepairs.{AreLegalExcept, ChangesOnly, IsIllegalIn, KeepsLegalPlaces};
 ghost use Rattle.lf_repair_strategy.specs.declared.stats.RepairStats.{RepairStats};
 ghost use Rattle.lf_repair_report.specs.RepairReports.{IsOneMore};
-ghost use Rattle.lf_task_designs.specs.declared.faults.Fault.TheVariants.{SetupOutOfMemory, Output};
+ghost use Rattle.lf_task_faults.specs.declared.faults.Fault.TheVariants.{SetupOutOfMemory, Output};
 ghost use Rattle.lf_task_designs.specs.Designs.{IsLoadedText};
 ghost use Rattle.lf_task_files.specs.Exits.{IsExported};
-ghost use Rattle.lf_task_files.specs.Faults.{ExportFails, IsDone, IsExportFault};
+ghost use Rattle.lf_task_files.specs.Faults.{ExportFails, IsDone, IsOutputFault};
 ghost use Rattle.lf_task_files.specs.Inputs.{path_of};
 ghost use Rattle.lf_task_repair.specs.Exits.{AreNotPut, IsNotPut, IsNotRepaired, IsOpenRepaired, IsPut, IsRepaired, IsUnrepaired};
-ghost use Rattle.lf_task_repair.specs.Repairs.{KeepsAllLegalPlaces, AreKnown, BlamesOutputs, IsStatusOf, IsKeptRun, IsLinesFileFault, WritesLines, IsUnknown, OnlySelectedChange};
+ghost use Rattle.lf_task_repair.specs.Repairs.{KeepsAllLegalPlaces, AreKnown, BlamesOutputs, IsStatusOf, IsKeptRun, WritesLines, IsUnknown, OnlySelectedChange};
 ghost use Rattle.lf_task_repair.specs.Repairs.{initial_lines, how_of, is_selected, kept_text};
 ghost use Rattle.lf_task_repair.specs.Reports.{AreBounds, AddsTeamLines, IsReport, AddsTotalLine, selected_at, selected_names};
 
-use crate::command_log::{CommandLog, check_lines_path, save_lines};
+use crate::command_log::{CommandLog, save_lines};
 use crate::progress::{Progress, ProgressSink};
 use lf_cli::LegalCells;
 use lf_floor::{Floor, team_name};
@@ -43,9 +43,10 @@ use lf_repair_bounds::max_min_displacements;
 use lf_repair_report::RepairReport;
 use lf_repair_team::{MovePolicy, repair_team};
 use lf_rules::legalizer_exists;
-use lf_task_designs::{Fault, InputFiles, OpenedDesign, SourceText, open_design};
+use lf_task_designs::{InputFiles, OpenedDesign, SourceText, open_design};
+use lf_task_faults::{Fault, OutputKind};
 use lf_task_files::{
-    ILLEGAL_STATUS, LEGAL_STATUS, check_export_path, is_committed_legal, save_export, start_floor,
+    ILLEGAL_STATUS, LEGAL_STATUS, check_output_path, is_committed_legal, save_export, start_floor,
 };
 use lf_write::kept_clauses_suffice;
 use std::alloc::Global;
@@ -297,16 +298,16 @@ fn try_files<'a, E: OutputFiles>(
     requested: &RepairJob<'a>,
     exports: &mut E,
 ) -> Result<(), Fault<'a>>
-    ensures err { IfErr result (λ fault. IsExportFault (path_of requested.now.export) fault
-        ⊎ IsLinesFileFault (path_of requested.now.lines) fault) }
+    ensures err { IfErr result (λ fault. IsOutputFault OutputKind.Export (path_of requested.now.export) fault
+        ⊎ IsOutputFault OutputKind.Lines (path_of requested.now.lines) fault) }
     ensures fails { IfErr result (λ fault. ExportFails fault (E.has_failed exports.old) (E.has_failed exports.new)) }
     ensures sound { OnOk result (E.has_failed exports.new ≡ E.has_failed exports.old) }
     ensures unput { E.puts exports.new ≡ E.puts exports.old }
     ensures unasked { path_of requested.now.lines ≡ None → path_of requested.now.export
         ≡ None → exports.new ≡ exports.old }
 {
-    check_export_path(requested.export, exports)?;
-    check_lines_path(requested.lines, exports)
+    check_output_path(OutputKind::Export, requested.export, exports)?;
+    check_output_path(OutputKind::Lines, requested.lines, exports)
 }
 
 /// Writes the requested files: the exported text and then the command lines.

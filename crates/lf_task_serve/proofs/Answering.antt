@@ -4,9 +4,9 @@ use Rattle.std.proofs.lemmas.Bool.{false≢true}
 use Rattle.std.specs.Prelude.{◌↔◌, unwrap_or}
 use Rattle.lf_server.specs.declared.serve_loop.Ending.{Ending}
 use Rattle.lf_server.specs.declared.serve_loop.Ending.TheVariants as ending
-use Rattle.lf_task_designs.specs.declared.faults.Fault.{Fault}
-use Rattle.lf_task_designs.specs.declared.faults.Fault.TheVariants.{ReadFault, WriteFault, TooManyLines, OutOfMemory}
-use Rattle.lf_task_designs.specs.Faults.{BlamesDevices, IsOfWriter}
+use Rattle.lf_task_faults.specs.declared.faults.Fault.{Fault}
+use Rattle.lf_task_faults.specs.declared.faults.Fault.TheVariants.{ReadFault, WriteFault, TooManyLines, OutOfMemory}
+use Rattle.lf_task_faults.specs.Faults.{BlamesDevices, IsOfWriter}
 use Rattle.lf_task_serve.specs.Faults.{BlamesStreams, ending_fault}
 use Rattle.lf_task_serve.specs.Lines.{ReadsFail}
 

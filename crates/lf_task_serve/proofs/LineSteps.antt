@@ -6,14 +6,15 @@ use Rattle.lf_io_files.specs.Shelf.{Put}
 use Rattle.lf_server.specs.Connections.{Accepted}
 use Rattle.lf_floorplan.specs.declared.limits.Limits.{Limits}
 use Rattle.lf_floorplan.specs.declared.loaded.Loaded.{Loaded}
-use Rattle.lf_task_designs.specs.declared.faults.Fault.{Fault}
+use Rattle.lf_task_faults.specs.declared.faults.Fault.{Fault}
 use Rattle.lf_task_designs.specs.declared.opening.SourceText.{SourceText}
 use Rattle.lf_task_designs.specs.Designs.{ReadsFile, IsLoadedIn, IsOpened}
 use Rattle.lf_floorplan.specs.declared.place.Place.{Place}
 use Rattle.lf_write.specs.Export.{CanBeRenewed, ClauseFacts, clause_of}
 use Rattle.lf_floor_model.specs.States.{FloorState}
+use Rattle.lf_task_faults.specs.declared.faults.OutputKind.TheVariants.{Export, Save}
 use Rattle.lf_task_files.specs.Exits.{CanBePut, IsExported}
-use Rattle.lf_task_files.specs.Faults.{IsExportFault, IsSaveFault}
+use Rattle.lf_task_files.specs.Faults.{IsOutputFault}
 use Rattle.lf_task_files.specs.States.{IsOpenedFloor}
 use Rattle.lf_task_files.proofs.WorkSteps.{design_opened}
 use Rattle.lf_task_serve.specs.Exits.{IsUndone, Streams, streams}
@@ -54,7 +55,7 @@ undone limits gives def lefs state save export lines text document loaded fault 
 -- A fault of the files written after the lines leaves the work unfinished.
 pub outputs_unfinished : (save export : Option (List ℕ)) (lines : LineSource) (begin floor : FloorState) (text : List ℕ) (document : Document) (fault : Fault) (io : Streams)
     → AreAnswered lines begin floor io
-    → (IsExportFault export fault × (io.new_puts ≡ io.old_puts)) ⊎ (IsSaveFault save fault × IsExported export text document floor io.old_puts io.new_puts)
+    → (IsOutputFault Export export fault × (io.new_puts ≡ io.old_puts)) ⊎ (IsOutputFault Save save fault × IsExported export text document floor io.old_puts io.new_puts)
     → IsUnfinished save export lines begin text document fault io
 outputs_unfinished save export lines begin floor text document fault io done (inl unexported) =
     inl (inr (inr (unexported.0, (floor, done))), unexported.1)

@@ -10,10 +10,11 @@ use Rattle.lf_floor_model.specs.States.{FloorState}
 use Rattle.lf_floor_model.specs.Designs.{initial_floor}
 use Rattle.lf_server.specs.Connections.{Accepted, AreServed}
 use Rattle.lf_server.specs.declared.serve_loop.Ending.{Ending}
-use Rattle.lf_task_designs.specs.declared.faults.Fault.{Fault}
-use Rattle.lf_task_designs.specs.declared.faults.Fault.TheVariants.{Accept, Bind, SetupOutOfMemory, Output}
+use Rattle.lf_task_faults.specs.declared.faults.Fault.{Fault}
+use Rattle.lf_task_faults.specs.declared.faults.Fault.TheVariants.{Accept, Bind, SetupOutOfMemory, Output}
 use Rattle.lf_task_designs.specs.Designs.{ReadsFile, IsOpened}
-use Rattle.lf_task_files.specs.Faults.{IsExportFault, IsSaveFault}
+use Rattle.lf_task_faults.specs.declared.faults.OutputKind.TheVariants.{Export, Save}
+use Rattle.lf_task_files.specs.Faults.{IsOutputFault}
 use Rattle.lf_task_files.specs.States.{IsOpenedFloor, IsFloorFault, IsFloorOf, IsSaved}
 use Rattle.lf_task_files.specs.Exits.{IsExported}
 use Rattle.lf_task_serve.specs.Faults.{ending_fault}
@@ -137,8 +138,8 @@ abbrev pub IsServeFault : Option (List ℕ) → Option (List ℕ) → (Fault →
     → (FloorState → Streams → Type 0) → Fault → Streams → Type 0
 IsServeFault save export why Work fault io =
     why fault io
-    ⊎ (((IsExportFault export fault ⊎ IsSaveFault save fault) × IsUntouched io)
-    ⊎ (IsExportFault export fault × ((floor : FloorState) × Work floor io)))
+    ⊎ (((IsOutputFault Export export fault ⊎ IsOutputFault Save save fault) × IsUntouched io)
+    ⊎ (IsOutputFault Export export fault × ((floor : FloorState) × Work floor io)))
 
 -- There is nothing to work on for this reason; or there is, and this is why the work on it fails.
 abbrev pub IsJobStop : {A : Type 0} → (Fault → Type 0) → (A → Type 0) → (A → Fault → Streams → Type 0)
@@ -152,4 +153,4 @@ abbrev pub IsUndone : Limits → ReadsFile → List ℕ → List (List ℕ) → 
 IsUndone limits gives def lefs state save export why Work fault io =
     (IsJobStop (IsFloorFault limits gives def lefs state) (IsFloorOf limits gives def lefs state)
     (λ begin. IsServeFault save export (why begin) (Work begin)) fault io × (io.new_puts ≡ io.old_puts))
-    ⊎ (IsSaveFault save fault × IsServedDesign limits gives def lefs state None export Work io)
+    ⊎ (IsOutputFault Save save fault × IsServedDesign limits gives def lefs state None export Work io)

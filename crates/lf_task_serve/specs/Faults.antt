@@ -2,9 +2,9 @@
 use Rattle.std.specs.Prelude.{◌≡◌, ℕ, Bool, true, false, Option, Some, None}
 use Rattle.lf_server.specs.declared.serve_loop.Ending.{Ending}
 use Rattle.lf_server.specs.declared.serve_loop.Ending.TheVariants as ending
-use Rattle.lf_task_designs.specs.declared.faults.Fault.{Fault}
-use Rattle.lf_task_designs.specs.declared.faults.Fault.TheVariants.{ReadFault, WriteFault, TooManyLines, OutOfMemory}
-use Rattle.lf_task_designs.specs.Faults.{BlamesDevices}
+use Rattle.lf_task_faults.specs.declared.faults.Fault.{Fault}
+use Rattle.lf_task_faults.specs.declared.faults.Fault.TheVariants.{ReadFault, WriteFault, TooManyLines, OutOfMemory}
+use Rattle.lf_task_faults.specs.Faults.{BlamesDevices}
 use Rattle.lf_task_serve.specs.Lines.{ReadsFail}
 
 -- The fault of lines that ended neither with the input nor with a bye; `None` if they did.

@@ -2,8 +2,8 @@
 use Rattle.std.specs.Prelude.{◌≡◌, ℕ, Bool, false, true, List, Option}
 use Rattle.lf_io_files.specs.Shelf.{Put}
 use Rattle.lf_server.specs.Connections.{Accepted}
-use Rattle.lf_task_designs.specs.declared.faults.Fault.{Fault}
-use Rattle.lf_task_designs.specs.Faults.{BlamesDevices}
+use Rattle.lf_task_faults.specs.declared.faults.Fault.{Fault}
+use Rattle.lf_task_faults.specs.Faults.{BlamesDevices}
 use Rattle.lf_task_serve.specs.declared.environment.Environment.{Environment}
 use Rattle.lf_task_serve.specs.Exits.{Streams, streams}
 use Rattle.lf_task_serve.specs.Lines.{ReadsFail}

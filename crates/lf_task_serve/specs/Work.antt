@@ -8,12 +8,13 @@ use Rattle.lf_floorplan.specs.declared.loaded.Loaded.{Loaded}
 use Rattle.lf_server.specs.declared.acceptor.ServiceConfig.{ServiceConfig}
 use Rattle.lf_floor_model.specs.States.{FloorState}
 use Rattle.lf_floor_model.specs.Designs.{initial_floor}
-use Rattle.lf_task_designs.specs.declared.faults.Fault.{Fault}
+use Rattle.lf_task_faults.specs.declared.faults.Fault.{Fault}
 use Rattle.lf_task_designs.specs.declared.opening.SourceText.{SourceText}
 use Rattle.lf_task_designs.specs.Designs.{ReadsFile, IsLoadedText, IsOpened}
-use Rattle.lf_task_designs.specs.Faults.{BlamesDevices}
+use Rattle.lf_task_faults.specs.Faults.{BlamesDevices}
+use Rattle.lf_task_faults.specs.declared.faults.OutputKind.TheVariants.{Save}
 use Rattle.lf_task_files.specs.Exits.{AreKept}
-use Rattle.lf_task_files.specs.Faults.{IsSaveFault}
+use Rattle.lf_task_files.specs.Faults.{IsOutputFault}
 use Rattle.lf_task_files.specs.States.{IsOpenedFloor, IsNotOpened}
 use Rattle.lf_task_serve.specs.declared.environment.Environment.{Environment}
 use Rattle.lf_task_serve.specs.declared.line_source.LineSource.{LineSource}
@@ -59,7 +60,7 @@ abbrev pub IsUnfinished : Option (List ℕ) → Option (List ℕ) → LineSource
 IsUnfinished save export lines begin text document fault io =
     (IsServeFault save export (IsServingFault lines begin) (AreAnswered lines begin) fault io
     × (io.new_puts ≡ io.old_puts))
-    ⊎ (IsSaveFault save fault × IsFinished (AreAnswered lines begin) None export text document io)
+    ⊎ (IsOutputFault Save save fault × IsFinished (AreAnswered lines begin) None export text document io)
 
 -- Why the work on the design of a text is not finished: there is no floor with which to begin, and
 -- no file is written; or the work on its floor is not finished.

@@ -20,11 +20,7 @@
 //!
 //! ```
 //! let lines = LineSource::Reader { max_lines: *lines };
-//! let outputs = OutputPaths {
-//!     export: *export,
-//!     save: *save,
-//! };
-//! serve_files(alloc, around, inputs, lines, outputs)
+//! serve_files(alloc, around, inputs, lines, outputs_of(task))
 //! ```
 #![tactic(auto)]
 

@@ -2,7 +2,7 @@
 //! answered.
 
 ghost use Rattle.std.specs.Prelude.{◌≡◌, IfErr, OnOk, false, true};
-ghost use Rattle.lf_task_designs.specs.Faults.{BlamesDevices};
+ghost use Rattle.lf_task_faults.specs.Faults.{BlamesDevices};
 ghost use Rattle.lf_task_serve.specs.Exits.{AnswersInput, EndsWithFault, IsOffered, IsServiceFault};
 ghost use Rattle.lf_task_serve.specs.Faults.{BlamesStreams};
 ghost use Rattle.lf_task_serve.specs.Lines.{default_most_lines, reads_for};
@@ -18,7 +18,7 @@ use lf_io::{Sink, Source, send};
 use lf_io_files::OutputFiles;
 use lf_legalize::IndexSeeker;
 use lf_server::{ServiceConfig, serve_connections};
-use lf_task_designs::Fault;
+use lf_task_faults::Fault;
 use std::alloc::Global;
 
 /// The source of a design's lines.

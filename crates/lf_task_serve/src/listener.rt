@@ -7,7 +7,7 @@ ghost use Rattle.lf_task_serve.specs.Services.{IsLocal, Offers};
 use crate::serve_lines::{MOST_LINES, limits_of};
 use lf_io::DeviceFault;
 use lf_server::{Acceptor, ClientReader, ClientWriter, Connection, ServiceConfig, accept_from};
-use lf_task_designs::BindFailure;
+use lf_task_faults::BindFailure;
 use std::io;
 use std::io::ErrorKind;
 use std::net::{Ipv4Addr, Net, SocketAddr};

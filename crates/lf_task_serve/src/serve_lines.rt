@@ -9,7 +9,7 @@ use lf_floor::Floor;
 use lf_io::{Sink, Source};
 use lf_legalize::Seeker;
 use lf_server::{Ending, ServeLimits, serve};
-use lf_task_designs::Fault;
+use lf_task_faults::Fault;
 use std::alloc::Global;
 
 /// The most lines answered on a connection, and from a reader if no other limit is given.

@@ -28,7 +28,8 @@ use lf_io::{Sink, Source};
 use lf_io_files::OutputFiles;
 use lf_laws_roundtrip::loaded_cells_are_exportable;
 use lf_legalize::IndexSeeker;
-use lf_task_designs::{Fault, InputFiles, OpenedDesign, SourceText, load_files, open_design};
+use lf_task_designs::{InputFiles, OpenedDesign, SourceText, load_files, open_design};
+use lf_task_faults::Fault;
 use lf_task_files::{
     DesignInput, OutputPaths, check_outputs, open_floor, start_floor, write_outputs,
 };

@@ -208,16 +208,12 @@ fn demo<R: Read, W: Write, F: Write>(
 ) -> End {
     let mut exports = Kept::at(rt.alloc(), None);
     let mut services = Noted::new();
-    with_devices(
-        rt,
-        &[],
-        &mut exports,
-        &mut services,
-        &Task::Demo,
+    let streams = StandardStreams {
         reader,
         writer,
         faults,
-    )
+    };
+    with_devices(rt, &[], &mut exports, &mut services, &Task::Demo, streams)
 }
 
 /// The end of a task with this status, whose faults were all reported and that was to write no
@@ -353,7 +349,15 @@ fn a_fault_that_cannot_be_reported_is_no_further_fault(rt: HostRuntime) {
     assert_eq!(rt; end, unreported);
 }
 
-/// Does the task over the files on the shelf, with these services and devices, and exported texts
+/// The standard streams of a task.
+#[derive(Drop)]
+struct StandardStreams<'a, R, W, F> {
+    reader: &'a mut R,
+    writer: &'a mut W,
+    faults: &'a mut F,
+}
+
+/// Does the task over the files on the shelf, with these services and streams, and exported texts
 /// kept in memory.
 fn with_devices<V: PortListener, R: Read, W: Write, F: Write>(
     rt: &HostRuntime,
@@ -361,10 +365,13 @@ fn with_devices<V: PortListener, R: Read, W: Write, F: Write>(
     exports: &mut Kept<'_>,
     services: &mut V,
     task: &Task<'_>,
-    reader: &mut R,
-    writer: &mut W,
-    faults: &mut F,
+    streams: StandardStreams<'_, R, W, F>,
 ) -> End {
+    let StandardStreams {
+        reader,
+        writer,
+        faults,
+    } = streams;
     let shelf = Shelf {
         alloc: rt.alloc(),
         files,
@@ -397,16 +404,12 @@ fn offering<V: PortListener, R: Read>(
 ) -> Run {
     let mut written = Vec::new(rt.alloc());
     let mut faults = Vec::new(rt.alloc());
-    let end = with_devices(
-        rt,
-        files,
-        exports,
-        services,
-        task,
+    let streams = StandardStreams {
         reader,
-        &mut written,
-        &mut faults,
-    );
+        writer: &mut written,
+        faults: &mut faults,
+    };
+    let end = with_devices(rt, files, exports, services, task, streams);
     Run {
         end,
         written,
@@ -758,16 +761,13 @@ fn is_output_fault<W: Write>(rt: &HostRuntime, task: &Task<'_>, writer: &mut W) 
     let mut exports = Kept::at(rt.alloc(), None);
     let mut services = Noted::new();
     let mut faults = Vec::new(rt.alloc());
-    let end = with_devices(
-        rt,
-        files.as_slice(),
-        &mut exports,
-        &mut services,
-        task,
-        &mut Failing,
+    let streams = StandardStreams {
+        reader: &mut Failing,
         writer,
-        &mut faults,
-    );
+        faults: &mut faults,
+    };
+    let files = files.as_slice();
+    let end = with_devices(rt, files, &mut exports, &mut services, task, streams);
     end == reported(3) && faults.as_slice() == b"lefence: Output\n".as_slice()
 }
 

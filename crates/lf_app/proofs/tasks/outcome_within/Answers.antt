@@ -5,50 +5,74 @@ use Rattle.lf_task_files.proofs.WorkSteps.{also_fails, blames_as, writer_blames}
 use Rattle.lf_app.proofs.tasks.outcome_within.Goals as goal
 
 pub returns-in-Replay-clause-ok : goal.returns-in-Replay-clause-ok
-returns-in-Replay-clause-ok g c = rw c.in-Replay.is (rw c.as_slice.ensures at c.serve_files.ensures.ok)
+returns-in-Replay-clause-ok g c =
+    let i = rw c.in-Replay.is at c.input_of-inputs.ensures in
+    let o = rw c.in-Replay.is at c.outputs_of.ensures in
+    rw c.in-Replay.is (rw (i.def_is, i.lefs_are, i.state_is, i.limits_are, o.save_is, o.export_is) at c.serve_files.ensures.ok)
 
 pub returns-in-Replay-clause-err : goal.returns-in-Replay-clause-err
-returns-in-Replay-clause-err g c = rw c.in-Replay.is (rw c.as_slice.ensures at c.serve_files.ensures.err)
+returns-in-Replay-clause-err g c =
+    let i = rw c.in-Replay.is at c.input_of-inputs.ensures in
+    let o = rw c.in-Replay.is at c.outputs_of.ensures in
+    rw c.in-Replay.is (rw (i.def_is, i.lefs_are, i.state_is, i.limits_are, o.save_is, o.export_is) at c.serve_files.ensures.err)
 
 pub returns-in-Serve-clause-ok : goal.returns-in-Serve-clause-ok
-returns-in-Serve-clause-ok g c = rw c.in-Serve.is (rw c.as_slice-in-Serve.ensures at c.serve_files-in-Serve.ensures.ok)
+returns-in-Serve-clause-ok g c =
+    let i = rw c.in-Serve.is at c.input_of-inputs.ensures in
+    let o = rw c.in-Serve.is at c.outputs_of-in-Serve.ensures in
+    rw c.in-Serve.is (rw (i.def_is, i.lefs_are, i.state_is, i.limits_are, o.save_is, o.export_is) at c.serve_files-in-Serve.ensures.ok)
 
 pub returns-in-Serve-clause-err : goal.returns-in-Serve-clause-err
 returns-in-Serve-clause-err g c =
-    rw c.in-Serve.is (also_fails c.serve_files-in-Serve.result _ _ _ (rw c.as_slice-in-Serve.ensures at c.serve_files-in-Serve.ensures.err)
+    let i = rw c.in-Serve.is at c.input_of-inputs.ensures in
+    let o = rw c.in-Serve.is at c.outputs_of-in-Serve.ensures in
+    rw c.in-Serve.is (also_fails c.serve_files-in-Serve.result _ _ _
+    (rw (i.def_is, i.lefs_are, i.state_is, i.limits_are, o.save_is, o.export_is) at c.serve_files-in-Serve.ensures.err)
     (λ fault blames. blames_as fault _ _ _ _ _ _ _ _ _ _ _ _ blames (λ k. k) (λ none. absurd none) (λ w. w) (λ e. e) (λ s. s) (λ n. n)))
 
 pub returns-in-Check-clause-ok : goal.returns-in-Check-clause-ok
-returns-in-Check-clause-ok g c = rw c.in-Check.is (rw c.as_slice-in-Check.ensures at c.check.ensures.ok)
+returns-in-Check-clause-ok g c =
+    let i = rw c.in-Check.is at c.input_of-inputs.ensures in
+    rw c.in-Check.is (rw (i.def_is, i.lefs_are, i.state_is, i.limits_are) at c.check.ensures.ok)
 
 pub returns-in-Check-clause-err : goal.returns-in-Check-clause-err
 returns-in-Check-clause-err g c =
-    rw c.in-Check.is (also_fails c.check.result _ _ _ (rw c.as_slice-in-Check.ensures at c.check.ensures.err)
+    let i = rw c.in-Check.is at c.input_of-inputs.ensures in
+    rw c.in-Check.is (also_fails c.check.result _ _ _ (rw (i.def_is, i.lefs_are, i.state_is, i.limits_are) at c.check.ensures.err)
     (λ fault blames. writer_blames fault _ _ _ _ _ _ _ _ blames (λ k. k) (λ same. record { exports = refl; services = refl; reader = refl; writer = same })))
 
 pub returns-in-Describe-clause-ok : goal.returns-in-Describe-clause-ok
-returns-in-Describe-clause-ok g c = rw c.in-Describe.is (rw c.as_slice-in-Describe.ensures at c.describe_files.ensures.ok)
+returns-in-Describe-clause-ok g c =
+    let i = rw c.in-Describe.is at c.input_of-inputs.ensures in
+    rw c.in-Describe.is (rw (i.def_is, i.lefs_are, i.state_is, i.limits_are) at c.describe_files.ensures.ok)
 
 pub returns-in-Describe-clause-err : goal.returns-in-Describe-clause-err
 returns-in-Describe-clause-err g c =
-    rw c.in-Describe.is (also_fails c.describe_files.result _ _ _ (rw c.as_slice-in-Describe.ensures at c.describe_files.ensures.err)
+    let i = rw c.in-Describe.is at c.input_of-inputs.ensures in
+    rw c.in-Describe.is (also_fails c.describe_files.result _ _ _ (rw (i.def_is, i.lefs_are, i.state_is, i.limits_are) at c.describe_files.ensures.err)
     (λ fault blames. writer_blames fault _ _ _ _ _ _ _ _ blames (λ k. k) (λ same. record { exports = refl; services = refl; reader = refl; writer = same })))
 
 pub returns-in-Replay-clause-unput : goal.returns-in-Replay-clause-unput
-returns-in-Replay-clause-unput g c = λ none. c.serve_files.ensures.leaves.unput (rw c.in-Replay.is at none)
+returns-in-Replay-clause-unput g c = λ none.
+    let o = rw c.in-Replay.is at c.outputs_of.ensures in
+    c.serve_files.ensures.leaves.unput (o.save_is ∙ (rw c.in-Replay.is at none))
 
 pub returns-in-Serve-clause-unput : goal.returns-in-Serve-clause-unput
-returns-in-Serve-clause-unput g c = λ none. c.serve_files-in-Serve.ensures.leaves.unput (rw c.in-Serve.is at none)
+returns-in-Serve-clause-unput g c = λ none.
+    let o = rw c.in-Serve.is at c.outputs_of-in-Serve.ensures in
+    c.serve_files-in-Serve.ensures.leaves.unput (o.save_is ∙ (rw c.in-Serve.is at none))
 
 pub returns-in-Replay-clause-unasked : goal.returns-in-Replay-clause-unasked
 returns-in-Replay-clause-unasked g c = λ asks.
     let none = rw c.in-Replay.is at asks in
-    c.serve_files.ensures.leaves.unasked none.0 none.1
+    let o = rw c.in-Replay.is at c.outputs_of.ensures in
+    c.serve_files.ensures.leaves.unasked (o.save_is ∙ none.0) (o.export_is ∙ none.1)
 
 pub returns-in-Serve-clause-unasked : goal.returns-in-Serve-clause-unasked
 returns-in-Serve-clause-unasked g c = λ asks.
     let none = rw c.in-Serve.is at asks in
-    c.serve_files-in-Serve.ensures.leaves.unasked none.0 none.1
+    let o = rw c.in-Serve.is at c.outputs_of-in-Serve.ensures in
+    c.serve_files-in-Serve.ensures.leaves.unasked (o.save_is ∙ none.0) (o.export_is ∙ none.1)
 
 pub returns-in-Demo-clause-err : goal.returns-in-Demo-clause-err
 returns-in-Demo-clause-err g c =
@@ -57,21 +81,29 @@ returns-in-Demo-clause-err g c =
     (λ sound. record { exports = refl; services = refl; reader = sound.0 ∙ sym c.requires.ready.readable; writer = sound.1 ∙ sym c.requires.ready.writable })))
 
 pub returns-in-Repair-clause-ok : goal.returns-in-Repair-clause-ok
-returns-in-Repair-clause-ok g c = rw c.in-Repair.is (rw (c.as_slice-in-Repair.ensures, c.as_slice-in-Repair-2.ensures) at c.repair.ensures.ok)
+returns-in-Repair-clause-ok g c =
+    let i = rw c.in-Repair.is at c.input_of-inputs.ensures in
+    let r = c.repair_job-requested.ensures in
+    let ok = rw (r.def, r.lefs, r.teams, r.legal, r.export, r.lines, r.limits) at c.repair.ensures.ok in
+    rw c.in-Repair.is (rw (i.def_is, i.lefs_are, i.limits_are, c.as_slice.ensures) at ok)
 
 pub returns-in-Repair-clause-err : goal.returns-in-Repair-clause-err
 returns-in-Repair-clause-err g c =
-    rw c.in-Repair.is (also_fails c.repair.result _ _ _ (rw (c.as_slice-in-Repair.ensures, c.as_slice-in-Repair-2.ensures) at c.repair.ensures.err)
+    let i = rw c.in-Repair.is at c.input_of-inputs.ensures in
+    let r = c.repair_job-requested.ensures in
+    let err = rw (r.def, r.lefs, r.teams, r.legal, r.export, r.lines, r.limits) at c.repair.ensures.err in
+    rw c.in-Repair.is (also_fails c.repair.result _ _ _ (rw (i.def_is, i.lefs_are, i.limits_are, c.as_slice.ensures) at err)
     (λ fault blames. blames_as fault _ _ _ _ _ _ _ _ _ _ _ _ blames (λ k. k) (λ none. absurd none) (λ w. w) (λ e. e) (λ none. absurd none)
     (λ sound. record { exports = sound.1; services = refl; reader = refl; writer = sound.0 })))
 
 pub returns-in-Repair-clause-unput : goal.returns-in-Repair-clause-unput
-returns-in-Repair-clause-unput g c = λ none. c.repair.ensures.unput (rw c.in-Repair.is at none)
+returns-in-Repair-clause-unput g c = λ none. c.repair.ensures.unput (c.repair_job-requested.ensures.lines ∙ (rw c.in-Repair.is at none))
 
 pub returns-in-Repair-clause-unasked : goal.returns-in-Repair-clause-unasked
 returns-in-Repair-clause-unasked g c = λ asks.
     let none = rw c.in-Repair.is at asks in
-    c.repair.ensures.unasked none.0 none.1
+    let r = c.repair_job-requested.ensures in
+    c.repair.ensures.unasked (r.lines ∙ none.0) (r.export ∙ none.1)
 
 pub returns-in-Repair-clause-silent : goal.returns-in-Repair-clause-silent
 returns-in-Repair-clause-silent g c = λ nothing. absurd (rw c.in-Repair.is at nothing)

@@ -1,4 +1,5 @@
 use Rattle.std.proofs.Common.{◌∙◌, refl}
+use Rattle.lf_repair_team.proofs.LastPass.{then_locked_legal}
 use Rattle.lf_repair_team.proofs.Runs.{none_moves, nothing, then_cut, then_only, then_stay, then_written, unchanged}
 use Rattle.lf_repair_team.proofs.run_edits.run_edits.Goals as goal
 
@@ -7,6 +8,7 @@ loop-cell_edit-init g c = record {
   run = λ l. nothing l c.args.seat.now.team.now c.args.floor.now (g.K.Sink.contents c.args.lines.now);
   only = unchanged c.args.seat.now.team.now c.args.floor.now;
   marked = none_moves c.args.seat.now.team.now c.args.marks.now c.args.floor.now;
+  legal = λ own mark legal. legal;
   committed = refl;
 }
 
@@ -22,6 +24,10 @@ pub returns-in-Err-clause-marked : goal.returns-in-Err-clause-marked
 returns-in-Err-clause-marked g c =
     then_stay c.args.seat.now.team.now c.args.marks.now c.args.floor.now c.loop-cell_edit.floor c.run_edit_unless_locked.new.floor c.loop-cell_edit.invariant.marked c.in-Err.ensures.marked
 
+pub returns-in-Err-clause-legal : goal.returns-in-Err-clause-legal
+returns-in-Err-clause-legal g c =
+    then_locked_legal c.args.seat.now.team.now c.args.marks.now c.args.floor.now c.loop-cell_edit.floor c.run_edit_unless_locked.new.floor c.loop-cell_edit.invariant.legal c.in-Err.ensures.legal
+
 pub returns-in-Err-clause-committed : goal.returns-in-Err-clause-committed
 returns-in-Err-clause-committed g c = c.in-Err.ensures.committed ∙ c.loop-cell_edit.invariant.committed
 
@@ -31,5 +37,7 @@ loop-cell_edit-preserved g c = record {
       (g.K.Sink.contents c.loop-cell_edit.lines) (g.K.Sink.contents c.run_edit_unless_locked.new.lines) (c.loop-cell_edit.invariant.run l) (c.in-Ok.ensures.run l);
   only = then_only c.args.seat.now.team.now c.args.floor.now c.loop-cell_edit.floor c.run_edit_unless_locked.new.floor c.loop-cell_edit.invariant.only c.in-Ok.ensures.only;
   marked = then_stay c.args.seat.now.team.now c.args.marks.now c.args.floor.now c.loop-cell_edit.floor c.run_edit_unless_locked.new.floor c.loop-cell_edit.invariant.marked c.in-Ok.ensures.marked;
+  legal = then_locked_legal c.args.seat.now.team.now c.args.marks.now c.args.floor.now c.loop-cell_edit.floor c.run_edit_unless_locked.new.floor c.loop-cell_edit.invariant.legal
+      c.in-Ok.ensures.legal;
   committed = c.in-Ok.ensures.committed ∙ c.loop-cell_edit.invariant.committed;
 }

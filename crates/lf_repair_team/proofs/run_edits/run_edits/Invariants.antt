@@ -1,5 +1,5 @@
 use Rattle.lf_rules.specs.Legalizer.{Legalizer}
-use Rattle.lf_repair_team.specs.CellEdits.{KeepsCommittedPlaces, KeepsLockedPlaces}
+use Rattle.lf_repair_team.specs.CellEdits.{KeepsCommittedPlaces, KeepsLockedLegal, KeepsLockedPlaces}
 use Rattle.lf_repair_team.specs.TeamRepairs.{ChangesOnly}
 use Rattle.lf_repair_team.specs.Runs.{IsWrittenRun}
 use Rattle.lf_repair_team.proofs.run_edits.run_edits.Given as goal
@@ -9,5 +9,6 @@ invariant-loop-cell_edit g l = record {
   run : (lz : Legalizer) → IsWrittenRun lz l.seat.team.now l.fn.floor (g.K.Sink.contents l.fn.lines) (g.K.Sink.contents l.lines) l.floor;
   only : ChangesOnly l.seat.team.now l.fn.floor l.floor;
   marked : KeepsLockedPlaces l.seat.team.now l.marks l.fn.floor l.floor;
+  legal : KeepsLockedLegal l.seat.team.now l.marks l.fn.floor l.floor;
   committed : KeepsCommittedPlaces l.seat.team.now l.fn.floor l.floor;
 }

@@ -1,4 +1,4 @@
-use Rattle.std.proofs.Common.{arith, refl}
+use Rattle.std.proofs.Common.{refl}
 use Rattle.lf_proto.specs.declared.request.TeamCommand.TheVariants.{Within}
 use Rattle.lf_proto.specs.declared.verb.Action.TheVariants.{Close}
 use Rattle.lf_repair_team.specs.Runs.{IsRunWithCutLine, IsWrittenRun}
@@ -10,31 +10,22 @@ use Rattle.lf_repair_team.proofs.team.close.Goals as goal
 pub returns-in-Ok-clause-run : goal.returns-in-Ok-clause-run
 returns-in-Ok-clause-run g c = λ l.
     let team = c.args.seat.now.team.now in
-    ok_from c.continue_unless_out_of_memory.result (IsWrittenRun l team c.args.floor.now (g.K.Sink.contents c.args.lines.now) (g.K.Sink.contents c.run_command.new.lines) c.run_command.new.floor)
-    (c.in-Ok.ensures.run l team refl (λ name. (name, omega arith, tt)))
+    ok_from c.continue_unless_out_of_memory.result (IsWrittenRun l team c.args.floor.now (g.K.Sink.contents c.args.lines.now) (g.K.Sink.contents c.run_action.new.lines) c.run_action.new.floor)
+    (c.in-Ok.ensures.run l)
 
 pub returns-in-Ok-clause-err : goal.returns-in-Ok-clause-err
 returns-in-Ok-clause-err g c = λ l.
     let team = c.args.seat.now.team.now in
-    err_from c.continue_unless_out_of_memory.result (IsRunWithCutLine l team c.args.floor.now (g.K.Sink.contents c.args.lines.now) (g.K.Sink.contents c.run_command.new.lines) c.run_command.new.floor)
-    (uncut l team c.args.floor.now c.run_command.new.floor (g.K.Sink.contents c.args.lines.now) (g.K.Sink.contents c.run_command.new.lines)
-    (c.in-Ok.ensures.run l team refl (λ name. (name, omega arith, tt))))
-
-pub returns-in-Err-clause-err : goal.returns-in-Err-clause-err
-returns-in-Err-clause-err g c = λ l. c.in-Err.ensures.err l c.args.seat.now.team.now refl (λ name. (name, omega arith, tt))
-
-pub returns-in-Ok-clause-only : goal.returns-in-Ok-clause-only
-returns-in-Ok-clause-only g c = c.in-Ok.ensures.only c.args.seat.now.team.now refl
+    err_from c.continue_unless_out_of_memory.result (IsRunWithCutLine l team c.args.floor.now (g.K.Sink.contents c.args.lines.now) (g.K.Sink.contents c.run_action.new.lines) c.run_action.new.floor)
+    (uncut l team c.args.floor.now c.run_action.new.floor (g.K.Sink.contents c.args.lines.now) (g.K.Sink.contents c.run_action.new.lines)
+    (c.in-Ok.ensures.run l))
 
 pub returns-in-Ok-clause-cells : goal.returns-in-Ok-clause-cells
 returns-in-Ok-clause-cells g c =
-    look_same c.legalizer_exists.ensures c.args.floor.now c.run_command.new.floor c.args.seat.now.team.now (Within c.args.seat.now.session Close) c.query_keeps_state.ensures refl
+    look_same c.legalizer_exists.ensures c.args.floor.now c.run_action.new.floor c.args.seat.now.team.now (Within c.args.seat.now.session Close) c.query_keeps_state.ensures refl
     (c.in-Ok.ensures.requested c.legalizer_exists.ensures)
-
-pub returns-in-Err-clause-only : goal.returns-in-Err-clause-only
-returns-in-Err-clause-only g c = c.in-Err.ensures.only c.args.seat.now.team.now refl
 
 pub returns-in-Err-clause-cells : goal.returns-in-Err-clause-cells
 returns-in-Err-clause-cells g c =
-    look_same c.legalizer_exists.ensures c.args.floor.now c.run_command.new.floor c.args.seat.now.team.now (Within c.args.seat.now.session Close) c.query_keeps_state.ensures refl
+    look_same c.legalizer_exists.ensures c.args.floor.now c.run_action.new.floor c.args.seat.now.team.now (Within c.args.seat.now.session Close) c.query_keeps_state.ensures refl
     (c.in-Err.ensures.requested c.legalizer_exists.ensures)

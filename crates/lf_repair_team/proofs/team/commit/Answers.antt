@@ -1,4 +1,4 @@
-use Rattle.std.proofs.Common.{◌≡◌, arith, refl, true}
+use Rattle.std.proofs.Common.{◌≡◌, refl, true}
 use Rattle.lf_floor_model.specs.Steps.{AllCommittedIn}
 use Rattle.lf_floor_model.specs.VerbLaws.{is_ok}
 use Rattle.lf_repair_team.specs.Runs.{IsRunWithCutLine, IsWrittenRun}
@@ -10,37 +10,28 @@ use Rattle.lf_repair_team.proofs.team.commit.Goals as goal
 pub returns-in-Ok-clause-run : goal.returns-in-Ok-clause-run
 returns-in-Ok-clause-run g c = λ l.
     let team = c.args.seat.now.team.now in
-    ok_from c.accepted.result (IsWrittenRun l team c.args.floor.now (g.K.Sink.contents c.args.lines.now) (g.K.Sink.contents c.run_command.new.lines) c.run_command.new.floor)
-    (c.in-Ok.ensures.run l team refl (λ name. (name, omega arith, tt)))
+    ok_from c.accepted.result (IsWrittenRun l team c.args.floor.now (g.K.Sink.contents c.args.lines.now) (g.K.Sink.contents c.run_action.new.lines) c.run_action.new.floor)
+    (c.in-Ok.ensures.run l)
 
 pub returns-in-Ok-clause-err : goal.returns-in-Ok-clause-err
 returns-in-Ok-clause-err g c = λ l.
     let team = c.args.seat.now.team.now in
-    err_from c.accepted.result (IsRunWithCutLine l team c.args.floor.now (g.K.Sink.contents c.args.lines.now) (g.K.Sink.contents c.run_command.new.lines) c.run_command.new.floor)
-    (uncut l team c.args.floor.now c.run_command.new.floor (g.K.Sink.contents c.args.lines.now) (g.K.Sink.contents c.run_command.new.lines)
-    (c.in-Ok.ensures.run l team refl (λ name. (name, omega arith, tt))))
-
-pub returns-in-Err-clause-err : goal.returns-in-Err-clause-err
-returns-in-Err-clause-err g c = λ l. c.in-Err.ensures.err l c.args.seat.now.team.now refl (λ name. (name, omega arith, tt))
+    err_from c.accepted.result (IsRunWithCutLine l team c.args.floor.now (g.K.Sink.contents c.args.lines.now) (g.K.Sink.contents c.run_action.new.lines) c.run_action.new.floor)
+    (uncut l team c.args.floor.now c.run_action.new.floor (g.K.Sink.contents c.args.lines.now) (g.K.Sink.contents c.run_action.new.lines)
+    (c.in-Ok.ensures.run l))
 
 pub returns-in-Ok-clause-committed : goal.returns-in-Ok-clause-committed
 returns-in-Ok-clause-committed g c = λ l.
     let team = c.args.seat.now.team.now in
-    ok_then c.accepted.result (is_ok c.in-Ok.reply ≡ true) (AllCommittedIn l c.run_command.new.floor team)
+    ok_then c.accepted.result (is_ok c.in-Ok.reply ≡ true) (AllCommittedIn l c.run_action.new.floor team)
     (λ accepted. c.in-Ok.ensures.committed l team c.args.seat.now.session refl accepted) c.accepted.ensures
-
-pub returns-in-Ok-clause-only : goal.returns-in-Ok-clause-only
-returns-in-Ok-clause-only g c = c.in-Ok.ensures.only c.args.seat.now.team.now refl
 
 pub returns-in-Ok-clause-places : goal.returns-in-Ok-clause-places
 returns-in-Ok-clause-places g c =
-    commit_stays c.legalizer_exists.ensures c.args.floor.now c.run_command.new.floor c.args.seat.now.team.now c.args.seat.now.session
+    commit_stays c.legalizer_exists.ensures c.args.floor.now c.run_action.new.floor c.args.seat.now.team.now c.args.seat.now.session
     (c.in-Ok.ensures.requested c.legalizer_exists.ensures)
-
-pub returns-in-Err-clause-only : goal.returns-in-Err-clause-only
-returns-in-Err-clause-only g c = c.in-Err.ensures.only c.args.seat.now.team.now refl
 
 pub returns-in-Err-clause-places : goal.returns-in-Err-clause-places
 returns-in-Err-clause-places g c =
-    commit_stays c.legalizer_exists.ensures c.args.floor.now c.run_command.new.floor c.args.seat.now.team.now c.args.seat.now.session
+    commit_stays c.legalizer_exists.ensures c.args.floor.now c.run_action.new.floor c.args.seat.now.team.now c.args.seat.now.session
     (c.in-Err.ensures.requested c.legalizer_exists.ensures)

@@ -1,6 +1,8 @@
-use Rattle.std.proofs.Common.{◌∙◌}
+use Rattle.std.proofs.Common.{◌∙◌, ℕ, List, refl, subst, sym}
+use Rattle.lf_repair_team.specs.CellEdits.{AreUnrepaired}
 use Rattle.lf_repair_team.proofs.Finding.{elsewhere_through, wanted_place_through}
-use Rattle.lf_repair_team.proofs.Legal.{all_left_through, but_committed, but_through, committed_through, left_committed, same_committed, same_places, uncommitted}
+use Rattle.lf_repair_team.proofs.LastPass.{unrepaired_committed, unrepaired_through}
+use Rattle.lf_repair_team.proofs.Legal.{committed_through, same_committed, same_places, uncommitted}
 use Rattle.lf_repair_team.proofs.Runs.{none_cut, then_cut, then_written}
 use Rattle.lf_repair_team.proofs.team.finish.Goals as goal
 
@@ -28,21 +30,14 @@ returns-in-Ok-close-clause-moved g c =
     (λ own. same_places c.args.seat.now.team.now c.commit_if_clean.new.floor c.close.new.floor c.in-Ok-close.ensures.cells own ∙ c.in-Ok-commit_if_clean.ensures.places own)
     c.in-Ok.ensures.moved
 
-pub returns-in-Ok-close-clause-named : goal.returns-in-Ok-close-clause-named
-returns-in-Ok-close-clause-named g c =
+pub returns-in-Ok-close-clause-unrepaired : goal.returns-in-Ok-close-clause-unrepaired
+returns-in-Ok-close-clause-unrepaired g c =
     let team = c.args.seat.now.team.now in
     let left = c.in-Ok.found.left.items in
     let l = c.legalizer_exists.ensures in
-    but_through team c.commit_if_clean.new.floor c.close.new.floor left c.in-Ok-close.ensures.only.frame c.in-Ok-close.ensures.cells
-    (but_committed team c.args.floor.now c.commit_if_clean.new.floor c.as_slice.result.now left c.as_slice.ensures.value c.in-Ok-commit_if_clean.ensures.kept l
-    (c.in-Ok-commit_if_clean.ensures.committed l) c.in-Ok.ensures.named)
-
-pub returns-in-Ok-close-clause-illegal : goal.returns-in-Ok-close-clause-illegal
-returns-in-Ok-close-clause-illegal g c =
-    let team = c.args.seat.now.team.now in
-    let left = c.in-Ok.found.left.items in
-    all_left_through team c.commit_if_clean.new.floor c.close.new.floor left c.in-Ok-close.ensures.only.frame c.in-Ok-close.ensures.cells
-    (left_committed team c.args.floor.now c.commit_if_clean.new.floor c.as_slice.result.now left c.as_slice.ensures.value c.in-Ok-commit_if_clean.ensures.kept c.in-Ok.ensures.illegal)
+    unrepaired_through team c.commit_if_clean.new.floor c.close.new.floor left c.in-Ok-close.ensures.only.frame c.in-Ok-close.ensures.cells
+    (unrepaired_committed team c.args.floor.now c.commit_if_clean.new.floor c.as_slice.result.now left c.as_slice.ensures.value c.in-Ok-commit_if_clean.ensures.kept l
+    (c.in-Ok-commit_if_clean.ensures.committed l) (subst (λ (xs : List ℕ). AreUnrepaired team c.args.floor.now xs) (sym c.in-Ok.ensures.left) c.requires.unrepaired))
 
 pub returns-in-Ok-close-clause-committed : goal.returns-in-Ok-close-clause-committed
 returns-in-Ok-close-clause-committed g c = λ l none.
@@ -57,3 +52,11 @@ returns-in-Ok-close-clause-uncommitted g c = λ some.
 
 pub returns-in_default-clause-err : goal.returns-in_default-clause-err
 returns-in_default-clause-err g c = λ l. none_cut l c.args.seat.now.team.now c.args.floor.now (g.K.Sink.contents c.args.lines.now)
+
+pub returns-in-Ok-close-clause-places : goal.returns-in-Ok-close-clause-places
+returns-in-Ok-close-clause-places g c = λ own.
+    same_places c.args.seat.now.team.now c.commit_if_clean.new.floor c.close.new.floor c.in-Ok-close.ensures.cells own ∙ c.in-Ok-commit_if_clean.ensures.places own
+
+pub returns-in-Err-close-clause-places : goal.returns-in-Err-close-clause-places
+returns-in-Err-close-clause-places g c = λ own.
+    same_places c.args.seat.now.team.now c.commit_if_clean.new.floor c.close.new.floor c.in-Err-close.ensures.cells own ∙ c.in-Ok-commit_if_clean.ensures.places own

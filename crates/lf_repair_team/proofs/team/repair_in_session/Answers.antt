@@ -3,63 +3,62 @@ use Rattle.std.specs.Prelude.{IfOk}
 use Rattle.lf_floorplan.specs.declared.place.Place.{Place}
 use Rattle.lf_repair_team.specs.CellEdits.{KeepsCommittedPlaces, TeamHasLeftTargets, TeamIsAtTargetsExcept}
 use Rattle.lf_repair_team.specs.Runs.{IsRunWithCutLine, IsWrittenRun}
+use Rattle.lf_repair_team.proofs.LastPass.{locked_in_session}
 use Rattle.lf_repair_team.proofs.Legal.{same_committed}
 use Rattle.lf_repair_team.proofs.Results.{err_then, ok_then, ok_weaker}
-use Rattle.lf_repair_team.proofs.Runs.{then_cut, then_written}
+use Rattle.lf_repair_team.proofs.Runs.{then_cut, then_only, then_written}
 use Rattle.lf_repair_team.proofs.team.repair_in_session.Goals as goal
 
-pub returns-in-Err-run_pass-clause-err : goal.returns-in-Err-run_pass-clause-err
-returns-in-Err-run_pass-clause-err g c = λ l.
-    then_cut l c.args.team.now c.args.floor.now c.open.new.floor c.run_pass.new.floor (g.K.Sink.contents c.args.lines.now) (g.K.Sink.contents c.open.new.lines)
-    (g.K.Sink.contents c.run_pass.new.lines) (c.in-Ok.ensures.run l) (c.in-Err-run_pass.ensures.err l)
-
-pub returns-in-Err-run_local_passes-clause-err : goal.returns-in-Err-run_local_passes-clause-err
-returns-in-Err-run_local_passes-clause-err g c = λ l.
-    let team = c.args.team.now in
-    then_cut l team c.args.floor.now c.run_pass.new.floor c.run_local_passes.new.floor (g.K.Sink.contents c.args.lines.now) (g.K.Sink.contents c.run_pass.new.lines)
-    (g.K.Sink.contents c.run_local_passes.new.lines)
-    (then_written l team c.args.floor.now c.open.new.floor c.run_pass.new.floor (g.K.Sink.contents c.args.lines.now) (g.K.Sink.contents c.open.new.lines)
-    (g.K.Sink.contents c.run_pass.new.lines) (c.in-Ok.ensures.run l) (c.in-Ok-run_pass.ensures.run l)) (c.in-Err-run_local_passes.ensures.err l)
+pub returns-in-Err-run_passes-clause-err : goal.returns-in-Err-run_passes-clause-err
+returns-in-Err-run_passes-clause-err g c = λ l.
+    then_cut l c.args.team.now c.args.floor.now c.open.new.floor c.run_passes.new.floor (g.K.Sink.contents c.args.lines.now) (g.K.Sink.contents c.open.new.lines)
+    (g.K.Sink.contents c.run_passes.new.lines) (c.in-Ok.ensures.run l) (c.in-Err-run_passes.ensures.err l)
 
 pub returns-clause-run : goal.returns-clause-run
 returns-clause-run g c = λ l.
     let team = c.args.team.now in
-    ok_then c.finish.result (IsWrittenRun l team c.run_local_passes.new.floor (g.K.Sink.contents c.run_local_passes.new.lines) (g.K.Sink.contents c.finish.new.lines) c.finish.new.floor)
+    ok_then c.finish.result (IsWrittenRun l team c.run_passes.new.floor (g.K.Sink.contents c.run_passes.new.lines) (g.K.Sink.contents c.finish.new.lines) c.finish.new.floor)
     (IsWrittenRun l team c.args.floor.now (g.K.Sink.contents c.args.lines.now) (g.K.Sink.contents c.finish.new.lines) c.finish.new.floor)
-    (λ last. then_written l team c.args.floor.now c.run_local_passes.new.floor c.finish.new.floor (g.K.Sink.contents c.args.lines.now) (g.K.Sink.contents c.run_local_passes.new.lines)
+    (λ last. then_written l team c.args.floor.now c.run_passes.new.floor c.finish.new.floor (g.K.Sink.contents c.args.lines.now) (g.K.Sink.contents c.run_passes.new.lines)
     (g.K.Sink.contents c.finish.new.lines)
-    (then_written l team c.args.floor.now c.run_pass.new.floor c.run_local_passes.new.floor (g.K.Sink.contents c.args.lines.now) (g.K.Sink.contents c.run_pass.new.lines)
-    (g.K.Sink.contents c.run_local_passes.new.lines)
-    (then_written l team c.args.floor.now c.open.new.floor c.run_pass.new.floor (g.K.Sink.contents c.args.lines.now) (g.K.Sink.contents c.open.new.lines)
-    (g.K.Sink.contents c.run_pass.new.lines) (c.in-Ok.ensures.run l) (c.in-Ok-run_pass.ensures.run l)) (c.in-Ok-run_local_passes.ensures.run l)) last) (c.finish.ensures.run l)
+    (then_written l team c.args.floor.now c.open.new.floor c.run_passes.new.floor (g.K.Sink.contents c.args.lines.now) (g.K.Sink.contents c.open.new.lines)
+    (g.K.Sink.contents c.run_passes.new.lines) (c.in-Ok.ensures.run l) (c.in-Ok-run_passes.ensures.run l)) last) (c.finish.ensures.run l)
 
 pub returns-clause-err : goal.returns-clause-err
 returns-clause-err g c = λ l.
     let team = c.args.team.now in
-    err_then c.finish.result (IsRunWithCutLine l team c.run_local_passes.new.floor (g.K.Sink.contents c.run_local_passes.new.lines) (g.K.Sink.contents c.finish.new.lines) c.finish.new.floor)
+    err_then c.finish.result (IsRunWithCutLine l team c.run_passes.new.floor (g.K.Sink.contents c.run_passes.new.lines) (g.K.Sink.contents c.finish.new.lines) c.finish.new.floor)
     (IsRunWithCutLine l team c.args.floor.now (g.K.Sink.contents c.args.lines.now) (g.K.Sink.contents c.finish.new.lines) c.finish.new.floor)
-    (λ last. then_cut l team c.args.floor.now c.run_local_passes.new.floor c.finish.new.floor (g.K.Sink.contents c.args.lines.now) (g.K.Sink.contents c.run_local_passes.new.lines)
+    (λ last. then_cut l team c.args.floor.now c.run_passes.new.floor c.finish.new.floor (g.K.Sink.contents c.args.lines.now) (g.K.Sink.contents c.run_passes.new.lines)
     (g.K.Sink.contents c.finish.new.lines)
-    (then_written l team c.args.floor.now c.run_pass.new.floor c.run_local_passes.new.floor (g.K.Sink.contents c.args.lines.now) (g.K.Sink.contents c.run_pass.new.lines)
-    (g.K.Sink.contents c.run_local_passes.new.lines)
-    (then_written l team c.args.floor.now c.open.new.floor c.run_pass.new.floor (g.K.Sink.contents c.args.lines.now) (g.K.Sink.contents c.open.new.lines)
-    (g.K.Sink.contents c.run_pass.new.lines) (c.in-Ok.ensures.run l) (c.in-Ok-run_pass.ensures.run l)) (c.in-Ok-run_local_passes.ensures.run l)) last) (c.finish.ensures.err l)
+    (then_written l team c.args.floor.now c.open.new.floor c.run_passes.new.floor (g.K.Sink.contents c.args.lines.now) (g.K.Sink.contents c.open.new.lines)
+    (g.K.Sink.contents c.run_passes.new.lines) (c.in-Ok.ensures.run l) (c.in-Ok-run_passes.ensures.run l)) last) (c.finish.ensures.err l)
+
+pub returns-in-Err-run_passes-clause-marked : goal.returns-in-Err-run_passes-clause-marked
+returns-in-Err-run_passes-clause-marked g c = λ keep.
+    locked_in_session c.args.team.now c.args.start.now.pass.locked.items c.args.floor.now c.open.new.floor c.run_passes.new.floor c.in-Ok.ensures.only.frame c.in-Ok.ensures.cells
+    (c.in-Err-run_passes.ensures.marked keep)
+
+pub returns-clause-marked : goal.returns-clause-marked
+returns-clause-marked g c = λ keep locked own mark.
+    c.finish.ensures.places own
+    ∙ locked_in_session c.args.team.now c.args.start.now.pass.locked.items c.args.floor.now c.open.new.floor c.run_passes.new.floor c.in-Ok.ensures.only.frame c.in-Ok.ensures.cells
+    (c.in-Ok-run_passes.ensures.marked keep) locked own mark
 
 pub returns-clause-changed : goal.returns-clause-changed
 returns-clause-changed g c =
     subst (λ (wanted_places : List (Option Place)). IfOk c.finish.result (λ found. TeamIsAtTargetsExcept c.args.team.now wanted_places c.finish.new.floor found.changed.items))
-    c.as_slice.ensures.value c.finish.ensures.changed
+    c.as_slice-wanted_places.ensures.value c.finish.ensures.changed
 
 pub returns-clause-moved : goal.returns-clause-moved
 returns-clause-moved g c =
     subst (λ (wanted_places : List (Option Place)). IfOk c.finish.result (λ found. TeamHasLeftTargets c.args.team.now wanted_places c.finish.new.floor found.changed.items))
-    c.as_slice.ensures.value c.finish.ensures.moved
+    c.as_slice-wanted_places.ensures.value c.finish.ensures.moved
 
 pub returns-clause-uncommitted : goal.returns-clause-uncommitted
 returns-clause-uncommitted g c =
     let team = c.args.team.now in
-    ok_weaker c.finish.result (λ found. found.left.items ≢ [] → KeepsCommittedPlaces team c.run_local_passes.new.floor c.finish.new.floor)
+    ok_weaker c.finish.result (λ found. found.left.items ≢ [] → KeepsCommittedPlaces team c.run_passes.new.floor c.finish.new.floor)
     (λ found. found.left.items ≢ [] → KeepsCommittedPlaces team c.args.floor.now c.finish.new.floor)
-    (λ found stay some. stay some ∙ c.in-Ok-run_local_passes.ensures.committed ∙ c.in-Ok-run_pass.ensures.committed
-    ∙ same_committed team c.args.floor.now c.open.new.floor c.in-Ok.ensures.cells)
+    (λ found stay some. stay some ∙ c.in-Ok-run_passes.ensures.committed ∙ same_committed team c.args.floor.now c.open.new.floor c.in-Ok.ensures.cells)
     c.finish.ensures.uncommitted

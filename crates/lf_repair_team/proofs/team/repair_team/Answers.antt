@@ -1,8 +1,9 @@
-use Rattle.std.proofs.Common.{◌≡◌, ◌∙◌, ℕ, List, Vec, Global, Some, ap, subst, sym}
+use Rattle.std.proofs.Common.{◌≡◌, ◌∙◌, ℕ, ◌<◌, List, Vec, Global, Some, ap, subst, sym}
+use Rattle.std.specs.Prelude.{All, AllPairs}
 use Rattle.lf_floor_model.specs.Teams.{team_number}
-use Rattle.lf_repair_team.specs.TeamRepairs.{AllListedMove, AreLegalExcept, OnlyListedMove}
+use Rattle.lf_repair_team.specs.TeamRepairs.{AllListedMove, AreLegalExcept, HasNoPlace, IsIllegalIn, OnlyListedMove}
 use Rattle.lf_repair_team.proofs.Finding.{all_move, only_move}
-use Rattle.lf_repair_team.proofs.Legal.{legal_stay, none_left}
+use Rattle.lf_repair_team.proofs.Legal.{none_left}
 use Rattle.lf_repair_team.proofs.Runs.{none_cut}
 use Rattle.lf_repair_team.proofs.StatsLemmas.{team_stats_of}
 use Rattle.lf_repair_team.proofs.team.repair_team.Goals as goal
@@ -11,14 +12,14 @@ items_same : (v w : Vec ℕ Global) → v ≡ w → v.items ≡ w.items
 items_same v w same = ap (λ (u : Vec ℕ Global). u.items) same
 
 pub returns-in-Ok-repair_in_session-clause-kept : goal.returns-in-Ok-repair_in_session-clause-kept
-returns-in-Ok-repair_in_session-clause-kept g c = λ keep.
-    legal_stay c.args.team.now c.in-Ok.start.pass.locked.items c.args.floor.now c.repair_in_session.new.floor
-    (c.in-Ok.ensures.marked c.args.team.now keep (sym c.team_number.ensures ∙ c.in-Some.is)) (c.in-Ok-repair_in_session.ensures.marked (c.in-Ok.ensures.how ∙ keep))
+returns-in-Ok-repair_in_session-clause-kept g c = λ keep own legal.
+    let flags = c.in-Ok.ensures.marked c.args.team.now keep (sym c.team_number.ensures ∙ c.in-Some.is) in
+    c.in-Ok-repair_in_session.ensures.marked (c.in-Ok.ensures.how ∙ keep) (λ k mark. flags.only legal.state legal.there k mark) own (flags.legal own legal)
 
 pub returns-clause-kept : goal.returns-clause-kept
-returns-clause-kept g c = λ keep.
-    legal_stay c.args.team.now c.in-Ok.start.pass.locked.items c.args.floor.now c.repair_in_session.new.floor
-    (c.in-Ok.ensures.marked c.args.team.now keep (sym c.team_number.ensures ∙ c.in-Some.is)) (c.in-Err.ensures.marked (c.in-Ok.ensures.how ∙ keep))
+returns-clause-kept g c = λ keep own legal.
+    let flags = c.in-Ok.ensures.marked c.args.team.now keep (sym c.team_number.ensures ∙ c.in-Some.is) in
+    c.in-Err.ensures.marked (c.in-Ok.ensures.how ∙ keep) (λ k mark. flags.only legal.state legal.there k mark) own (flags.legal own legal)
 
 pub returns-in-Ok-repair_in_session-clause-changed : goal.returns-in-Ok-repair_in_session-clause-changed
 returns-in-Ok-repair_in_session-clause-changed g c =
@@ -41,13 +42,28 @@ returns-in-Ok-repair_in_session-clause-moved g c =
 pub returns-in-Ok-repair_in_session-clause-named : goal.returns-in-Ok-repair_in_session-clause-named
 returns-in-Ok-repair_in_session-clause-named g c =
     subst (λ (xs : List ℕ). AreLegalExcept c.args.team.now c.repair_in_session.new.floor xs) (sym (items_same c.stats_of.result.unrepaired c.in-Ok-repair_in_session.found.left c.stats_of.ensures.left))
-    c.in-Ok-repair_in_session.ensures.named
+    c.in-Ok-repair_in_session.ensures.unrepaired.named
+
+pub returns-in-Ok-repair_in_session-clause-complete : goal.returns-in-Ok-repair_in_session-clause-complete
+returns-in-Ok-repair_in_session-clause-complete g c =
+    subst (λ (xs : List ℕ). All (λ own. HasNoPlace c.repair_in_session.new.floor c.args.team.now own) xs) (sym (items_same c.stats_of.result.unrepaired c.in-Ok-repair_in_session.found.left c.stats_of.ensures.left))
+    c.in-Ok-repair_in_session.ensures.unrepaired.without
+
+pub returns-in-Ok-repair_in_session-clause-illegal : goal.returns-in-Ok-repair_in_session-clause-illegal
+returns-in-Ok-repair_in_session-clause-illegal g c =
+    subst (λ (xs : List ℕ). All (λ own. IsIllegalIn c.repair_in_session.new.floor c.args.team.now own) xs) (sym (items_same c.stats_of.result.unrepaired c.in-Ok-repair_in_session.found.left c.stats_of.ensures.left))
+    c.in-Ok-repair_in_session.ensures.unrepaired.illegal
+
+pub returns-in-Ok-repair_in_session-clause-rise : goal.returns-in-Ok-repair_in_session-clause-rise
+returns-in-Ok-repair_in_session-clause-rise g c =
+    subst (λ (xs : List ℕ). AllPairs (λ own later. own < later) xs) (sym (items_same c.stats_of.result.unrepaired c.in-Ok-repair_in_session.found.left c.stats_of.ensures.left))
+    c.in-Ok-repair_in_session.ensures.unrepaired.rise
 
 pub returns-in-Ok-repair_in_session-clause-committed : goal.returns-in-Ok-repair_in_session-clause-committed
 returns-in-Ok-repair_in_session-clause-committed g c = λ l.
     let is : c.stats_of.result.unrepaired.items ≡ c.in-Ok-repair_in_session.found.left.items = items_same c.stats_of.result.unrepaired c.in-Ok-repair_in_session.found.left c.stats_of.ensures.left in (
       λ none. c.in-Ok-repair_in_session.ensures.committed l (sym is ∙ none),
-      λ all. is ∙ none_left l c.args.team.now c.repair_in_session.new.floor c.in-Ok-repair_in_session.found.left.items c.in-Ok-repair_in_session.ensures.illegal all,
+      λ all. is ∙ none_left l c.args.team.now c.repair_in_session.new.floor c.in-Ok-repair_in_session.found.left.items c.in-Ok-repair_in_session.ensures.unrepaired.illegal all,
     )
 
 pub returns-in_default-clause-err : goal.returns-in_default-clause-err

@@ -1,4 +1,4 @@
-use Rattle.lf_task_designs.proofs.Shown.{front_after, front_first}
+use Rattle.lf_task_designs.proofs.Fronts.{front_after, front_first}
 use Rattle.lf_task_designs.proofs.check_report.put_line.Goals as goal
 
 pub returns-in_err-send-clause-front : goal.returns-in_err-send-clause-front

@@ -1,5 +1,5 @@
 use Rattle.std.proofs.Common.{inl, refl}
-use Rattle.lf_task_designs.specs.declared.faults.TextKind.TheVariants.{Lef}
+use Rattle.lf_task_faults.specs.declared.faults.TextKind.TheVariants.{Lef}
 use Rattle.lf_frame_checks.specs.Conflicts.{no_fence}
 use Rattle.lf_task_designs.specs.Designs.{IsLefRefusal}
 use Rattle.lf_task_designs.proofs.DesignSteps.{reported_as}

@@ -4,7 +4,7 @@ use Rattle.std.proofs.lemmas.Result.{err_from_is_err_and}
 use Rattle.lf_def.specs.Contents.{contents}
 use Rattle.lf_def.specs.Document.{Document, document_of}
 use Rattle.lf_floorplan.specs.declared.loaded.Loaded.{Loaded}
-use Rattle.lf_task_designs.specs.declared.faults.TextKind.TheVariants.{Def}
+use Rattle.lf_task_faults.specs.declared.faults.TextKind.TheVariants.{Def}
 use Rattle.lf_task_designs.specs.Designs.{IsDefRefusal, IsLoadRefusal, IsLoadedIn, IsRefusedText}
 use Rattle.lf_task_files.specs.Exits.{IsViewNotDescribed}
 use Rattle.lf_task_files.specs.States.{IsNotOpened}

@@ -1,6 +1,6 @@
 use Rattle.std.proofs.Common.{◌≡◌, false, is_err, rules, subst}
 use Rattle.lf_server.proofs.Steps.{on_ok_no}
-use Rattle.lf_task_designs.specs.Faults.{IsOfService}
+use Rattle.lf_task_faults.specs.Faults.{IsOfService}
 use Rattle.lf_task_serve.proofs.Answering.{fewer}
 use Rattle.lf_task_serve.proofs.line_source.serve_port.Goals as goal
 

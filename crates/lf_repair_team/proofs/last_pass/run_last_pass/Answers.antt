@@ -1,0 +1,84 @@
+use Rattle.std.proofs.Common.{◌≡◌, ◌∙◌, ℕ, List, None, ap, refl, subst, sym}
+use Rattle.std.specs.Prelude.{All}
+use Rattle.lf_floorplan.specs.declared.frame.Frame.{Frame}
+use Rattle.lf_floor_model.specs.Teams.{team_number}
+use Rattle.lf_repair_team.specs.CellEdits.{IsLegalOrWithoutPlace}
+use Rattle.lf_repair_team.specs.TeamRepairs.{IsIllegalIn, place_of_cell_in}
+use Rattle.lf_repair_team.proofs.LastPass.{empty_none, illegal_have_none, legal_places, none_unrepaired, some_there, then_legal}
+use Rattle.lf_repair_team.proofs.Runs.{none_cut, nothing, then_cut, then_only, then_written, unchanged, uncut}
+use Rattle.lf_repair_team.proofs.last_pass.run_last_pass.Goals as goal
+
+pub returns-in_default-clause-err : goal.returns-in_default-clause-err
+returns-in_default-clause-err g c = λ l. none_cut l c.args.seat.now.team.now c.args.floor.now (g.K.Sink.contents c.args.lines.now)
+
+pub returns-then-is_empty-clause-run : goal.returns-then-is_empty-clause-run
+returns-then-is_empty-clause-run g c = λ l. nothing l c.args.seat.now.team.now c.args.floor.now (g.K.Sink.contents c.args.lines.now)
+
+pub returns-then-is_empty-clause-unrepaired : goal.returns-then-is_empty-clause-unrepaired
+returns-then-is_empty-clause-unrepaired g c =
+    none_unrepaired c.args.seat.now.team.now c.args.floor.now c.in-Ok.left.items (sym c.as_slice.ensures.value ∙ empty_none c.as_slice.result.now c.is_empty.result c.is_empty.ensures c.if-is_empty.true)
+    c.in-Ok.ensures.named c.in-Ok.ensures.illegal c.in-Ok.ensures.rise
+
+pub unplace_cells-requires : goal.unplace_cells-requires
+unplace_cells-requires g c = subst (λ (xs : List ℕ). All (λ own. IsIllegalIn c.args.floor.now c.args.seat.now.team.now own) xs) (sym c.as_slice-2.ensures.value) c.in-Ok.ensures.illegal
+
+pub legalize_cells-requires : goal.legalize_cells-requires
+legalize_cells-requires g c = record {
+  number = ap (λ (f : Frame). team_number f c.args.seat.now.team.now) c.in-Ok-unplace_cells.ensures.only.frame ∙ c.requires;
+  unplaced = subst (λ (xs : List ℕ). All (λ own. place_of_cell_in c.unplace_cells.new.floor c.args.seat.now.team.now own ≡ None) xs) (c.as_slice-2.ensures.value ∙ sym c.as_slice-3.ensures.value)
+      c.in-Ok-unplace_cells.ensures.unplaced;
+}
+
+pub returns-in-Err-legalize_cells-clause-only : goal.returns-in-Err-legalize_cells-clause-only
+returns-in-Err-legalize_cells-clause-only g c =
+    then_only c.args.seat.now.team.now c.args.floor.now c.unplace_cells.new.floor c.legalize_cells.new.floor c.in-Ok-unplace_cells.ensures.only c.in-Err-legalize_cells.ensures.only
+
+pub returns-in-Err-legalize_cells-clause-legal : goal.returns-in-Err-legalize_cells-clause-legal
+returns-in-Err-legalize_cells-clause-legal g c =
+    legal_places c.args.seat.now.team.now c.args.floor.now c.legalize_cells.new.floor
+    (then_legal c.args.seat.now.team.now c.args.floor.now c.unplace_cells.new.floor c.legalize_cells.new.floor c.in-Ok-unplace_cells.ensures.legal c.in-Err-legalize_cells.ensures.legal)
+
+pub returns-in-Err-legalize_cells-clause-committed : goal.returns-in-Err-legalize_cells-clause-committed
+returns-in-Err-legalize_cells-clause-committed g c = c.in-Err-legalize_cells.ensures.committed ∙ c.in-Ok-unplace_cells.ensures.committed
+
+pub returns-in-Ok-illegal_cells-clause-legal : goal.returns-in-Ok-illegal_cells-clause-legal
+returns-in-Ok-illegal_cells-clause-legal g c =
+    legal_places c.args.seat.now.team.now c.args.floor.now c.legalize_cells.new.floor
+    (then_legal c.args.seat.now.team.now c.args.floor.now c.unplace_cells.new.floor c.legalize_cells.new.floor c.in-Ok-unplace_cells.ensures.legal c.in-Ok-legalize_cells.ensures.legal)
+
+pub returns-clause-legal : goal.returns-clause-legal
+returns-clause-legal g c =
+    legal_places c.args.seat.now.team.now c.args.floor.now c.legalize_cells.new.floor
+    (then_legal c.args.seat.now.team.now c.args.floor.now c.unplace_cells.new.floor c.legalize_cells.new.floor c.in-Ok-unplace_cells.ensures.legal c.in-Ok-legalize_cells.ensures.legal)
+
+pub returns-in-Err-clause-legal : goal.returns-in-Err-clause-legal
+returns-in-Err-clause-legal g c = legal_places c.args.seat.now.team.now c.args.floor.now c.unplace_cells.new.floor c.in-Err.ensures.legal
+
+pub returns-in-Err-legalize_cells-clause-err : goal.returns-in-Err-legalize_cells-clause-err
+returns-in-Err-legalize_cells-clause-err g c = λ l.
+    then_cut l c.args.seat.now.team.now c.args.floor.now c.unplace_cells.new.floor c.legalize_cells.new.floor (g.K.Sink.contents c.args.lines.now) (g.K.Sink.contents c.unplace_cells.new.lines)
+    (g.K.Sink.contents c.legalize_cells.new.lines) (c.in-Ok-unplace_cells.ensures.run l) (c.in-Err-legalize_cells.ensures.err l)
+
+pub returns-in-Ok-illegal_cells-clause-run : goal.returns-in-Ok-illegal_cells-clause-run
+returns-in-Ok-illegal_cells-clause-run g c = λ l.
+    then_written l c.args.seat.now.team.now c.args.floor.now c.unplace_cells.new.floor c.legalize_cells.new.floor (g.K.Sink.contents c.args.lines.now) (g.K.Sink.contents c.unplace_cells.new.lines)
+    (g.K.Sink.contents c.legalize_cells.new.lines) (c.in-Ok-unplace_cells.ensures.run l) (c.in-Ok-legalize_cells.ensures.run l)
+
+pub returns-clause-err : goal.returns-clause-err
+returns-clause-err g c = λ l.
+    uncut l c.args.seat.now.team.now c.args.floor.now c.legalize_cells.new.floor (g.K.Sink.contents c.args.lines.now) (g.K.Sink.contents c.legalize_cells.new.lines)
+    (then_written l c.args.seat.now.team.now c.args.floor.now c.unplace_cells.new.floor c.legalize_cells.new.floor (g.K.Sink.contents c.args.lines.now) (g.K.Sink.contents c.unplace_cells.new.lines)
+    (g.K.Sink.contents c.legalize_cells.new.lines) (c.in-Ok-unplace_cells.ensures.run l) (c.in-Ok-legalize_cells.ensures.run l))
+
+pub returns-in-Ok-illegal_cells-clause-unrepaired : goal.returns-in-Ok-illegal_cells-clause-unrepaired
+returns-in-Ok-illegal_cells-clause-unrepaired g c = record {
+  named = c.in-Ok-illegal_cells.ensures.named;
+  illegal = c.in-Ok-illegal_cells.ensures.illegal;
+  without = illegal_have_none c.args.seat.now.team.now c.args.floor.now c.legalize_cells.new.floor c.in-Ok.left.items c.in-Ok-illegal_cells.left.items
+      (λ none. some_there c.as_slice.result.now c.is_empty.result c.is_empty.ensures c.if-is_empty.false (c.as_slice.ensures.value ∙ none))
+      (c.in-Ok-legalize_cells.ensures.only.names ∙ c.in-Ok-unplace_cells.ensures.only.names) c.in-Ok.ensures.named
+      (then_legal c.args.seat.now.team.now c.args.floor.now c.unplace_cells.new.floor c.legalize_cells.new.floor c.in-Ok-unplace_cells.ensures.legal c.in-Ok-legalize_cells.ensures.legal)
+      (subst (λ (xs : List ℕ). All (λ own. IsLegalOrWithoutPlace c.legalize_cells.new.floor c.args.seat.now.team.now own) xs) c.as_slice-3.ensures.value c.in-Ok-legalize_cells.ensures.done)
+      c.in-Ok-illegal_cells.ensures.illegal;
+  rise = c.in-Ok-illegal_cells.ensures.rise;
+}

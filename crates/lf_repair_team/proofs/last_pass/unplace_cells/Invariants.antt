@@ -1,0 +1,16 @@
+use Rattle.std.proofs.Common.{◌≡◌, None, take}
+use Rattle.std.specs.Prelude.{All}
+use Rattle.lf_rules.specs.Legalizer.{Legalizer}
+use Rattle.lf_repair_team.specs.CellEdits.{KeepsCommittedPlaces, KeepsLegalCells}
+use Rattle.lf_repair_team.specs.TeamRepairs.{ChangesOnly, place_of_cell_in}
+use Rattle.lf_repair_team.specs.Runs.{IsWrittenRun}
+use Rattle.lf_repair_team.proofs.last_pass.unplace_cells.Given as goal
+
+abbrev pub invariant-loop-own : goal.invariant-loop-own
+invariant-loop-own g l = record {
+  run : (lz : Legalizer) → IsWrittenRun lz l.seat.team.now l.fn.floor (g.K.Sink.contents l.fn.lines) (g.K.Sink.contents l.lines) l.floor;
+  only : ChangesOnly l.seat.team.now l.fn.floor l.floor;
+  legal : KeepsLegalCells l.seat.team.now l.fn.floor l.floor;
+  committed : KeepsCommittedPlaces l.seat.team.now l.fn.floor l.floor;
+  unplaced : All (λ own. place_of_cell_in l.floor l.seat.team.now own ≡ None) (take l.own-index l.cells);
+}

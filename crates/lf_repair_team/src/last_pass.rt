@@ -1,0 +1,268 @@
+//! The last pass of a repair, over the cells that are still illegal: it unplaces them all, and then
+//! moves each to its best place, if there is one.
+
+ghost use Rattle.std.specs.Prelude.{◌≡◌, ◌≢◌, [], All, Contains, IfOk, OnErr, OnOk, None, Some, ℕ};
+ghost use Rattle.lf_proto.specs.Lines.{IsLineName};
+ghost use Rattle.lf_rules.specs.Legalizer.{Legalizer};
+ghost use Rattle.lf_cells.specs.Cells.{cell_named, working_at};
+ghost use Rattle.lf_floor_model.specs.States.{TeamState};
+ghost use Rattle.lf_floor_model.specs.Outcomes.{name_at};
+ghost use Rattle.lf_floor_model.specs.Teams.{state_of, team_number};
+ghost use Rattle.lf_repair_team.specs.CellEdits.{AreUnrepaired, IsAnotherCell, IsLegalOrUnplaced, IsLegalOrWithoutPlace, KeepsCommittedPlaces, KeepsLegalCells, RemainsLegal, SaysNoPlace};
+ghost use Rattle.lf_repair_team.specs.TeamRepairs.{ChangesOnly, HasNoPlace, IsIllegalIn, KeepsLegalPlaces, place_of_cell_in};
+ghost use Rattle.lf_repair_team.specs.Runs.{IsRunWithCutLine, IsWrittenRun};
+
+use crate::outcome::{illegal_cells, target_place};
+use crate::run_command::RepairFault;
+use crate::run_edits::{Buffers, TeamSession, copy_name, run_action, run_edit, target_in_range};
+use lf_floor::{Floor, best_is_found, refusal_keeps_state};
+use lf_floorplan::Place;
+use lf_io::Sink;
+use lf_legalize::{Seeker, anchor};
+use lf_proto::{Action, Change, Refusal, Reply};
+use lf_repair_strategy::Edit;
+use lf_rules::{legal_in_range, legalizer_exists};
+use lf_units::Point;
+use std::alloc::Global;
+
+/// Unplaces the cell at position `own`. `Err` also if it cannot be unplaced: no line can contain its
+/// name.
+fn unplace_cell<S: Seeker + Drop, K: Sink>(
+    floor: &mut Floor<S>,
+    seat: &TeamSession<'_>,
+    own: usize,
+    texts: &mut Buffers,
+    lines: &mut K,
+) -> Result<(), RepairFault>
+    ensures run { (l : Legalizer) → IfOk result (λ _.
+        IsWrittenRun l seat.now.team.now floor.old (K.contents lines.old) (K.contents lines.new) floor.new) }
+    ensures err { (l : Legalizer) → OnErr result (
+        IsRunWithCutLine l seat.now.team.now floor.old (K.contents lines.old) (K.contents lines.new) floor.new) }
+    ensures only { ChangesOnly seat.now.team.now floor.old floor.new }
+    ensures cells { (other : ℕ) → other ≢ own
+        → place_of_cell_in floor.new seat.now.team.now other ≡ place_of_cell_in floor.old seat.now.team.now other }
+    ensures legal { (other : ℕ) → other ≢ own → RemainsLegal seat.now.team.now floor.old floor.new other }
+    ensures committed { KeepsCommittedPlaces seat.now.team.now floor.old floor.new }
+    ensures unplaced { OnOk result (place_of_cell_in floor.new seat.now.team.now own ≡ None) }
+{
+    match run_edit(floor, seat, own, &Edit::Unplace, texts, lines) {
+        Ok(()) => {}
+        Err(fault) => return Err(fault),
+    }
+    match floor.place_of(seat.team, own) {
+        None => Ok(()),
+        Some(_) => Err(RepairFault::Refused(Refusal::NoCell)),
+    }
+}
+
+/// Unplaces each of the cells at these positions.
+fn unplace_cells<S: Seeker + Drop, K: Sink>(
+    floor: &mut Floor<S>,
+    seat: &TeamSession<'_>,
+    cells: &[u32],
+    texts: &mut Buffers,
+    lines: &mut K,
+) -> Result<(), RepairFault>
+    requires { All (λ own. IsIllegalIn floor.old seat.now.team.now own) cells.now }
+    ensures run { (l : Legalizer) → IfOk result (λ _.
+        IsWrittenRun l seat.now.team.now floor.old (K.contents lines.old) (K.contents lines.new) floor.new) }
+    ensures err { (l : Legalizer) → OnErr result (
+        IsRunWithCutLine l seat.now.team.now floor.old (K.contents lines.old) (K.contents lines.new) floor.new) }
+    ensures only { ChangesOnly seat.now.team.now floor.old floor.new }
+    ensures legal { KeepsLegalCells seat.now.team.now floor.old floor.new }
+    ensures committed { KeepsCommittedPlaces seat.now.team.now floor.old floor.new }
+    ensures unplaced { OnOk result (All (λ own. place_of_cell_in floor.new seat.now.team.now own ≡ None) cells.now) }
+{
+    for own in cells {
+        match unplace_cell(floor, seat, *own as usize, texts, lines) {
+            Ok(()) => {}
+            Err(fault) => return Err(fault),
+        }
+    }
+    Ok(())
+}
+
+/// Sends a legalize of the cell with this name.
+fn legalize_named<S: Seeker + Drop, K: Sink>(
+    floor: &mut Floor<S>,
+    seat: &TeamSession<'_>,
+    cell: &[u8],
+    target: &Point,
+    line: &mut Vec<u8>,
+    lines: &mut K,
+) -> Result<Reply, RepairFault>
+    requires { IsLineName cell.now }
+    ensures run { (l : Legalizer) → IfOk result (λ _.
+        IsWrittenRun l seat.now.team.now floor.old (K.contents lines.old) (K.contents lines.new) floor.new) }
+    ensures err { (l : Legalizer) → OnErr result (
+        IsRunWithCutLine l seat.now.team.now floor.old (K.contents lines.old) (K.contents lines.new) floor.new) }
+    ensures only { ChangesOnly seat.now.team.now floor.old floor.new }
+    ensures cells { (other : ℕ) → IsAnotherCell floor.old seat.now.team.now cell.now other
+        → place_of_cell_in floor.new seat.now.team.now other ≡ place_of_cell_in floor.old seat.now.team.now other }
+    ensures legal { (other : ℕ) → IsAnotherCell floor.old seat.now.team.now cell.now other
+        → RemainsLegal seat.now.team.now floor.old floor.new other }
+    ensures committed { KeepsCommittedPlaces seat.now.team.now floor.old floor.new }
+    ensures without { (other : ℕ) → IsAnotherCell floor.old seat.now.team.now cell.now other
+        → ((s : TeamState) (own : ℕ) → state_of floor.old seat.now.team.now ≡ Some s
+        → cell_named cell.now s.cells ≡ Some own → working_at s.cells own ≡ None)
+        → HasNoPlace floor.old seat.now.team.now other → HasNoPlace floor.new seat.now.team.now other }
+    ensures refused { (s : TeamState) (own : ℕ) → state_of floor.old seat.now.team.now ≡ Some s
+        → name_at s.cells own ≡ Some cell.now → working_at s.cells own ≡ None
+        → IfOk result (λ reply. SaysNoPlace reply → HasNoPlace floor.new seat.now.team.now own) }
+{
+    legalizer_exists();
+    legal_in_range();
+    best_is_found();
+    refusal_keeps_state();
+    floor.teams_match_frame();
+    let action = Action::Change(Change::Legalize {
+        cell,
+        target: target_in_range(target),
+    });
+    run_action(floor, seat, action, line, lines)
+}
+
+/// `Err` unless the reply says that the cell has no best place.
+fn stop_unless_no_place(reply: &Reply) -> Result<(), RepairFault>
+    ensures { OnOk result (SaysNoPlace reply.now) }
+{
+    match reply {
+        Reply::Refused(Refusal::NoPlace { .. }) => Ok(()),
+        Reply::Refused(refusal) => Err(RepairFault::Refused(*refusal)),
+        _ => Err(RepairFault::Refused(Refusal::NoCell)),
+    }
+}
+
+/// The target of a cell: its place in `wanted_places`, or the team's anchor if it has none there.
+fn target_in_last_pass<S: Seeker + Drop>(
+    floor: &Floor<S>,
+    number: usize,
+    own: usize,
+    wanted_places: &[Option<Place>],
+) -> Point {
+    match target_place(wanted_places, own) {
+        Some(place) => Point {
+            x: place.x as i64,
+            y: place.y as i64,
+        },
+        None => anchor(floor.placement().frame(), number),
+    }
+}
+
+/// Moves the cell at position `own`, which is legal or unplaced, to its best place, unless it is
+/// legal or has no place.
+fn legalize_cell<S: Seeker + Drop, K: Sink>(
+    floor: &mut Floor<S>,
+    seat: &TeamSession<'_>,
+    own: usize,
+    wanted_places: &[Option<Place>],
+    texts: &mut Buffers,
+    lines: &mut K,
+) -> Result<(), RepairFault>
+    requires { team_number floor.old.frame seat.now.team.now ≡ Some seat.now.number }
+    ensures run { (l : Legalizer) → IfOk result (λ _.
+        IsWrittenRun l seat.now.team.now floor.old (K.contents lines.old) (K.contents lines.new) floor.new) }
+    ensures err { (l : Legalizer) → OnErr result (
+        IsRunWithCutLine l seat.now.team.now floor.old (K.contents lines.old) (K.contents lines.new) floor.new) }
+    ensures only { ChangesOnly seat.now.team.now floor.old floor.new }
+    ensures legal { KeepsLegalCells seat.now.team.now floor.old floor.new }
+    ensures committed { KeepsCommittedPlaces seat.now.team.now floor.old floor.new }
+    ensures others { (other : ℕ) → other ≢ own
+        → place_of_cell_in floor.new seat.now.team.now other ≡ place_of_cell_in floor.old seat.now.team.now other }
+    ensures without { IsLegalOrUnplaced floor.old seat.now.team.now own
+        → (other : ℕ) → HasNoPlace floor.old seat.now.team.now other → other ≢ own
+        → HasNoPlace floor.new seat.now.team.now other }
+    ensures done { IsLegalOrUnplaced floor.old seat.now.team.now own → OnOk result (
+        IsLegalOrWithoutPlace floor.new seat.now.team.now own) }
+{
+    floor.teams_match_frame();
+    match floor.place_of(seat.team, own) {
+        Some(_) => return Ok(()),
+        None => {}
+    }
+    let target = target_in_last_pass(floor, seat.number, own, wanted_places);
+    let Buffers { name, line } = texts;
+    match copy_name(floor, seat.team, own, name) {
+        Ok(true) => {}
+        Ok(false) => return Err(RepairFault::Refused(Refusal::NoCell)),
+        Err(_) => return Err(RepairFault::OutOfMemory),
+    }
+    let reply = match legalize_named(floor, seat, name.as_slice(), &target, line, lines) {
+        Ok(reply) => reply,
+        Err(fault) => return Err(fault),
+    };
+    if floor.is_cell_legal(seat.number, own) {
+        return Ok(());
+    }
+    stop_unless_no_place(&reply)
+}
+
+/// Moves each of the cells at these positions to its best place, unless it is legal or has no place.
+fn legalize_cells<S: Seeker + Drop, K: Sink>(
+    floor: &mut Floor<S>,
+    seat: &TeamSession<'_>,
+    cells: &[u32],
+    wanted_places: &[Option<Place>],
+    texts: &mut Buffers,
+    lines: &mut K,
+) -> Result<(), RepairFault>
+    requires number { team_number floor.old.frame seat.now.team.now ≡ Some seat.now.number }
+    requires unplaced { All (λ own. place_of_cell_in floor.old seat.now.team.now own ≡ None) cells.now }
+    ensures run { (l : Legalizer) → IfOk result (λ _.
+        IsWrittenRun l seat.now.team.now floor.old (K.contents lines.old) (K.contents lines.new) floor.new) }
+    ensures err { (l : Legalizer) → OnErr result (
+        IsRunWithCutLine l seat.now.team.now floor.old (K.contents lines.old) (K.contents lines.new) floor.new) }
+    ensures only { ChangesOnly seat.now.team.now floor.old floor.new }
+    ensures legal { KeepsLegalCells seat.now.team.now floor.old floor.new }
+    ensures committed { KeepsCommittedPlaces seat.now.team.now floor.old floor.new }
+    ensures done { OnOk result (All (λ own. IsLegalOrWithoutPlace floor.new seat.now.team.now own) cells.now) }
+{
+    for own in cells {
+        match legalize_cell(floor, seat, *own as usize, wanted_places, texts, lines) {
+            Ok(()) => {}
+            Err(fault) => return Err(fault),
+        }
+    }
+    Ok(())
+}
+
+/// Runs the last pass: unplaces the cells that are not legal, and then moves each to its best place,
+/// if there is one. Returns the positions of those without a place, in loading order. The other
+/// cells are legal. Legal cells do not move.
+pub(crate) fn run_last_pass<S: Seeker + Drop, K: Sink>(
+    alloc: Global,
+    floor: &mut Floor<S>,
+    seat: &TeamSession<'_>,
+    wanted_places: &[Option<Place>],
+    texts: &mut Buffers,
+    lines: &mut K,
+) -> Result<Vec<u32>, RepairFault>
+    requires { team_number floor.old.frame seat.now.team.now ≡ Some seat.now.number }
+    ensures run { (l : Legalizer) → IfOk result (λ _.
+        IsWrittenRun l seat.now.team.now floor.old (K.contents lines.old) (K.contents lines.new) floor.new) }
+    ensures err { (l : Legalizer) → OnErr result (
+        IsRunWithCutLine l seat.now.team.now floor.old (K.contents lines.old) (K.contents lines.new) floor.new) }
+    ensures only { ChangesOnly seat.now.team.now floor.old floor.new }
+    ensures legal { KeepsLegalPlaces seat.now.team.now floor.old floor.new }
+    ensures committed { KeepsCommittedPlaces seat.now.team.now floor.old floor.new }
+    ensures unrepaired { IfOk result (λ left. AreUnrepaired seat.now.team.now floor.new left.items) }
+{
+    let Ok(left) = illegal_cells(alloc, floor, seat) else {
+        return Err(RepairFault::OutOfMemory);
+    };
+    if left.as_slice().is_empty() {
+        return Ok(left);
+    }
+    match unplace_cells(floor, seat, left.as_slice(), texts, lines) {
+        Ok(()) => {}
+        Err(fault) => return Err(fault),
+    }
+    match legalize_cells(floor, seat, left.as_slice(), wanted_places, texts, lines) {
+        Ok(()) => {}
+        Err(fault) => return Err(fault),
+    }
+    match illegal_cells(alloc, floor, seat) {
+        Ok(left) => Ok(left),
+        Err(_) => Err(RepairFault::OutOfMemory),
+    }
+}

@@ -1,8 +1,0 @@
-use Rattle.std.proofs.Common.{◌≡◌, ◌-◌}
-use Rattle.lf_task_designs.specs.Refusals.{after_lines}
-use Rattle.lf_task_designs.proofs.text_refusal.after_lines.Given as goal
-
-abbrev pub invariant-loop-passed : goal.invariant-loop-passed
-invariant-loop-passed l = record {
-  left : after_lines (l.lines - l._passed) l.rest ≡ after_lines l.lines l.text;
-}
