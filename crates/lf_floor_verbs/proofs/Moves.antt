@@ -4,7 +4,7 @@ use Rattle.lf_cells.specs.declared.cell.Cell.{Cell}
 use Rattle.lf_cells.specs.Cells.{moved, working_at}
 use Rattle.lf_undo.specs.declared.moves.Move.{Move}
 use Rattle.lf_placement.specs.Placements.{HaveMoved, SameButPlaces, moves_applied}
-use Rattle.lf_placement.proofs.Changing.{first_same, rest_same}
+use Rattle.lf_placement.proofs.Moves.{first_same, rest_same}
 use Rattle.lf_floor_model.specs.Outcomes.{places_of}
 use Rattle.lf_floor_model.specs.Changes.{restored}
 
