@@ -382,10 +382,11 @@ class Faults(FrontCase):
             raise Fault(3, "the journal is lost")
 
         async def run() -> None:
-            hub = mock.Mock(
+            hub = mock.MagicMock(
                 teams=[], clients=set(), start=mock.AsyncMock(return_value=[]), run=wait_forever, watch=watch
             )
-            with self.assertRaisesRegex(Fault, "is lost"), mock.patch.object(hub_tool, "say"):
+            patched = mock.patch.multiple(hub_tool, say=mock.DEFAULT, start_warning=mock.DEFAULT)
+            with self.assertRaisesRegex(Fault, "is lost"), patched:
                 await hub_tool.serve(
                     hub, argparse.Namespace(group=[], team=[], sockets=self.folder, roll=False), asyncio.Event()
                 )

@@ -15,29 +15,35 @@ from pathlib import Path
 from typing import BinaryIO
 
 from .compression import DAMAGED, LONGEST_MAGIC, ending_of, plain_name, unpacked
-from .faults import REFUSED, Fault, show_as
+from .faults import REFUSED, Fault, as_given, show_as
 
 _PIECE = 1 << 20
 
 
-def use_plain_files(options: argparse.Namespace, *names: str, folder: Path | None = None) -> None:
-    """Replaces the paths in these options by those of plain files. The options may be lists or None.
-
-    Copies go to `folder`, else to a temporary folder, which is removed at the end of the process.
-    """
+def use_plain_files(options: argparse.Namespace, *names: str) -> None:
+    """Replaces the paths in these options by those of plain files. The options may be lists or None."""
     for name in names:
         given = getattr(options, name)
         if isinstance(given, list):
-            setattr(options, name, [plain_file(path, folder) for path in given])
+            setattr(options, name, [plain_file(path) for path in given])
         elif given is not None:
-            setattr(options, name, plain_file(given, folder))
+            setattr(options, name, plain_file(given))
 
 
-def plain_file(path: Path, folder: Path | None = None) -> Path:
+def kept_file(path: Path, folder: Path) -> Path:
+    """Returns the path of a plain file. Instead of a copy, which is removed at the end, makes another one in a folder."""
+    if as_given(str(path)) == str(path):
+        return path
+    place = Path(tempfile.mkdtemp(prefix="text-", dir=folder))
+    return Path(shutil.copy(path, place / path.name))
+
+
+def plain_file(path: Path) -> Path:
     """Returns the path if it is that of a plain file, else that of a copy. Raises a Fault if compressed data is
     damaged.
 
-    A path without a file, or of a folder, is returned as it is: the program refuses it.
+    Copies are removed at the end of the process. A path without a file, or of a folder, is returned as it is: the
+    program refuses it.
     """
     if not path.exists() or path.is_dir():
         return path
@@ -45,14 +51,13 @@ def plain_file(path: Path, folder: Path | None = None) -> Path:
         ending = ending_of(file.peek(LONGEST_MAGIC)[:LONGEST_MAGIC])
         if ending is None and path.is_file():
             return path
-        return _copy_of(path, file, ending, folder)
+        return _copy_of(path, file, ending)
 
 
-def _copy_of(path: Path, file: BufferedReader, ending: str | None, folder: Path | None) -> Path:
+def _copy_of(path: Path, file: BufferedReader, ending: str | None) -> Path:
     """Copies what a file contains. Each copy is in a folder of its own, since two files may have one name."""
-    place = Path(tempfile.mkdtemp(prefix="lefence-", dir=folder))
-    if folder is None:
-        atexit.register(shutil.rmtree, place, ignore_errors=True)
+    place = Path(tempfile.mkdtemp(prefix="lefence-"))
+    atexit.register(shutil.rmtree, place, ignore_errors=True)
     copy = place / (plain_name(path.name) or "text")
     show_as(str(copy), str(path))
     source: BinaryIO = unpacked(file, ending) if ending else file

@@ -16,7 +16,7 @@ from typing import NamedTuple
 from ..base.atomic_file import refuse_inputs
 from ..base.design import Design, complete_design, map_file
 from ..base.faults import DONE, FAILED, USAGE, Fault, Parser, log, run_tool
-from ..base.input_files import use_plain_files
+from ..base.input_files import kept_file, use_plain_files
 from ..base.program import find_program
 from ..journal.frames import sum_of
 from .farm_runs import TOOL, Plan, begin, collect, run_team, teams_of
@@ -215,10 +215,11 @@ def main() -> int:
             raise Fault(USAGE, "WORK DEF LEF... are needed")
         if options.export:
             refuse_inputs(options.export, options.texts)
-        options.work.mkdir(parents=True, exist_ok=True)
-        use_plain_files(options, "texts", folder=options.work)
+        use_plain_files(options, "texts")
         with ExitStack() as stack:
             design = complete_design(options.texts[0], map_file(options.texts[0], stack))
+            options.work.mkdir(parents=True, exist_ok=True)
+            options.texts = [kept_file(path, options.work) for path in options.texts]
             plan = plan_of(options, command, design)
             begin(options.work, plan, design)
             del design

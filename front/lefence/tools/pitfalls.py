@@ -141,8 +141,8 @@ def _has_symmetry(name: str, libraries: list[bytes]) -> bool:
 
 
 def warn(say: Callable[[str], None], program: str, design: Path, libraries: list[Path]) -> None:
-    """Says what may go wrong with a design; nothing if it cannot be read or the program refuses it."""
-    with contextlib.suppress(Fault, OSError):
+    """Says what may go wrong with a design; nothing if it cannot be read, or the program refuses it or dies."""
+    with contextlib.suppress(Fault, OSError, ValueError, KeyError, TypeError):
         for remark in _remarks_of(program, design, libraries):
             say(f"warning: {remark.text}")
 
