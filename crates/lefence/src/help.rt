@@ -93,7 +93,7 @@ const REPAIR: &str =
 
 Moves cells that break a rule or have no place to legal places: those of the named teams, or of all teams. Commits
 each team in which every cell is then legal. Legal cells move only if another cell would otherwise have no place or be
-moved far; with --keep they stay, and with --all they move wherever that shortens the total displacement. Writes a
+moved far; with --keep they stay, and with --all they may move, to shorten the total displacement. Writes a
 line of JSON for each team and one for all. --export writes the DEF text with the committed places to FILE, --lines
 the accepted commands. The exit status is 0 if the design is then fully legal, and 4 if it is not.
 
