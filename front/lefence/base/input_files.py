@@ -31,7 +31,7 @@ def use_plain_files(options: argparse.Namespace, *names: str) -> None:
 
 
 def kept_file(path: Path, folder: Path) -> Path:
-    """Returns the path of a plain file. Instead of a copy, which is removed at the end, makes another one in a folder."""
+    """Returns the path of a plain file. In place of a copy, which is removed at the end, makes one in this folder."""
     if as_given(str(path)) == str(path):
         return path
     place = Path(tempfile.mkdtemp(prefix="text-", dir=folder))
