@@ -19,7 +19,7 @@ from typing import NamedTuple
 
 from ..base.atomic_file import atomic_file, partial_file, refuse_inputs
 from ..base.description import Cell, Description
-from ..base.faults import DONE, FAILED, REFUSED, USAGE, Fault, Parser, log, run_tool
+from ..base.faults import DONE, FAILED, USAGE, Fault, Parser, log, run_tool
 from ..base.input_files import use_plain_files
 from ..base.program import find_program
 from ..base.progress import Progress
