@@ -3,12 +3,12 @@ mod Runs
 mod Steps
 mod Cells
 mod Lists
-mod Legal
+pub mod Legal
 mod Ids
 mod Marking
 mod StatsLemmas
 mod Finding
 mod Results
 mod OthersLegal
-mod WithoutPlace
+pub mod WithoutPlace
 mod LastPass

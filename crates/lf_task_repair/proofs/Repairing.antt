@@ -1,6 +1,6 @@
 -- Runs of repairs one after the other, and what they leave unchanged.
-use Rattle.std.proofs.Common.{◌≡◌, ◌≢◌, ◌⊎◌, inl, inr, ⊎_elim, ℕ, zero, suc, ◌+◌, ◌<◌, List, [], ◌∷◌, ◌++◌, length, Bool, true, false, map, Option, Some, None, cond, is_some, refl, ap, sym, ◌∙◌, subst, append-nil, arith}
-use Rattle.std.specs.Prelude.{◌≤◌, ◌==◌, ◌||◌, Err, IfErr, IfOk, MatchBool, Ok, OnOk, Result, bytes_eq, option_and_then, position, slice_get, slice_set}
+use Rattle.std.proofs.Common.{◌≡◌, ◌≢◌, ◌⊎◌, inl, inr, ⊎_elim, ℕ, zero, suc, ◌+◌, ◌<◌, List, [], ◌∷◌, ◌++◌, length, get_or, Bool, true, false, map, Option, Some, None, cond, is_some, refl, ap, sym, ◌∙◌, subst, append-nil, arith}
+use Rattle.std.specs.Prelude.{◌≤◌, ◌==◌, ◌||◌, All, Err, IfErr, IfOk, MatchBool, Ok, OnOk, Result, bytes_eq, option_and_then, position, slice_get, slice_set}
 use Rattle.std.specs.Borrow.{Bor}
 use Rattle.std.specs.List.{position_from}
 use Rattle.std.specs.Io.KnownBytes.{Appends}
@@ -14,6 +14,8 @@ use Rattle.lf_rules.specs.Legalizer.{Legalizer}
 use Rattle.lf_rules.specs.Team.{IsLegalCell}
 use Rattle.lf_cells.specs.Cells.{working_at}
 use Rattle.lf_legalize.specs.Members.{member_of}
+use Rattle.lf_proto.specs.Lines.{IsLineName}
+use Rattle.lf_proto.specs.Requests.{IsPlain}
 use Rattle.lf_proto.specs.declared.request.Command.{Command}
 use Rattle.lf_proto.specs.declared.request.Command.TheVariants.{Bye, To}
 use Rattle.lf_proto.specs.declared.request.TeamCommand.{TeamCommand}
@@ -22,7 +24,7 @@ use Rattle.lf_io.proofs.Known.{Appends-more, Appends-same}
 use Rattle.lf_floor_model.specs.States.{FloorState, TeamState}
 use Rattle.lf_floor_model.specs.Teams.{state_at, state_of, team_number}
 use Rattle.lf_floor_model.specs.Outcomes.{is_short}
-use Rattle.lf_floor_model.specs.Steps.{IsAnswerOf, MayRunOutOfMemory, answer_at, answer_by, answer_of}
+use Rattle.lf_floor_model.specs.Steps.{IsAnswerOf, IsTo, MayRunOutOfMemory, answer_at, answer_by, answer_of}
 use Rattle.lf_floor_model.specs.Runs.{Run}
 use Rattle.lf_floor_model.specs.VerbLaws.{is_ok}
 use Rattle.lf_repair_team.specs.TeamRepairs.{IsLegalIn, KeepsLegalPlaces, place_of_cell_in}
@@ -34,7 +36,7 @@ use Rattle.lf_task_faults.specs.declared.faults.Fault.TheVariants.{Refused, File
 use Rattle.lf_task_faults.specs.Faults.{BlamesDevices, IsEarly, IsOfWriter}
 use Rattle.lf_task_faults.specs.declared.faults.OutputKind.TheVariants.{Lines}
 use Rattle.lf_task_files.specs.Faults.{IsOutputFault}
-use Rattle.lf_task_repair.specs.Repairs.{KeepsAllLegalPlaces, IsKeptRun, IsUnknown, OnlySelectedChange, is_selected}
+use Rattle.lf_task_repair.specs.Repairs.{KeepsAllLegalPlaces, IsKeptRun, IsPlainIfNamed, IsUnknown, OnlySelectedChange, is_selected}
 
 -- ---- runs
 
@@ -52,7 +54,7 @@ kept_bytes_stay (Some xs) = sym (append-nil xs)
 -- no command was sent
 pub nothing_requested : (l : Legalizer) (floor : FloorState) (bytes : Option (List ℕ)) → IsKeptRun l floor bytes bytes floor
 nothing_requested l floor bytes =
-    ([], record { replies = []; run = refl; granted = All-nil (λ (r : Reply). is_ok r ≡ true) }, kept_bytes_stay bytes)
+    ([], record { replies = []; run = refl; granted = All-nil (λ (r : Reply). is_ok r ≡ true); plain = All-nil IsPlainIfNamed }, kept_bytes_stay bytes)
 
 -- one run after the other
 pub then_kept : (l : Legalizer) (a b c : FloorState) (x y z : Option (List ℕ)) → IsKeptRun l a x y b → IsKeptRun l b y z c → IsKeptRun l a x z c
@@ -62,16 +64,24 @@ then_kept l a b c x y z first second = (
     replies = first.1.replies ++ second.1.replies;
     run = run_append l a b c first.0 second.0 first.1.replies second.1.replies first.1.run second.1.run;
     granted = All-append (λ (r : Reply). is_ok r ≡ true) first.1.replies second.1.replies first.1.granted second.1.granted;
+    plain = All-append IsPlainIfNamed first.0 second.0 first.1.plain second.1.plain;
   },
   Appends-same x z (request_lines first.0 ++ request_lines second.0) (request_lines (first.0 ++ second.0)) (sym (flat_map-append request_line first.0 second.0))
       (Appends-more x y z (request_lines first.0) (request_lines second.0) first.2 second.2),
 )
 
+-- commands to one team are plain if its name is
+plain_each : (team : List ℕ) (commands : List (Command (List ℕ) Place)) → All (IsTo team) commands → (IsLineName team → All IsPlain commands) → All IsPlainIfNamed commands
+plain_each team commands own plain i d within name to line = plain (subst IsLineName (same (get_or commands i d) to (own i d within)) line) i d within where
+  same : (command : Command (List ℕ) Place) → IsTo name command → IsTo team command → name ≡ team
+  same Bye here there = absurd here
+  same (To its order) here there = sym here ∙ there
+
 -- a run of one team is a run
 pub of_team : (l : Legalizer) (team : List ℕ) (old new : FloorState) (before after : Option (List ℕ)) → IsWrittenRun l team old before after new
     → IsKeptRun l old before after new
 of_team l team old new before after run =
-    (run.0, record { replies = run.1.replies; run = run.1.run; granted = run.1.granted }, run.2)
+    (run.0, record { replies = run.1.replies; run = run.1.run; granted = run.1.granted; plain = plain_each team run.0 run.1.own run.1.plain }, run.2)
 
 -- ---- which teams change
 
@@ -154,6 +164,19 @@ one_more_stayed old mid new number frame stayed stay others = record {
 
   before : (team : List ℕ) (n : ℕ) → team_number old.frame team ≡ Some n → n ≢ number → n < number → KeepsLegalPlaces team old new
   before team n named differ less own legal = place_same mid new team own (apart team n named differ) ∙ stayed.done team n named less own legal
+
+-- the teams from this number on are unchanged
+abbrev pub AreUntouched : FloorState → FloorState → ℕ → Type 0
+AreUntouched old new count = (team : List ℕ) (n : ℕ) → team_number old.frame team ≡ Some n → count ≤ n → state_of new team ≡ state_of old team
+
+pub one_more_untouched : (old mid new : FloorState) (number : ℕ) → mid.frame ≡ old.frame → AreUntouched old mid number
+    → ((team : List ℕ) → team_number mid.frame team ≢ Some number → state_of new team ≡ state_of mid team) → AreUntouched old new (number + 1)
+one_more_untouched old mid new number frame before others team n named more =
+    others team (λ (is : team_number mid.frame team ≡ Some number). apart (sym (ap (λ (f : Frame). team_number f team) frame ∙ named) ∙ is))
+    ∙ before team n named (omega (arith, more))
+  where
+    apart : Some n ≡ Some number → ⊥
+    apart same = let is : n ≡ number = cc in omega (arith, more, is)
 
 -- if they stay in the first `count` teams, which are all, they stay in all
 pub all_stayed : (old new : FloorState) (count : ℕ) → HaveStayed old new count → KeepsAllLegalPlaces old new

@@ -1,26 +1,33 @@
 -- Lines that report repaired teams, one after the other.
-use Rattle.std.proofs.Common.{◌≡◌, ◌≢◌, ◌∙◌, inl, inr, ⊎_elim, ℕ, ◌+◌, ◌<◌, Bool, true, cond, List, [], ◌∷◌, ◌++◌, length, map, take, get_or, Option, Some, refl, sym, ap, ap₂, subst, append-nil, append_assoc, arith}
-use Rattle.std.specs.Prelude.{◌≤◌, All, filter, option_and_then, slice_get}
+use Rattle.std.proofs.Common.{◌≡◌, ◌≢◌, ◌∙◌, inl, inr, ⊎_elim, ℕ, ◌+◌, ◌<◌, Bool, true, cond, List, [], ◌∷◌, ◌++◌, length, map, take, get_or, Option, None, Some, refl, sym, ap, ap₂, subst, append-nil, append_assoc, arith}
+use Rattle.std.specs.Prelude.{◌↔◌, ◌≤◌, All, Contains, filter, option_and_then, slice_get}
 use Rattle.std.specs.List.{flat_map}
-use Rattle.std.specs.Option.{option_map_or}
+use Rattle.std.specs.Option.{option_map, option_map_or}
 use Rattle.std.proofs.lemmas.List.{map-append, take_all}
 use Rattle.std.proofs.lemmas.List.Elements.{All-append, All-nil, All-cons, All-filter, All-head, All-tail, All-weaker, filter_more}
 use Rattle.std.proofs.lemmas.List.Concat.{flat_map-append}
 use Rattle.std.proofs.lemmas.Option.{slice_get-get_or}
 use Rattle.lf_floorplan.specs.declared.frame.Frame.{Frame}
+use Rattle.lf_floorplan.specs.declared.place.Place.{Place}
+use Rattle.lf_cells.specs.Cells.{working_at}
 use Rattle.lf_floor_model.specs.States.{FloorState, TeamState}
 use Rattle.lf_floor_model.specs.Outcomes.{name_at}
+use Rattle.lf_floor_model.specs.Steps.{AllCommittedIn}
+use Rattle.lf_floor_model.specs.VerbLaws.{committed_places}
 use Rattle.lf_floor_model.specs.Teams.{state_of, team_names, team_number}
-use Rattle.lf_repair_team.specs.TeamRepairs.{AreLegalExcept, IsIllegalIn}
+use Rattle.lf_repair_team.specs.Stats.{AreStatsOf, AreTeamStats, HowMany}
+use Rattle.lf_repair_team.specs.TeamRepairs.{HasNoPlace, IsIllegalIn, IsLegalIn}
+use Rattle.lf_repair_team.proofs.Legal.{committed_through}
+use Rattle.lf_repair_team.proofs.WithoutPlace.{none_through}
 use Rattle.lf_repair_strategy.specs.declared.stats.RepairStats.{RepairStats}
 use Rattle.lf_repair_report.specs.declared.report.RepairReport.{RepairReport}
 use Rattle.lf_repair_report.specs.declared.totals.Totals.{Totals}
 use Rattle.lf_repair_report.specs.RepairReports.{IsOneMore, all_line, cell_names, least_for, no_sums, totals_with_team}
 use Rattle.lf_floor.proofs.Saving.{names_many}
 use Rattle.lf_task_repair.specs.Repairs.{is_selected}
-use Rattle.lf_task_repair.specs.Reports.{AddsTeamLines, IsReport, AddsTotalLine, IsTeamReport, TeamReport, selected_at, selected_names, line_of_team, sums_with}
-use Rattle.lf_task_repair.proofs.Named.{others_before}
-use Rattle.lf_task_repair.proofs.Repairing.{legal_same}
+use Rattle.lf_task_repair.specs.Reports.{AddsTeamLines, IsRepairOf, IsReport, AddsTotalLine, IsTeamReport, TeamReport, selected_at, selected_names, line_of_team, sums_with}
+use Rattle.lf_task_repair.proofs.Named.{numbered, others_before}
+use Rattle.lf_task_repair.proofs.Repairing.{AreUntouched, legal_same}
 
 -- ---- a report stays true if the team is unchanged
 
@@ -30,47 +37,135 @@ left_same old new team own frame same left = record {
   illegal = λ legal. left.illegal (legal_same new old team own (sym frame) (sym same) legal);
 }
 
-reported_same : (bounds : List ℕ) (old new : FloorState) (t : TeamReport) → new.frame ≡ old.frame → state_of new t.name ≡ state_of old t.name
-    → IsTeamReport bounds old t → IsTeamReport bounds new t
-reported_same bounds old new t frame same is = record {
-  least = is.least ∙ ap (λ (f : Frame). least_for bounds (team_number f t.name)) (sym frame);
-  left = is.left ∙ ap (λ (o : Option TeamState). flat_map (λ own. option_map_or (λ name. name ∷ []) (option_and_then (λ (s : TeamState). name_at s.cells own) o) []) t.became.unrepaired.items) (sym same);
-  legal = λ s there own within. ⊎_elim (λ legal. inl (legal_same old new t.name own frame same legal)) (λ named. inr named) (is.legal s (sym same ∙ there) own within);
-  illegal = All-weaker (IsIllegalIn old t.name) (IsIllegalIn new t.name) (λ own. left_same old new t.name own frame same) t.became.unrepaired.items is.illegal;
+-- as many positions have an equivalent property
+as_many_have : (all : ℕ) (So Also : ℕ → Type 0) (count : ℕ) → ((own : ℕ) → So own ↔ Also own) → HowMany all So count → HowMany all Also count
+as_many_have all So Also count same is = record {
+  which = is.which;
+  rise = is.rise;
+  are = λ own. (
+    λ (listed : Contains is.which own). let found = (is.are own).0 listed in (found.0, (same own).0 found.1),
+    λ (found : (own < all) × Also own). (is.are own).1 (found.0, (same own).1 found.1),
+  );
+  many = is.many;
 }
 
-reported_still : (bounds : List ℕ) (old new : FloorState) (ts : List TeamReport) → new.frame ≡ old.frame
-    → All (λ name. state_of new name ≡ state_of old name) (map (λ t. t.name) ts) → All (IsTeamReport bounds old) ts → All (IsTeamReport bounds new) ts
-reported_still bounds old new [] frame same each = All-nil (IsTeamReport bounds new)
-reported_still bounds old new (t ∷ ts) frame same each =
+-- the statistics are the same if the same cells were legal
+stats_alike : (wanted now : ℕ → Option Place) (Was Also : ℕ → Type 0) (all : ℕ) (r : RepairStats) → ((own : ℕ) → Was own ↔ Also own)
+    → AreStatsOf wanted now Was all r → AreStatsOf wanted now Also all r
+stats_alike wanted now Was Also all r same is = record {
+  cells = as_many_have all (λ own. Was own → ⊥) (λ own. Also own → ⊥) r.cells
+      (λ own. (λ (not : Was own → ⊥). λ (also : Also own). not ((same own).1 also), λ (not : Also own → ⊥). λ (was : Was own). not ((same own).0 was))) is.cells;
+  kept = as_many_have all (λ own. Was own × (now own ≡ wanted own)) (λ own. Also own × (now own ≡ wanted own)) r.kept
+      (λ own. (λ (both : Was own × (now own ≡ wanted own)). ((same own).0 both.0, both.1), λ (both : Also own × (now own ≡ wanted own)). ((same own).1 both.0, both.1))) is.kept;
+  displaced_legal = as_many_have all (λ own. Was own × (now own ≢ wanted own)) (λ own. Also own × (now own ≢ wanted own)) r.displaced_legal
+      (λ own. (λ (both : Was own × (now own ≢ wanted own)). ((same own).0 both.0, both.1), λ (both : Also own × (now own ≢ wanted own)). ((same own).1 both.0, both.1))) is.displaced_legal;
+  moved = is.moved;
+  placed = is.placed;
+  turned = is.turned;
+  total_displacement = is.total_displacement;
+  max_displacement = is.max_displacement;
+}
+
+-- the places of the cells of a team in this state
+abbrev places_in : Option TeamState → ℕ → Option Place
+places_in o own = option_and_then (λ (s : TeamState). working_at s.cells own) o
+
+stats_same : (a b c d : FloorState) (team : List ℕ) (r : RepairStats) → c.frame ≡ a.frame → state_of c team ≡ state_of a team → state_of d team ≡ state_of b team
+    → AreTeamStats team a b r → AreTeamStats team c d r
+stats_same a b c d team r frame first last is s there =
+    stats_alike (places_in (state_of c team)) (places_in (state_of d team)) (IsLegalIn a team) (IsLegalIn c team) (length s.cells) r
+    (λ own. (legal_same a c team own frame first, legal_same c a team own (sym frame) (sym first)))
+    (subst (λ (o : Option TeamState). AreStatsOf (places_in (state_of c team)) (places_in o) (IsLegalIn a team) (length s.cells) r) (sym last)
+    (subst (λ (o : Option TeamState). AreStatsOf (places_in o) (places_in (state_of b team)) (IsLegalIn a team) (length s.cells) r) (sym first) (is s (sym first ∙ there))))
+
+repair_same : (a b c d : FloorState) (team : List ℕ) (r : RepairStats) → c.frame ≡ a.frame → d.frame ≡ b.frame → state_of c team ≡ state_of a team
+    → state_of d team ≡ state_of b team → IsRepairOf team a b r → IsRepairOf team c d r
+repair_same a b c d team r frame frame' first last is = record {
+  legal = λ s there own within. ⊎_elim (λ legal. inl (legal_same b d team own frame' last legal)) (λ named. inr named) (is.legal s (sym last ∙ there) own within);
+  illegal = All-weaker (IsIllegalIn b team) (IsIllegalIn d team) (λ own. left_same b d team own frame' last) r.unrepaired.items is.illegal;
+  complete = All-weaker (HasNoPlace b team) (HasNoPlace d team) (λ own. none_through team b d own frame' (inl last)) r.unrepaired.items is.complete;
+  rise = is.rise;
+  stats = stats_same a b c d team r frame first last is.stats;
+  committed = λ l. (
+    λ (none : r.unrepaired.items ≡ []). committed_through l team b d frame' (inl last) ((is.committed l).0 none),
+    λ (all : AllCommittedIn l d team). (is.committed l).1 (committed_through l team d b (sym frame') (inl (sym last)) all),
+  );
+  uncommitted = λ some. ap (λ (o : Option TeamState). option_map committed_places o) last ∙ is.uncommitted some
+      ∙ sym (ap (λ (o : Option TeamState). option_map committed_places o) first);
+}
+
+reported_same : (bounds : List ℕ) (begin old new : FloorState) (t : TeamReport) → new.frame ≡ old.frame → state_of new t.name ≡ state_of old t.name
+    → IsTeamReport bounds begin old t → IsTeamReport bounds begin new t
+reported_same bounds begin old new t frame same is = record {
+  least = is.least ∙ ap (λ (f : Frame). least_for bounds (team_number f t.name)) (sym frame);
+  left = is.left ∙ ap (λ (o : Option TeamState). flat_map (λ own. option_map_or (λ name. name ∷ []) (option_and_then (λ (s : TeamState). name_at s.cells own) o) []) t.became.unrepaired.items) (sym same);
+  repaired = repair_same begin old begin new t.name t.became refl frame refl same is.repaired;
+}
+
+reported_still : (bounds : List ℕ) (begin old new : FloorState) (ts : List TeamReport) → new.frame ≡ old.frame
+    → All (λ name. state_of new name ≡ state_of old name) (map (λ t. t.name) ts) → All (IsTeamReport bounds begin old) ts → All (IsTeamReport bounds begin new) ts
+reported_still bounds begin old new [] frame same each = All-nil (IsTeamReport bounds begin new)
+reported_still bounds begin old new (t ∷ ts) frame same each =
     let Stays : List ℕ → Type 0 = λ name. state_of new name ≡ state_of old name in
     let names : List (List ℕ) = map (λ (u : TeamReport). u.name) ts in
-    All-cons (IsTeamReport bounds new) t ts
-    (reported_same bounds old new t frame (All-head Stays t.name names same) (All-head (IsTeamReport bounds old) t ts each))
-    (reported_still bounds old new ts frame (All-tail Stays t.name names same) (All-tail (IsTeamReport bounds old) t ts each))
+    All-cons (IsTeamReport bounds begin new) t ts
+    (reported_same bounds begin old new t frame (All-head Stays t.name names same) (All-head (IsTeamReport bounds begin old) t ts each))
+    (reported_still bounds begin old new ts frame (All-tail Stays t.name names same) (All-tail (IsTeamReport bounds begin old) t ts each))
+
+-- teams that are as on the first floor when their repair begins are reported from the first floor on
+reported_from : (bounds : List ℕ) (begin old new : FloorState) (ts : List TeamReport) → begin.frame ≡ old.frame
+    → All (λ name. state_of begin name ≡ state_of old name) (map (λ t. t.name) ts) → All (IsTeamReport bounds old new) ts → All (IsTeamReport bounds begin new) ts
+reported_from bounds begin old new [] frame same each = All-nil (IsTeamReport bounds begin new)
+reported_from bounds begin old new (t ∷ ts) frame same each =
+    let Stays : List ℕ → Type 0 = λ name. state_of begin name ≡ state_of old name in
+    let names : List (List ℕ) = map (λ (u : TeamReport). u.name) ts in
+    let is : IsTeamReport bounds old new t = All-head (IsTeamReport bounds old new) t ts each in
+    All-cons (IsTeamReport bounds begin new) t ts
+    (record { least = is.least; left = is.left; repaired = repair_same old new begin new t.name t.became frame refl (All-head Stays t.name names same) refl is.repaired })
+    (reported_from bounds begin old new ts frame (All-tail Stays t.name names same) (All-tail (IsTeamReport bounds old new) t ts each))
+
+lines_from : (names : List (List ℕ)) (begin old new : FloorState) (a b : RepairReport) → begin.frame ≡ old.frame
+    → All (λ name. state_of begin name ≡ state_of old name) names → AddsTeamLines names old new a b → AddsTeamLines names begin new a b
+lines_from names begin old new a b frame same more = record {
+  reported = more.reported;
+  named = more.named;
+  each = reported_from a.least.items begin old new more.reported frame
+      (subst (λ (list : List (List ℕ)). All (λ name. state_of begin name ≡ state_of old name) list) (sym more.named) same) more.each;
+  text = more.text;
+  sums = more.sums;
+  least = more.least;
+}
+
+-- what holds for the names with this number holds for the selected one
+selected_have : (P : List ℕ → Type 0) (f : Frame) (teams : List (List ℕ)) (number : ℕ) → ((name : List ℕ) → team_number f name ≡ Some number → P name)
+    → All P (selected_at f teams number)
+selected_have P f teams number have = go (slice_get (team_names f) number) refl where
+  go : (o : Option (List ℕ)) → slice_get (team_names f) number ≡ o → All P (filter (is_selected teams) (option_map_or (λ name. name ∷ []) o []))
+  go None is = All-nil P
+  go (Some name) is = All-filter (is_selected teams) P (name ∷ []) (All-cons P name [] (have name (numbered f number name is)) (All-nil P))
 
 -- ---- one line after the other
 
 -- no team is reported
-pub none_reported : (floor : FloorState) (r : RepairReport) → AddsTeamLines [] floor r r
-none_reported floor r = record {
+pub none_reported : (begin floor : FloorState) (r : RepairReport) → AddsTeamLines [] begin floor r r
+none_reported begin floor r = record {
   reported = [];
   named = refl;
-  each = All-nil (IsTeamReport r.least.items floor);
+  each = All-nil (IsTeamReport r.least.items begin floor);
   text = sym (append-nil r.text.items);
   sums = refl;
   least = refl;
 }
 
 -- one team is reported
-pub one_reported : (f : Frame) (teams : List (List ℕ)) (number : ℕ) (name : List ℕ) (floor : FloorState) (repaired : RepairStats) (old new : RepairReport)
+pub one_reported : (f : Frame) (teams : List (List ℕ)) (number : ℕ) (name : List ℕ) (begin floor : FloorState) (repaired : RepairStats) (old new : RepairReport)
     → slice_get (team_names f) number ≡ Some name → is_selected teams name ≡ true → IsOneMore floor name repaired old new
-    → AreLegalExcept name floor repaired.unrepaired.items → All (IsIllegalIn floor name) repaired.unrepaired.items → AddsTeamLines (selected_at f teams number) floor old new
-one_reported f teams number name floor repaired old new there requested is legal illegal = record {
+    → IsRepairOf name begin floor repaired → AddsTeamLines (selected_at f teams number) begin floor old new
+one_reported f teams number name begin floor repaired old new there requested is result = record {
   reported = t ∷ [];
   named = sym (ap (λ (o : Option (List ℕ)). filter (is_selected teams) (option_map_or (λ name. name ∷ []) o [])) there ∙ ap (λ (b : Bool). cond b (name ∷ []) []) requested);
-  each = All-cons (IsTeamReport old.least.items floor) t [] record { least = refl; left = refl; legal = legal; illegal = illegal }
-      (All-nil (IsTeamReport old.least.items floor));
+  each = All-cons (IsTeamReport old.least.items begin floor) t [] record { least = refl; left = refl; repaired = result }
+      (All-nil (IsTeamReport old.least.items begin floor));
   text = is.text ∙ ap (λ (line : List ℕ). old.text.items ++ line) (sym (append-nil (line_of_team t)));
   sums = is.sums;
   least = is.least;
@@ -89,15 +184,16 @@ sums_append s [] b = refl
 sums_append s (t ∷ ts) b = sums_append (totals_with_team s t.became t.least) ts b
 
 -- more teams are reported after the first ones
-then_reported : (names more : List (List ℕ)) (mid floor : FloorState) (a b c : RepairReport) → floor.frame ≡ mid.frame
-    → All (λ name. state_of floor name ≡ state_of mid name) names → AddsTeamLines names mid a b → AddsTeamLines more floor b c → AddsTeamLines (names ++ more) floor a c
-then_reported names more mid floor a b c frame same first second = record {
+then_reported : (names more : List (List ℕ)) (begin mid floor : FloorState) (a b c : RepairReport) → floor.frame ≡ mid.frame
+    → All (λ name. state_of floor name ≡ state_of mid name) names → AddsTeamLines names begin mid a b → AddsTeamLines more begin floor b c
+    → AddsTeamLines (names ++ more) begin floor a c
+then_reported names more begin mid floor a b c frame same first second = record {
   reported = first.reported ++ second.reported;
   named = map-append (λ (t : TeamReport). t.name) first.reported second.reported ∙ ap₂ (λ (x y : List (List ℕ)). x ++ y) first.named second.named;
-  each = All-append (IsTeamReport a.least.items floor) first.reported second.reported
-      (reported_still a.least.items mid floor first.reported frame
+  each = All-append (IsTeamReport a.least.items begin floor) first.reported second.reported
+      (reported_still a.least.items begin mid floor first.reported frame
       (subst (λ (list : List (List ℕ)). All (λ name. state_of floor name ≡ state_of mid name) list) (sym first.named) same) first.each)
-      (subst (λ (bounds : List ℕ). All (IsTeamReport bounds floor) second.reported) (ap (λ v. v.items) first.least) second.each);
+      (subst (λ (bounds : List ℕ). All (IsTeamReport bounds begin floor) second.reported) (ap (λ v. v.items) first.least) second.each);
   text = second.text ∙ ap (λ (text : List ℕ). text ++ flat_map line_of_team second.reported) first.text
       ∙ append_assoc a.text.items (flat_map line_of_team first.reported) (flat_map line_of_team second.reported)
       ∙ ap (λ (text : List ℕ). a.text.items ++ text) (sym (flat_map-append line_of_team first.reported second.reported));
@@ -111,17 +207,23 @@ then_reported names more mid floor a b c frame same first second = record {
 abbrev pub first_requested : Frame → List (List ℕ) → ℕ → List (List ℕ)
 first_requested f teams count = filter (is_selected teams) (take count (team_names f))
 
-pub next_reported : (f : Frame) (teams : List (List ℕ)) (number : ℕ) (mid floor : FloorState) (a b c : RepairReport) → number < length f.teams + 1
-    → mid.frame ≡ f → floor.frame ≡ f → ((name : List ℕ) → team_number mid.frame name ≢ Some number → state_of floor name ≡ state_of mid name)
-    → AddsTeamLines (first_requested f teams number) mid a b → AddsTeamLines (selected_at mid.frame teams number) floor b c
-    → AddsTeamLines (first_requested f teams (number + 1)) floor a c
-next_reported f teams number mid floor a b c less mid_is floor_is others first second =
-    subst (λ (list : List (List ℕ)). AddsTeamLines list floor a c) (sym one_more)
-    (then_reported (first_requested f teams number) (selected_at mid.frame teams number) mid floor a b c (floor_is ∙ sym mid_is)
+pub next_reported : (f : Frame) (teams : List (List ℕ)) (number : ℕ) (begin mid floor : FloorState) (a b c : RepairReport) → number < length f.teams + 1
+    → begin.frame ≡ f → mid.frame ≡ f → floor.frame ≡ f → AreUntouched begin mid number
+    → ((name : List ℕ) → team_number mid.frame name ≢ Some number → state_of floor name ≡ state_of mid name)
+    → AddsTeamLines (first_requested f teams number) begin mid a b → AddsTeamLines (selected_at mid.frame teams number) mid floor b c
+    → AddsTeamLines (first_requested f teams (number + 1)) begin floor a c
+next_reported f teams number begin mid floor a b c less begin_is mid_is floor_is untouched others first second =
+    subst (λ (list : List (List ℕ)). AddsTeamLines list begin floor a c) (sym one_more)
+    (then_reported (first_requested f teams number) (selected_at mid.frame teams number) begin mid floor a b c (floor_is ∙ sym mid_is)
     (All-filter (is_selected teams) (λ name. state_of floor name ≡ state_of mid name) (take number (team_names f))
     (All-weaker (λ name. team_number f name ≢ Some number) (λ name. state_of floor name ≡ state_of mid name)
     (λ name other. others name (subst (λ (g : Frame). team_number g name ≢ Some number) (sym mid_is) other)) (take number (team_names f))
-    (others_before f number (omega (arith, within))))) first second) where
+    (others_before f number (omega (arith, within))))) first from_begin) where
+      from_begin : AddsTeamLines (selected_at mid.frame teams number) begin floor b c
+      from_begin = lines_from (selected_at mid.frame teams number) begin mid floor b c (begin_is ∙ sym mid_is)
+          (selected_have (λ name. state_of begin name ≡ state_of mid name) mid.frame teams number
+          (λ name named. sym (untouched name number (ap (λ (g : Frame). team_number g name) (begin_is ∙ sym mid_is) ∙ named) (omega arith)))) second
+
       within : number < length (team_names f)
       within = subst (λ (n : ℕ). number < n) (sym (names_many f)) less
 
@@ -133,20 +235,20 @@ next_reported f teams number mid floor a b c less mid_is floor_is others first s
       one_more = filter_more (is_selected teams) (team_names f) number [] within ∙ ap (λ (list : List (List ℕ)). first_requested f teams number ++ list) (sym here)
 
 -- all teams are reported
-pub every_reported : (f : Frame) (teams : List (List ℕ)) (count : ℕ) (floor : FloorState) (a b : RepairReport) → length f.teams + 1 ≤ count
-    → AddsTeamLines (first_requested f teams count) floor a b → AddsTeamLines (selected_names f teams) floor a b
-every_reported f teams count floor a b all =
-    subst (λ (list : List (List ℕ)). AddsTeamLines (filter (is_selected teams) list) floor a b)
+pub every_reported : (f : Frame) (teams : List (List ℕ)) (count : ℕ) (begin floor : FloorState) (a b : RepairReport) → length f.teams + 1 ≤ count
+    → AddsTeamLines (first_requested f teams count) begin floor a b → AddsTeamLines (selected_names f teams) begin floor a b
+every_reported f teams count begin floor a b all =
+    subst (λ (list : List (List ℕ)). AddsTeamLines (filter (is_selected teams) list) begin floor a b)
     (take_all count (team_names f) (subst (λ (n : ℕ). n ≤ count) (sym (names_many f)) all))
 
 -- the line of all teams is the last one
-pub all_reported : (f : Frame) (teams : List (List ℕ)) (bounds : List ℕ) (floor : FloorState) (a b c : RepairReport)
-    → floor.frame ≡ f → a.text.items ≡ [] → a.sums ≡ no_sums → a.least.items ≡ bounds → AddsTeamLines (selected_names f teams) floor a b → AddsTotalLine floor b c
-    → IsReport teams bounds floor c.text.items
-all_reported f teams bounds floor a b c frame empty zero least more last = record {
+pub all_reported : (f : Frame) (teams : List (List ℕ)) (bounds : List ℕ) (begin floor : FloorState) (a b c : RepairReport)
+    → floor.frame ≡ f → a.text.items ≡ [] → a.sums ≡ no_sums → a.least.items ≡ bounds → AddsTeamLines (selected_names f teams) begin floor a b → AddsTotalLine floor b c
+    → IsReport teams bounds begin floor c.text.items
+all_reported f teams bounds begin floor a b c frame empty zero least more last = record {
   reported = more.reported;
   named = more.named ∙ ap (λ (g : Frame). selected_names g teams) (sym frame);
-  each = subst (λ (list : List ℕ). All (IsTeamReport list floor) more.reported) least more.each;
+  each = subst (λ (list : List ℕ). All (IsTeamReport list begin floor) more.reported) least more.each;
   legal = last.legal;
   right = last.right;
   is = last.text ∙ ap (λ (text : List ℕ). text ++ all_line b.sums last.legal) (more.text ∙ ap (λ (text : List ℕ). text ++ flat_map line_of_team more.reported) empty)

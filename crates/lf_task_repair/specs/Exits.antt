@@ -32,8 +32,8 @@ pub record IsPut (export lines : Option (List ℕ)) (text : List ℕ) (document 
 -- the first floor is repaired and becomes this one: each requested name is a team's; accepted
 -- commands lead from the first floor to this one, and they are the lines that are kept; only
 -- selected teams change, and no legal cell moves if legal cells are to stay; the report has each
--- selected team with its bound and its unrepaired cells, and says whether the committed design is
--- then fully legal
+-- selected team with its bound and the result of its repair, and says whether the committed design
+-- is then fully legal
 pub record IsRepair (teams : List (List ℕ)) (legal : LegalCells) (lines : Option (List ℕ)) (bounds : List ℕ)
     (begin floor : FloorState)
     (kept : Option (List ℕ)) (report : List ℕ) : Type 0 where
@@ -41,7 +41,7 @@ pub record IsRepair (teams : List (List ℕ)) (legal : LegalCells) (lines : Opti
   pub run : (l : Legalizer) → IsKeptRun l begin (initial_lines lines) kept floor
   pub only : OnlySelectedChange teams begin floor
   pub stay : legal ≡ KeepLegal → KeepsAllLegalPlaces begin floor
-  pub decides : IsReport teams bounds floor report
+  pub decides : IsReport teams bounds begin floor report
 
 -- the first floor is repaired; the report is written; then the exported text is written if
 -- requested, and then the command lines; the status says whether the committed design is fully

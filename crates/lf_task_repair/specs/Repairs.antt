@@ -9,10 +9,13 @@ use Rattle.lf_cli.specs.declared.parse.LegalCells.{LegalCells}
 use Rattle.lf_cli.specs.declared.parse.LegalCells.TheVariants.{KeepLegal, MoveAsNeeded, MoveAll}
 use Rattle.lf_repair_strategy.specs.declared.pass.MovePolicy.{MovePolicy}
 use Rattle.lf_repair_strategy.specs.declared.pass.MovePolicy.TheVariants.{KeepLegal as Keep, MoveAsNeeded as AsNeeded, MoveAll as AllCells}
+use Rattle.lf_proto.specs.Lines.{IsLineName}
+use Rattle.lf_proto.specs.Requests.{IsPlain}
 use Rattle.lf_proto.specs.declared.request.Command.{Command}
 use Rattle.lf_proto.specs.declared.reply.Reply.{Reply}
 use Rattle.lf_floor_model.specs.States.{FloorState}
 use Rattle.lf_floor_model.specs.Teams.{state_of, team_number}
+use Rattle.lf_floor_model.specs.Steps.{IsTo}
 use Rattle.lf_floor_model.specs.Runs.{Run}
 use Rattle.lf_floor_model.specs.VerbLaws.{is_ok}
 use Rattle.lf_floor_model.specs.Committed.{IsCommittedLegal}
@@ -48,12 +51,17 @@ IsUnknown f teams _ = ⊥
 
 -- ---- the run
 
--- the commands lead the floor from `old` to `new`, and each is accepted
+-- a line can contain the command, and reads as it, if its team's name is of visible bytes
+abbrev pub IsPlainIfNamed : Command (List ℕ) Place → Type 0
+IsPlainIfNamed command = (team : List ℕ) → IsTo team command → IsLineName team → IsPlain command
+
+-- the commands lead the floor from `old` to `new`, each is accepted, and its line reads as it
 pub record IsAcceptedRun (l : Legalizer) (old : FloorState) (commands : List (Command (List ℕ) Place))
     (new : FloorState) : Type 0 where
   pub replies : List Reply
   pub run : Run l old commands replies new
   pub granted : All (λ reply. is_ok reply ≡ true) replies
+  pub plain : All IsPlainIfNamed commands
 
 -- some accepted commands lead the floor from `old` to `new`, and their lines are appended to the
 -- kept ones, if lines are kept

@@ -1,13 +1,16 @@
 -- The report of a repair: the lines of its teams, and the line of all teams.
-use Rattle.std.specs.Prelude.{◌≡◌, ◌↔◌, ◌+◌, ◌++◌, ℕ, Bool, IsTrue, List, [], ◌∷◌, All, filter, flat_map, length, map, slice_get}
+use Rattle.std.specs.Prelude.{◌≡◌, ◌≢◌, ◌↔◌, ◌<◌, ◌+◌, ◌++◌, ℕ, Bool, IsTrue, List, [], ◌∷◌, All, AllPairs, filter, flat_map, length, map, slice_get}
 use Rattle.std.specs.Option.{option_map_or}
 use Rattle.lf_floorplan.specs.declared.frame.Frame.{Frame}
 use Rattle.lf_floorplan.specs.declared.loaded.Loaded.{Loaded}
+use Rattle.lf_rules.specs.Legalizer.{Legalizer}
 use Rattle.lf_floor_model.specs.States.{FloorState}
+use Rattle.lf_floor_model.specs.Steps.{AllCommittedIn}
 use Rattle.lf_floor_model.specs.Teams.{team_names, team_number}
 use Rattle.lf_floor_model.specs.Committed.{IsCommittedLegal}
 use Rattle.lf_repair_bounds.specs.MinDisplacements.{AreMaxMinDisplacements}
-use Rattle.lf_repair_team.specs.TeamRepairs.{AreLegalExcept, IsIllegalIn}
+use Rattle.lf_repair_team.specs.Stats.{AreTeamStats}
+use Rattle.lf_repair_team.specs.TeamRepairs.{AreLegalExcept, HasNoPlace, IsIllegalIn, committed_in}
 use Rattle.lf_repair_strategy.specs.declared.stats.RepairStats.{RepairStats}
 use Rattle.lf_repair_report.specs.declared.report.RepairReport.{RepairReport}
 use Rattle.lf_repair_report.specs.declared.totals.Totals.{Totals}
@@ -40,20 +43,32 @@ abbrev pub selected_at : Frame → List (List ℕ) → ℕ → List (List ℕ)
 selected_at f teams number =
     filter (is_selected teams) (option_map_or (λ name. name ∷ []) (slice_get (team_names f) number) [])
 
--- the team is reported with its own bound, and its reported cells are exactly those that are not
--- legal on the floor
-pub record IsTeamReport (bounds : List ℕ) (floor : FloorState) (t : TeamReport) : Type 0 where
+-- the result of a team's repair that began on one floor, on the other: the unrepaired cells are
+-- listed in loading order, are exactly those that are not legal, and have no place; the statistics
+-- are those of the team's cells from one floor to the other; the team is committed if and only if
+-- no cell is unrepaired, and otherwise its committed places are as they were
+pub record IsRepairOf (team : List ℕ) (begin floor : FloorState) (became : RepairStats) : Type 0 where
+  pub legal : AreLegalExcept team floor became.unrepaired.items
+  pub illegal : All (IsIllegalIn floor team) became.unrepaired.items
+  pub complete : All (HasNoPlace floor team) became.unrepaired.items
+  pub rise : AllPairs (λ own later. own < later) became.unrepaired.items
+  pub stats : AreTeamStats team begin floor became
+  pub committed : (l : Legalizer) → became.unrepaired.items ≡ [] ↔ AllCommittedIn l floor team
+  pub uncommitted : became.unrepaired.items ≢ [] → committed_in floor team ≡ committed_in begin team
+
+-- the team is reported with its own bound, the names of its unrepaired cells, and the result of its
+-- repair from the first floor to the last one
+pub record IsTeamReport (bounds : List ℕ) (begin floor : FloorState) (t : TeamReport) : Type 0 where
   pub least : t.least ≡ least_for bounds (team_number floor.frame t.name)
   pub left : t.left ≡ cell_names floor t.name t.became.unrepaired.items
-  pub legal : AreLegalExcept t.name floor t.became.unrepaired.items
-  pub illegal : All (IsIllegalIn floor t.name) t.became.unrepaired.items
+  pub repaired : IsRepairOf t.name begin floor t.became
 
--- the lines of the teams with these names are appended, each with its unrepaired cells on this
--- floor
-pub record AddsTeamLines (names : List (List ℕ)) (floor : FloorState) (old new : RepairReport) : Type 0 where
+-- the lines of the teams with these names are appended, each with the result of its repair from one
+-- floor to the other
+pub record AddsTeamLines (names : List (List ℕ)) (begin floor : FloorState) (old new : RepairReport) : Type 0 where
   pub reported : List TeamReport
   pub named : map (λ t. t.name) reported ≡ names
-  pub each : All (IsTeamReport old.least.items floor) reported
+  pub each : All (IsTeamReport old.least.items begin floor) reported
   pub text : new.text.items ≡ old.text.items ++ flat_map line_of_team reported
   pub sums : new.sums ≡ sums_with old.sums reported
   pub least : new.least ≡ old.least
@@ -64,12 +79,13 @@ pub record AddsTotalLine (floor : FloorState) (old new : RepairReport) : Type 0 
   pub right : IsTrue legal ↔ IsCommittedLegal floor
   pub text : new.text.items ≡ old.text.items ++ all_line old.sums legal
 
--- the text has the line of each selected team, with its own bound and its unrepaired cells on the
--- floor, and then the line of all teams, which says whether the committed design is fully legal
-pub record IsReport (teams : List (List ℕ)) (bounds : List ℕ) (floor : FloorState) (text : List ℕ) : Type 0 where
+-- the text has the line of each selected team, with its own bound and the result of its repair from
+-- the first floor to the last one, and then the line of all teams, which says whether the committed
+-- design is fully legal
+pub record IsReport (teams : List (List ℕ)) (bounds : List ℕ) (begin floor : FloorState) (text : List ℕ) : Type 0 where
   pub reported : List TeamReport
   pub named : map (λ t. t.name) reported ≡ selected_names floor.frame teams
-  pub each : All (IsTeamReport bounds floor) reported
+  pub each : All (IsTeamReport bounds begin floor) reported
   pub legal : Bool
   pub right : IsTrue legal ↔ IsCommittedLegal floor
   pub is : text ≡ flat_map line_of_team reported ++ all_line (sums_with no_sums reported) legal

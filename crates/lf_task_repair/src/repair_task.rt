@@ -1,6 +1,6 @@
 //! Repairs the teams of a design: the floor's own commands give their cells legal places.
 
-ghost use Rattle.std.specs.Prelude.{◌≡◌, ◌≢◌, ◌⊎◌, ◌+◌, ℕ, All, List, None, Option, Some, IfErr, IfOk, IsTrue, OnErr, OnOk};
+ghost use Rattle.std.specs.Prelude.{◌≡◌, ◌≢◌, ◌⊎◌, ◌+◌, ℕ, List, None, Option, Some, IfErr, IfOk, IsTrue, OnErr, OnOk};
 ghost use Rattle.std.specs.Prelude.{bytes_eq, is_some, length, map, position, take, true};
 ghost use Rattle.std.specs.Io.KnownBytes.{Appends};
 ghost use Rattle.lf_cli.specs.declared.parse.LegalCells.TheVariants.{KeepLegal};
@@ -16,7 +16,7 @@ ghost use Rattle.lf_floor_model.specs.States.{FloorState};
 ghost use Rattle.lf_floor_model.specs.Teams.{state_of, team_number};
 ghost use Rattle.lf_write.specs.Export.{CanBeRenewed, clause_of};
 ghost use Rattle.lf_repair_strategy.specs.declared.pass.MovePolicy.TheVariants.{KeepLegal as Keep};
-ghost use Rattle.lf_repair_team.specs.TeamRepairs.{AreLegalExcept, ChangesOnly, IsIllegalIn, KeepsLegalPlaces};
+ghost use Rattle.lf_repair_team.specs.TeamRepairs.{ChangesOnly, KeepsLegalPlaces};
 ghost use Rattle.lf_repair_strategy.specs.declared.stats.RepairStats.{RepairStats};
 ghost use Rattle.lf_repair_report.specs.RepairReports.{IsOneMore};
 ghost use Rattle.lf_task_faults.specs.declared.faults.Fault.TheVariants.{SetupOutOfMemory, Output};
@@ -27,7 +27,7 @@ ghost use Rattle.lf_task_files.specs.Inputs.{path_of};
 ghost use Rattle.lf_task_repair.specs.Exits.{AreNotPut, IsNotPut, IsNotRepaired, IsOpenRepaired, IsPut, IsRepaired, IsUnrepaired};
 ghost use Rattle.lf_task_repair.specs.Repairs.{KeepsAllLegalPlaces, AreKnown, BlamesOutputs, IsStatusOf, IsKeptRun, WritesLines, IsUnknown, OnlySelectedChange};
 ghost use Rattle.lf_task_repair.specs.Repairs.{initial_lines, how_of, is_selected, kept_text};
-ghost use Rattle.lf_task_repair.specs.Reports.{AreBounds, AddsTeamLines, IsReport, AddsTotalLine, selected_at, selected_names};
+ghost use Rattle.lf_task_repair.specs.Reports.{AreBounds, AddsTeamLines, IsRepairOf, IsReport, AddsTotalLine, selected_at, selected_names};
 
 use crate::command_log::{CommandLog, save_lines};
 use crate::progress::{Progress, ProgressSink};
@@ -133,8 +133,7 @@ fn repair_named<'f, P: Progress>(
     ensures kept { how ≡ Keep → KeepsLegalPlaces name.now floor.old floor.new }
     ensures reported { OnOk result
         ((repaired : RepairStats) × IsOneMore floor.new name.now repaired report.old report.new
-        × AreLegalExcept name.now floor.new repaired.unrepaired.items
-        × All (IsIllegalIn floor.new name.now) repaired.unrepaired.items) }
+        × IsRepairOf name.now floor.old floor.new repaired) }
     ensures err { IfErr result (λ fault. fault ≡ SetupOutOfMemory) }
 {
     match repair_team(alloc, floor, name, how, lines) {
@@ -166,7 +165,7 @@ fn repair_numbered<'a, P: Progress>(
     ensures only { OnOk result
         (OnlySelectedChange (map (λ team. team.now) requested.now.teams.now) floor.old floor.new) }
     ensures reported { OnOk result (AddsTeamLines (selected_at floor.old.frame
-        (map (λ team. team.now) requested.now.teams.now) number) floor.new report.old report.new) }
+        (map (λ team. team.now) requested.now.teams.now) number) floor.old floor.new report.old report.new) }
     ensures err { IfErr result (λ fault. fault ≡ SetupOutOfMemory) }
     ensures kept { requested.now.legal ≡ KeepLegal → (team : List ℕ) → team_number floor.old.frame team ≡ Some number
         → KeepsLegalPlaces team floor.old floor.new }
@@ -199,7 +198,7 @@ fn repair_teams<'a, P: Progress>(
         (OnlySelectedChange (map (λ team. team.now) requested.now.teams.now) floor.old floor.new) }
     ensures kept { requested.now.legal ≡ KeepLegal → OnOk result (KeepsAllLegalPlaces floor.old floor.new) }
     ensures reported { OnOk result (AddsTeamLines (selected_names floor.old.frame
-        (map (λ team. team.now) requested.now.teams.now)) floor.new report.old report.new) }
+        (map (λ team. team.now) requested.now.teams.now)) floor.old floor.new report.old report.new) }
     ensures err { IfErr result (λ fault. fault ≡ SetupOutOfMemory) }
 {
     let teams = floor.placement().frame().teams.len() + 1;
@@ -259,8 +258,8 @@ fn repair_selected<'a, P: Progress>(
         (OnlySelectedChange (map (λ team. team.now) requested.now.teams.now) floor.old floor.new) }
     ensures kept { requested.now.legal ≡ KeepLegal → OnOk result (KeepsAllLegalPlaces floor.old floor.new) }
     ensures committed_checked { IfOk result (λ done. IsStatusOf floor.new done.status) }
-    ensures reported { IfOk result
-        (λ done. IsReport (map (λ team. team.now) requested.now.teams.now) least.now floor.new done.report.text.items) }
+    ensures reported { IfOk result (λ done. IsReport (map (λ team. team.now) requested.now.teams.now) least.now
+        floor.old floor.new done.report.text.items) }
     ensures err { IfErr result (λ fault. fault ≡ SetupOutOfMemory) }
 {
     legalizer_exists();

@@ -5,3 +5,18 @@ use Rattle.lf_task_repair.proofs.repair_task.repair_named.Goals as goal
 pub returns-in_ok-add-in-Ok-clause-run : goal.returns-in_ok-add-in-Ok-clause-run
 returns-in_ok-add-in-Ok-clause-run g c = λ l.
     of_team l c.args.name.now c.args.floor.now c.repair_team.new.floor (kept_text c.args.lines.now.lines) (kept_text c.repair_team.new.lines.lines) (c.in-Ok.ensures.run l)
+
+pub returns-in_ok-add-in-Ok-clause-reported : goal.returns-in_ok-add-in-Ok-clause-reported
+returns-in_ok-add-in-Ok-clause-reported g c = (
+  c.in-Ok.repaired,
+  c.in_ok-add-in-Ok.ensures,
+  record {
+    legal = c.in-Ok.ensures.named;
+    illegal = c.in-Ok.ensures.illegal;
+    complete = c.in-Ok.ensures.complete;
+    rise = c.in-Ok.ensures.rise;
+    stats = c.in-Ok.ensures.reported;
+    committed = c.in-Ok.ensures.committed;
+    uncommitted = c.in-Ok.ensures.uncommitted;
+  },
+)

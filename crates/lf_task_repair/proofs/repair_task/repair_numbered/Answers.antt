@@ -43,5 +43,5 @@ returns-clause-reported g c =
     let there : slice_get (team_names c.args.floor.now.frame) c.args.number ≡ Some c.as_slice-name.result.now = search rules in
     on_ok_weaker c.repair_named.result
     (λ once. one_reported c.args.floor.now.frame (map (λ team. team.now) c.args.requested.now.teams.now) c.args.number c.as_slice-name.result.now
-    c.repair_named.new.floor once.0 c.args.report.now c.repair_named.new.report there (sym c.is_selected.ensures ∙ c.if-not-is_selected.false) once.1 once.2 once.3)
+    c.args.floor.now c.repair_named.new.floor once.0 c.args.report.now c.repair_named.new.report there (sym c.is_selected.ensures ∙ c.if-not-is_selected.false) once.1 once.2)
     c.repair_named.ensures.reported

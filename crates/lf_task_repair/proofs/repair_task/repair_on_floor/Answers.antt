@@ -28,7 +28,7 @@ returns-clause-ok g c = λ document kept.
         run = λ l. c.in_ok-done.ensures.run l;
         only = c.in_ok-done.ensures.only;
         stay = λ to_stay. c.in_ok-done.ensures.kept to_stay;
-        decides = subst (λ (bounds : List ℕ). IsReport (map (λ team. team.now) requested.teams.now) bounds floor report) c.deref.ensures.value c.in_ok-done.ensures.reported;
+        decides = subst (λ (bounds : List ℕ). IsReport (map (λ team. team.now) requested.teams.now) bounds c.args.floor.now floor report) c.deref.ensures.value c.in_ok-done.ensures.reported;
       };
       put = subst (λ (puts : Option (List Put)). IsPut (path_of requested.export) (path_of requested.lines) c.args.before.now.original.text.items document floor lines
           report (g.W.Sink.contents c.args.writer.now) (g.W.Sink.contents c.put_all.new.writer) puts (g.E.OutputFiles.puts c.put_all.new.exports)) c.try_files.ensures.unput put;
@@ -51,7 +51,7 @@ returns-clause-err g c = λ document kept.
         run = λ l. c.in_ok-done.ensures.run l;
         only = c.in_ok-done.ensures.only;
         stay = λ to_stay. c.in_ok-done.ensures.kept to_stay;
-        decides = subst (λ (bounds : List ℕ). IsReport (map (λ team. team.now) requested.teams.now) bounds floor report) c.deref.ensures.value c.in_ok-done.ensures.reported;
+        decides = subst (λ (bounds : List ℕ). IsReport (map (λ team. team.now) requested.teams.now) bounds c.args.floor.now floor report) c.deref.ensures.value c.in_ok-done.ensures.reported;
       },
       subst (λ (puts : Option (List Put)). IsNotPut (path_of requested.export) (path_of requested.lines) c.args.before.now.original.text.items document floor
           report (g.W.Sink.contents c.args.writer.now) (g.W.Sink.contents c.put_all.new.writer) puts (g.E.OutputFiles.puts c.put_all.new.exports) fault)
