@@ -256,6 +256,33 @@ def klayout(folder: Path, script: str, *words: str | Path) -> list[str]:
     return done.stdout.decode().splitlines()
 
 
+# The number of cells that KLayout reads, the sum of their areas, and the area of their union.
+AREAS = """
+import pya
+options = pya.LoadLayoutOptions()
+config = options.lefdef_config
+config.lef_files, config.read_lef_with_def, config.macro_resolution_mode = [lef], False, 1
+config.produce_cell_outlines, config.cell_outline_layer = True, "outline (99/0)"
+layout = pya.Layout()
+layout.read(design, options)
+outline = layout.find_layer(99, 0)
+boxes = [each.bbox_per_layer(outline) for each in layout.top_cell().each_inst()]
+print(len(boxes), sum(box.area() for box in boxes), pya.Region(boxes).merged().area())
+"""
+# The names of the cells that KLayout reads, and their places.
+PLACES = """
+import pya
+options = pya.LoadLayoutOptions()
+config = options.lefdef_config
+config.lef_files, config.read_lef_with_def, config.macro_resolution_mode = lefs.split(","), False, 1
+config.instance_property_name = "name"
+layout = pya.Layout()
+layout.read(design, options)
+for each in layout.top_cell().each_inst():
+    print(each.property("name"), each.cell.name, each.dtrans)
+"""
+
+
 def wait_gone(processes: list[int]) -> None:
     """Waits until none of these processes runs."""
     last = time.monotonic() + PATIENCE

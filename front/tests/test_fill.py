@@ -6,7 +6,7 @@ import subprocess
 import unittest
 from pathlib import Path
 
-from support import LEF, PROGRAM, TEAMS, FrontCase
+from support import AREAS, LEF, PROGRAM, TEAMS, FrontCase, klayout, with_klayout
 
 from lefence.base.description import Description
 from lefence.tools.fill import Masters
@@ -51,6 +51,14 @@ class Fillers(FrontCase):
         self.assertEqual(done.returncode, 0, done.stderr)
         back = (self.folder / "back.def").read_text()
         self.assertEqual(back, self.design.read_text())
+
+    @with_klayout
+    def test_klayout_finds_no_overlap_of_fillers(self) -> None:
+        self.assertEqual(self.fill(ALL).returncode, 0)
+        words = ("-b", "-rd", f"design={self.filled}", "-rd", f"lef={self.lef}")
+        count, total, union = klayout(self.folder, AREAS, *words)[0].split()
+        self.assertEqual(float(total), float(union))
+        self.assertEqual(int(count), self.filled.read_text().count("+ PLACED"))
 
     def test_a_gap_that_no_master_fits_is_reported(self) -> None:
         done = self.fill("--masters", "F4", "--team", "f1")

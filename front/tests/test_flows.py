@@ -12,7 +12,7 @@ import subprocess
 from pathlib import Path
 from unittest import main
 
-from support import PROGRAM, FrontCase
+from support import PLACES, PROGRAM, FrontCase, klayout, with_klayout
 
 from lefence.base.description import Cell, Description
 
@@ -159,6 +159,16 @@ class Flows(FrontCase):
         # (of FS, what is below faces up)
         self.assertIn("BLOCKAGES 1 ;\n- PLACEMENT RECT ( 9800 1200 ) ( 14600 22400 ) ;\nEND BLOCKAGES\nGROUPS", text)
         self.assertNotIn("ram2", self.cells())
+
+    @with_klayout
+    def test_klayout_reads_what_is_prepared_as_the_original(self) -> None:
+        self.prepared("--adopt", "dsp", "--fix", "RAM", "--halos", "--as-fence", "pd")
+        found = []
+        for design, folder in ((self.design, self.folder), (self.folder / "new.def", self.folder / "lef")):
+            lefs = f"{folder / self.tech.name},{folder / self.lef.name}"
+            found.append(klayout(self.folder, PLACES, "-zz", "-rd", f"design={design}", "-rd", f"lefs={lefs}"))
+        self.assertEqual(len(found[0]), 9)
+        self.assertEqual(sorted(found[0]), sorted(found[1]))
 
     def test_halos_turn_with_their_components(self) -> None:
         for orient, expected in (

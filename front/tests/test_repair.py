@@ -8,7 +8,7 @@ import subprocess
 from pathlib import Path
 from unittest import main
 
-from support import CELLS, LEF, PROGRAM, TEAMS, WIDTH, FrontCase, klayout, with_klayout
+from support import AREAS, CELLS, LEF, PROGRAM, TEAMS, WIDTH, FrontCase, klayout, with_klayout
 
 from lefence.base.description import Cell, Description
 from lefence.tools.splice import Spot, with_spots
@@ -25,19 +25,6 @@ COMPONENTS 2 ;
 END COMPONENTS
 GROUPS 1 ; - g two three + REGION A ; END GROUPS
 END DESIGN
-"""
-# The number of cells that KLayout reads, the sum of their areas, and the area of their union.
-AREAS = """
-import pya
-options = pya.LoadLayoutOptions()
-config = options.lefdef_config
-config.lef_files, config.read_lef_with_def, config.macro_resolution_mode = [lef], False, 1
-config.produce_cell_outlines, config.cell_outline_layer = True, "outline (99/0)"
-layout = pya.Layout()
-layout.read(design, options)
-outline = layout.find_layer(99, 0)
-boxes = [each.bbox_per_layer(outline) for each in layout.top_cell().each_inst()]
-print(len(boxes), sum(box.area() for box in boxes), pya.Region(boxes).merged().area())
 """
 # Forms of a placement clause, and none.
 CLAUSES = (
