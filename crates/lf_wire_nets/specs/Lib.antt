@@ -1,0 +1,5 @@
+pub mod DesignPins
+pub mod NetTexts
+pub mod Nets
+pub mod Ranges
+pub mod Stored

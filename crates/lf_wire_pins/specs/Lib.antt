@@ -1,0 +1,5 @@
+pub mod Boxes
+pub mod LibraryPins
+pub mod MacroPins
+pub mod Shapes
+pub mod Stored
