@@ -137,9 +137,9 @@ class Mistakes(unittest.TestCase):
             self.said(["serve", *DESIGN, "--port", "5800", "--connections", "1", "--lines", "5"], 2, USAGE)
             self.said(["replay", *DESIGN, "--port", "5800"], 2, USAGE)
             self.said(["replay", *DESIGN, "--exprt", str(target)], 2, USAGE)
-            self.said(["repair", *DESIGN, "--save", str(target)], 2, USAGE)
+            self.said(["describe", *DESIGN, "--committed"], 2, USAGE)
             self.said(["check", *DESIGN, "--save", str(target)], 2, USAGE)
-            self.said(["repair", *DESIGN, "--state", str(target)], 2, USAGE)
+            self.said(["replay", *DESIGN, "--export-working", str(target)], 2, USAGE)
             self.assertEqual(os.listdir(folder), [])
 
     def test_an_option_without_its_value_or_twice(self) -> None:
@@ -210,11 +210,23 @@ class Mistakes(unittest.TestCase):
             )
 
     def test_a_compressed_text(self) -> None:
+        starts = {
+            "zcat": b"\x1f\x8b\x08\x00",
+            "bzcat": b"BZh9\x00",
+            "xzcat": b"\xfd7zXZ\x00",
+            "zstdcat": b"\x28\xb5\x2f\xfd",
+            "unzip -p": b"PK\x03\x04",
+        }
         with tempfile.TemporaryDirectory() as folder:
-            packed = Path(folder) / "w.def.gz"
-            packed.write_bytes(b"\x1f\x8b\x08\x00")
-            where = f"DEF file {packed} (it looks compressed), line 1: \\x1f\\x8b\\x08\\x00"
-            self.said(["check", str(packed), W_LEF], 1, "lefence: 1 BadToken line 1", where)
+            packed = Path(folder) / "w.packed"
+            for command, start in starts.items():
+                packed.write_bytes(start + b"\xff" * 100)
+                for words, kind in (([str(packed), W_LEF], "DEF"), ([W_DEF, W_LEF, str(packed)], "LEF")):
+                    with self.subTest(command=command, kind=kind):
+                        status, written, said = run(["check", *words])
+                        where = f"lefence: {kind} file {packed}: the text is compressed"
+                        where += f": read it as <({command} {packed})"
+                        self.assertEqual((status, written, said.splitlines()[1:]), (1, "", [where]))
 
     def test_a_def_text_without_its_lef_texts(self) -> None:
         with tempfile.TemporaryDirectory() as folder:
@@ -224,8 +236,38 @@ class Mistakes(unittest.TestCase):
             lines = DEF.read_text().splitlines()
             for lef, first, word in ((empty, "8 NoSite core", "ROW r0"), (site, "14 NoMacro INV", "- a1 INV")):
                 number = next(at for at, line in enumerate(lines, 1) if line.strip().startswith(word))
-                where = f"DEF file {W_DEF}, line {number}: {lines[number - 1]}"
+                says = " (no LEF file has this MACRO in front of its END LIBRARY)" if lef == site else ""
+                where = f"DEF file {W_DEF}, line {number}{says}: {lines[number - 1]}"
                 self.said(["check", W_DEF, str(lef)], 1, f"lefence: {first}", where)
+
+    def test_what_a_design_lacks(self) -> None:
+        rows = "".join(line for line in DEF.read_text().splitlines(True) if not line.startswith("ROW "))
+        step = DEF.read_text().replace("STEP 200 0", "STEP 400 0", 1)
+        name = next(line for line in rows.splitlines() if line.startswith("DESIGN ")).split()[1]
+        with tempfile.TemporaryDirectory() as folder:
+            text, lef = Path(folder) / "w.def", Path(folder) / "w.lef"
+            cases = {
+                "(there is no ROW: lefence-prepare makes rows)": (rows, LEF.read_text(), f"9 NoRows {name}"),
+                "(no ROW has a site of CLASS CORE, in capitals, with a SIZE)": (
+                    DEF.read_text(),
+                    LEF.read_text().replace("CLASS CORE", "CLASS core", 1),
+                    f"9 NoRows {name}",
+                ),
+                "(its STEP is not the width of the core site)": (step, LEF.read_text(), "11 BadStep r0"),
+                "(a length is not whole in the units of the design)": (
+                    DEF.read_text(),
+                    LEF.read_text().replace("SIZE 0.4 BY", "SIZE 0.4001 BY", 1),
+                    "16 NotWhole INV",
+                ),
+            }
+            for says, (design, library, first) in cases.items():
+                with self.subTest(says):
+                    text.write_text(design)
+                    lef.write_text(library)
+                    status, written, said = run(["check", str(text), str(lef)])
+                    self.assertEqual((status, written), (1, ""))
+                    self.assertEqual(said.splitlines()[0], f"lefence: {first}")
+                    self.assertIn(f" {says}: ", said.splitlines()[1])
 
     def shown(self, text: str, entry: str, says: str, message: str) -> None:
         """A check of the DEF text is refused with this message. It shows the last line that begins with `entry`, with

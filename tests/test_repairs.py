@@ -6,10 +6,11 @@ No contract knows the contents of files, or what the report counts.
 from __future__ import annotations
 
 import json
+import subprocess
 import unittest
 from pathlib import Path
 
-from program import DEF, LEF, InFolder, Start, preloading, run
+from program import DEF, LEF, PROGRAM, InFolder, Start, preloading, run
 
 # The keys of the line of a team, and of the line of all teams, in order.
 TEAM_KEYS = [
@@ -91,14 +92,19 @@ class Repairs(InFolder):
         self.new = self.folder / "new.def"
         self.lines = self.folder / "lines.txt"
 
-    def repair(self, changes: dict[str, str], *words: str) -> tuple[int, list[dict[str, object]]]:
-        """Repairs the design. Returns the status and the lines of the report. Nothing is written on standard error."""
+    def repair(self, changes: dict[str, str], *words: str, note: str = "") -> tuple[int, list[dict[str, object]]]:
+        """Repairs the design. Returns the status and the lines of the report. Only the note is written on standard
+        error."""
         self.text.write_text(design(changes))
         status, written, said = run(["repair", str(self.text), str(LEF), *words])
-        self.assertEqual(said, "")
+        self.assertEqual(said, note)
         report = [json.loads(line) for line in written.splitlines()]
         self.assertEqual([list(line) for line in report], [TEAM_KEYS] * (len(report) - 1) + [ALL_KEYS])
         return status, report
+
+    def alone(self) -> str:
+        """The note that the exported text lacks working places."""
+        return f"lefence: {self.new} has the committed places alone: --export-working FILE writes the others\n"
 
     def check(self, text: Path) -> int:
         """The status of a check of this DEF text."""
@@ -241,7 +247,8 @@ class Repairs(InFolder):
             changes = {**tight(4, 1), "- a2 INV + UNPLACED ;": f"- a2 INV + {clause} ;"}
             for more, status, left, pushed in (("--keep", 4, ["a2"], 0), ("", 0, [], 1)):
                 with self.subTest(clause + more):
-                    done, report = self.repair(changes, "--export", str(self.new), *more.split())
+                    note = self.alone() if status and clause != "UNPLACED" else ""
+                    done, report = self.repair(changes, "--export", str(self.new), *more.split(), note=note)
                     self.assertEqual((done, self.check(self.new)), (status, status))
                     self.assertEqual(
                         (report[0]["left"], report[0]["pushed"], report[-1]["pushed"]), (left, pushed, pushed)
@@ -273,7 +280,8 @@ class Repairs(InFolder):
         self.assertEqual(report[-1]["left_cells"], 0)
 
     def test_a_cell_without_room_is_named_and_its_team_is_as_it_was(self) -> None:
-        status, report = self.repair({**PLACED_CELLS, **NARROW}, "--export", str(self.new), "--lines", str(self.lines))
+        words = ["--export", str(self.new), "--lines", str(self.lines)]
+        status, report = self.repair({**PLACED_CELLS, **NARROW}, *words, note=self.alone())
         self.assertEqual(status, 4)
         left = report[0]["left"]
         assert isinstance(left, list)
@@ -292,11 +300,88 @@ class Repairs(InFolder):
     def test_files_that_cannot_be_written_are_reported_before_the_work(self) -> None:
         self.text.write_text(design(PLACED_CELLS))
         missing = self.folder / "no" / "file"
-        for option, word in (("--export", "export"), ("--lines", "lines")):
-            words = ["repair", str(self.text), str(LEF), option, str(missing)]
+        kinds = {"export": "export", "export-working": "working export", "lines": "lines", "save": "state"}
+        for option, word in kinds.items():
+            words = ["repair", str(self.text), str(LEF), f"--{option}", str(missing)]
             said = f"lefence: File\nlefence: {word} file {missing} cannot be written: there is no such folder\n"
             self.assertEqual(run(words), (3, "", said))
         self.assertEqual(self.names(), ["old.def"])
+
+    def test_the_working_places_are_written_if_a_team_cannot_be_committed(self) -> None:
+        working = self.folder / "working.def"
+        words = ["--export", str(self.new), "--export-working", str(working), "--lines", str(self.lines)]
+        note = f"lefence: {working} has working places that are not committed\n"
+        status, report = self.repair({**PLACED_CELLS, **NARROW}, *words, note=note)
+        self.assertEqual((status, self.new.read_text()), (4, self.text.read_text()))
+        saved = self.folder / "w.state"
+        done = run(["replay", str(self.text), str(LEF), "--save", str(saved)], self.lines.read_text())
+        self.assertEqual((done[0], done[2]), (0, ""))
+        self.assertEqual(
+            run(["check", str(working), str(LEF)]), run(["check", str(self.text), str(LEF), "--state", str(saved)])
+        )
+        left = report[0]["left"]
+        assert isinstance(left, list)
+        lines = working.read_text().splitlines()
+        for name in left:
+            self.assertIn("+ UNPLACED", next(line for line in lines if line.startswith(f"- {name} ")))
+        self.assertNotEqual(working.read_text(), self.text.read_text())
+
+    def test_the_working_places_of_a_legal_design_are_the_committed_ones(self) -> None:
+        working = self.folder / "working.def"
+        status, _ = self.repair(PLACED_CELLS, "--export", str(self.new), "--export-working", str(working))
+        self.assertEqual((status, working.read_text()), (0, self.new.read_text()))
+        self.assertEqual(self.names(), ["new.def", "old.def", "working.def"])
+
+    def test_a_repair_begins_in_a_state_and_saves_its_own(self) -> None:
+        self.text.write_text(design(PLACED_CELLS))
+        before, after, again = (self.folder / name for name in ("before.state", "after.state", "again.state"))
+        texts = [str(self.text), str(LEF)]
+        # in the state alone a2 is legal, 2 sites away from a1, and b1 has no place
+        lines = "open A\npad A 0 2\nplace A 0 a2 800 0 N\nopen B\nunplace B 0 b1\nclose A 0\n"
+        done = run(["replay", *texts, "--save", str(before)], lines)
+        self.assertEqual((done[0], done[2]), (0, ""))
+        words = ["--state", str(before), "--lines", str(self.lines), "--export", str(self.new), "--save", str(after)]
+        status, written, said = run(["repair", *texts, *words])
+        self.assertEqual((status, said), (0, ""))
+        report = [json.loads(line) for line in written.splitlines()]
+        self.assertEqual([(line["team"], line["placed"]) for line in report[:-1]], [("A", 0), ("B", 1), ("-", 0)])
+        # the lines lead from that state to the saved one
+        words = ["--state", str(before), "--save", str(again)]
+        done = run(["replay", *texts, *words], self.lines.read_text())
+        self.assertEqual((done[0], done[2]), (0, ""))
+        self.assertEqual(again.read_text(), after.read_text())
+        committed = run(["check", *texts, "--state", str(after), "--committed"])
+        self.assertEqual(committed, run(["check", str(self.new), str(LEF)]))
+        # the state itself is replaced
+        words = ["--state", str(before), "--save", str(before)]
+        self.assertEqual(run(["repair", *texts, *words])[0], 0)
+        self.assertEqual(before.read_text(), after.read_text())
+
+    def test_a_state_comes_through_a_pipe(self) -> None:
+        self.text.write_text(design(PLACED_CELLS))
+        saved = self.folder / "w.state"
+        texts = [str(self.text), str(LEF)]
+        self.assertEqual(run(["replay", *texts, "--save", str(saved)], "")[0], 0)
+        script = 'exec "$0" repair "$1" "$2" --state <(cat "$3")'
+        command = ["bash", "-c", script, str(PROGRAM), *texts, str(saved)]
+        piped = subprocess.run(command, capture_output=True, text=True, timeout=60, check=False)
+        whole = run(["repair", *texts])
+        self.assertEqual((piped.returncode, piped.stdout, piped.stderr), whole)
+
+    def test_what_is_no_state_of_the_design_is_refused(self) -> None:
+        self.text.write_text(design(PLACED_CELLS))
+        state = self.folder / "w.state"
+        texts = [str(self.text), str(LEF)]
+        words = ["repair", *texts, "--state", str(state), "--export", str(self.new)]
+        said = f"lefence: File\nlefence: state file {state} cannot be read: there is no such file\n"
+        self.assertEqual(run(words), (3, "", said))
+        state.write_text("lefence-state 1\nteams 9\n")
+        said = f"lefence: 26 OtherDesign line 2\nlefence: state file {state}, line 2: teams 9\n"
+        self.assertEqual(run(words), (1, "", said))
+        # one of nine slots
+        self.assertEqual(run(["replay", *texts, "--sessions", "9", "--save", str(state)], "")[0], 0)
+        self.assertEqual(run(words)[:2], (1, ""))
+        self.assertEqual(run([*words, "--sessions", "9"])[0], 0)
 
     def test_the_text_itself_may_be_replaced(self) -> None:
         self.assertEqual(self.repair(PLACED_CELLS, "--export", str(self.text))[0], 0)

@@ -152,11 +152,11 @@ class Slots(States):
 
     def test_a_malformed_number(self) -> None:
         for number in ("0", "65", "-1", "x", "", "4294967304"):
-            for verb in ("check", "describe", "replay"):
+            for verb in ("check", "describe", "replay", "repair"):
                 with self.subTest((verb, number)):
                     status, written, said = run([verb, *DESIGN, f"--sessions={number}"], "open A\n")
                     self.assertEqual((status, written, said.split("\n")[0]), (2, "", "lefence: usage"))
-        self.assertEqual(run(["repair", *DESIGN, "--sessions", "9"])[0], 2)
+        self.assertEqual(run(["demo", "--sessions", "9"])[0], 2)
 
 
 class Saved(States):
@@ -483,6 +483,21 @@ class LookedAt(States):
         self.assertIn(
             '{"box":[6200,0,6600,2000],"height":2000,"kind":"cell","macro":"INV","name":"b1"', self.look("describe")[1]
         )
+
+    def test_committed_places_are_those_of_the_text_until_a_commit(self) -> None:
+        words = ["check", *DESIGN, "--state", str(self.state), "--committed"]
+        self.assertEqual(self.save("open A\nplace A 0 a1 0 0 N\n")[0], 0)
+        self.assertEqual(run(words), run(["check", *DESIGN]))
+        self.assertNotEqual(run(words), self.look("check"))
+        # all committed at one place
+        text = self.folder / "placed.def"
+        text.write_text(text_at(dict.fromkeys(PLACES, (2000, 2000))).replace(") N ;", ") FS ;"))
+        self.state.write_text(state_at(PLACES))
+        self.assertEqual(run(words), run(["check", str(text), str(LEF)]))
+        self.assertEqual(run(words)[0], 4)
+
+    def test_without_a_state_both_places_are_those_of_the_text(self) -> None:
+        self.assertEqual(run(["check", *DESIGN, "--committed"]), run(["check", *DESIGN]))
 
     def test_a_state_is_seen_as_a_text_with_its_places(self) -> None:
         text = self.folder / "placed.def"

@@ -10,7 +10,7 @@ pub(crate) const HINT: &str = "  lefence --help                all subcommands a
 /// The usage: all subcommands and their options.
 const USAGE: &str =
     "  lefence [demo]                answers the lines of standard input over the built-in design
-  lefence check DEF LEF... [--state FILE] [--sessions N]
+  lefence check DEF LEF... [--state FILE [--committed]] [--sessions N]
                                 writes a report of the design
   lefence describe DEF LEF... [--state FILE] [--sessions N]
                                 writes the design as JSON Lines: rows, fences, obstacles, cells with boxes and
@@ -20,7 +20,8 @@ const USAGE: &str =
                                 with the committed places, to FILE
   lefence serve DEF LEF... --port P --connections N [--state FILE] [--save FILE] [--export FILE] [--sessions N]
                                 answers the lines of N connections to port P of this machine, one after another
-  lefence repair DEF LEF... [--team NAME]... [--keep | --all] [--export FILE] [--lines FILE]
+  lefence repair DEF LEF... [--team NAME]... [--keep | --all] [--state FILE] [--save FILE] [--export FILE]
+              [--export-working FILE] [--lines FILE] [--sessions N]
                                 moves cells that break a rule or have no place to legal places
   (put -- before a path that begins with '-'; docs/PROTOCOL.md says more)
 ";
@@ -41,12 +42,13 @@ example:
   printf 'open A\\nplace A 0 a1 0 0 N\\nwhere A 0 a1\\n' | lefence demo
 ";
 
-const CHECK: &str = "lefence check DEF LEF... [--state FILE] [--sessions N]
+const CHECK: &str = "lefence check DEF LEF... [--state FILE [--committed]] [--sessions N]
 
 Writes a report of the design as one line of JSON: how many cells there are, how many are unplaced, which break
-which rule, which overlap which. With --state, each cell is at its working place in
-the state that was saved to FILE. Each team has N session slots (8 if not given). The exit status is 0 if the design
-is fully legal, and 4 if it is not.
+which rule, which overlap which. With --state, each cell is at its working place in the state that was saved to FILE,
+with --committed too at its committed place. Without --state, --committed changes nothing: the places of the DEF text
+are both. Each team has N session slots (8 if not given). The exit status is 0 if the design is fully legal, and 4 if
+it is not.
 
 example:
   lefence check chip.def tech.lef cells.lef
@@ -89,13 +91,17 @@ example:
 ";
 
 const REPAIR: &str =
-    "lefence repair DEF LEF... [--team NAME]... [--keep | --all] [--export FILE] [--lines FILE]
+    "lefence repair DEF LEF... [--team NAME]... [--keep | --all] [--state FILE] [--save FILE] [--export FILE]
+               [--export-working FILE] [--lines FILE] [--sessions N]
 
 Moves cells that break a rule or have no place to legal places: those of the named teams, or of all teams. Commits
 each team in which every cell is then legal. Legal cells move only if another cell would otherwise have no place or be
 moved far; with --keep they stay, and with --all they may move, to shorten the total displacement. Writes a
-line of JSON for each team and one for all. --export writes the DEF text with the committed places to FILE, --lines
-the accepted commands. The exit status is 0 if the design is then fully legal, and 4 if it is not.
+line of JSON for each team and one for all. --state starts from a state that was saved by --save, in place of the
+places of the DEF text. --export writes the DEF text with the committed places to FILE, --export-working with the
+working places of all teams, committed or not, --lines the accepted commands, and --save the state at the end. With
+--sessions, each team has N session slots (1 to 64; 8 if not given). The exit status is 0 if the committed design is
+then fully legal, and 4 if it is not.
 
 example:
   lefence repair chip.def tech.lef cells.lef --export new.def

@@ -137,6 +137,7 @@ pub fn report(texts: &RowTexts<'_>) -> Result<Vec<u8>, AllocError> {
         lefs: lef_alone(texts.alloc)?,
         state: None,
         slots: Slots::standard(),
+        committed: false,
     };
     Ok(performed(texts, &task, b"")?.written)
 }

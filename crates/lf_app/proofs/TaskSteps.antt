@@ -1,5 +1,7 @@
 -- Tasks over a loaded design.
-use Rattle.std.proofs.Common.{◌≡◌, arith, inl, inr, ℕ}
+use Rattle.std.proofs.Common.{◌≡◌, ◌⊎◌, arith, inl, inr, ℕ}
+use Rattle.std.specs.Prelude.{IfErr, Result}
+use Rattle.std.proofs.lemmas.Result.{IfErr-weaker}
 use Rattle.lf_cli.specs.declared.parse.Task.{Task}
 use Rattle.lf_cli.specs.declared.parse.Task.TheVariants.{Demo, Replay, Serve, Check, Describe, Repair}
 use Rattle.lf_cli.specs.Command.{Job, ReadsNone, as_job, check, demo, describe, repair, replay, serve}
@@ -40,9 +42,9 @@ pub succeeds : (gives : ReadsFile) (job : Job) (io : Streams) (status : ℕ) →
 succeeds gives demo io status (limits, slots, is) = inl is.3
 succeeds gives (replay def lefs state number lines save export) io status (limits, slots, is) = inl is.1
 succeeds gives (serve def lefs state number port connections save export) io status (limits, slots, is) = inl is.1
-succeeds gives (check def lefs state number) io status (limits, slots, is) = is.2.done
+succeeds gives (check def lefs state number committed) io status (limits, slots, is) = is.2.done
 succeeds gives (describe def lefs state number) io status (limits, slots, is) = is.shown.2.done
-succeeds gives (repair def lefs teams legal export lines) io status (limits, slots, is) = is.repaired.committed_checked.done
+succeeds gives (repair def lefs state number teams legal files) io status (limits, slots, is) = is.repaired.committed_checked.done
 
 -- Only a check, a description or a repair has status 4.
 pub checked : (gives : ReadsFile) (task : Task) (io : Streams) (status : ℕ) → IsJobOutcome gives (as_job task) io status → status ≡ 4 → ReadsNone task
@@ -51,6 +53,17 @@ checked gives (Replay def lefs state number lines save export) io status (limits
     let zero : status ≡ 0 = is.1 in absurd (omega (arith, zero, four))
 checked gives (Serve def lefs state number port connections save export) io status (limits, slots, is) four =
     let zero : status ≡ 0 = is.1 in absurd (omega (arith, zero, four))
-checked gives (Check def lefs state number) io status is four = tt
+checked gives (Check def lefs state number committed) io status is four = tt
 checked gives (Describe def lefs state number) io status is four = tt
-checked gives (Repair def lefs teams legal export lines) io status is four = tt
+checked gives (Repair def lefs state number teams legal files) io status is four = tt
+
+-- A task that only writes touches nothing if it writes nothing.
+pub stops_untouched : (r : Result ℕ Fault) (nothing work also more : Fault → Type 0) (same untouched : Type 0)
+    → IfErr r (λ fault. ((nothing fault × same) ⊎ work fault) × also fault) → (same → untouched) → ((fault : Fault) → also fault → more fault)
+    → IfErr r (λ fault. ((nothing fault × untouched) ⊎ work fault) × more fault)
+stops_untouched r nothing work also more same untouched is keeps gives =
+    IfErr-weaker r _ _ (λ fault both. (by fault both.0, gives fault both.1)) is
+  where
+    by : (fault : Fault) → (nothing fault × same) ⊎ work fault → (nothing fault × untouched) ⊎ work fault
+    by fault (inl none) = inl (none.0, keeps none.1)
+    by fault (inr some) = inr some

@@ -17,6 +17,7 @@ use Rattle.lf_task_files.specs.States.{IsFloorFault, IsViewedDesignOf}
 use Rattle.lf_task_files.specs.Exits.{IsOpenDescribed}
 use Rattle.lf_task_serve.specs.Exits.{AnswersInput, EndsWithFault, IsJobStop, IsLinesFault, IsOffered}
 use Rattle.lf_task_repair.specs.Exits.{IsNotRepaired, IsOpenRepaired}
+use Rattle.lf_task_repair.specs.Repairs.{WritesExportAlone, WritesNoFile}
 use Rattle.lf_task_files.specs.Exits.{IsOpenUndescribed, IsReported}
 use Rattle.lf_task_serve.specs.Exits.{IsServiceFault, IsUndone, IsServedDesign, Streams}
 
@@ -24,24 +25,23 @@ use Rattle.lf_task_serve.specs.Exits.{IsServiceFault, IsUndone, IsServedDesign, 
 abbrev pub EndsTask : (Fault → Type 0) → Option (List ℕ) → Option (List ℕ) → Bool → TaskExit → Type 0
 EndsTask why old new failed exit = (fault : Fault) × why fault × EndsWith fault old new failed exit
 
--- A job that requests no final state and no commands of a repair: nothing is written after the
--- exported text.
+-- A job that requests no file but the exported text: nothing is written after it.
 abbrev pub NamesNoState : Job → Type 0
 NamesNoState (replay def lefs state slots lines save export) = save ≡ None
 NamesNoState (serve def lefs state slots port connections save export) = save ≡ None
-NamesNoState (repair def lefs teams legal export lines) = lines ≡ None
+NamesNoState (repair def lefs state slots teams legal files) = WritesExportAlone files
 NamesNoState job = Unit {0}
 
 -- A job that requests no text to be written to a file.
 abbrev pub NamesNoFile : Job → Type 0
 NamesNoFile (replay def lefs state slots lines save export) = (save ≡ None) × (export ≡ None)
 NamesNoFile (serve def lefs state slots port connections save export) = (save ≡ None) × (export ≡ None)
-NamesNoFile (repair def lefs teams legal export lines) = (lines ≡ None) × (export ≡ None)
+NamesNoFile (repair def lefs state slots teams legal files) = WritesNoFile files
 NamesNoFile job = Unit {0}
 
 -- A job that repairs nothing: no progress is reported.
 abbrev pub RepairsNothing : Job → Type 0
-RepairsNothing (repair def lefs teams legal export lines) = ⊥
+RepairsNothing (repair def lefs state slots teams legal files) = ⊥
 RepairsNothing job = Unit {0}
 
 -- A job that reads nothing from standard input.
@@ -52,10 +52,11 @@ ReadsNoInput job = Unit {0}
 
 -- The number of session slots of each team of a job's design.
 abbrev pub job_slots : Job → ℕ
-job_slots (check def lefs state slots) = slots
+job_slots (check def lefs state slots committed) = slots
 job_slots (describe def lefs state slots) = slots
 job_slots (replay def lefs state slots lines save export) = slots
 job_slots (serve def lefs state slots port connections save export) = slots
+job_slots (repair def lefs state slots teams legal files) = slots
 job_slots _ = 8
 
 -- The most lines of its input that a job answers.
@@ -77,12 +78,13 @@ IsOutcomeWithin limits gives (serve def lefs state slots port connections save e
     IsServedDesign limits gives def lefs state save export
     (λ begin floor io. IsOffered begin floor connections io.before io.after io.old_accepted io.new_accepted) io
     × (status ≡ 0)
-IsOutcomeWithin limits gives (check def lefs state slots) io status =
-    (seen : Loaded) × IsViewedDesignOf limits gives def lefs state seen × IsReported seen io.before io.after status
+IsOutcomeWithin limits gives (check def lefs state slots committed) io status =
+    (seen : Loaded) × IsViewedDesignOf committed limits gives def lefs state seen
+    × IsReported seen io.before io.after status
 IsOutcomeWithin limits gives (describe def lefs state slots) io status =
     IsOpenDescribed limits gives def lefs state io.before io.after status
-IsOutcomeWithin limits gives (repair def lefs teams legal export lines) io status =
-    IsOpenRepaired limits gives def lefs teams legal export lines io.before io.after io.old_puts io.new_puts status
+IsOutcomeWithin limits gives (repair def lefs state slots teams legal files) io status =
+    IsOpenRepaired limits gives def lefs state teams legal files io.before io.after io.old_puts io.new_puts status
 
 -- The outcome of a job that succeeds, with this status.
 abbrev pub IsJobOutcome : ReadsFile → Job → Streams → ℕ → Type 0
@@ -107,13 +109,13 @@ IsJobFaultWithin limits gives (serve def lefs state slots port connections save 
     IsUndone limits gives def lefs state save export
     (λ begin fault io. IsServiceFault port connections begin fault io.before io.after io.old_accepted io.new_accepted)
     (λ begin floor io. IsOffered begin floor connections io.before io.after io.old_accepted io.new_accepted) fault io
-IsJobFaultWithin limits gives (check def lefs state slots) fault io =
-    IsJobStop (IsFloorFault limits gives def lefs state) (IsViewedDesignOf limits gives def lefs state)
+IsJobFaultWithin limits gives (check def lefs state slots committed) fault io =
+    IsJobStop (IsFloorFault limits gives def lefs state) (IsViewedDesignOf committed limits gives def lefs state)
     (λ seen fault io. IsNotReported seen io.before io.after fault) fault io
 IsJobFaultWithin limits gives (describe def lefs state slots) fault io =
     IsDesignFault limits gives def lefs fault ⊎ IsOpenUndescribed limits gives def lefs state io.before io.after fault
-IsJobFaultWithin limits gives (repair def lefs teams legal export lines) fault io =
-    IsNotRepaired limits gives def lefs teams legal export lines io.before io.after io.old_puts io.new_puts fault
+IsJobFaultWithin limits gives (repair def lefs state slots teams legal files) fault io =
+    IsNotRepaired limits gives def lefs state teams legal files io.before io.after io.old_puts io.new_puts fault
 
 -- Why a job fails.
 abbrev pub IsJobFault : ReadsFile → Job → Fault → Streams → Type 0

@@ -1,5 +1,5 @@
 -- The files that a job reads and writes, as its functions receive them.
-use Rattle.std.specs.Prelude.{◌≡◌, List, None, Option, map, ℕ}
+use Rattle.std.specs.Prelude.{◌≡◌, List, Option, map, ℕ}
 use Rattle.lf_floorplan.specs.declared.limits.Limits.{Limits}
 use Rattle.lf_cli.specs.Command.{Job, check, demo, describe, repair, replay, serve}
 use Rattle.lf_task_files.specs.declared.inputs.DesignInput.{DesignInput}
@@ -17,11 +17,11 @@ pub record IsInputAt (limits : Limits) (def : List ℕ) (lefs : List (List ℕ))
 -- The input has the files that the job reads, and these limits. The demo reads no file.
 abbrev pub IsInputOf : Limits → Job → DesignInput → Type 0
 IsInputOf limits demo input = Unit {0}
-IsInputOf limits (check def lefs state slots) input = IsInputAt limits def lefs state input
+IsInputOf limits (check def lefs state slots committed) input = IsInputAt limits def lefs state input
 IsInputOf limits (describe def lefs state slots) input = IsInputAt limits def lefs state input
 IsInputOf limits (replay def lefs state slots lines save export) input = IsInputAt limits def lefs state input
 IsInputOf limits (serve def lefs state slots port connections save export) input = IsInputAt limits def lefs state input
-IsInputOf limits (repair def lefs teams legal export lines) input = IsInputAt limits def lefs None input
+IsInputOf limits (repair def lefs state slots teams legal files) input = IsInputAt limits def lefs state input
 
 -- The outputs have these paths.
 pub record AreOutputsAt (save export : Option (List ℕ)) (outputs : OutputPaths) : Type 0 where

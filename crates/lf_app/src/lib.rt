@@ -17,15 +17,15 @@
 //! - serve has written `listening` and served the given number of connections at 127.0.0.1 and the
 //!   given port, each within 1,000,000 lines and 4,200 reads a line
 //! - check has written the report of all cells at their places in the DEF text, or with `--state`
-//!   at their working places in the state
+//!   at their working places in the state, or with `--committed` at their committed ones
 //! - describe has written the description, with the same places
 //! - repair has sent commands to the floor, which accepted each of them, and has written a report
 //!
 //! Only check, describe and repair return 4, which means that the design is not fully legal; for
 //! repair it is the committed design at the end. With `--export` the exported text was written to
-//! the path: exactly the DEF text with the floor's committed places at the end. With `--save` the
-//! state was written next, and with `--lines` of repair the lines of its commands. No other file is
-//! ever written.
+//! the path: exactly the DEF text with the floor's committed places at the end. Next come the same
+//! text with the working places (`--export-working` of repair), the lines of its commands
+//! (`--lines`), and the state (`--save`). No other file is ever written.
 //!
 //! Status 1 or 3: there is one fault (`Fault`), which determines the status. It is the first one,
 //! in this order:
@@ -63,15 +63,16 @@
 mod tasks;
 
 pub use lf_cli::{
-    Help, LegalCells, Slots, Subcommand, Task, UsageFault, command_of, help_of, usage_message,
+    Help, LegalCells, RepairFiles, Slots, Subcommand, Task, UsageFault, command_of, help_of,
+    usage_message,
 };
 pub use lf_io::{FromRead, ToWrite};
 pub use lf_io_files::FsOutputFiles;
 pub use lf_server::{Acceptor, ClientReader, ClientWriter, Connection, ServiceConfig};
 pub use lf_task_designs::{FsInputFiles, InputFiles, single_chunk};
 pub use lf_task_faults::{
-    BindFailure, Fault, FenceLine, Hint, OutputKind, ReadFailure, ReadFailureKind, StateRefusal,
-    TaskExit, TextFile, TextKind, TextRefusal, status_of, write_fault,
+    BindFailure, Compression, Fault, FenceLine, Hint, OutputKind, ReadFailure, ReadFailureKind,
+    Remark, StateRefusal, TaskExit, TextFile, TextKind, TextRefusal, status_of, write_fault,
 };
 pub use lf_task_repair::{NoProgress, Progress, TimedProgress};
 pub use lf_task_serve::{Environment, NetListener, PortListener, serve_lines_within};

@@ -1,7 +1,7 @@
 //! What the program does for each task.
 
 ghost use Rattle.std.specs.Prelude.{◌≡◌, ◌⊎◌, false, map, not, ⊤, IfErr, IfOk, IsTrue, OnErr, OnOk};
-ghost use Rattle.lf_cli.specs.Command.{ReadsNone, as_job};
+ghost use Rattle.lf_cli.specs.Command.{ReadsNone, as_job, repair_paths};
 ghost use Rattle.lf_floorplan.specs.declared.loaded.Loaded.{Loaded};
 ghost use Rattle.lf_floor_model.specs.Designs.{initial_floor};
 ghost use Rattle.lf_floor_model.specs.States.{FloorState};
@@ -18,7 +18,7 @@ ghost use Rattle.lf_app.specs.Exits.{reads_of, job_slots};
 ghost use Rattle.lf_app.specs.JobFiles.{AreOutputsOf, IsInputAt, IsInputOf};
 ghost use Rattle.lf_app.specs.Offers.{IsOfferOf};
 
-use lf_cli::{LegalCells, Slots, Task};
+use lf_cli::{LegalCells, RepairFiles, Slots, Task};
 use lf_def::DEMO_DEF;
 use lf_frame::Limits;
 use lf_io::{FromRead, Sink, Source, ToWrite};
@@ -113,7 +113,12 @@ fn input_of<'a>(task: &'a Task<'_>, limits: Limits) -> DesignInput<'a>
             state,
             ..
         } => input_at(*def, lefs.as_slice(), *state, limits),
-        Task::Repair { def, lefs, .. } => input_at(*def, lefs.as_slice(), None, limits),
+        Task::Repair {
+            def,
+            lefs,
+            state,
+            ..
+        } => input_at(*def, lefs.as_slice(), *state, limits),
     }
 }
 
@@ -142,24 +147,23 @@ fn repair_job<'a>(
     inputs: DesignInput<'a>,
     teams: &'a [&'a str],
     legal: LegalCells,
-    export: Option<&'a str>,
-    lines: Option<&'a str>,
+    files: RepairFiles<'a>,
 ) -> RepairJob<'a>
     ensures def { result.def ≡ inputs.entry.def }
     ensures lefs { result.lefs ≡ inputs.entry.lefs }
     ensures teams { result.teams.now ≡ teams.now }
     ensures legal { result.legal ≡ legal }
-    ensures export { path_of result.export ≡ path_of export.entry }
-    ensures lines { path_of result.lines ≡ path_of lines.entry }
+    ensures state { path_of result.state ≡ path_of inputs.entry.state }
+    ensures files { repair_paths result.files ≡ repair_paths files.entry }
     ensures limits { result.limits ≡ inputs.entry.limits }
 {
     RepairJob {
         def: inputs.def,
         lefs: inputs.lefs,
+        state: inputs.state,
         teams,
         legal,
-        export,
-        lines,
+        files,
         limits: inputs.limits,
     }
 }
@@ -216,16 +220,17 @@ fn outcome_within<
             };
             serve_files(alloc, around, inputs, lines, outputs_of(task))
         }
-        Task::Check { .. } => check(alloc, &around.texts, inputs, &mut around.writer),
+        Task::Check { committed, .. } => {
+            check(alloc, &around.texts, inputs, *committed, &mut around.writer)
+        }
         Task::Describe { .. } => describe_files(alloc, &around.texts, inputs, &mut around.writer),
         Task::Repair {
             teams,
             legal,
-            export,
-            lines,
+            files,
             ..
         } => {
-            let requested = repair_job(inputs, teams.as_slice(), *legal, *export, *lines);
+            let requested = repair_job(inputs, teams.as_slice(), *legal, *files);
             let exports = &mut around.exports;
             let writer = &mut around.writer;
             let progress = &mut around.progress;
@@ -244,7 +249,7 @@ fn slots_of(task: &Task<'_>) -> Slots
         Task::Replay { slots, .. } => *slots,
         Task::Serve { slots, .. } => *slots,
         Task::Demo => Slots::standard(),
-        Task::Repair { .. } => Slots::standard(),
+        Task::Repair { slots, .. } => *slots,
     }
 }
 
@@ -299,9 +304,9 @@ fn outcome<'a, T: InputFiles, E: OutputFiles, V: PortListener, R: Source, W: Sin
 /// 6. Read the first line, or make the report.
 ///
 /// A check, a description and a repair read no line, and neither they nor a service read from the
-/// reader. If there is no fault, the exported text is written at the end to `exports`, and then the
-/// state, or the commands of a repair. No other text is ever written there. Only the requested port
-/// of this machine is served.
+/// reader. If there is no fault, the exported text is written at the end to `exports`, then those of
+/// a repair, and then the state. No other text is ever written there. Only the requested port of
+/// this machine is served.
 pub fn perform_over<
     T: InputFiles,
     E: OutputFiles,

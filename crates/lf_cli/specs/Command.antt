@@ -14,6 +14,7 @@ use Rattle.clap.specs.declared.builder.action.ArgAction.TheVariants.{Append, Set
 use Rattle.clap.specs.declared.builder.value_parser.ValueParser.TheVariants as parser
 use Rattle.lf_cli.specs.declared.parse.LegalCells.{LegalCells}
 use Rattle.lf_cli.specs.declared.parse.LegalCells.TheVariants.{MoveAsNeeded, KeepLegal, MoveAll}
+use Rattle.lf_cli.specs.declared.parse.RepairFiles.{RepairFiles}
 use Rattle.lf_cli.specs.declared.parse.Task.{Task}
 use Rattle.lf_cli.specs.declared.parse.Task.TheVariants as task
 use Rattle.lf_cli.specs.declared.subcommand.Subcommand.{Subcommand}
@@ -84,7 +85,8 @@ slots_rule = number_rule (codes "sessions") 64
 -- The words that a subcommand takes.
 abbrev pub line_of : Subcommand → App
 line_of Demo = new_app (subcommand_word Demo)
-line_of Check = design_line (subcommand_word Check) (text_rule (codes "state") ∷ slots_rule ∷ [])
+line_of Check = design_line (subcommand_word Check)
+    (text_rule (codes "state") ∷ slots_rule ∷ flag_rule (codes "committed") ∷ [])
 line_of Describe = design_line (subcommand_word Describe) (text_rule (codes "state") ∷ slots_rule ∷ [])
 line_of Replay = design_line (subcommand_word Replay)
     (number_rule (codes "lines") 4294967295
@@ -94,7 +96,8 @@ line_of Serve = design_line (subcommand_word Serve)
     ∷ text_rule (codes "state") ∷ slots_rule ∷ text_rule (codes "save") ∷ text_rule (codes "export") ∷ [])
 line_of Repair = design_line (subcommand_word Repair)
     (repeated_rule (codes "team") ∷ flag_rule (codes "keep") ∷ flag_rule (codes "all")
-    ∷ text_rule (codes "export") ∷ text_rule (codes "lines") ∷ [])
+    ∷ text_rule (codes "state") ∷ slots_rule ∷ text_rule (codes "save") ∷ text_rule (codes "export")
+    ∷ text_rule (codes "export-working") ∷ text_rule (codes "lines") ∷ [])
 
 -- The program with one more subcommand.
 abbrev pub with_subcommand_line : App → Subcommand → App
@@ -106,20 +109,29 @@ command_line = fold with_subcommand_line (new_app (codes "lefence")) subcommands
 
 -- ---- jobs
 
--- What a command line requests. The paths are as written: first those of the DEF file and of the
--- LEF files in order. All jobs except repair then have the path of the saved state and the number
--- of session slots of each team. The comments list the further fields.
+-- The paths of the files that a repair writes: the DEF texts with the committed and with the working
+-- places, the command lines, and the state.
+pub record RepairPaths : Type 0 where
+  pub export : Option Text
+  pub working : Option Text
+  pub lines : Option Text
+  pub save : Option Text
+
+-- What a command line requests. The paths are as written: first those of the DEF file, of the LEF
+-- files in order, and of the saved state. The number of session slots of each team comes next. The
+-- comments list the further fields.
 pub data Job : Type 0 where
   demo : Job
-  check : Text → List Text → Option Text → ℕ → Job
+  -- Whether the committed places of the state are shown, in place of the working ones.
+  check : Text → List Text → Option Text → ℕ → Bool → Job
   describe : Text → List Text → Option Text → ℕ → Job
   -- The most lines that are answered; the paths of the state and of the DEF file to write.
   replay : Text → List Text → Option Text → ℕ → ℕ → Option Text → Option Text → Job
   -- The port and the number of connections; the paths of the state and of the DEF file to write.
   serve : Text → List Text → Option Text → ℕ → ℕ → ℕ → Option Text → Option Text → Job
-  -- The teams, or all if the list is empty; what may be done with legal cells; the paths of the DEF
-  -- file and of the command lines.
-  repair : Text → List Text → List Text → LegalCells → Option Text → Option Text → Job
+  -- The teams, or all if the list is empty; what may be done with legal cells; the paths of the
+  -- files to write.
+  repair : Text → List Text → Option Text → ℕ → List Text → LegalCells → RepairPaths → Job
 
 -- ---- the files of a job
 
@@ -133,21 +145,55 @@ abbrev pub is_among : Option Text → List Text → Bool
 is_among None paths = false
 is_among (Some path) paths = list_any (bytes_eq path) paths
 
--- The option whose file would replace one that the job reads, or the other file that it writes.
--- `saves` is the option that saves. The exported text may replace the DEF file, and the saved state
--- may replace the state that was read. Paths are compared as written: other spellings of a path,
--- and links, are not recognized.
-abbrev pub clash_among : Text → Text → List Text → Option Text → Option Text → Option Text → Option Text
-clash_among saves def lefs state save export =
-    if is_same save (Some def) || is_among save lefs then Some saves
+-- The option whose file would replace one that a job on lines reads, or the other file that it
+-- writes. The exported text may replace the DEF file, and the saved state may replace the state
+-- that was read. Paths are compared as written: other spellings of a path, and links, are not
+-- recognized.
+abbrev pub clash_among : Text → List Text → Option Text → Option Text → Option Text → Option Text
+clash_among def lefs state save export =
+    if is_same save (Some def) || is_among save lefs then Some (codes "save")
     else if is_same export state || (is_same export save || is_among export lefs) then Some (codes "export") else None
+
+-- True if the command lines of a repair would replace a file that it reads.
+abbrev pub lines_clash : Text → List Text → Option Text → RepairPaths → Bool
+lines_clash def lefs state files =
+    is_same files.lines (Some def) || (is_same files.lines state || is_among files.lines lefs)
+
+-- True if the saved state of a repair would replace another of its files, but for the state that was
+-- read.
+abbrev pub save_clash : Text → List Text → RepairPaths → Bool
+save_clash def lefs files =
+    is_same files.save (Some def) || (is_same files.save files.lines || is_among files.save lefs)
+
+-- True if the exported text of a repair would replace another of its files, but for the DEF file.
+abbrev pub export_clash : List Text → Option Text → RepairPaths → Bool
+export_clash lefs state files = is_same files.export state
+    || (is_same files.export files.lines || (is_same files.export files.save || is_among files.export lefs))
+
+-- True if the text with the working places would replace another file that a repair writes.
+abbrev pub working_repeats : RepairPaths → Bool
+working_repeats files = is_same files.working files.lines
+    || (is_same files.working files.save || is_same files.working files.export)
+
+-- True if the text with the working places would replace another file of a repair. It may not
+-- replace the DEF file either, since its places are not committed.
+abbrev pub working_clash : Text → List Text → Option Text → RepairPaths → Bool
+working_clash def lefs state files = is_same files.working (Some def)
+    || (is_same files.working state || (working_repeats files || is_among files.working lefs))
+
+-- The option whose file would replace another file of a repair.
+abbrev pub repair_clash : Text → List Text → Option Text → RepairPaths → Option Text
+repair_clash def lefs state files =
+    if lines_clash def lefs state files then Some (codes "lines")
+    else if save_clash def lefs files then Some (codes "save")
+    else if export_clash lefs state files then Some (codes "export")
+    else if working_clash def lefs state files then Some (codes "export-working") else None
 
 -- The option of a job whose file would replace another of its files.
 abbrev pub clash_of : Job → Option Text
-clash_of (replay def lefs state slots lines save export) = clash_among (codes "save") def lefs state save export
-clash_of (serve def lefs state slots port connections save export) =
-    clash_among (codes "save") def lefs state save export
-clash_of (repair def lefs teams legal export lines) = clash_among (codes "lines") def lefs None lines export
+clash_of (replay def lefs state slots lines save export) = clash_among def lefs state save export
+clash_of (serve def lefs state slots port connections save export) = clash_among def lefs state save export
+clash_of (repair def lefs state slots teams legal files) = repair_clash def lefs state files
 clash_of _ = None
 
 -- ---- numbers
@@ -198,6 +244,15 @@ service_of rows =
     (option_and_then (number_in 1 1000000) (first_of (codes "connections") rows)))
     (option_and_then (number_in 1 65535) (first_of (codes "port") rows))
 
+-- The paths of the files that a repair writes.
+abbrev pub repair_paths_among : List Row → RepairPaths
+repair_paths_among rows = record {
+  export = first_of (codes "export") rows;
+  working = first_of (codes "export-working") rows;
+  lines = first_of (codes "lines") rows;
+  save = first_of (codes "save") rows;
+}
+
 -- What '--keep' and '--all' mean for legal cells. At most one of them may be given.
 abbrev pub legal_cells : Bool → Bool → Option LegalCells
 legal_cells false false = Some MoveAsNeeded
@@ -211,7 +266,8 @@ legal_cells true true = None
 abbrev pub job_on : Subcommand → Text → List Text → List Row → Option Job
 job_on Demo def lefs rows = Some demo
 job_on Check def lefs rows =
-    option_map (λ slots. check def lefs (first_of (codes "state") rows) slots) (slots_among rows)
+    option_map (λ slots. check def lefs (first_of (codes "state") rows) slots (is_set (codes "committed") rows))
+    (slots_among rows)
 job_on Describe def lefs rows =
     option_map (λ slots. describe def lefs (first_of (codes "state") rows) slots) (slots_among rows)
 job_on Replay def lefs rows =
@@ -226,9 +282,11 @@ job_on Serve def lefs rows =
     (first_of (codes "export") rows))
     (slots_among rows))
     (service_of rows)
-job_on Repair def lefs rows = option_map
-    (λ legal. repair def lefs (values_of (codes "team") rows) legal (first_of (codes "export") rows)
-    (first_of (codes "lines") rows))
+job_on Repair def lefs rows =
+    option_and_then (λ legal. option_map
+    (λ slots. repair def lefs (first_of (codes "state") rows) slots (values_of (codes "team") rows) legal
+    (repair_paths_among rows))
+    (slots_among rows))
     (legal_cells (is_set (codes "keep") rows) (is_set (codes "all") rows))
 
 -- The job of a subcommand that takes the path of a DEF file and at least one path of a LEF file.
@@ -271,11 +329,20 @@ unless_fault (kind ∷ kinds) job = None
 abbrev pub job_of : List Text → Option Job
 job_of words = unless_fault (fault_of command_line words) (job_found (subcommand_of command_line words))
 
+-- The paths, as written.
+abbrev pub repair_paths : RepairFiles → RepairPaths
+repair_paths files = record {
+  export = option_map (λ path. path.now) files.export;
+  working = option_map (λ path. path.now) files.working;
+  lines = option_map (λ path. path.now) files.lines;
+  save = option_map (λ path. path.now) files.save;
+}
+
 -- The job that a task does.
 abbrev pub as_job : Task → Job
 as_job task.Demo = demo
-as_job (task.Check def lefs state slots) =
-    check def.now (map (λ lef. lef.now) lefs) (option_map (λ path. path.now) state) slots.number
+as_job (task.Check def lefs state slots committed) =
+    check def.now (map (λ lef. lef.now) lefs) (option_map (λ path. path.now) state) slots.number committed
 as_job (task.Describe def lefs state slots) =
     describe def.now (map (λ lef. lef.now) lefs) (option_map (λ path. path.now) state) slots.number
 as_job (task.Replay def lefs state slots lines save export) =
@@ -284,9 +351,9 @@ as_job (task.Replay def lefs state slots lines save export) =
 as_job (task.Serve def lefs state slots port connections save export) =
     serve def.now (map (λ lef. lef.now) lefs) (option_map (λ path. path.now) state) slots.number
     port connections (option_map (λ path. path.now) save) (option_map (λ path. path.now) export)
-as_job (task.Repair def lefs teams legal export lines) =
-    repair def.now (map (λ lef. lef.now) lefs) (map (λ team. team.now) teams)
-    legal (option_map (λ path. path.now) export) (option_map (λ path. path.now) lines)
+as_job (task.Repair def lefs state slots teams legal files) =
+    repair def.now (map (λ lef. lef.now) lefs) (option_map (λ path. path.now) state) slots.number
+    (map (λ team. team.now) teams) legal (repair_paths files)
 
 -- Holds if the task reads no line.
 abbrev pub ReadsNone : Task → Type 0

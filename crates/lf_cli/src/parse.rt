@@ -8,7 +8,8 @@ ghost use Rattle.clap.specs.Walk.{all_of, first_of, rows_of};
 ghost use Rattle.lf_cli.specs.declared.subcommand.Subcommand.TheVariants.{Check, Describe, Repair, Replay, Serve};
 ghost use Rattle.lf_cli.specs.declared.parse.UsageFault.TheVariants.{Usage};
 ghost use Rattle.lf_cli.specs.Command.{as_job, clash_among, clash_of, is_among, is_demo, is_same, is_set, job_requested, job_by, job_found, job_of, job_on};
-ghost use Rattle.lf_cli.specs.Command.{legal_cells, most_lines, number_in, service_of, slots_among, unless_clash, values_of};
+ghost use Rattle.lf_cli.specs.Command.{export_clash, legal_cells, lines_clash, most_lines, number_in, repair_clash, repair_paths, repair_paths_among};
+ghost use Rattle.lf_cli.specs.Command.{save_clash, service_of, slots_among, unless_clash, values_of, working_clash, working_repeats};
 
 use crate::session_slots::{MOST_SLOTS, Slots};
 use crate::subcommand::{MOST_CONNECTIONS, Subcommand, command_line, subcommand_named};
@@ -35,6 +36,19 @@ pub enum LegalCells {
     MoveAll,
 }
 
+/// The paths of the files that a repair writes, each if requested.
+#[derive(Clone, Copy, Debug, PartialEq, Eq)]
+pub struct RepairFiles<'a> {
+    /// The path of the DEF file with the committed places.
+    pub export: Option<&'a str>,
+    /// The path of the DEF file with the working places.
+    pub working: Option<&'a str>,
+    /// The path of the file for the commands of the repair.
+    pub lines: Option<&'a str>,
+    /// The path to which the final state is saved.
+    pub save: Option<&'a str>,
+}
+
 /// What the program is to do. A design is given by the path of a DEF file and by the paths of one
 /// or more LEF files, in order.
 #[derive(Drop)]
@@ -48,6 +62,8 @@ pub enum Task<'a> {
         /// The path of the saved state that has the cells' places, if any.
         state: Option<&'a str>,
         slots: Slots,
+        /// Whether the places are the state's committed ones. If not, they are its working ones.
+        committed: bool,
     },
     /// Writes a design as JSON Lines.
     Describe {
@@ -91,14 +107,14 @@ pub enum Task<'a> {
     Repair {
         def: &'a str,
         lefs: Sequence<&'a str>,
+        /// The path of the saved state from which to continue, if any.
+        state: Option<&'a str>,
+        slots: Slots,
         /// The names of the teams to repair, in the order of the words. They are repaired in the
         /// order of the fences, `-` last. If empty, all teams are repaired.
         teams: Sequence<&'a str>,
         legal: LegalCells,
-        /// The path of the exported DEF file, if any.
-        export: Option<&'a str>,
-        /// The path of the file for the commands of the repair, if any.
-        lines: Option<&'a str>,
+        files: RepairFiles<'a>,
     },
 }
 
@@ -242,6 +258,7 @@ fn check_on<'a>(def: &'a str, lefs: Sequence<&'a str>, matches: &ArgMatches<'a>)
         lefs,
         state,
         slots,
+        committed: is_set(matches, "committed"),
     })
 }
 
@@ -305,6 +322,18 @@ fn serve_on<'a>(def: &'a str, lefs: Sequence<&'a str>, matches: &ArgMatches<'a>)
     })
 }
 
+/// Returns the paths of the files that a repair writes.
+fn repair_files<'a>(matches: &ArgMatches<'a>) -> RepairFiles<'a>
+    ensures { repair_paths result ≡ repair_paths_among (rows_of (found_of matches.now)) }
+{
+    RepairFiles {
+        export: value_of(matches, "export"),
+        working: value_of(matches, "export-working"),
+        lines: value_of(matches, "lines"),
+        save: value_of(matches, "save"),
+    }
+}
+
 /// Makes the task of a repair on these paths.
 fn repair_on<'a>(
     alloc: Global,
@@ -318,14 +347,19 @@ fn repair_on<'a>(
     let Some(legal) = legal_cells(is_set(matches, "keep"), is_set(matches, "all")) else {
         return Ok(None);
     };
+    let Some(slots) = slots_of(matches) else {
+        return Ok(None);
+    };
+    let state = value_of(matches, "state");
     match values_of(alloc, matches, "team") {
         Ok(teams) => Ok(Some(Task::Repair {
             def,
             lefs,
+            state,
+            slots,
             teams,
             legal,
-            export: value_of(matches, "export"),
-            lines: value_of(matches, "lines"),
+            files: repair_files(matches),
         })),
         Err(error) => Err(error),
     }
@@ -432,25 +466,109 @@ fn is_among(path: Option<&str>, paths: &[&str]) -> bool
     }
 }
 
-/// Returns the option whose file would replace another file of the task, or `None`. `saves` is the
-/// name of the option that saves; the other option is `export`.
+/// Returns the option whose file would replace another file of a task on lines, or `None`.
 fn clash_among(
-    saves: &'static str,
     def: &str,
     lefs: &[&str],
     state: Option<&str>,
     save: Option<&str>,
     export: Option<&str>,
 ) -> Option<&'static str>
-    ensures { option_map (λ word. word.now) result ≡ clash_among saves.now def.now (map (λ lef. lef.now) lefs.now)
+    ensures { option_map (λ word. word.now) result ≡ clash_among def.now (map (λ lef. lef.now) lefs.now)
         (option_map (λ path. path.now) state.entry) (option_map (λ path. path.now) save.entry)
         (option_map (λ path. path.now) export.entry) }
 {
     if is_same(save, Some(def)) || is_among(save, lefs) {
-        return Some(saves);
+        return Some("save");
     }
     if is_same(export, state) || is_same(export, save) || is_among(export, lefs) {
         return Some("export");
+    }
+    None
+}
+
+/// Returns whether the command lines of a repair would replace a file that it reads.
+fn lines_clash(def: &str, lefs: &[&str], state: Option<&str>, files: RepairFiles<'_>) -> bool
+    ensures { result ≡ lines_clash def.now (map (λ lef. lef.now) lefs.now)
+        (option_map (λ path. path.now) state.entry) (repair_paths files.entry) }
+{
+    if is_same(files.lines, Some(def)) {
+        return true;
+    }
+    is_same(files.lines, state) || is_among(files.lines, lefs)
+}
+
+/// Returns whether the saved state of a repair would replace another of its files.
+fn save_clash(def: &str, lefs: &[&str], files: RepairFiles<'_>) -> bool
+    ensures { result
+        ≡ save_clash def.now (map (λ lef. lef.now) lefs.now) (repair_paths files.entry) }
+{
+    if is_same(files.save, Some(def)) {
+        return true;
+    }
+    is_same(files.save, files.lines) || is_among(files.save, lefs)
+}
+
+/// Returns whether the exported text of a repair would replace another of its files.
+fn export_clash(lefs: &[&str], state: Option<&str>, files: RepairFiles<'_>) -> bool
+    ensures { result ≡ export_clash (map (λ lef. lef.now) lefs.now)
+        (option_map (λ path. path.now) state.entry) (repair_paths files.entry) }
+{
+    if is_same(files.export, state) {
+        return true;
+    }
+    if is_same(files.export, files.lines) {
+        return true;
+    }
+    is_same(files.export, files.save) || is_among(files.export, lefs)
+}
+
+/// Returns whether the text with the working places would replace another file that a repair
+/// writes.
+fn working_repeats(files: RepairFiles<'_>) -> bool
+    ensures { result ≡ working_repeats (repair_paths files.entry) }
+{
+    if is_same(files.working, files.lines) {
+        return true;
+    }
+    is_same(files.working, files.save) || is_same(files.working, files.export)
+}
+
+/// Returns whether the text with the working places would replace another file of a repair.
+fn working_clash(def: &str, lefs: &[&str], state: Option<&str>, files: RepairFiles<'_>) -> bool
+    ensures { result ≡ working_clash def.now (map (λ lef. lef.now) lefs.now)
+        (option_map (λ path. path.now) state.entry) (repair_paths files.entry) }
+{
+    if is_same(files.working, Some(def)) {
+        return true;
+    }
+    if is_same(files.working, state) {
+        return true;
+    }
+    working_repeats(files) || is_among(files.working, lefs)
+}
+
+/// Returns the option whose file would replace another file of a repair, or `None`.
+fn repair_clash(
+    def: &str,
+    lefs: &[&str],
+    state: Option<&str>,
+    files: RepairFiles<'_>,
+) -> Option<&'static str>
+    ensures { option_map (λ word. word.now) result ≡ repair_clash def.now (map (λ lef. lef.now) lefs.now)
+        (option_map (λ path. path.now) state.entry) (repair_paths files.entry) }
+{
+    if lines_clash(def, lefs, state, files) {
+        return Some("lines");
+    }
+    if save_clash(def, lefs, files) {
+        return Some("save");
+    }
+    if export_clash(lefs, state, files) {
+        return Some("export");
+    }
+    if working_clash(def, lefs, state, files) {
+        return Some("export-working");
     }
     None
 }
@@ -468,7 +586,7 @@ fn clash_of(task: &Task<'_>) -> Option<&'static str>
             save,
             export,
             ..
-        } => clash_among("save", *def, lefs.as_slice(), *state, *save, *export),
+        } => clash_among(*def, lefs.as_slice(), *state, *save, *export),
         Task::Serve {
             def,
             lefs,
@@ -476,14 +594,14 @@ fn clash_of(task: &Task<'_>) -> Option<&'static str>
             save,
             export,
             ..
-        } => clash_among("save", *def, lefs.as_slice(), *state, *save, *export),
+        } => clash_among(*def, lefs.as_slice(), *state, *save, *export),
         Task::Repair {
             def,
             lefs,
-            export,
-            lines,
+            state,
+            files,
             ..
-        } => clash_among("lines", *def, lefs.as_slice(), None, *lines, *export),
+        } => repair_clash(*def, lefs.as_slice(), *state, *files),
         _ => None,
     }
 }
@@ -533,11 +651,11 @@ fn matches_of<'a>(alloc: Global, words: &'a [&'a str]) -> Result<ArgMatches<'a>,
 ///
 /// - `serve` needs `--port P`, from 1 to 65535, and `--connections N`, from 1 to 1,000,000
 /// - `replay` may have `--lines N`, from 1 to 4,294,967,295
-/// - `serve` and `replay` may have `--save FILE` and `--export FILE`
-/// - `serve`, `replay`, `check` and `describe` may have `--state FILE` and `--sessions N`, from 1
-///   to 64
-/// - `repair` may have `--export FILE`, `--lines FILE`, `--keep` or `--all`, and `--team NAME` any
-///   number of times
+/// - `serve`, `replay` and `repair` may have `--save FILE` and `--export FILE`
+/// - all may have `--state FILE` and `--sessions N`, from 1 to 64
+/// - `check` may have `--committed`
+/// - `repair` may have `--export-working FILE`, `--lines FILE`, `--keep` or `--all`, and
+///   `--team NAME` any number of times
 ///
 /// Each option except `--team` is given at most once. No FILE that is written may be one that is
 /// read, or be written twice; paths are compared as written. There are two exceptions: `--export`

@@ -4,7 +4,7 @@ ghost use Rattle.std.specs.Prelude.{◌≡◌, [], ◌∷◌, bytes_eq, codes, f
 ghost use Rattle.clap.specs.Simple.{app_of, with_rule};
 ghost use Rattle.clap.specs.Walk.{rule_of};
 ghost use Rattle.clap.specs.declared.builder.command.Command.TheViews.{out-Command};
-ghost use Rattle.lf_cli.specs.declared.subcommand.Subcommand.TheVariants.{Repair, Replay, Serve};
+ghost use Rattle.lf_cli.specs.declared.subcommand.Subcommand.TheVariants.{Check, Repair, Replay, Serve};
 ghost use Rattle.lf_cli.specs.Command.{command_line, def_rule, design_line, flag_rule, lef_rule, line_of, needed, number_rule, repeated_rule, slots_rule, subcommand_named, text_rule, with_subcommand_line, subcommand_word};
 
 use crate::session_slots::MOST_SLOTS;
@@ -162,7 +162,15 @@ fn look<'a>(alloc: Global, name: &'a str) -> Result<Command<'a>, AllocError>
     command.arg(slots(alloc))
 }
 
-/// Adds the options of a subcommand that answers lines: the path of the saved state, the number of
+/// Declares the subcommand that reports on a design.
+fn check<'a>(alloc: Global) -> Result<Command<'a>, AllocError>
+    ensures line { IfOk result (λ made. app_of made ≡ line_of Check) }
+    ensures local { IfOk result (λ made. (out-Command made).has_globals ≡ false) }
+{
+    look(alloc, "check")?.arg(flag(alloc, "committed"))
+}
+
+/// Adds the options of a subcommand that changes places: the path of the saved state, the number of
 /// session slots, and the paths of the state and the DEF file to write.
 fn with_outputs<'a>(alloc: Global, command: Command<'a>) -> Result<Command<'a>, AllocError>
     requires local { (out-Command command).has_globals ≡ false }
@@ -216,8 +224,9 @@ fn repair<'a>(alloc: Global) -> Result<Command<'a>, AllocError>
     ensures line { IfOk result (λ made. app_of made ≡ line_of Repair) }
     ensures local { IfOk result (λ made. (out-Command made).has_globals ≡ false) }
 {
-    repair_of_cells(alloc)?
-        .arg(text(alloc, "export"))?
+    let command = with_outputs(alloc, repair_of_cells(alloc)?)?;
+    command
+        .arg(text(alloc, "export-working"))?
         .arg(text(alloc, "lines"))
 }
 
@@ -228,7 +237,7 @@ fn line_of<'a>(alloc: Global, chosen: Subcommand) -> Result<Command<'a>, AllocEr
 {
     match chosen {
         Subcommand::Demo => Ok(Command::new(alloc, "demo")),
-        Subcommand::Check => look(alloc, "check"),
+        Subcommand::Check => check(alloc),
         Subcommand::Describe => look(alloc, "describe"),
         Subcommand::Replay => replay(alloc),
         Subcommand::Serve => serve(alloc),

@@ -15,7 +15,7 @@ use Rattle.lf_floor_model.specs.States.{FloorState, TeamState}
 use Rattle.lf_floor_model.specs.Steps.{floor_of}
 use Rattle.lf_floor_model.specs.Teams.{IsTeamOf}
 use Rattle.lf_state_text.specs.declared.saved_rows.SavedCell.{SavedCell}
-use Rattle.lf_state_text.specs.declared.saved_rows.TeamRow.{TeamRow}
+use Rattle.lf_state_text.specs.declared.saved_rows.SavedTeamRow.{SavedTeamRow}
 use Rattle.lf_state_text.specs.Designs.{NamedTeam}
 use Rattle.lf_state_text.specs.Saved.{SavedTeam, saved_at, team_view, team_views, IsSavedTeamOf}
 use Rattle.lf_state_restore.specs.Saved.{MatchDesign, map_two, named_team, restored_floor, restored_cell, restored_team, saved_cell}
@@ -28,10 +28,10 @@ use Rattle.lf_floor.proofs.Rows.{count_teams, each_team, replicate_each, team_at
 
 -- ---- rows that were borrowed for a change, in their list again
 
-pub in_place : (many : ℕ) (rows left : List TeamRow) → many ≡ length rows → length left ≡ length rows → take many (left ++ drop (length left) rows) ≡ left
+pub in_place : (many : ℕ) (rows left : List SavedTeamRow) → many ≡ length rows → length left ≡ length rows → take many (left ++ drop (length left) rows) ≡ left
 in_place many rows left is same =
-    ap (λ (rest : List TeamRow). take many (left ++ rest)) (drop_all (length left) rows (omega (arith, same)))
-    ∙ ap (λ (all : List TeamRow). take many all) (append-nil left)
+    ap (λ (rest : List SavedTeamRow). take many (left ++ rest)) (drop_all (length left) rows (omega (arith, same)))
+    ∙ ap (λ (all : List SavedTeamRow). take many all) (append-nil left)
     ∙ take_all many left (omega (arith, is, same))
 
 -- ---- saved teams whose cells are placed
@@ -177,15 +177,15 @@ module _ (saved : List SavedTeam) (old : Tables) (are : AreTables old) (due : Ma
         ∙ ap (λ (cs : List Cell). map saved_cell cs) (own_cells k less)
         ∙ saved_restored (table_cells k old) (saved_at saved k).cells (as_many k less))
 
-    module _ (rows left : List TeamRow) (same : rows ≡ left) (emptied : team_views left ≡ map without_cells saved) where
+    module _ (rows left : List SavedTeamRow) (same : rows ≡ left) (emptied : team_views left ≡ map without_cells saved) where
       -- the same for the remaining rows
       pub rows_reported : saved_teams_at new (team_views rows) ≡ saved
-      rows_reported = ap (λ (l : List TeamRow). saved_teams_at new (team_views l)) same ∙ ap (saved_teams_at new) emptied ∙ still_reported
+      rows_reported = ap (λ (l : List SavedTeamRow). saved_teams_at new (team_views l)) same ∙ ap (saved_teams_at new) emptied ∙ still_reported
 
       -- one row for each team
       pub rows_many : length rows ≡ length (teams_in new)
       rows_many =
-          ap (λ (l : List TeamRow). length l) same ∙ sym (length-map left team_view) ∙ ap (λ (l : List SavedTeam). length l) emptied
+          ap (λ (l : List SavedTeamRow). length l) same ∙ sym (length-map left team_view) ∙ ap (λ (l : List SavedTeam). length l) emptied
           ∙ length-map saved without_cells ∙ sym new_many
 
 -- ---- the teams get their entries one after another

@@ -21,8 +21,9 @@ use Rattle.lf_floor_model.specs.VerbLaws.{is_ok}
 use Rattle.lf_floor_model.specs.Queries.{written}
 use Rattle.lf_floor_model.specs.Outcomes.{IsOutcome}
 use Rattle.lf_floor_model.specs.Sessions.{seen_at}
-use Rattle.lf_floor_model.specs.Steps.{IsAnswerOf, IsGivenAnswer, answer_at, answer_by, answer_of, floor_of, outcome_by_rules}
+use Rattle.lf_floor_model.specs.Steps.{IsAnswerOf, IsGivenAnswer, answer_at, answer_of, floor_of, outcome_by_rules}
 use Rattle.lf_floor_model.specs.Verbs.{outcome_by_slot}
+use Rattle.lf_floor_model.proofs.Forms.{answer_by}
 use Rattle.lf_floor_model.proofs.Answering.{some_answers}
 use Rattle.lf_floor_model.proofs.Serving.{gives}
 use Rattle.lf_floor.specs.Responses.{def_text, text_at, text_by}

@@ -19,10 +19,11 @@ use Rattle.lf_sessions.specs.Slots.{slots_of}
 use Rattle.lf_floor_model.specs.Outcomes.{places_of}
 use Rattle.lf_floor_model.specs.States.{TeamState, FloorState}
 use Rattle.lf_floor_model.specs.Steps.{floor_of}
-use Rattle.lf_floor_model.specs.Teams.{team_number, state_at, state_of, IsTeamOf}
+use Rattle.lf_floor_model.specs.Teams.{team_number, state_of, IsTeamOf}
 use Rattle.lf_rules.specs.FullyLegal.{IsFullyLegal}
 use Rattle.lf_floor_model.specs.Committed.{IsCommittedLegal, AreAtLoadedPlaces, loaded_design}
 use Rattle.lf_floor_model.specs.Designs.{initial_floor, initial_team, initial_teams}
+use Rattle.lf_floor_model.proofs.Forms.{state_at}
 use Rattle.lf_floor_model.proofs.Loading.{loaded_committed, loaded_places}
 use Rattle.lf_floor_model.proofs.Openings.{opened_at, opening_whole}
 use Rattle.lf_floor_verbs.specs.declared.tables.Tables.{Tables}

@@ -22,7 +22,7 @@ use Rattle.lf_floor_model.specs.States.{FloorState, TeamState}
 use Rattle.lf_floor_model.specs.Steps.{floor_of}
 use Rattle.lf_floor_model.specs.Teams.{IsTeamOf, team_names}
 use Rattle.lf_state_text.specs.Designs.{NamedTeam, named_team_of}
-use Rattle.lf_state_text.specs.declared.saved_rows.TeamRow.{TeamRow}
+use Rattle.lf_state_text.specs.declared.saved_rows.SavedTeamRow.{SavedTeamRow}
 use Rattle.lf_state_text.specs.declared.fault.StateError.{StateError}
 use Rattle.lf_state_text.specs.declared.fault.StateError.TheVariants.{Memory, Fault}
 use Rattle.lf_state_text.specs.Reading.{FailsAt, saved_state_of}
@@ -336,16 +336,16 @@ pub rows_due : {X E : Type 0} (view : X → List SavedTeam) (tables : Tables) �
 rows_due view tables are (Ok rows) of = due_of tables are (view rows) of
 rows_due view tables are (Err e) of = tt
 
-pub views_more : (rest whole : List TeamRow) (row : TeamRow) → whole ≡ rest ++ row ∷ [] → team_views whole ≡ team_views rest ++ team_view row ∷ []
-views_more rest whole row is = ap (λ (rows : List TeamRow). team_views rows) is ∙ go rest where
-  go : (rows : List TeamRow) → team_views (rows ++ row ∷ []) ≡ team_views rows ++ team_view row ∷ []
+pub views_more : (rest whole : List SavedTeamRow) (row : SavedTeamRow) → whole ≡ rest ++ row ∷ [] → team_views whole ≡ team_views rest ++ team_view row ∷ []
+views_more rest whole row is = ap (λ (rows : List SavedTeamRow). team_views rows) is ∙ go rest where
+  go : (rows : List SavedTeamRow) → team_views (rows ++ row ∷ []) ≡ team_views rows ++ team_view row ∷ []
   go [] = refl
   go (r ∷ rows) = ap (λ (ts : List SavedTeam). team_view r ∷ ts) (go rows)
 
-pub views_many : (rows : List TeamRow) → length (team_views rows) ≡ length rows
+pub views_many : (rows : List SavedTeamRow) → length (team_views rows) ≡ length rows
 views_many rows = length-map rows team_view
 
-pub no_views : (rows : List TeamRow) → length rows ≤ 0 → team_views rows ≡ []
+pub no_views : (rows : List SavedTeamRow) → length rows ≤ 0 → team_views rows ≡ []
 no_views [] few = refl
 no_views (r ∷ rows) few = absurd (omega (arith, few))
 

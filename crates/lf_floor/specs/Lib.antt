@@ -2,3 +2,4 @@ pub mod StartUnplaced
 pub mod Entries
 pub mod Responses
 pub mod SavedStates
+pub mod Working

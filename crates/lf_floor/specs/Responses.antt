@@ -1,5 +1,5 @@
 -- Replies whose DEF text is written separately.
-use Rattle.std.specs.Prelude.{◌≡◌, ◌⊎◌, ℕ, ◌^◌, ◌≤◌, List, [], length, Option, Some, None}
+use Rattle.std.specs.Prelude.{◌≡◌, ◌⊎◌, ℕ, ◌^◌, ◌≤◌, List, [], length, Option, Some, None, slice_get}
 use Rattle.lf_floorplan.specs.declared.frame.Frame.{Frame}
 use Rattle.lf_floorplan.specs.declared.place.Place.{Place}
 use Rattle.lf_rules.specs.Legalizer.{Legalizer}
@@ -13,7 +13,7 @@ use Rattle.lf_proto.specs.declared.verb.Action.TheVariants.{Def as RequestDef}
 use Rattle.lf_team_def.specs.TeamText.{team_text}
 use Rattle.lf_floor_model.specs.States.{FloorState, TeamState}
 use Rattle.lf_floor_model.specs.Steps.{IsAnswerOf}
-use Rattle.lf_floor_model.specs.Teams.{state_at, team_number}
+use Rattle.lf_floor_model.specs.Teams.{team_number}
 use Rattle.lf_floor.specs.declared.response.Response.{Response}
 use Rattle.lf_floor.specs.declared.response.Response.TheVariants.{Reply as Whole, DefText}
 
@@ -31,7 +31,7 @@ text_by f number (Some s) = team_text f number s.cells
 -- the DEF text of the team of that number
 abbrev pub text_at : FloorState → Option ℕ → List ℕ
 text_at floor None = []
-text_at floor (Some number) = text_by floor.frame number (state_at floor.teams (Some number))
+text_at floor (Some number) = text_by floor.frame number (slice_get floor.teams number)
 
 -- the DEF text of the team of that name
 abbrev pub def_text : FloorState → List ℕ → List ℕ

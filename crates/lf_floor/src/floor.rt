@@ -9,6 +9,7 @@ ghost use Rattle.lf_rules.specs.FullyLegal.{IsFullyLegal};
 ghost use Rattle.lf_proto.specs.Commands.{command_with_names, order_of};
 ghost use Rattle.lf_floor_model.specs.States.{TeamState};
 ghost use Rattle.lf_floor_model.specs.Places.{AreCommittedPlaces};
+ghost use Rattle.lf_floor.specs.Working.{ListsWorkingPlaces};
 ghost use Rattle.lf_floor_verbs.specs.Tables.{AreTables, floor_in, frame_of};
 ghost use Rattle.lf_floor_model.specs.Teams.{IsTeamOf, team_number, state_of};
 ghost use Rattle.lf_floor_model.specs.Outcomes.{name_at};
@@ -23,6 +24,7 @@ ghost use Rattle.lf_floor_model.specs.Steps.{IsAnswerOf, CommitsLegally, IsGiven
 ghost use Rattle.lf_floor_model.specs.Steps.{IsOutOfMemoryAnswer, MayRunOutOfMemory, Step, IsTo, answer_at};
 
 use crate::committed::{CommittedPlaces, all_committed, committed_of};
+use crate::working::{WorkingPlaces, working_of};
 use lf_floor_verbs::{Tables, TeamContext};
 use lf_floorplan::{Frame, Loaded, Place};
 use lf_legalize::Seeker;
@@ -204,6 +206,13 @@ impl<S: Seeker + Drop> Floor<S> {
         ensures { AreCommittedPlaces self.now result }
     {
         committed_of(self.tables.placement.cells())
+    }
+
+    /// The same list with the working places of the cells, committed or not.
+    pub fn working(&self) -> WorkingPlaces<'_>
+        ensures { ListsWorkingPlaces self.now result }
+    {
+        working_of(self.tables.placement.cells())
     }
 
     /// A law: each team of a floor is a team of its frame, whatever commands the floor has run. Its

@@ -21,6 +21,7 @@
 //!
 //! - `floor`: the floor, its steps and runs
 //! - `committed`: the committed places of all cells
+//! - `working`: the working places of all cells
 //! - `queries`: queries of teams by their numbers
 //! - `response`: replies whose DEF text is written separately
 //! - `state_view`: the names and saved values of a floor, as the writer of state texts reads them
@@ -47,6 +48,7 @@ mod restore;
 mod snapshot;
 mod start_unplaced;
 mod state_view;
+mod working;
 
 pub use committed::CommittedPlaces;
 pub use floor::Floor;
@@ -65,3 +67,4 @@ pub use lf_floor_model::{
 pub use response::Response;
 pub use snapshot::StateSnapshot;
 pub use state_view::team_name;
+pub use working::WorkingPlaces;

@@ -23,7 +23,7 @@ use lf_legalize::Seeker;
 use lf_occupancy::StripCounts;
 use lf_rules::Padding;
 use lf_state_restore::{place_teams, restore_entries, restored_is_committed, saved_restores};
-use lf_state_text::{ChunkError, StateError, TeamRow, read_chunks, read_state};
+use lf_state_text::{ChunkError, SavedTeamRow, StateError, read_chunks, read_state};
 use lf_undo::UndoStore;
 use std::alloc::{AllocError, Global};
 use std::collections::VecDeque;
@@ -62,7 +62,7 @@ fn restore_team(
     tables: &mut Tables,
     tally: &mut StripCounts,
     number: usize,
-    row: TeamRow,
+    row: SavedTeamRow,
 ) -> Result<(), AllocError>
     requires served { HasTeamRow number tables.old }
     requires due { IsSavedTeamOf (frame_of tables.old).limits (named_team [] (own_team number tables.old))
@@ -78,7 +78,7 @@ fn restore_team(
     ensures awaits { (other : ℕ) → other ≢ number → HasNoEntriesYet other tally.old tables.old
         → OnOk result (HasNoEntriesYet other tally.new tables.new) }
 {
-    let TeamRow {
+    let SavedTeamRow {
         revision,
         padding,
         slots,
@@ -106,7 +106,7 @@ fn restore_teams(
     alloc: Global,
     tables: &mut Tables,
     tally: &mut StripCounts,
-    rows: Vec<TeamRow>,
+    rows: Vec<SavedTeamRow>,
 ) -> Result<(), AllocError>
     requires tables { AreTables tables.old }
     requires many { length rows.items ≡ length (teams_in tables.old) }
@@ -130,10 +130,14 @@ fn restore_teams(
 }
 
 /// Returns the tables with the cells of all teams at their saved places, and without undo entries.
-/// Empties the list of cells of each saved team (`TeamRow`), which frees its memory.
+/// Empties the list of cells of each saved team (`SavedTeamRow`), which frees its memory.
 ///
 /// `Err` if an allocation fails; the tables are then dropped.
-fn place_cells(alloc: Global, tables: Tables, rows: &mut [TeamRow]) -> Result<Tables, AllocError>
+fn place_cells(
+    alloc: Global,
+    tables: Tables,
+    rows: &mut [SavedTeamRow],
+) -> Result<Tables, AllocError>
     requires tables { AreTables tables }
     requires due { MatchDesign (frame_of tables).limits (teams_in tables) (team_views rows.old) }
     ensures places { IfOk result (PlacesTeams (team_views rows.old) tables) }
@@ -163,7 +167,7 @@ fn place_cells(alloc: Global, tables: Tables, rows: &mut [TeamRow]) -> Result<Ta
 /// team is restored.
 ///
 /// `Err` if an allocation fails; the tables are then dropped.
-fn restored_by(alloc: Global, tables: Tables, rows: Vec<TeamRow>) -> Result<Tables, AllocError>
+fn restored_by(alloc: Global, tables: Tables, rows: Vec<SavedTeamRow>) -> Result<Tables, AllocError>
     requires tables { AreTables tables }
     requires due { MatchDesign (frame_of tables).limits (teams_in tables) (team_views rows.items) }
     ensures tables { IfOk result AreTables }
@@ -179,7 +183,7 @@ fn restored_by(alloc: Global, tables: Tables, rows: Vec<TeamRow>) -> Result<Tabl
 /// Reads a state text of the teams.
 ///
 /// `Err` with the first fault of the text and its line, or if an allocation fails.
-fn read_rows(alloc: Global, tables: &Tables, text: &[u8]) -> Result<Vec<TeamRow>, StateError>
+fn read_rows(alloc: Global, tables: &Tables, text: &[u8]) -> Result<Vec<SavedTeamRow>, StateError>
     requires { AreTables tables.now }
     ensures exact { ReturnsAt (λ rows. team_views rows.items) result
         (saved_state_of (design_names (floor_in tables.now)) text.now) }
@@ -198,7 +202,7 @@ fn read_pieces_of(
     alloc: Global,
     tables: &Tables,
     pieces: VecDeque<Vec<u8>>,
-) -> Result<Vec<TeamRow>, ChunkError>
+) -> Result<Vec<SavedTeamRow>, ChunkError>
     requires { AreTables tables.now }
     ensures exact { ReturnsIn (λ rows. team_views rows.items) result
         (saved_state_of (design_names (floor_in tables.now)) (text_of_chunks pieces.items)) }
@@ -269,7 +273,10 @@ impl<S: Seeker + Drop> Floor<S> {
     ///
     /// `Err` with the first fault of a text that is not a state of the design, its line, and the
     /// end of the text; or if an allocation fails.
-    pub fn read_state_chunks(&self, pieces: VecDeque<Vec<u8>>) -> Result<Vec<TeamRow>, ChunkError>
+    pub fn read_state_chunks(
+        &self,
+        pieces: VecDeque<Vec<u8>>,
+    ) -> Result<Vec<SavedTeamRow>, ChunkError>
         ensures exact { ReturnsIn (λ rows. team_views rows.items) result
             (saved_state_of (design_names self.now) (text_of_chunks pieces.items)) }
         ensures due { IfOk result (λ rows. MatchDesign self.now.frame.limits self.now.teams (team_views rows.items)) }
@@ -283,7 +290,7 @@ impl<S: Seeker + Drop> Floor<S> {
     /// undo entries.
     ///
     /// `Err` if an allocation fails; the floor is then dropped.
-    pub fn restore_saved(self, rows: Vec<TeamRow>) -> Result<Floor<S>, AllocError>
+    pub fn restore_saved(self, rows: Vec<SavedTeamRow>) -> Result<Floor<S>, AllocError>
         requires due { MatchDesign self.frame.limits self.teams (team_views rows.items) }
         ensures restored { IfOk result (λ floor. floor ≡ restored_floor self (team_views rows.items)) }
         ensures design { IfOk result (λ floor. ShareDesign self floor) }

@@ -14,10 +14,11 @@ use Rattle.lf_proto.specs.declared.reply.Reply.{Reply}
 use Rattle.lf_proto.specs.declared.reply.Reply.TheVariants.{Done, Refused}
 use Rattle.lf_proto.specs.declared.reply.Refusal.TheVariants.{NoTeam}
 use Rattle.lf_floor_model.specs.States.{TeamState, FloorState}
-use Rattle.lf_floor_model.specs.Teams.{team_rules, team_names, team_number, state_at, state_of}
+use Rattle.lf_floor_model.specs.Teams.{team_rules, team_names, team_number, state_of}
 use Rattle.lf_floor_model.specs.Outcomes.{is_short}
 use Rattle.lf_floor_model.specs.Verbs.{is_tested, takes_memory}
-use Rattle.lf_floor_model.specs.Steps.{Answer, outcome_by_rules, no_team, answer_of_outcome, answer_by, answer_at, answer_of, IsAnswerOf, IsGivenAnswer, MayRunOutOfMemory, IsOutOfMemoryAnswer, Step, IsTo}
+use Rattle.lf_floor_model.specs.Steps.{Answer, outcome_by_rules, no_team, answer_of_outcome, answer_at, answer_of, IsAnswerOf, IsGivenAnswer, MayRunOutOfMemory, IsOutOfMemoryAnswer, Step, IsTo}
+use Rattle.lf_floor_model.proofs.Forms.{state_at, answer_by}
 use Rattle.lf_floor_model.proofs.Kept.{never_short}
 
 -- ---- the team of a command

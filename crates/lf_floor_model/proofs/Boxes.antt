@@ -11,7 +11,8 @@ use Rattle.lf_rules.specs.Legality.{candidate_of}
 use Rattle.lf_rules.specs.Legalizer.{Legalizer, IsVerdict, VerdictIsUnique}
 use Rattle.lf_rules.specs.Team.{boxes_beside}
 use Rattle.lf_cells.specs.declared.cell.Cell.{Cell}
-use Rattle.lf_floor_model.specs.Teams.{team_rules, broken_at, broken_by}
+use Rattle.lf_floor_model.specs.Teams.{team_rules, broken_at}
+use Rattle.lf_floor_model.proofs.Forms.{broken_by}
 use Rattle.lf_legalize.specs.Members.{member_of}
 
 -- a verdict on the cell's candidate is the result of every legalizer

@@ -24,12 +24,13 @@ use Rattle.lf_proto.specs.declared.verb.Action.TheVariants.{Close, Sync, Check, 
 use Rattle.lf_proto.specs.declared.verb.Change.{Change}
 use Rattle.lf_proto.specs.declared.verb.Change.TheVariants.{Place as PlaceAt, Legalize, Tidy, Unplace, Swap, Undo, Commit, Revert, Pad}
 use Rattle.lf_floor_model.specs.Outcomes.{Outcome, is_short, refused, changed, with_entry}
-use Rattle.lf_floor_model.specs.Sessions.{with_session_slot, seen_at, opened, opened_at, closed, synced}
-use Rattle.lf_floor_model.specs.Queries.{checked, written, located, located_own, located_at, best_at, found, found_own, found_at}
+use Rattle.lf_floor_model.specs.Sessions.{seen_at, opened, opened_at, closed, synced}
+use Rattle.lf_floor_model.specs.Queries.{checked, written, located, best_at, found}
 use Rattle.lf_reports.specs.declared.broken_cell.BrokenCell.{BrokenCell}
-use Rattle.lf_floor_model.specs.Changes.{placed, placed_own, placed_unless, unplaced, unplaced_own, unplaced_from, legalized, legalized_own, legalized_at, restored, places_in, tidied_by, tidied_team, broken_where, exchanged, swapped_unless, swapped_from, swapped_own, swapped, back_to_committed, reverted, undone_by, undone, padded, first_unplaced, broken_cells, committed_unless, committed, outcome_of_change}
-use Rattle.lf_floor_model.specs.Verbs.{is_recorded, unless_spent, unless_stale, outcome_within, outcome_by_slot, outcome_of, takes_memory}
+use Rattle.lf_floor_model.specs.Changes.{placed, unplaced, legalized, restored, tidied_by, tidied_team, broken_where, exchanged, swapped, back_to_committed, reverted, undone_by, undone, padded, first_unplaced, broken_cells, committed_unless, committed, outcome_of_change}
+use Rattle.lf_floor_model.specs.Verbs.{is_recorded, unless_stale, outcome_within, outcome_of, takes_memory, outcome_by_slot}
 use Rattle.lf_floor_model.specs.VerbLaws.{MayChange, is_accepted, is_change, is_commit, replied_revision, outcome_of_asking}
+use Rattle.lf_floor_model.proofs.Forms.{with_session_slot, located_own, located_at, found_own, found_at, placed_own, placed_unless, unplaced_own, unplaced_from, legalized_own, legalized_at, places_in, swapped_unless, swapped_from, swapped_own, unless_spent}
 
 -- the command of a session's change
 abbrev pub asking : ℕ → Change (List ℕ) Place → TeamCommand (List ℕ) Place

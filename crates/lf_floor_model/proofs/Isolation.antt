@@ -11,9 +11,10 @@ use Rattle.lf_proto.specs.declared.request.TeamCommand.{TeamCommand}
 use Rattle.lf_floor_model.specs.Outcomes.{is_short}
 use Rattle.lf_proto.specs.declared.reply.Reply.{Reply}
 use Rattle.lf_floor_model.specs.States.{TeamState, FloorState}
-use Rattle.lf_floor_model.specs.Teams.{team_number, state_at, state_of}
+use Rattle.lf_floor_model.specs.Teams.{team_number, state_of}
 use Rattle.lf_floor_model.specs.Steps.{outcome_by_rules, IsAnswerOf, MayRunOutOfMemory, Step, IsTo}
-use Rattle.lf_floor_model.specs.Runs.{Run, own_replies, own_state, own_command_before, own_commands, own_reply_before, own_replies_in, IsOwnRun, IsIsolated}
+use Rattle.lf_floor_model.specs.Runs.{Run, own_replies, own_state, own_commands, own_replies_in, IsOwnRun, IsIsolated}
+use Rattle.lf_floor_model.proofs.Forms.{state_at}
 use Rattle.lf_floor_model.proofs.Answering.{own_answer, others_kept, frame_kept}
 
 -- ---- the loop of a run
@@ -58,8 +59,8 @@ and_false false = refl
 -- team of that name and number are those of its own commands
 module _ (l : Legalizer) (frame : Frame) (team : List ℕ) (number : ℕ) (named : team_number frame team ≡ Some number) (cs : List (Command (List ℕ) Place)) (rs : List Reply) (old mid new : FloorState) (same_frame : old.frame ≡ frame) (later : (s : TeamState) → state_of mid team ≡ Some s → IsOwnRun l frame number team s cs rs new) where
   -- a command that does not change the team
-  skip : (c : Command (List ℕ) Place) (r : Reply) → own_reply_before team c r (own_replies_in team cs rs) ≡ own_replies_in team cs rs
-      → own_command_before team c r (own_commands team cs rs) ≡ own_commands team cs rs → state_of mid team ≡ state_of old team → (s : TeamState) → state_of old team ≡ Some s
+  skip : (c : Command (List ℕ) Place) (r : Reply) → own_replies_in team (c ∷ cs) (r ∷ rs) ≡ own_replies_in team cs rs
+      → own_commands team (c ∷ cs) (r ∷ rs) ≡ own_commands team cs rs → state_of mid team ≡ state_of old team → (s : TeamState) → state_of old team ≡ Some s
       → IsOwnRun l frame number team s (c ∷ cs) (r ∷ rs) new
   skip c r reported_same requested_same same s there =
       let rest = later s (same ∙ there) in
@@ -70,8 +71,8 @@ module _ (l : Legalizer) (frame : Frame) (team : List ℕ) (number : ℕ) (named
 
   -- a command of this team
   turn : (name : List ℕ) (order : TeamCommand (List ℕ) Place) (r : Reply) (s : TeamState) → r ≡ (outcome_by_rules l frame number order s).reply
-      → state_of mid team ≡ Some (outcome_by_rules l frame number order s).team → (own_reply_before team (To name order) r (own_replies_in team cs rs) ≡ r ∷ own_replies_in team cs rs)
-      → (own_command_before team (To name order) r (own_commands team cs rs) ≡ order ∷ own_commands team cs rs)
+      → state_of mid team ≡ Some (outcome_by_rules l frame number order s).team → (own_replies_in team (To name order ∷ cs) (r ∷ rs) ≡ r ∷ own_replies_in team cs rs)
+      → (own_commands team (To name order ∷ cs) (r ∷ rs) ≡ order ∷ own_commands team cs rs)
       → IsOwnRun l frame number team s (To name order ∷ cs) (r ∷ rs) new
   turn name order r s reply_is there reported_is requested_is =
       let next = (outcome_by_rules l frame number order s).team in
@@ -85,7 +86,7 @@ module _ (l : Legalizer) (frame : Frame) (team : List ℕ) (number : ℕ) (named
       }
 
   counted : (name : List ℕ) (order : TeamCommand (List ℕ) Place) (r : Reply) (b : Bool) → (bytes_eq name team && not (is_short r)) ≡ b
-      → (own_reply_before team (To name order) r (own_replies_in team cs rs) ≡ cond b (r ∷ own_replies_in team cs rs) (own_replies_in team cs rs)) × (own_command_before team (To name order) r (own_commands team cs rs) ≡ cond b (order ∷ own_commands team cs rs) (own_commands team cs rs))
+      → (own_replies_in team (To name order ∷ cs) (r ∷ rs) ≡ cond b (r ∷ own_replies_in team cs rs) (own_replies_in team cs rs)) × (own_commands team (To name order ∷ cs) (r ∷ rs) ≡ cond b (order ∷ own_commands team cs rs) (own_commands team cs rs))
   counted name order r b e =
       (ap (λ (b : Bool). cond b (r ∷ own_replies_in team cs rs) (own_replies_in team cs rs)) e, ap (λ (b : Bool). cond b (order ∷ own_commands team cs rs) (own_commands team cs rs)) e)
 

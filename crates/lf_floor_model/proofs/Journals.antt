@@ -19,12 +19,13 @@ use Rattle.lf_floor_model.specs.States.{TeamState, FloorState}
 use Rattle.lf_floor_model.specs.Teams.{TeamRules, team_rules, team_number}
 use Rattle.lf_floor_model.specs.Outcomes.{is_short}
 use Rattle.lf_floor_model.specs.Sessions.{seen_at}
-use Rattle.lf_floor_model.specs.Queries.{best_at, checked, found, found_at, found_own, located, located_at, located_own, written}
-use Rattle.lf_floor_model.specs.Verbs.{outcome_of, outcome_by_slot, outcome_within}
+use Rattle.lf_floor_model.specs.Queries.{best_at, checked, found, located, written}
+use Rattle.lf_floor_model.specs.Verbs.{outcome_of, outcome_within, outcome_by_slot}
 use Rattle.lf_floor_model.specs.VerbLaws.{is_ok}
-use Rattle.lf_floor_model.specs.Steps.{outcome_by_rules, answer_by, answer_at, answer_of, IsAnswerOf, MayRunOutOfMemory}
+use Rattle.lf_floor_model.specs.Steps.{outcome_by_rules, answer_at, answer_of, IsAnswerOf, MayRunOutOfMemory}
 use Rattle.lf_floor_model.specs.Runs.{Run}
 use Rattle.lf_floor_model.specs.Journals.{is_query, is_lasting, marked, MarkLasting, which_last, lasting, lasting_replies, IsBackup}
+use Rattle.lf_floor_model.proofs.Forms.{found_at, found_own, located_at, located_own, answer_by}
 use Rattle.lf_floor_model.proofs.Kept.{false_true, granted_plain}
 use Rattle.lf_floor_model.proofs.Promises.{keeps_refused}
 use Rattle.lf_floor_model.proofs.Running.{plain_answers}

@@ -18,9 +18,10 @@ use Rattle.lf_proto.specs.declared.verb.Action.TheVariants.{Change as Changing}
 use Rattle.lf_proto.specs.declared.verb.Change.{Change}
 use Rattle.lf_proto.specs.declared.verb.Change.TheVariants.{Pad}
 use Rattle.lf_floor_model.specs.Outcomes.{Outcome, is_short, places_of, changed, with_entry}
-use Rattle.lf_floor_model.specs.Sessions.{with_session_slot, seen_at}
+use Rattle.lf_floor_model.specs.Sessions.{seen_at}
 use Rattle.lf_floor_model.specs.Verbs.{is_recorded, outcome_of}
 use Rattle.lf_floor_model.specs.VerbLaws.{CountsOne, KeepsCells, is_accepted, is_ok, is_change, is_commit, is_pad, committed_places, replied_revision, outcome_of_asking}
+use Rattle.lf_floor_model.proofs.Forms.{with_session_slot}
 use Rattle.lf_floor_model.proofs.Cases.{with_padding, PaddingAfter, AreLeft, EntriesAfter, Facts, IsChangeOf, accepted_is, macs_stay, names_stay, order_facts, part_stays}
 
 pub false_true : false ≡ true → ⊥

@@ -16,11 +16,12 @@ use Rattle.lf_rules.specs.Legalizer.{IsVerdict}
 use Rattle.lf_rules.specs.Team.{Member, with_box, boxes_from, boxes_beside, query_from, IsLegalCell}
 use Rattle.lf_proto.proofs.Places.{place_at-some}
 use Rattle.lf_cells.specs.declared.cell.Cell.{Cell}
-use Rattle.lf_floor_model.specs.Teams.{TeamRules, candidate_of_cell, broken_at, broken_by}
+use Rattle.lf_floor_model.specs.Teams.{TeamRules, broken_at, query_of_cell}
 use Rattle.lf_legalize.specs.Members.{IsSizedCell, member_of}
 use Rattle.lf_cells.specs.Cells.{cell_named, moved, working_at}
-use Rattle.lf_floor_model.specs.Queries.{place_of_spot, query_of_cell}
+use Rattle.lf_floor_model.specs.Queries.{place_of_spot}
 use Rattle.lf_floor_model.specs.Changes.{broken_where}
+use Rattle.lf_floor_model.proofs.Forms.{candidate_of_cell, broken_by}
 
 -- ---- cells by their position
 

@@ -1,3 +1,4 @@
+pub mod Forms
 pub mod Boxes
 pub mod Names
 pub mod Cases

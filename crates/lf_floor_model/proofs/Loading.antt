@@ -14,7 +14,8 @@ use Rattle.lf_cells.specs.Initial.{initial_cell, own_cells}
 use Rattle.lf_floor_model.specs.States.{TeamState}
 use Rattle.lf_floor_model.specs.Teams.{team_number, state_of}
 use Rattle.lf_floor_model.specs.Designs.{initial_team, initial_floor}
-use Rattle.lf_floor_model.specs.Committed.{LoadedIsCommitted, committed_member, committed_members, committed_design, loaded_design, AreAtPlaces}
+use Rattle.lf_floor_model.specs.Committed.{LoadedIsCommitted, committed_member, committed_members, loaded_design, AreAtPlaces}
+use Rattle.lf_floor_model.proofs.Forms.{committed_design}
 use Rattle.lf_floor_model.proofs.Openings.{team_of, opening_is, count_teams}
 use Rattle.lf_floor_model.proofs.Parts.{taken, passed, not_equal, part_of, part_is, same_parts}
 use Rattle.lf_floor_model.proofs.LegalPlaces.{some_one}

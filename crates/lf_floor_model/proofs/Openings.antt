@@ -16,9 +16,10 @@ use Rattle.lf_floorplan.specs.Fences.{ground_name}
 use Rattle.lf_floorplan.specs.Bounds.{IsDesignName}
 use Rattle.lf_cells.specs.declared.cell.Cell.{Cell}
 use Rattle.lf_floor_model.specs.States.{TeamState}
-use Rattle.lf_floor_model.specs.Teams.{team_names, team_number, state_at, state_of, IsTeamOf}
+use Rattle.lf_floor_model.specs.Teams.{team_names, team_number, state_of, IsTeamOf}
 use Rattle.lf_legalize.specs.Members.{IsSizedCell}
 use Rattle.lf_floor_model.specs.Designs.{initial_team, initial_teams, initial_floor, AgreeFor}
+use Rattle.lf_floor_model.proofs.Forms.{state_at}
 use Rattle.lf_cells.specs.Initial.{initial_cell, own_cells}
 
 slice_get_some : {X : Type 0} (xs : List X) (i : ℕ) → i < length xs → (x : X) × (slice_get xs i ≡ Some x)

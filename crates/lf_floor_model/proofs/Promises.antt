@@ -17,10 +17,11 @@ use Rattle.lf_proto.specs.declared.reply.Reply.{Reply}
 use Rattle.lf_proto.specs.declared.reply.Reply.TheVariants.{Refused}
 use Rattle.lf_proto.specs.declared.reply.Refusal.{Refusal}
 use Rattle.lf_floor_model.specs.States.{TeamState, FloorState}
-use Rattle.lf_floor_model.specs.Teams.{TeamRules, team_rules, team_number, state_at, state_of, IsTeamOf}
+use Rattle.lf_floor_model.specs.Teams.{TeamRules, team_rules, team_number, state_of, IsTeamOf}
 use Rattle.lf_floor_model.specs.VerbLaws.{is_ok, is_pad, AreLegal, HasLegal}
-use Rattle.lf_floor_model.specs.Steps.{outcome_by_rules, answer_by, answer_at, answer_of, IsAnswerOf, PlacesLegally, LegalizesLegally, TidiesLegally, SwapsLegally, CommitsLegally, KeepsIfRefused}
+use Rattle.lf_floor_model.specs.Steps.{outcome_by_rules, answer_at, answer_of, IsAnswerOf, PlacesLegally, LegalizesLegally, TidiesLegally, SwapsLegally, CommitsLegally, KeepsIfRefused}
 use Rattle.lf_floor_model.specs.Verbs.{outcome_of}
+use Rattle.lf_floor_model.proofs.Forms.{state_at, answer_by}
 use Rattle.lf_floor_model.proofs.Answering.{own_answer, frame_kept}
 use Rattle.lf_floor_model.proofs.Kept.{refusal_leaves, false_true, padding_stays}
 use Rattle.lf_floor_model.proofs.VerbLegal.{verb_legal}

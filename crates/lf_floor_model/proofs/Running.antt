@@ -13,13 +13,14 @@ use Rattle.lf_proto.specs.declared.reply.Reply.{Reply}
 use Rattle.lf_cells.specs.declared.cell.Cell.{Cell}
 use Rattle.lf_rules.specs.Team.{Member}
 use Rattle.lf_floor_model.specs.States.{TeamState, FloorState}
-use Rattle.lf_floor_model.specs.Teams.{team_number, state_at}
+use Rattle.lf_floor_model.specs.Teams.{team_number}
 use Rattle.lf_floor_model.specs.Outcomes.{is_short}
 use Rattle.lf_floor_model.specs.VerbLaws.{is_ok}
 use Rattle.lf_floor_model.specs.Steps.{IsAnswerOf, MayRunOutOfMemory, Step}
 use Rattle.lf_floor_model.specs.Runs.{Run}
 use Rattle.lf_floor_model.specs.Committed.{committed_member, committed_members, AreCommittedLegal, IsCommittedLegal}
 use Rattle.lf_floor_model.specs.CommittedRuns.{HasFrameTeams, CommitLasts, LegalRun, HasCommitted, NumberHasCommitted, CommitsMakeLegal}
+use Rattle.lf_floor_model.proofs.Forms.{state_at}
 use Rattle.lf_floor_model.proofs.Committing.{Commits, commit_commits}
 use Rattle.lf_floor_model.proofs.Isolation.{step_frame}
 use Rattle.lf_floor_model.proofs.Kept.{false_true, granted_plain}

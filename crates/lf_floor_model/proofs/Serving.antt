@@ -12,7 +12,8 @@ use Rattle.lf_floor_model.specs.Outcomes.{Outcome, IsOutcome, IsOutOfMemory}
 use Rattle.lf_proto.specs.declared.reply.Reply.{Reply}
 use Rattle.lf_floor_model.specs.States.{TeamState}
 use Rattle.lf_floor_model.specs.Verbs.{is_tested}
-use Rattle.lf_floor_model.specs.Steps.{outcome_by_rules, answer_by, IsGivenAnswer, IsOutOfMemoryAnswer, floor_of}
+use Rattle.lf_floor_model.specs.Steps.{outcome_by_rules, IsGivenAnswer, IsOutOfMemoryAnswer, floor_of}
+use Rattle.lf_floor_model.proofs.Forms.{answer_by}
 
 -- a fact on the old team and on its outcome holds for the new team
 pub kept_by : (P : TeamState → Type 0) (o : Outcome) (old new : TeamState) (result : Result Reply AllocError) → IfOk result (λ reply. IsOutcome o reply new)

@@ -14,9 +14,10 @@ use Rattle.lf_proto.specs.declared.reply.Reply.{Reply}
 use Rattle.lf_floor_model.specs.States.{TeamState, FloorState}
 use Rattle.lf_floor_model.specs.Teams.{team_rules, team_number, IsTeamOf}
 use Rattle.lf_floor_model.specs.Outcomes.{is_short}
-use Rattle.lf_floor_model.specs.Steps.{outcome_by_rules, answer_by, answer_at, answer_of, IsAnswerOf, MayRunOutOfMemory, Step}
+use Rattle.lf_floor_model.specs.Steps.{outcome_by_rules, answer_at, answer_of, IsAnswerOf, MayRunOutOfMemory, Step}
 use Rattle.lf_floor_model.specs.Committed.{committed_members, AreCommittedLegal, IsCommittedLegal, KeepsCommittedLegal}
 use Rattle.lf_floor_model.specs.CommittedRuns.{HasFrameTeams}
+use Rattle.lf_floor_model.proofs.Forms.{answer_by}
 use Rattle.lf_floor_model.proofs.Answering.{step_of_answer}
 use Rattle.lf_floor_model.proofs.Committing.{order_keeps}
 use Rattle.lf_floor_model.proofs.Isolation.{step_frame}

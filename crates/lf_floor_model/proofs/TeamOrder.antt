@@ -12,10 +12,11 @@ use Rattle.lf_proto.specs.declared.request.Command.TheVariants.{Bye, To}
 use Rattle.lf_proto.specs.declared.request.TeamCommand.{TeamCommand}
 use Rattle.lf_proto.specs.declared.reply.Reply.{Reply}
 use Rattle.lf_floor_model.specs.States.{TeamState, FloorState}
-use Rattle.lf_floor_model.specs.Teams.{team_names, team_number, state_at, state_of}
+use Rattle.lf_floor_model.specs.Teams.{team_names, team_number, state_of}
 use Rattle.lf_floor_model.specs.Outcomes.{is_short}
-use Rattle.lf_floor_model.specs.Steps.{outcome_by_rules, answer_by, answer_at, answer_of, IsAnswerOf, MayRunOutOfMemory, Step}
+use Rattle.lf_floor_model.specs.Steps.{outcome_by_rules, answer_at, answer_of, IsAnswerOf, MayRunOutOfMemory, Step}
 use Rattle.lf_floor_model.specs.Runs.{Run, own_commands, own_state}
+use Rattle.lf_floor_model.proofs.Forms.{state_at, answer_by}
 use Rattle.lf_floor_model.proofs.Answering.{components_kept, get-set_other}
 use Rattle.lf_floor_model.proofs.Isolation.{isolated_from_run, step_frame}
 use Rattle.lf_floor_model.proofs.Kept.{false_true}

@@ -21,17 +21,17 @@ use Rattle.lf_cells.specs.declared.cell.Cell.{Cell}
 use Rattle.lf_cells.specs.Cells.{working_at}
 use Rattle.lf_legalize.specs.Members.{member_of}
 use Rattle.lf_floor_model.specs.States.{TeamState, FloorState}
-use Rattle.lf_floor_model.specs.Teams.{TeamRules, team_rules, IsTeamOf, candidate_of_cell, broken_at, broken_by, state_at, state_of, team_number}
+use Rattle.lf_floor_model.specs.Teams.{TeamRules, team_rules, IsTeamOf, broken_at, state_of, team_number, query_of_cell}
 use Rattle.lf_floor_model.specs.Outcomes.{refused}
 use Rattle.lf_floor_model.specs.Sessions.{seen_at}
-use Rattle.lf_floor_model.specs.Queries.{query_of_cell}
 use Rattle.lf_reports.specs.declared.broken_cell.BrokenCell.{BrokenCell}
 use Rattle.lf_floor_model.specs.Changes.{broken_where, first_unplaced, broken_cells, committed_unless, committed}
-use Rattle.lf_floor_model.specs.Verbs.{unless_spent, outcome_by_slot, outcome_of}
+use Rattle.lf_floor_model.specs.Verbs.{outcome_of, outcome_by_slot}
 use Rattle.lf_floor_model.specs.VerbLaws.{AreLegal, is_change, is_ok}
 use Rattle.lf_floor_model.specs.Steps.{outcome_by_rules}
 use Rattle.lf_floor_model.specs.Runs.{Run, own_replies, own_commands}
 use Rattle.lf_floor_model.specs.CommittedRuns.{HasFrameTeams, finds_no_fault, TidyThenCommit, TidiedCommits, EachTidiedCommits}
+use Rattle.lf_floor_model.proofs.Forms.{candidate_of_cell, broken_by, state_at, unless_spent}
 use Rattle.lf_floor_model.proofs.Isolation.{isolated_from_run, has_number}
 use Rattle.lf_floor_model.proofs.Kept.{look_kept, padding_stays, refusal_leaves, verb_keeps}
 use Rattle.lf_floor_model.proofs.Parts.{each}

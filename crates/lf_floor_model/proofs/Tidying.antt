@@ -16,12 +16,13 @@ use Rattle.lf_rules.specs.Team.{Member, query_from, IsLegalCell}
 use Rattle.lf_rules.specs.Tidy.{Tidied, Going, Stuck, target_of, tidied_to_best, tidied_to, tidied_own, tidy_cell, tidied_from, tidied}
 use Rattle.lf_rules.proofs.TidyLemmas.{tidied_legal}
 use Rattle.lf_cells.specs.declared.cell.Cell.{Cell}
-use Rattle.lf_floor_model.specs.Teams.{TeamRules}
+use Rattle.lf_floor_model.specs.Teams.{TeamRules, query_of_cell}
 use Rattle.lf_legalize.specs.Members.{IsSizedCell, member_of}
 use Rattle.lf_cells.specs.Cells.{working_at, as_committed}
-use Rattle.lf_floor_model.specs.Queries.{place_of_spot, query_of_cell, best_at}
+use Rattle.lf_floor_model.specs.Queries.{place_of_spot, best_at}
 use Rattle.lf_reports.specs.declared.broken_cell.BrokenCell.{BrokenCell}
-use Rattle.lf_floor_model.specs.Changes.{restored, places_in, broken_where, first_unplaced, broken_cells}
+use Rattle.lf_floor_model.specs.Changes.{restored, broken_where, first_unplaced, broken_cells}
+use Rattle.lf_floor_model.proofs.Forms.{places_in}
 use Rattle.lf_floor_model.proofs.LegalPlaces.{some_one, none_some, member_there, place_is, sized_at, is_placed_where}
 
 -- ---- the macros are unchanged

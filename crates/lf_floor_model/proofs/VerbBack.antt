@@ -17,8 +17,9 @@ use Rattle.lf_floor_model.specs.Teams.{TeamRules}
 use Rattle.lf_floor_model.specs.Outcomes.{Outcome, refused, with_entry, places_of}
 use Rattle.lf_floor_model.specs.Sessions.{seen_at}
 use Rattle.lf_floor_model.specs.Changes.{restored, reverted, undone, undone_by, padded, tidied_by, tidied_team, back_to_committed, outcome_of_change}
-use Rattle.lf_floor_model.specs.Verbs.{is_recorded, unless_spent, outcome_by_slot}
+use Rattle.lf_floor_model.specs.Verbs.{is_recorded, outcome_by_slot}
 use Rattle.lf_floor_model.specs.VerbLaws.{MayChange, IsPadded, LeadsToPlaces, PadKeeps, is_accepted, outcome_of_asking}
+use Rattle.lf_floor_model.proofs.Forms.{unless_spent}
 use Rattle.lf_floor_model.proofs.Cases.{AreLeft, accepted_is, macs_stay}
 use Rattle.lf_floor_model.proofs.Kept.{same_length}
 

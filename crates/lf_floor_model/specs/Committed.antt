@@ -24,13 +24,9 @@ committed_member c = record { mac = c.mac; place = option_map spot_of c.committe
 abbrev pub committed_members : TeamState → List Member
 committed_members s = map committed_member s.cells
 
--- the committed design: the cells of all teams at their committed places, in the order of the teams
-abbrev pub committed_design : FloorState → List DesignCell
-committed_design floor = design_cells_from 0 (map committed_members floor.teams)
-
--- the committed design is fully legal
+-- the committed design is fully legal: the cells of all teams at their committed places
 abbrev pub IsCommittedLegal : FloorState → Type 0
-IsCommittedLegal floor = IsFullyLegal floor.frame (committed_design floor)
+IsCommittedLegal floor = IsFullyLegal floor.frame (design_cells_from 0 (map committed_members floor.teams))
 
 -- a fully legal committed design stays fully legal
 abbrev pub KeepsCommittedLegal : FloorState → FloorState → Type 0

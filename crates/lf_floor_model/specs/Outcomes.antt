@@ -1,12 +1,13 @@
 -- The outcome of a team's command: the reply, and the team afterwards; and what a change does to a
 -- team.
-use Rattle.std.specs.Prelude.{◌≡◌, ℕ, ◌+◌, List, ◌∷◌, Option, Some, Bool, true, false, map, take, slice_set, slice_get, option_map}
+use Rattle.std.specs.Prelude.{◌≡◌, ℕ, ◌+◌, List, ◌∷◌, Option, Some, None, Bool, true, false, map, take, slice_set, slice_get, option_map}
 use Rattle.lf_floorplan.specs.declared.place.Place.{Place}
 use Rattle.lf_floorplan.specs.declared.limits.Limits.{Limits}
+use Rattle.lf_rules.specs.declared.rule.Broken.{Broken}
 use Rattle.lf_proto.specs.declared.reply.Reply.{Reply}
 use Rattle.lf_proto.specs.declared.reply.Reply.TheVariants.{Revision, At, Legalized, Tidied as TidyDone, Report, Def, Refused}
 use Rattle.lf_proto.specs.declared.reply.Refusal.{Refusal}
-use Rattle.lf_proto.specs.declared.reply.Refusal.TheVariants.{Illegal, NoPlace, OutOfMemory}
+use Rattle.lf_proto.specs.declared.reply.Refusal.TheVariants.{NoCell, Unplaced, Illegal, NoPlace, OutOfMemory}
 use Rattle.lf_cells.specs.declared.cell.Cell.{Cell}
 use Rattle.lf_floor_model.specs.States.{TeamState}
 use Rattle.lf_floor_model.specs.Teams.{TeamRules}
@@ -24,6 +25,26 @@ pub record IsOutcome (outcome : Outcome) (reply : Reply) (team : TeamState) : Ty
 -- a refusal leaves the team unchanged
 abbrev pub refused : Refusal → TeamState → Outcome
 refused refusal s = record { reply = Refused refusal; team = s }
+
+-- the outcome for the cell at that position; refused if the team has no such cell
+abbrev pub unless_missing : Option ℕ → TeamState → (ℕ → Outcome) → Outcome
+unless_missing None s outcome = refused NoCell s
+unless_missing (Some own) s outcome = outcome own
+
+-- the outcome for that cell's working place; refused if the cell is unplaced
+abbrev pub unless_unplaced : Option Place → ℕ → TeamState → (Place → Outcome) → Outcome
+unless_unplaced None own s outcome = refused (Unplaced own) s
+unless_unplaced (Some place) own s outcome = outcome place
+
+-- the outcome if that cell breaks no rule; otherwise refused for the first rule that it breaks
+abbrev pub unless_broken : Option Broken → ℕ → TeamState → Outcome → Outcome
+unless_broken None own s outcome = outcome
+unless_broken (Some broken) own s outcome = refused (Illegal broken.rule own broken.other) s
+
+-- the outcome for that cell's best place; refused if it has no best place
+abbrev pub unless_no_place : Option Place → ℕ → TeamState → (Place → Outcome) → Outcome
+unless_no_place None own s outcome = refused (NoPlace own) s
+unless_no_place (Some place) own s outcome = outcome place
 
 -- ---- if memory runs out
 

@@ -1,36 +1,24 @@
 -- Queries, which change nothing: the outcomes of where, check, def and find.
-use Rattle.std.specs.Prelude.{ℕ, List, Option, Some, None, map, slice_get}
+use Rattle.std.specs.Prelude.{ℕ, List, Option, map, slice_get}
 use Rattle.lf_units.specs.declared.geometry.Point.{Point}
 use Rattle.lf_floorplan.specs.declared.place.Place.{Place}
-use Rattle.lf_rules.specs.Choice.{SpotPlace, PlacementQuery}
+use Rattle.lf_rules.specs.Choice.{SpotPlace}
 use Rattle.lf_reports.specs.Reports.{report_of}
-use Rattle.lf_rules.specs.Team.{query_from}
 use Rattle.lf_proto.specs.Numbers.{◌>>=◌}
 use Rattle.lf_proto.specs.ReportText.{report_text}
 use Rattle.lf_proto.specs.Requests.{place_at}
 use Rattle.lf_proto.specs.declared.reply.Reply.TheVariants.{At, Report, Def}
-use Rattle.lf_proto.specs.declared.reply.Refusal.TheVariants.{NoCell, Unplaced, NoPlace}
 use Rattle.lf_cells.specs.declared.cell.Cell.{Cell}
 use Rattle.lf_team_def.specs.TeamText.{team_text}
 use Rattle.lf_floor_model.specs.States.{TeamState}
-use Rattle.lf_floor_model.specs.Teams.{TeamRules, listed_of}
+use Rattle.lf_floor_model.specs.Teams.{TeamRules, listed_of, query_of_cell}
 use Rattle.lf_cells.specs.Cells.{cell_named, working_at}
-use Rattle.lf_legalize.specs.Members.{member_of}
-use Rattle.lf_floor_model.specs.Outcomes.{Outcome, refused}
-
--- the outcome of where, given the cell's working place; None if it is unplaced
-abbrev pub located_at : Option Place → ℕ → TeamState → Outcome
-located_at None own s = refused (Unplaced own) s
-located_at (Some place) own s = record { reply = At place; team = s }
-
--- the outcome of where, given the position of the cell; None if the team has no such cell
-abbrev pub located_own : Option ℕ → TeamState → Outcome
-located_own None s = refused NoCell s
-located_own (Some own) s = located_at (working_at s.cells own) own s
+use Rattle.lf_floor_model.specs.Outcomes.{Outcome, unless_missing, unless_no_place, unless_unplaced}
 
 -- where: the working place of the team's cell of that name
 unfoldable pub located : List ℕ → TeamState → Outcome
-located name s = located_own (cell_named name s.cells) s
+located name s = unless_missing (cell_named name s.cells) s
+    (λ own. unless_unplaced (working_at s.cells own) own s (λ place. record { reply = At place; team = s }))
 
 -- check: the report of the team's cells at their working places, with the team's padding
 unfoldable pub checked : TeamRules → TeamState → Outcome
@@ -51,10 +39,6 @@ written t s = record { reply = Def (team_text t.frame t.number s.cells); team = 
 abbrev pub place_of_spot : SpotPlace → Option Place
 place_of_spot p = place_at p.x p.y p.orient
 
--- the search for a place of the cell at that position, with the cell removed from its own place
-abbrev pub query_of_cell : TeamRules → List Cell → ℕ → Cell → PlacementQuery
-query_of_cell t cells own c = query_from t.frame t.number t.padding (map member_of cells) own c.mac
-
 -- the best place of the cell at that position for a target
 abbrev pub best_at : TeamRules → List Cell → ℕ → Point → Option Place
 best_at t cells own target = do
@@ -62,16 +46,7 @@ best_at t cells own target = do
   best ← t.legalizer.best_place (query_of_cell t cells own c) target
   place_of_spot best
 
--- the outcome of find, given the cell's best place; None if it has no best place
-abbrev pub found_at : Option Place → ℕ → TeamState → Outcome
-found_at None own s = refused (NoPlace own) s
-found_at (Some place) own s = record { reply = At place; team = s }
-
--- the outcome of find, given the position of the cell; None if the team has no such cell
-abbrev pub found_own : Option ℕ → TeamRules → Point → TeamState → Outcome
-found_own None t target s = refused NoCell s
-found_own (Some own) t target s = found_at (best_at t s.cells own target) own s
-
 -- find: the best place of the cell for the target
 unfoldable pub found : TeamRules → List ℕ → Point → TeamState → Outcome
-found t name target s = found_own (cell_named name s.cells) t target s
+found t name target s = unless_missing (cell_named name s.cells) s
+    (λ own. unless_no_place (best_at t s.cells own target) own s (λ place. record { reply = At place; team = s }))

@@ -34,32 +34,23 @@ abbrev pub own_state : Legalizer → Frame → ℕ → List (TeamCommand (List �
 own_state l f number [] s = s
 own_state l f number (order ∷ orders) s = own_state l f number orders (outcome_by_rules l f number order s).team
 
--- the later commands, preceded by this command if it is the team's and its reply is not OutOfMemory
-abbrev pub own_command_before : List ℕ → Command (List ℕ) Place → Reply → List (TeamCommand (List ℕ) Place)
-    → List (TeamCommand (List ℕ) Place)
-own_command_before team Bye reply later = later
-own_command_before team (To name order) reply later =
-    if bytes_eq name team && not (is_short reply) then order ∷ later else later
-
 -- the commands of a run to the team of that name, without those with the reply OutOfMemory
 abbrev pub own_commands : List ℕ → List (Command (List ℕ) Place) → List Reply → List (TeamCommand (List ℕ) Place)
 own_commands team [] replies = []
 own_commands team (command ∷ commands) [] = []
-own_commands team (command ∷ commands) (reply ∷ replies) =
-    own_command_before team command reply (own_commands team commands replies)
-
--- the later replies, preceded by this reply if its command is the team's and it is not OutOfMemory
-abbrev pub own_reply_before : List ℕ → Command (List ℕ) Place → Reply → List Reply → List Reply
-own_reply_before team Bye reply later = later
-own_reply_before team (To name order) reply later =
-    if bytes_eq name team && not (is_short reply) then reply ∷ later else later
+own_commands team (Bye ∷ commands) (reply ∷ replies) = own_commands team commands replies
+own_commands team (To name order ∷ commands) (reply ∷ replies) =
+    let later = own_commands team commands replies in
+    if bytes_eq name team && not (is_short reply) then order ∷ later else later
 
 -- the replies of a run to the team of that name, without OutOfMemory
 abbrev pub own_replies_in : List ℕ → List (Command (List ℕ) Place) → List Reply → List Reply
 own_replies_in team [] replies = []
 own_replies_in team (command ∷ commands) [] = []
-own_replies_in team (command ∷ commands) (reply ∷ replies) =
-    own_reply_before team command reply (own_replies_in team commands replies)
+own_replies_in team (Bye ∷ commands) (reply ∷ replies) = own_replies_in team commands replies
+own_replies_in team (To name order ∷ commands) (reply ∷ replies) =
+    let later = own_replies_in team commands replies in
+    if bytes_eq name team && not (is_short reply) then reply ∷ later else later
 
 -- the team's replies and state are those of its own commands alone from its first state
 pub record IsOwnRun (l : Legalizer) (frame : Frame) (number : ℕ) (team : List ℕ) (s : TeamState)

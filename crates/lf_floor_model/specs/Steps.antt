@@ -1,5 +1,6 @@
 -- What one command does to the floor of all teams.
 use Rattle.std.specs.Prelude.{◌≡◌, ℕ, List, Option, Some, None, true, false, MatchBool, slice_get, slice_set}
+use Rattle.std.specs.Option.{option_map_or}
 use Rattle.lf_units.specs.declared.geometry.Point.{Point}
 use Rattle.lf_floorplan.specs.declared.frame.Frame.{Frame}
 use Rattle.lf_floorplan.specs.declared.place.Place.{Place}
@@ -43,24 +44,17 @@ answer_of_outcome floor number o = record {
 abbrev pub no_team : FloorState → Answer
 no_team floor = record { reply = Refused NoTeam; floor = floor }
 
--- the answer of the team in this state; None if there is no such team
-abbrev pub answer_by : Option TeamState → Legalizer → FloorState → ℕ → TeamCommand (List ℕ) Place → Answer
-answer_by None l floor number order = no_team floor
-answer_by (Some s) l floor number order = answer_of_outcome floor number (outcome_by_rules l floor.frame number order s)
-
 -- the answer of the team of that number; None if there is no such team
 abbrev pub answer_at : Option ℕ → Legalizer → FloorState → TeamCommand (List ℕ) Place → Answer
 answer_at None l floor order = no_team floor
-answer_at (Some number) l floor order = answer_by (slice_get floor.teams number) l floor number order
-
--- the answer to bye, the end of a connection; its sessions stay open
-abbrev pub answer_to_bye : FloorState → Answer
-answer_to_bye floor = record { reply = Done; floor = floor }
+answer_at (Some number) l floor order =
+    option_map_or (λ s. answer_of_outcome floor number (outcome_by_rules l floor.frame number order s))
+    (slice_get floor.teams number) (no_team floor)
 
 -- the answer to a command: it depends on the state of the team of that name alone, and only that
--- state changes
+-- state changes. Bye ends a connection; its sessions stay open
 unfoldable pub answer_of : Legalizer → FloorState → Command (List ℕ) Place → Answer
-answer_of l floor Bye = answer_to_bye floor
+answer_of l floor Bye = record { reply = Done; floor = floor }
 answer_of l floor (To team order) = answer_at (team_number floor.frame team) l floor order
 
 -- ---- a step

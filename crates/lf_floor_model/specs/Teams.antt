@@ -1,16 +1,16 @@
 -- Teams and cells by their names, and the other cells of a cell's team (LEF/DEF 5.8, DEF REGIONS,
 -- GROUPS and COMPONENTS).
-use Rattle.std.specs.Prelude.{◌≡◌, ◌≢◌, ℕ, ◌≤◌, List, [], ◌∷◌, ◌++◌, length, map, position, bytes_eq, All, AllPairs, IfSome, Option, Some, None, slice_get}
+use Rattle.std.specs.Prelude.{◌≡◌, ◌≢◌, ℕ, ◌≤◌, List, [], ◌∷◌, ◌++◌, length, map, position, bytes_eq, All, AllPairs, IfSome, Option, option_and_then, slice_get}
 use Rattle.lf_floorplan.specs.declared.frame.Frame.{Frame}
 use Rattle.lf_floorplan.specs.declared.place.Place.{Place}
 use Rattle.lf_rules.specs.declared.rule.Broken.{Broken}
 use Rattle.lf_floorplan.specs.Bounds.{IsDesignName}
-use Rattle.lf_floorplan.specs.Boxes.{macro_of}
 use Rattle.lf_floorplan.specs.Fences.{ground_name}
-use Rattle.lf_rules.specs.Legality.{Candidate, candidate_of}
+use Rattle.lf_rules.specs.Choice.{PlacementQuery, candidate_at, spot_of}
 use Rattle.lf_rules.specs.Legalizer.{Legalizer}
 use Rattle.lf_rules.specs.declared.report_types.Listed.{Listed}
-use Rattle.lf_rules.specs.Team.{boxes_beside}
+use Rattle.lf_rules.specs.Team.{query_from}
+use Rattle.lf_proto.specs.Numbers.{◌>>=◌}
 use Rattle.lf_cells.specs.declared.cell.Cell.{Cell}
 use Rattle.lf_legalize.specs.Members.{IsSizedCell, member_of}
 use Rattle.lf_floor_model.specs.States.{FloorState, TeamState}
@@ -23,14 +23,9 @@ team_names f = map (λ t. t.name) f.teams ++ ground_name ∷ []
 abbrev pub team_number : Frame → List ℕ → Option ℕ
 team_number f name = position (λ n. bytes_eq n name) (team_names f)
 
--- the state of the team of that number
-abbrev pub state_at : List TeamState → Option ℕ → Option TeamState
-state_at teams None = None
-state_at teams (Some number) = slice_get teams number
-
 -- the state of the team of that name; None if no team has the name
 abbrev pub state_of : FloorState → List ℕ → Option TeamState
-state_of floor name = state_at floor.teams (team_number floor.frame name)
+state_of floor name = option_and_then (slice_get floor.teams) (team_number floor.frame name)
 
 -- the cell as an element of its team's report
 abbrev pub listed_of : ℕ → Cell → Listed (List ℕ)
@@ -63,18 +58,13 @@ pub record TeamRules : Type 0 where
 abbrev pub team_rules : Legalizer → Frame → ℕ → ℕ → TeamRules
 team_rules l f number padding = record { legalizer = l; frame = f; number = number; padding = padding }
 
--- the candidate: the cell at that position, tested at a place among the team's other placed cells
-abbrev pub candidate_of_cell : TeamRules → List Cell → ℕ → Cell → Place → Candidate
-candidate_of_cell t cells own c place =
-    candidate_of t.frame t.number t.padding (macro_of t.frame c.mac) place
-    (boxes_beside t.frame (map member_of cells) own)
-
--- the first rule that this cell breaks; None if there is no cell
-abbrev pub broken_by : Option Cell → TeamRules → List Cell → ℕ → Place → Option Broken
-broken_by None t cells own place = None
-broken_by (Some c) t cells own place = t.legalizer.first_broken (candidate_of_cell t cells own c place)
+-- the search for a place of the cell at that position, with the cell removed from its own place
+abbrev pub query_of_cell : TeamRules → List Cell → ℕ → Cell → PlacementQuery
+query_of_cell t cells own c = query_from t.frame t.number t.padding (map member_of cells) own c.mac
 
 -- the first rule that the cell at that position breaks at a place, among the working places of its
 -- own team alone
 abbrev pub broken_at : TeamRules → List Cell → ℕ → Place → Option Broken
-broken_at t cells own place = broken_by (slice_get cells own) t cells own place
+broken_at t cells own place = do
+  c ← slice_get cells own
+  t.legalizer.first_broken (candidate_at (query_of_cell t cells own c) (spot_of place))

@@ -17,12 +17,12 @@ use Rattle.lf_proto.specs.declared.reply.Refusal.{Refusal}
 use Rattle.lf_proto.specs.declared.reply.Refusal.TheVariants.{NoPlace}
 use Rattle.lf_cells.specs.declared.cell.Cell.{Cell}
 use Rattle.lf_floor_model.specs.States.{TeamState}
-use Rattle.lf_floor_model.specs.Teams.{TeamRules, IsTeamOf}
+use Rattle.lf_floor_model.specs.Teams.{TeamRules, IsTeamOf, query_of_cell}
 use Rattle.lf_cells.specs.Cells.{cell_named}
 use Rattle.lf_legalize.specs.Members.{member_of}
 use Rattle.lf_floor_model.specs.Outcomes.{Outcome, is_short, refused, places_of}
 use Rattle.lf_floor_model.specs.Sessions.{seen_at}
-use Rattle.lf_floor_model.specs.Queries.{query_of_cell, best_at}
+use Rattle.lf_floor_model.specs.Queries.{best_at}
 use Rattle.lf_floor_model.specs.Verbs.{is_recorded, outcome_of}
 
 -- the outcome of a session's change

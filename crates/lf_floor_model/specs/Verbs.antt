@@ -30,16 +30,11 @@ use Rattle.lf_floor_model.specs.Changes.{outcome_of_change}
 
 -- ---- the outcome of each verb
 
--- a change needs a revision below the limit
-abbrev pub unless_spent : TeamRules → ℕ → Change (List ℕ) Place → TeamState → Outcome
-unless_spent t session change s =
-    if nat_lt s.revision t.frame.limits.revisions then outcome_of_change t session change s
-    else refused RevisionsSpent s
-
--- a change needs a session that has seen the present revision
+-- a change needs a session that has seen the present revision, and a revision below the limit
 abbrev pub unless_stale : ℕ → TeamRules → ℕ → Change (List ℕ) Place → TeamState → Outcome
-unless_stale seen t session change s = if seen == s.revision then unless_spent t session change s
-    else refused (Stale s.revision) s
+unless_stale seen t session change s = if seen == s.revision
+    then (if nat_lt s.revision t.frame.limits.revisions then outcome_of_change t session change s
+    else refused RevisionsSpent s) else refused (Stale s.revision) s
 
 -- the outcome of an action of a session that has seen this revision
 abbrev pub outcome_within : ℕ → TeamRules → ℕ → Action (List ℕ) Place → TeamState → Outcome

@@ -15,7 +15,8 @@ use Rattle.lf_legalize.specs.Members.{IsSizedCell}
 use Rattle.lf_placement.specs.Placements.{IsBrokenFrameRule, IsBrokenAt, Placing, SameButPlaces}
 use Rattle.lf_placement.proofs.Changing.{macs_same, sized_in}
 use Rattle.lf_placement.proofs.FirstBroken.{alone_lasts, broken_alone}
-use Rattle.lf_floor_model.specs.Teams.{TeamRules, broken_at, broken_by, team_rules, candidate_of_cell}
+use Rattle.lf_floor_model.specs.Teams.{TeamRules, broken_at, team_rules}
+use Rattle.lf_floor_model.proofs.Forms.{broken_by, candidate_of_cell}
 use Rattle.lf_floor_verbs.specs.Tables.{OnlyMovesTeam}
 
 pub sized_there : (f : Frame) (cells : List Cell) (own : ℕ) (c : Cell) → All (IsSizedCell f) cells → slice_get cells own ≡ Some c → IsSizedCell f c

@@ -10,8 +10,7 @@ use Rattle.lf_rules.specs.Team.{IsLegalCell}
 use Rattle.lf_cells.specs.declared.cell.Cell.{Cell}
 use Rattle.lf_cells.specs.Cells.{working_at}
 use Rattle.lf_legalize.specs.Members.{IsSizedCell, member_of}
-use Rattle.lf_floor_model.specs.Teams.{TeamRules}
-use Rattle.lf_floor_model.specs.Queries.{query_of_cell}
+use Rattle.lf_floor_model.specs.Teams.{TeamRules, query_of_cell}
 use Rattle.lf_floor_model.specs.Changes.{broken_where}
 use Rattle.lf_floor_verbs.proofs.Marking.{legal_breaks_none}
 

@@ -18,9 +18,9 @@ use Rattle.lf_cells.specs.declared.cell.Cell.{Cell}
 use Rattle.lf_cells.specs.declared.cell.CellId.{CellId}
 use Rattle.lf_cells.specs.Cells.{id_in, id_of, working_at}
 use Rattle.lf_legalize.specs.Members.{IsSizedCell, member_of}
-use Rattle.lf_floor_model.specs.Teams.{TeamRules, broken_by, candidate_of_cell}
-use Rattle.lf_floor_model.specs.Queries.{query_of_cell}
+use Rattle.lf_floor_model.specs.Teams.{TeamRules, query_of_cell}
 use Rattle.lf_floor_model.specs.Changes.{broken_where}
+use Rattle.lf_floor_model.proofs.Forms.{broken_by, candidate_of_cell}
 use Rattle.lf_floor_model.proofs.LegalPlaces.{some_one, is_placed_where}
 use Rattle.lf_floor_verbs.specs.Marking.{AreMarked}
 use Rattle.lf_floor_verbs.specs.Tidying.{tidy_target_at}

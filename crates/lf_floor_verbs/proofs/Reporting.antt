@@ -20,8 +20,9 @@ use Rattle.lf_reports.specs.Reports.{broken_among, listed_member, name_among, vi
 use Rattle.lf_reports.proofs.ReportLemmas.{reported_more}
 use Rattle.lf_cells.specs.declared.cell.Cell.{Cell}
 use Rattle.lf_legalize.specs.Members.{member_of}
-use Rattle.lf_floor_model.specs.Teams.{TeamRules, broken_by, listed_of}
+use Rattle.lf_floor_model.specs.Teams.{TeamRules, listed_of}
 use Rattle.lf_floor_model.specs.Changes.{broken_where}
+use Rattle.lf_floor_model.proofs.Forms.{broken_by}
 use Rattle.lf_floor_model.proofs.LegalPlaces.{some_one}
 use Rattle.lf_proto.specs.ReportText.{violation_in, violation_named}
 use Rattle.lf_floor_verbs.specs.Reporting.{names_of, violation_where}

@@ -15,9 +15,9 @@ use Rattle.lf_legalize.specs.Members.{best_of}
 use Rattle.lf_placement.proofs.Moves.{id_there}
 use Rattle.lf_floorplan.specs.Bounds.{IsDesignName}
 use Rattle.lf_floor_model.specs.Outcomes.{name_at}
-use Rattle.lf_floor_model.specs.Teams.{TeamRules}
+use Rattle.lf_floor_model.specs.Teams.{TeamRules, query_of_cell}
 use Rattle.lf_floor_model.proofs.LegalPlaces.{some_one}
-use Rattle.lf_floor_model.specs.Queries.{place_of_spot, query_of_cell, best_at}
+use Rattle.lf_floor_model.specs.Queries.{place_of_spot, best_at}
 
 pub back : (q : Place) → place_of_spot (spot_of q) ≡ Some q
 back q = place_at-some q

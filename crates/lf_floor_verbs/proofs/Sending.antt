@@ -24,9 +24,10 @@ use Rattle.lf_floor_verbs.specs.declared.tidy.Tidy.TheVariants.{Done, Stopped}
 use Rattle.lf_floor_model.specs.States.{TeamState}
 use Rattle.lf_floor_model.specs.Outcomes.{places_of, refused, recorded, with_reply, may_be_short}
 use Rattle.lf_placement.specs.Placements.{SameButPlaces}
-use Rattle.lf_floor_model.specs.Teams.{TeamRules, broken_at, broken_by}
-use Rattle.lf_floor_model.specs.Queries.{query_of_cell, place_of_spot}
-use Rattle.lf_floor_model.specs.Changes.{restored, places_in, tidied_by, tidied_team}
+use Rattle.lf_floor_model.specs.Teams.{TeamRules, broken_at, query_of_cell}
+use Rattle.lf_floor_model.specs.Queries.{place_of_spot}
+use Rattle.lf_floor_model.specs.Changes.{restored, tidied_by, tidied_team}
+use Rattle.lf_floor_model.proofs.Forms.{broken_by, places_in}
 use Rattle.lf_floor_verbs.specs.declared.tidy.TidyStep.{TidyStep}
 use Rattle.lf_floor_verbs.specs.Tidying.{TidiesOneCell, TidiesCells, tidy_result_of, tidy_target_at}
 use Rattle.lf_floor_verbs.proofs.Moves.{restored_is}

@@ -14,7 +14,8 @@ use Rattle.lf_placement.proofs.Moves.{same_moved}
 use Rattle.lf_floor_model.specs.States.{TeamState}
 use Rattle.lf_floor_model.specs.Teams.{TeamRules, broken_at}
 use Rattle.lf_floor_model.specs.Outcomes.{may_be_short, refused}
-use Rattle.lf_floor_model.specs.Changes.{broken_where, exchanged, swapped, swapped_from, swapped_own, swapped_unless}
+use Rattle.lf_floor_model.specs.Changes.{broken_where, exchanged, swapped}
+use Rattle.lf_floor_model.proofs.Forms.{swapped_from, swapped_own, swapped_unless}
 use Rattle.lf_floor_verbs.specs.declared.swap.Exchange.{Exchange}
 use Rattle.lf_floor_verbs.specs.Swapping.{IsExchange, exchange_moves, first_refusal_of, illegal_by, swap_refusal, swapped_here}
 use Rattle.lf_floor_verbs.proofs.BrokenRules.{first_broken}

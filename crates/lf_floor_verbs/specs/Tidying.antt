@@ -10,8 +10,7 @@ use Rattle.lf_floor_verbs.specs.declared.tidy.TidyStep.{TidyStep}
 use Rattle.lf_floor_verbs.specs.declared.tidy.TidyStep.TheVariants.{Stays, Goes, Nowhere}
 use Rattle.lf_floor_verbs.specs.declared.tidy.Tidy.{Tidy}
 use Rattle.lf_floor_verbs.specs.declared.tidy.Tidy.TheVariants.{Done, Stopped}
-use Rattle.lf_floor_model.specs.Teams.{TeamRules}
-use Rattle.lf_floor_model.specs.Queries.{query_of_cell}
+use Rattle.lf_floor_model.specs.Teams.{TeamRules, query_of_cell}
 
 -- the target to which the cell at that position is tidied; None if it stays
 abbrev pub tidy_target_at : TeamRules → List Cell → ℕ → Option Point

@@ -8,7 +8,7 @@ ghost use Rattle.lf_proto.specs.Commands.{order_of};
 ghost use Rattle.lf_proto.specs.Verbs.{action_of, change_of};
 ghost use Rattle.lf_sessions.specs.Slots.{seen_at, slots_of};
 ghost use Rattle.lf_floor_model.specs.Outcomes.{IsOutcome, IsOutOfMemory};
-ghost use Rattle.lf_floor_model.specs.Verbs.{is_tested, outcome_by_slot, outcome_of, outcome_within, takes_memory, unless_spent, unless_stale};
+ghost use Rattle.lf_floor_model.specs.Verbs.{is_tested, outcome_of, outcome_within, takes_memory, unless_stale};
 ghost use Rattle.lf_floor_verbs.specs.Tables.{EntriesFit, HasTeamRow, KeepsOtherTeams, frame_of, context_in, team_in};
 
 use crate::context::TeamContext;
@@ -23,7 +23,7 @@ impl Tables {
     /// come before the refusals of the change itself.
     ///
     /// `Err` if an allocation fails; then the team is unchanged.
-    fn check_session<S: Seeker>(
+    fn run_if_current<S: Seeker>(
         &mut self,
         around: &TeamContext<'_, S>,
         session: u32,
@@ -91,7 +91,7 @@ impl Tables {
             Action::Def => self.write_def(around),
             Action::Where { cell } => Ok(self.run_where(around.number, cell)),
             Action::Find { cell, target } => self.find(around, cell, target),
-            Action::Change(change) => self.check_session(around, session, seen, change),
+            Action::Change(change) => self.run_if_current(around, session, seen, change),
         }
     }
 

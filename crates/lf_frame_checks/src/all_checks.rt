@@ -58,20 +58,26 @@ fn numbered(number: u8) -> FaultNumber
     }
 }
 
+/// What is known of all components: who claims each, and the first ones whose macro is at fault.
+#[derive(Clone, Copy)]
+struct ComponentFacts<'x> {
+    claims: &'x ClaimTable,
+    faults: &'x MacroFaults,
+}
+
 /// Returns the name of the first entry at fault by this refusal, or `None` if it finds nothing.
 /// `Err` if an allocation fails.
 fn finding<'d>(
     alloc: Global,
-    claims: &ClaimTable,
-    faults: &MacroFaults,
+    facts: &ComponentFacts<'_>,
     library: &'d Library,
     document: &'d DefDoc,
     limits: &Limits,
     number: FaultNumber,
 ) -> Result<Option<&'d [u8]>, AllocError>
-    requires claims { IsTableOf document.now.regions document.now.groups document.now.components claims.now }
+    requires claims { IsTableOf document.now.regions document.now.groups document.now.components facts.now.claims.now }
     requires faults { AreMacroFaults library.now
-        (units_in (inputs library.now document.now limits.now)) document.now.components faults.now }
+        (units_in (inputs library.now document.now limits.now)) document.now.components facts.now.faults.now }
     requires order { number ≡ TwoFences → NoneBreaks HasEarlierName document.now.components }
     ensures { IfOk result (λ name. Finds (inputs library.now document.now limits.now) number (option_copied name)) }
 {
@@ -83,15 +89,15 @@ fn finding<'d>(
         FaultNumber::BadStep => Ok(bad_step(library, document, limits)),
         FaultNumber::RowOrient => Ok(row_orient(library, document, limits)),
         FaultNumber::RowsOverlap => rows_overlap(alloc, library, document, limits),
-        FaultNumber::NoMacro => Ok(no_macro(faults, library, document, limits)),
-        FaultNumber::NoSize => Ok(no_size(faults, library, document, limits)),
-        FaultNumber::NotWhole => Ok(not_whole(faults, library, document, limits)),
-        FaultNumber::SecondName => Ok(second_name(claims, library, document, limits)),
+        FaultNumber::NoMacro => Ok(no_macro(facts.faults, library, document, limits)),
+        FaultNumber::NoSize => Ok(no_size(facts.faults, library, document, limits)),
+        FaultNumber::NotWhole => Ok(not_whole(facts.faults, library, document, limits)),
+        FaultNumber::SecondName => Ok(second_name(facts.claims, library, document, limits)),
         FaultNumber::SecondRegion => second_region(alloc, library, document, limits),
         FaultNumber::NoRegion => no_region(alloc, library, document, limits),
         FaultNumber::TeamName => Ok(team_name(library, document, limits)),
         FaultNumber::FencesOverlap => fences_overlap(alloc, library, document, limits),
-        FaultNumber::TwoFences => Ok(two_fences(claims, library, document, limits)),
+        FaultNumber::TwoFences => Ok(two_fences(facts.claims, library, document, limits)),
         FaultNumber::TooMany => Ok(too_many(library, document, limits)),
         FaultNumber::BadToken => Ok(None),
         FaultNumber::UnexpectedEnd => Ok(None),
@@ -121,9 +127,13 @@ pub fn first_finding<'d>(
 {
     let components = document.components.as_slice();
     let faults = macro_faults(components, macros, library, units_of(document));
+    let facts = ComponentFacts {
+        claims,
+        faults: &faults,
+    };
     for number in FIRST..END {
         let refusal = numbered(number);
-        if let Some(name) = finding(alloc, claims, &faults, library, document, limits, refusal)? {
+        if let Some(name) = finding(alloc, &facts, library, document, limits, refusal)? {
             return Ok(Some(LoadFault {
                 number: refusal,
                 line: None,

@@ -27,9 +27,10 @@ use Rattle.lf_cells.specs.Cells.{working_at}
 use Rattle.lf_legalize.specs.Members.{member_of}
 use Rattle.lf_team_def.specs.TeamText.{words_line, section_lines, header_lines, region_lines, team_component_words, team_group_words, group_lines, team_lines, team_text}
 use Rattle.lf_team_def.specs.Clauses.{clause_words}
-use Rattle.lf_floor_model.specs.Teams.{TeamRules, team_rules, listed_of, broken_by, broken_at}
+use Rattle.lf_floor_model.specs.Teams.{TeamRules, team_rules, listed_of, broken_at}
 use Rattle.lf_floor_model.specs.Queries.{place_of_spot, best_at}
 use Rattle.lf_floor_model.specs.Changes.{broken_where, broken_cells}
+use Rattle.lf_floor_model.proofs.Forms.{broken_by}
 use Rattle.lf_laws_slices.specs.Alike.{AreFramesAlike}
 use Rattle.lf_laws_slices.proofs.Zips.{OptionZip, zip_length, zip_get, zip_map, zip_same, zip_count, filter_map_agree}
 use Rattle.lf_laws_slices.proofs.Places.{verdict_same, best_same}

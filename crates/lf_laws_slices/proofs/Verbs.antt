@@ -32,9 +32,10 @@ use Rattle.lf_floor_model.specs.States.{TeamState}
 use Rattle.lf_floor_model.specs.Teams.{TeamRules, team_rules, broken_at}
 use Rattle.lf_floor_model.specs.Outcomes.{Outcome, refused, changed, with_entry, recorded, with_reply}
 use Rattle.lf_floor_model.specs.Sessions.{seen_at, opened, opened_at, closed, synced}
-use Rattle.lf_floor_model.specs.Queries.{place_of_spot, checked, written, located, located_own, located_at, best_at, found, found_own, found_at}
-use Rattle.lf_floor_model.specs.Changes.{placed, placed_own, placed_unless, unplaced, unplaced_own, unplaced_from, legalized, legalized_own, legalized_at, restored, places_in, tidied_by, tidied_team, broken_where, exchanged, swapped_unless, swapped_to, swapped_from, swapped_own, swapped, back_to_committed, reverted, undone_by, undone, padded, first_unplaced, broken_cells, committed_unless, committed, outcome_of_change}
-use Rattle.lf_floor_model.specs.Verbs.{unless_spent, unless_stale, outcome_within, outcome_by_slot, outcome_of}
+use Rattle.lf_floor_model.specs.Queries.{place_of_spot, checked, written, located, best_at, found}
+use Rattle.lf_floor_model.specs.Changes.{placed, unplaced, legalized, restored, tidied_by, tidied_team, broken_where, exchanged, swapped_to, swapped, back_to_committed, reverted, undone_by, undone, padded, first_unplaced, broken_cells, committed_unless, committed, outcome_of_change}
+use Rattle.lf_floor_model.specs.Verbs.{unless_stale, outcome_within, outcome_of, outcome_by_slot}
+use Rattle.lf_floor_model.proofs.Forms.{located_own, located_at, found_own, found_at, placed_own, placed_unless, unplaced_own, unplaced_from, legalized_own, legalized_at, places_in, swapped_unless, swapped_from, swapped_own, unless_spent}
 use Rattle.lf_laws_slices.specs.Alike.{AreFramesAlike}
 use Rattle.lf_laws_slices.proofs.Zips.{zip_same}
 use Rattle.lf_laws_slices.proofs.Members.{AreMembersAlike}

@@ -217,7 +217,7 @@ fn outside_request<'a>(word: &[u8], fields: Fields<'a>) -> Option<Request<'a>>
 }
 
 /// Reads the request in the fields of a line.
-fn request_in<'a>(mut fields: Fields<'a>) -> Option<Request<'a>>
+fn request_of_fields<'a>(mut fields: Fields<'a>) -> Option<Request<'a>>
     ensures { option_map command_with_names result ≡ command_in fields.entry }
 {
     let word = fields.next()?;
@@ -254,7 +254,7 @@ pub fn parse_line<'a>(line: &'a [u8]) -> Result<Request<'a>, BadRequest>
     if !is_line(line) {
         return Err(BadRequest);
     }
-    request_in(fields_of(line)).ok_or(BadRequest)
+    request_of_fields(fields_of(line)).ok_or(BadRequest)
 }
 
 /// A law: if a line prints a request, its fields in order with one space between each two,

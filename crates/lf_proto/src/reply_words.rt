@@ -1,6 +1,7 @@
 //! The texts of replies.
 
 ghost use Rattle.std.specs.Prelude.{◌≡◌, ◌<◌, ◌≤◌, ◌+◌, ◌++◌, [], ◌∷◌, OnOk, OnErr, IsOk, codes, length, take, vec_len, vec_capacity};
+ghost use Rattle.lf_proto.specs.Words.{word_text};
 ghost use Rattle.lf_proto.specs.ReplyText.{illegal_words, spaced_line, refusal_words, reply_line, reply_text, text_after};
 
 use crate::reply::{Refusal, Reply};
@@ -18,6 +19,23 @@ fn put_plain<'x>(out: &mut Vec<u8>, number: &'x [u8], name: &'x [u8]) -> Result<
     ensures capacity { vec_capacity out.old ≤ vec_capacity out.new }
 {
     put_line(out, b"no", &[Word::Text(number), Word::Text(name)])
+}
+
+/// Appends the line of a refusal with one more word. An `Err` may leave a part of it appended.
+fn put_with<'x>(
+    out: &mut Vec<u8>,
+    number: &'x [u8],
+    name: &'x [u8],
+    word: &Word<'x>,
+) -> Result<(), AllocError>
+    ensures ok { OnOk result (out.new.items
+        ≡ out.old.items ++ spaced_line (codes "no" ∷ number.now ∷ name.now ∷ word_text word.now ∷ [])) }
+    ensures kept { take (vec_len out.old) out.new.items ≡ out.old.items }
+    ensures full { OnErr result (vec_capacity out.old < vec_len out.old
+        + length (spaced_line (codes "no" ∷ number.now ∷ name.now ∷ word_text word.now ∷ []))) }
+    ensures capacity { vec_capacity out.old ≤ vec_capacity out.new }
+{
+    put_line(out, b"no", &[Word::Text(number), Word::Text(name), *word])
 }
 
 /// Appends the line of a place that breaks a rule, with the second name if there is another cell.
@@ -80,37 +98,13 @@ fn put_refusal<'x>(
         Refusal::BadRequest => put_plain(out, b"1", b"BadRequest"),
         Refusal::NoTeam => put_plain(out, b"2", b"NoTeam"),
         Refusal::NoSession => put_plain(out, b"3", b"NoSession"),
-        Refusal::Stale { revision } => put_line(
-            out,
-            b"no",
-            &[
-                Word::Text(b"4"),
-                Word::Text(b"Stale"),
-                Word::Number(*revision),
-            ],
-        ),
+        Refusal::Stale { revision } => put_with(out, b"4", b"Stale", &Word::Number(*revision)),
         Refusal::NoCell => put_plain(out, b"5", b"NoCell"),
-        Refusal::Unplaced { .. } => put_line(
-            out,
-            b"no",
-            &[
-                Word::Text(b"6"),
-                Word::Text(b"Unplaced"),
-                Word::Text(cell_name),
-            ],
-        ),
+        Refusal::Unplaced { .. } => put_with(out, b"6", b"Unplaced", &Word::Text(cell_name)),
         Refusal::Illegal { rule, other, .. } => {
             put_illegal(*rule, *other, cell_name, other_name, out)
         }
-        Refusal::NoPlace { .. } => put_line(
-            out,
-            b"no",
-            &[
-                Word::Text(b"8"),
-                Word::Text(b"NoPlace"),
-                Word::Text(cell_name),
-            ],
-        ),
+        Refusal::NoPlace { .. } => put_with(out, b"8", b"NoPlace", &Word::Text(cell_name)),
         Refusal::NothingToUndo => put_plain(out, b"9", b"NothingToUndo"),
         Refusal::SessionsFull => put_plain(out, b"10", b"SessionsFull"),
         Refusal::RevisionsSpent => put_plain(out, b"11", b"RevisionsSpent"),

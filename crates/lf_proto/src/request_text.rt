@@ -7,12 +7,39 @@ ghost use Rattle.lf_proto.specs.Verbs.{action_of, change_of};
 ghost use Rattle.lf_proto.specs.declared.request.Command.TheVariants.{To};
 ghost use Rattle.lf_proto.specs.declared.request.TeamCommand.TheVariants.{Within};
 ghost use Rattle.lf_proto.specs.declared.verb.Action.TheVariants.{Change as Changing};
+ghost use Rattle.lf_proto.specs.declared.verb.Change.TheVariants.{Place as PlaceAt};
 
 use crate::request::{Command, Request, TeamCommand};
 use crate::verb::{Action, Change};
 use crate::words::{Word, put_line};
+use lf_floorplan::Place;
 use lf_orient::orient_word;
 use std::alloc::AllocError;
+
+/// Appends the line of a `place`.
+fn put_place<'x>(
+    out: &mut Vec<u8>,
+    team: &'x [u8],
+    session: u32,
+    cell: &'x [u8],
+    place: &Place,
+) -> Result<(), AllocError>
+    ensures { OnOk result (out.new.items ≡ out.old.items
+        ++ request_line (To team.now (Within session (Changing (PlaceAt cell.now place.now))))) }
+{
+    put_line(
+        out,
+        b"place",
+        &[
+            Word::Text(team),
+            Word::Number(session),
+            Word::Text(cell),
+            Word::Signed(place.x),
+            Word::Signed(place.y),
+            Word::Text(orient_word(place.orient)),
+        ],
+    )
+}
 
 /// Appends the line of a change.
 fn put_change<'x>(
@@ -24,45 +51,34 @@ fn put_change<'x>(
     ensures { OnOk result (out.new.items ≡ out.old.items
         ++ request_line (To team.now (Within session (Changing (change_of change.now))))) }
 {
-    let (team, session) = (Word::Text(team), Word::Number(session));
+    let (name, number) = (Word::Text(team), Word::Number(session));
     match change {
-        Change::Place { cell, place } => put_line(
-            out,
-            b"place",
-            &[
-                team,
-                session,
-                Word::Text(cell),
-                Word::Signed(place.x),
-                Word::Signed(place.y),
-                Word::Text(orient_word(place.orient)),
-            ],
-        ),
+        Change::Place { cell, place } => put_place(out, team, session, cell, place),
         Change::Legalize { cell, target } => put_line(
             out,
             b"legalize",
             &[
-                team,
-                session,
+                name,
+                number,
                 Word::Text(cell),
                 Word::Long(target.x),
                 Word::Long(target.y),
             ],
         ),
-        Change::Tidy => put_line(out, b"tidy", &[team, session]),
-        Change::Unplace { cell } => put_line(out, b"unplace", &[team, session, Word::Text(cell)]),
+        Change::Tidy => put_line(out, b"tidy", &[name, number]),
+        Change::Unplace { cell } => put_line(out, b"unplace", &[name, number, Word::Text(cell)]),
         Change::Swap { first, second } => put_line(
             out,
             b"swap",
-            &[team, session, Word::Text(first), Word::Text(second)],
+            &[name, number, Word::Text(first), Word::Text(second)],
         ),
-        Change::Undo => put_line(out, b"undo", &[team, session]),
-        Change::Commit => put_line(out, b"commit", &[team, session]),
-        Change::Revert => put_line(out, b"revert", &[team, session]),
+        Change::Undo => put_line(out, b"undo", &[name, number]),
+        Change::Commit => put_line(out, b"commit", &[name, number]),
+        Change::Revert => put_line(out, b"revert", &[name, number]),
         Change::Pad { padding } => put_line(
             out,
             b"pad",
-            &[team, session, Word::Number(padding.sites)],
+            &[name, number, Word::Number(padding.sites)],
         ),
     }
 }

@@ -9,7 +9,7 @@
 //! The search runs on a floor without cells (`EmptyFloor`), with the search for best places. The
 //! crate also copies frames (`clone_frame`).
 //!
-//! Used by `lf_task_files` and `lf_task_repair`.
+//! Used by `lf_task_files`.
 //!
 //! Modules, in reading order:
 //!
@@ -19,11 +19,11 @@
 //! - `min_displacement`: least displacements, and the largest of each team
 //! - `laws`: what the numbers mean for any repair
 //!
-//! From `crates/lf_task_repair/src/repair_task.rt`:
+//! From `crates/lf_task_files/src/measured.rt`:
 //!
 //! ```
 //! let least = max_min_displacements(alloc, &loaded)?;
-//! let mut floor = start_floor(alloc, loaded)?;
+//! let floor = start_floor(alloc, loaded)?;
 //! ```
 #![tactic(auto)]
 

@@ -60,6 +60,27 @@ fn cell_at(number: u32, width: u32, wanted: u32) -> PackedCell {
     }
 }
 
+/// The number of sites by which a cell may be displaced in a span before it costs as much as the
+/// best gap. `row` is what its displacement across rows costs.
+fn sites_left(best: &Best, row: i64, sites: &FreeSpan) -> i64 {
+    let pitch = sites.pitch();
+    best.cost
+        .saturating_sub(row)
+        .saturating_add(pitch - 1)
+        .div_euclid(pitch)
+}
+
+/// The limits for the cells of a span when one cell is `outside` sites from its target. It may be
+/// displaced by `left` sites, `near` of them at the lower cost.
+fn effort_along(how: &SearchLimits, left: i64, near: i64, outside: i64) -> SearchEffort {
+    SearchEffort {
+        reach: clipped(left.saturating_sub(outside)),
+        most: how.most,
+        near: clipped(near.saturating_sub(outside)),
+        weight: how.weight,
+    }
+}
+
 /// How to try the cell in a span of a row at distance `dy`. `None` if it is too wide for the span
 /// or costs too much there.
 fn try_of(
@@ -79,11 +100,7 @@ fn try_of(
     let wanted = site.max(0).min(last);
     let outside = site.saturating_sub(wanted).saturating_abs();
     let row = cost_of(dy, search.how);
-    let left = best
-        .cost
-        .saturating_sub(row)
-        .saturating_add(pitch - 1)
-        .div_euclid(pitch);
+    let left = sites_left(best, row, sites);
     if left <= outside {
         return None;
     }
@@ -92,19 +109,13 @@ fn try_of(
         near,
         ..*search.how
     };
-    let way = cost_of(outside, &along).saturating_mul(pitch);
-    let effort = SearchEffort {
-        reach: clipped(left.saturating_sub(outside)),
-        most: search.how.most,
-        near: clipped(near.saturating_sub(outside)),
-        weight: search.how.weight,
-    };
+    let in_row = cost_of(outside, &along).saturating_mul(pitch);
     Some(SpanCandidate {
         span,
         cell: cell_at(search.number, clipped(width), clipped(wanted)),
-        effort,
+        effort: effort_along(search.how, left, near, outside),
         pitch,
-        base: row.saturating_add(way),
+        base: row.saturating_add(in_row),
     })
 }
 

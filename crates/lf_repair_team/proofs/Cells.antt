@@ -24,9 +24,10 @@ use Rattle.lf_floor_model.specs.Teams.{TeamRules, broken_at, team_rules, state_o
 use Rattle.lf_floor_model.specs.Outcomes.{Outcome, name_at, refused}
 use Rattle.lf_floor_model.specs.Sessions.{seen_at}
 use Rattle.lf_floor_model.specs.Queries.{best_at}
-use Rattle.lf_floor_model.specs.Changes.{placed, placed_own, placed_unless, unplaced, unplaced_own, unplaced_from, legalized, legalized_own, legalized_at, committed, committed_unless, first_unplaced, broken_cells, outcome_of_change}
-use Rattle.lf_floor_model.specs.Verbs.{unless_spent, outcome_by_slot}
+use Rattle.lf_floor_model.specs.Changes.{placed, unplaced, legalized, committed, committed_unless, first_unplaced, broken_cells, outcome_of_change}
 use Rattle.lf_floor_model.specs.VerbLaws.{is_commit, outcome_of_asking}
+use Rattle.lf_floor_model.specs.Verbs.{outcome_by_slot}
+use Rattle.lf_floor_model.proofs.Forms.{placed_own, placed_unless, unplaced_own, unplaced_from, legalized_own, legalized_at, unless_spent}
 use Rattle.lf_floor_model.proofs.LegalPlaces.{moved_there}
 use Rattle.lf_repair_team.specs.CellEdits.{IsUnchangedOrStepped, IsOfCell, KeepsPlaces}
 use Rattle.lf_repair_team.specs.TeamRepairs.{place_of_cell_in}

@@ -1,5 +1,5 @@
 -- The last pass, cell by cell.
-use Rattle.std.proofs.Common.{◌≡◌, ◌≢◌, ◌⊎◌, inl, inr, ⊎_elim, ℕ, ◌+◌, ◌<◌, ◌==◌, List, [], ◌∷◌, Bool, true, false, length, map, get_or, take, Option, Some, None, refl, ap, sym, ◌∙◌, subst, arith}
+use Rattle.std.proofs.Common.{◌≡◌, ◌≢◌, ◌⊎◌, inl, inr, ℕ, ◌+◌, ◌<◌, ◌==◌, List, [], ◌∷◌, Bool, true, false, length, map, get_or, take, Option, Some, None, refl, ap, sym, ◌∙◌, subst, arith}
 use Rattle.std.specs.Prelude.{All, AllPairs, Contains, MatchOption, option_and_then, slice_get}
 use Rattle.std.specs.Option.{option_map}
 use Rattle.std.proofs.lemmas.Bool.{cases_eq}
@@ -20,11 +20,11 @@ use Rattle.lf_floor_model.specs.Outcomes.{name_at}
 use Rattle.lf_floor_model.specs.Teams.{IsTeamOf, state_of, team_number}
 use Rattle.lf_floor_model.specs.Steps.{AllCommittedIn}
 use Rattle.lf_floor_model.proofs.LegalPlaces.{member_is, none_some, some_one, there_within}
-use Rattle.lf_repair_team.specs.CellEdits.{AreLockedLegal, AreUnrepaired, IsAnotherCell, IsLegalOrUnplaced, IsLegalOrWithoutPlace, KeepsLegalCells, KeepsLockedLegal, KeepsLockedPlaces, RemainsLegal, SameCells}
+use Rattle.lf_repair_team.specs.CellEdits.{AreUnrepaired, IsAnotherCell, IsLegalOrUnplaced, IsLegalOrWithoutPlace, KeepsLegalCells, KeepsLockedLegal, RemainsLegal, SameCells}
 use Rattle.lf_repair_team.specs.TeamRepairs.{AreLegalExcept, HasNoPlace, IsIllegalIn, IsLegalIn, KeepsLegalPlaces, team_cell_names, place_of_cell_in}
 use Rattle.lf_repair_team.proofs.Cells.{named_is}
 use Rattle.lf_repair_team.proofs.Results.{each_state}
-use Rattle.lf_repair_team.proofs.Legal.{all_left_through, but_committed, but_through, left_committed, legal_through, reported_legal, same_places, state_there}
+use Rattle.lf_repair_team.proofs.Legal.{all_left_through, but_committed, but_through, left_committed, reported_legal, state_there}
 use Rattle.lf_repair_team.proofs.Steps.{place_of_state}
 use Rattle.lf_repair_team.proofs.WithoutPlace.{none_is_unplaced, none_through}
 
@@ -223,18 +223,6 @@ illegal_have_none team a b before left some names legal kept done illegal =
 pub then_locked_legal : (team : List ℕ) (marks : List Bool) (a b c : FloorState) → KeepsLockedLegal team marks a b → KeepsLockedLegal team marks b c
     → KeepsLockedLegal team marks a c
 then_locked_legal team marks a b c first second own mark legal = second own mark (first own mark legal)
-
--- a pass, and then the last pass
-pub locked_stay : (team : List ℕ) (marks : List Bool) (a b c d : FloorState) → KeepsLockedPlaces team marks a b → KeepsLockedLegal team marks a b → c ≡ b
-    → KeepsLegalPlaces team c d → AreLockedLegal team marks a → KeepsLockedPlaces team marks a d
-locked_stay team marks a b c d first legal same last locked own mark =
-    subst (λ (f : FloorState). KeepsLegalPlaces team f d) same last own (legal own mark (locked own mark)) ∙ first own mark
-
--- a session is opened, and then all passes are run
-pub locked_in_session : (team : List ℕ) (marks : List Bool) (a b c : FloorState) → b.frame ≡ a.frame → SameCells team a b
-    → (AreLockedLegal team marks b → KeepsLockedPlaces team marks b c) → AreLockedLegal team marks a → KeepsLockedPlaces team marks a c
-locked_in_session team marks a b c frame same passes locked own mark =
-    passes (λ k at. legal_through team a b k frame same (locked k at)) own mark ∙ same_places team a b same own
 
 -- ---- the unrepaired cells
 

@@ -1,6 +1,6 @@
 -- What holds for a team's cells through commands that leave them unchanged, and if all are
 -- committed.
-use Rattle.std.proofs.Common.{◌≡◌, ◌≢◌, ◌⊎◌, inl, inr, ℕ, ◌<◌, List, [], ◌∷◌, length, map, Bool, Option, Some, refl, ap, sym, ◌∙◌, subst}
+use Rattle.std.proofs.Common.{◌≡◌, ◌≢◌, ◌⊎◌, inl, inr, ℕ, ◌<◌, List, [], ◌∷◌, length, map, Option, Some, refl, ap, sym, ◌∙◌, subst}
 use Rattle.std.specs.Prelude.{All, Contains, slice_get, option_and_then}
 use Rattle.std.specs.Option.{option_map}
 use Rattle.std.proofs.lemmas.List.Elements.{All-head, All-nil, All-same, All-weaker}
@@ -11,10 +11,11 @@ use Rattle.lf_cells.specs.declared.cell.Cell.{Cell}
 use Rattle.lf_cells.specs.Cells.{working_at}
 use Rattle.lf_legalize.specs.Members.{member_of}
 use Rattle.lf_floor_model.specs.States.{FloorState, TeamState}
-use Rattle.lf_floor_model.specs.Teams.{team_rules, state_at, state_of, team_number}
+use Rattle.lf_floor_model.specs.Teams.{team_rules, state_of, team_number}
 use Rattle.lf_floor_model.specs.Outcomes.{places_of}
 use Rattle.lf_floor_model.specs.Steps.{AllCommittedIn}
 use Rattle.lf_floor_model.specs.VerbLaws.{AreLegal, KeepsCells, committed_places}
+use Rattle.lf_floor_model.proofs.Forms.{state_at}
 use Rattle.lf_floor_model.proofs.LegalPlaces.{some_one}
 use Rattle.lf_repair_team.specs.CellEdits.{KeepsCommittedPlaces, KeepsPlaces, SameCells}
 use Rattle.lf_repair_team.specs.TeamRepairs.{AreLegalExcept, IsIllegalIn, IsLegalIn}

@@ -1,6 +1,7 @@
 mod Lines
 mod Runs
 mod Steps
+mod Slots
 mod Cells
 mod Lists
 pub mod Legal
@@ -12,3 +13,4 @@ mod Results
 mod OthersLegal
 pub mod WithoutPlace
 mod LastPass
+pub mod OffSoft

@@ -1,6 +1,6 @@
 -- A change of one cell leaves the other cells legal.
 use Rattle.std.proofs.Common.{◌≡◌, ◌≢◌, inl, inr, ℕ, ◌<◌, List, length, map, Bool, true, false, cond, eqb, ltb, Option, Some, None, refl, ap, sym, ◌∙◌, subst}
-use Rattle.std.specs.Prelude.{All, MatchOption, slice_get, option_and_then}
+use Rattle.std.specs.Prelude.{All, MatchOption, slice_get}
 use Rattle.std.specs.Option.{option_map}
 use Rattle.std.proofs.lemmas.Bool.{cases_eq}
 use Rattle.std.proofs.lemmas.Option.{slice_get-map, slice_get_within}
@@ -28,14 +28,15 @@ use Rattle.lf_cells.specs.declared.cell.Cell.{Cell}
 use Rattle.lf_cells.specs.Cells.{cell_named, moved, working_at}
 use Rattle.lf_legalize.specs.Members.{member_of}
 use Rattle.lf_floor_model.specs.States.{FloorState, TeamState}
-use Rattle.lf_floor_model.specs.Teams.{IsTeamOf, TeamRules, broken_at, state_of, team_number, team_rules}
+use Rattle.lf_floor_model.specs.Teams.{IsTeamOf, TeamRules, broken_at, team_number, team_rules, query_of_cell}
 use Rattle.lf_floor_model.specs.Outcomes.{Outcome, refused}
 use Rattle.lf_floor_model.specs.Sessions.{seen_at}
-use Rattle.lf_floor_model.specs.Queries.{best_at, query_of_cell}
-use Rattle.lf_floor_model.specs.Changes.{legalized, legalized_at, legalized_own, outcome_of_change, placed, placed_own, placed_unless, unplaced, unplaced_from, unplaced_own}
+use Rattle.lf_floor_model.specs.Queries.{best_at}
+use Rattle.lf_floor_model.specs.Changes.{legalized, outcome_of_change, placed, unplaced}
 use Rattle.lf_floor_model.specs.Steps.{outcome_by_rules}
-use Rattle.lf_floor_model.specs.Verbs.{outcome_by_slot, unless_spent}
 use Rattle.lf_floor_model.specs.VerbLaws.{outcome_of_asking}
+use Rattle.lf_floor_model.specs.Verbs.{outcome_by_slot}
+use Rattle.lf_floor_model.proofs.Forms.{legalized_at, legalized_own, placed_own, placed_unless, unplaced_from, unplaced_own, unless_spent}
 use Rattle.lf_floor_model.proofs.LegalPlaces.{member_is, member_there, moved_here, moved_there, named_there, none_some, sized_at, some_one, there_within, unbroken}
 use Rattle.lf_floor_model.proofs.Tidying.{best_legal}
 use Rattle.lf_repair_team.specs.CellEdits.{IsAnotherCell, IsOfCell, IsUnchangedOrStepped, RemainsLegal}

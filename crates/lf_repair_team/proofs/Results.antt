@@ -3,11 +3,16 @@ use Rattle.std.proofs.Common.{◌≡◌, ℕ, List, true, false, Option, None, S
 use Rattle.std.specs.Prelude.{All, IfOk, is_err}
 use Rattle.std.proofs.lemmas.Option.{slice_get_within, get_or_from_slice_get}
 use Rattle.lf_floor_model.specs.States.{FloorState, TeamState}
-use Rattle.lf_floor_model.specs.Teams.{state_at, state_of, team_number}
+use Rattle.lf_floor_model.specs.Teams.{state_of, team_number}
+use Rattle.lf_floor_model.proofs.Forms.{state_at}
 
 pub ok_from : {T E : Type 0} (r : Result T E) (P : Type 0) → P → IfOk r (λ x. P)
 ok_from (Ok x) P p = p
 ok_from (Err e) P p = tt
+
+pub on_ok_from : {T E : Type 0} (r : Result T E) (P : Type 0) → P → OnOk r P
+on_ok_from (Ok x) P p = p
+on_ok_from (Err e) P p = tt
 
 pub err_from : {T E : Type 0} (r : Result T E) (P : Type 0) → P → OnErr r P
 err_from (Ok x) P p = tt

@@ -20,7 +20,7 @@ use Rattle.lf_floor_model.specs.Committed.{IsCommittedLegal}
 use Rattle.lf_repair_team.specs.Runs.{AppendsSomeOf, IsRunWithCutLine, IsRunBy, IsWrittenRun, request_lines}
 use Rattle.lf_proto.specs.Printed.{request_line}
 use Rattle.lf_repair_team.specs.CellEdits.{KeepsLockedPlaces}
-use Rattle.lf_repair_team.specs.TeamRepairs.{ChangesOnly, team_cell_names}
+use Rattle.lf_repair_team.specs.TeamRepairs.{ChangesOnly, team_cell_macros, team_cell_names}
 
 -- ---- runs
 
@@ -144,7 +144,7 @@ then_cut l team a b c x y z first second =
 -- ---- what is unchanged
 
 pub unchanged : (team : List ℕ) (floor : FloorState) → ChangesOnly team floor floor
-unchanged team floor = record { others = λ other differ. refl; frame = refl; components = refl; names = refl; legal = λ legal. legal }
+unchanged team floor = record { others = λ other differ. refl; frame = refl; components = refl; names = refl; macros = refl; legal = λ legal. legal }
 
 pub then_only : (team : List ℕ) (a b c : FloorState) → ChangesOnly team a b → ChangesOnly team b c → ChangesOnly team a c
 then_only team a b c first second = record {
@@ -152,18 +152,21 @@ then_only team a b c first second = record {
   frame = second.frame ∙ first.frame;
   components = second.components ∙ first.components;
   names = second.names ∙ first.names;
+  macros = second.macros ∙ first.macros;
   legal = λ legal. second.legal (first.legal legal);
 }
 
 -- a step to the team changes no other team
 pub step_only : (team : List ℕ) (command : Command (List ℕ) Place) (old new : FloorState) → IsTo team command
     → ((other : List ℕ) → ¬ IsTo other command → state_of new other ≡ state_of old other) → new.frame ≡ old.frame → new.components ≡ old.components
-    → team_cell_names new team ≡ team_cell_names old team → (IsCommittedLegal old → IsCommittedLegal new) → ChangesOnly team old new
-step_only team command old new to others frame components names legal = record {
+    → team_cell_names new team ≡ team_cell_names old team → team_cell_macros new team ≡ team_cell_macros old team → (IsCommittedLegal old → IsCommittedLegal new)
+    → ChangesOnly team old new
+step_only team command old new to others frame components names macros legal = record {
   others = λ other differ. others other (not_to command to other differ);
   frame = frame;
   components = components;
   names = names;
+  macros = macros;
   legal = legal;
 } where
   not_to : (c : Command (List ℕ) Place) → IsTo team c → (other : List ℕ) → other ≢ team → ¬ IsTo other c

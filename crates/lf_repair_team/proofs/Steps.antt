@@ -7,20 +7,21 @@ use Rattle.lf_rules.specs.Legalizer.{Legalizer}
 use Rattle.lf_proto.specs.declared.request.Command.{Command}
 use Rattle.lf_proto.specs.declared.request.Command.TheVariants.{Bye, To}
 use Rattle.lf_proto.specs.declared.request.TeamCommand.{TeamCommand}
+use Rattle.lf_proto.specs.declared.verb.Change.{Change}
 use Rattle.lf_proto.specs.declared.reply.Reply.{Reply}
 use Rattle.lf_cells.specs.declared.cell.Cell.{Cell}
 use Rattle.lf_cells.specs.Cells.{working_at}
 use Rattle.lf_floor_model.specs.States.{FloorState, TeamState}
-use Rattle.lf_floor_model.specs.Teams.{TeamRules, team_rules, state_at, state_of, team_number}
+use Rattle.lf_floor_model.specs.Teams.{TeamRules, team_rules, state_of, team_number}
 use Rattle.lf_floor_model.specs.Outcomes.{Outcome, is_short}
-use Rattle.lf_floor_model.specs.Steps.{IsAnswerOf, IsTo, MayRunOutOfMemory, Step, answer_at, answer_by, answer_of, outcome_by_rules}
+use Rattle.lf_floor_model.specs.Steps.{IsAnswerOf, IsTo, MayRunOutOfMemory, Step, answer_at, answer_of, outcome_by_rules}
 use Rattle.lf_floor_model.specs.Verbs.{outcome_of}
-use Rattle.lf_floor_model.specs.VerbLaws.{QueryKeepsState, committed_places, is_change, is_commit}
+use Rattle.lf_floor_model.specs.VerbLaws.{QueryKeepsState, is_change}
+use Rattle.lf_floor_model.proofs.Forms.{state_at, answer_by}
 use Rattle.lf_floor_model.proofs.Answering.{own_answer}
-use Rattle.lf_floor_model.proofs.Cases.{Facts, names_stay, order_facts}
-use Rattle.lf_floor_model.proofs.Kept.{committed_stay}
-use Rattle.lf_repair_team.specs.CellEdits.{KeepsCommittedPlaces, IsUnchangedOrStepped, SameCells}
-use Rattle.lf_repair_team.specs.TeamRepairs.{team_cell_names, place_of_cell_in}
+use Rattle.lf_floor_model.proofs.Cases.{CellsAfter, Facts, macs_stay, names_stay, order_facts}
+use Rattle.lf_repair_team.specs.CellEdits.{IsUnchangedOrStepped, SameCells}
+use Rattle.lf_repair_team.specs.TeamRepairs.{team_cell_macros, team_cell_names, place_of_cell_in}
 
 -- ---- the team on both floors
 
@@ -105,44 +106,46 @@ look_same l old new team order keeps look requested = elim (requested_step l old
   })
 ]
 
--- ---- committed places
+-- ---- what no command changes of a cell
 
--- they are unchanged, unless the order is a commit
-pub committed_stays : (l : Legalizer) (old new : FloorState) (team : List ℕ) (order : TeamCommand (List ℕ) Place) → is_commit order ≡ false
-    → IsUnchangedOrStepped l old (To team order) new → KeepsCommittedPlaces team old new
-committed_stays l old new team order plain requested = elim (requested_step l old new team order requested) [
-  | inl same ↦ ap (λ (f : FloorState). option_map committed_places (state_of f team)) same
+-- no change of a team changes this part of its cells
+abbrev KeepsPart : {X : Type 0} → (Cell → X) → Type 0
+KeepsPart part = (t : TeamRules) (s : TeamState) (change : Change (List ℕ) Place) (cells : List Cell) → CellsAfter t s change cells
+    → map part cells ≡ map part s.cells
+
+verb_part : {X : Type 0} (part : Cell → X) → KeepsPart part → (t : TeamRules) (order : TeamCommand (List ℕ) Place) (s : TeamState)
+    → map part (outcome_of t order s).team.cells ≡ map part s.cells
+verb_part part stays t order s = by (outcome_of t order s) (order_facts t order s) where
+  by : (o : Outcome) → Facts t s order o → map part o.team.cells ≡ map part s.cells
+  by o (inl refusal) = ap (λ (o : Outcome). map part o.team.cells) refusal.is
+  by o (inr (inl look)) = elim look.team [ inl same ↦ ap (λ (s : TeamState). map part s.cells) same | inr slot ↦ ap (λ (s : TeamState). map part s.cells) slot.is ]
+  by o (inr (inr done)) = stays t s done.change o.team.cells done.is.cells
+
+order_part : {X : Type 0} (part : Cell → X) → KeepsPart part → (l : Legalizer) (old new : FloorState) (team : List ℕ) (order : TeamCommand (List ℕ) Place) (reply : Reply)
+    → Step l old (To team order) reply new
+    → option_map (λ (s : TeamState). map part s.cells) (state_of new team) ≡ option_map (λ (s : TeamState). map part s.cells) (state_of old team)
+order_part {X} part stays l old new team order reply step = elim (team_step l old new team order reply step) [
+  | inl same ↦ ap (λ (f : FloorState). option_map (λ (s : TeamState). map part s.cells) (state_of f team)) same
   | inr served ↦
-      ap (λ (o : Option TeamState). option_map committed_places o) served.after
-      ∙ ap (λ (places : List (Option Place)). Some places) (committed_stay (team_rules l old.frame served.number served.state.padding) order served.state plain)
-      ∙ sym (ap (λ (o : Option TeamState). option_map committed_places o) served.before)
+      ap (λ (o : Option TeamState). option_map (λ (s : TeamState). map part s.cells) o) served.after
+      ∙ ap (λ (parts : List X). Some parts) (verb_part part stays (team_rules l old.frame served.number served.state.padding) order served.state)
+      ∙ sym (ap (λ (o : Option TeamState). option_map (λ (s : TeamState). map part s.cells) o) served.before)
 ]
 
--- ---- names
+step_part : {X : Type 0} (part : Cell → X) → KeepsPart part → (l : Legalizer) (team : List ℕ) (command : Command (List ℕ) Place) (old new : FloorState) (reply : Reply)
+    → IsTo team command → Step l old command reply new
+    → option_map (λ (s : TeamState). map part s.cells) (state_of new team) ≡ option_map (λ (s : TeamState). map part s.cells) (state_of old team)
+step_part part stays l team Bye old new reply to step = absurd to
+step_part {X} part stays l team (To name order) old new reply to step =
+    let parts : FloorState → List ℕ → Option (List X) = λ floor team. option_map (λ (s : TeamState). map part s.cells) (state_of floor team) in
+    subst (λ (n : List ℕ). parts new n ≡ parts old n) to (order_part part stays l old new name order reply step)
 
-abbrev names_of : TeamState → List (List ℕ)
-names_of s = map (λ (c : Cell). c.name) s.cells
-
-verb_names : (t : TeamRules) (order : TeamCommand (List ℕ) Place) (s : TeamState) → names_of (outcome_of t order s).team ≡ names_of s
-verb_names t order s = by (outcome_of t order s) (order_facts t order s) where
-  by : (o : Outcome) → Facts t s order o → names_of o.team ≡ names_of s
-  by o (inl refusal) = ap (λ (o : Outcome). names_of o.team) refusal.is
-  by o (inr (inl look)) = elim look.team [ inl same ↦ ap names_of same | inr slot ↦ ap names_of slot.is ]
-  by o (inr (inr done)) = names_stay t s done.change o.team.cells done.is.cells
-
-order_names : (l : Legalizer) (old new : FloorState) (team : List ℕ) (order : TeamCommand (List ℕ) Place) (reply : Reply) → Step l old (To team order) reply new
-    → team_cell_names new team ≡ team_cell_names old team
-order_names l old new team order reply step = elim (team_step l old new team order reply step) [
-  | inl same ↦ ap (λ (f : FloorState). team_cell_names f team) same
-  | inr served ↦
-      ap (λ (o : Option TeamState). option_map names_of o) served.after
-      ∙ ap (λ (names : List (List ℕ)). Some names) (verb_names (team_rules l old.frame served.number served.state.padding) order served.state)
-      ∙ sym (ap (λ (o : Option TeamState). option_map names_of o) served.before)
-]
-
--- a team has the same cells after a command to it
+-- a team has cells of the same names after a command to it
 pub step_names : (l : Legalizer) (team : List ℕ) (command : Command (List ℕ) Place) (old new : FloorState) (reply : Reply) → IsTo team command
     → Step l old command reply new → team_cell_names new team ≡ team_cell_names old team
-step_names l team Bye old new reply to step = absurd to
-step_names l team (To name order) old new reply to step =
-    subst (λ (n : List ℕ). team_cell_names new n ≡ team_cell_names old n) to (order_names l old new name order reply step)
+step_names = step_part (λ (c : Cell). c.name) names_stay
+
+-- and of the same macros
+pub step_macros : (l : Legalizer) (team : List ℕ) (command : Command (List ℕ) Place) (old new : FloorState) (reply : Reply) → IsTo team command
+    → Step l old command reply new → team_cell_macros new team ≡ team_cell_macros old team
+step_macros = step_part (λ (c : Cell). c.mac) macs_stay

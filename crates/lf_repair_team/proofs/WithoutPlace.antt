@@ -1,6 +1,6 @@
 -- Cells without a place: a refused legalize shows that the cell has none, and a legalize of an
 -- unplaced cell leaves the others without one.
-use Rattle.std.proofs.Common.{◌≡◌, ◌≢◌, inl, inr, ℕ, List, map, Bool, true, false, cond, eqb, ltb, Option, Some, None, refl, ap, sym, ◌∙◌, subst}
+use Rattle.std.proofs.Common.{◌≡◌, inl, inr, ℕ, List, map, Bool, true, false, cond, eqb, ltb, Option, Some, None, refl, ap, sym, ◌∙◌, subst}
 use Rattle.std.specs.Prelude.{All, slice_get, option_and_then}
 use Rattle.std.specs.Option.{option_map}
 use Rattle.lf_units.specs.declared.geometry.Point.{Point}
@@ -20,14 +20,15 @@ use Rattle.lf_cells.specs.declared.cell.Cell.{Cell}
 use Rattle.lf_cells.specs.Cells.{cell_named, moved, working_at}
 use Rattle.lf_legalize.specs.Members.{member_of}
 use Rattle.lf_floor_model.specs.States.{FloorState, TeamState}
-use Rattle.lf_floor_model.specs.Teams.{IsTeamOf, TeamRules, state_at, state_of, team_number, team_rules}
-use Rattle.lf_floor_model.specs.Outcomes.{Outcome, name_at, refused}
+use Rattle.lf_floor_model.specs.Teams.{IsTeamOf, TeamRules, state_of, team_number, team_rules, query_of_cell}
+use Rattle.lf_floor_model.specs.Outcomes.{name_at, refused}
 use Rattle.lf_floor_model.specs.Sessions.{seen_at}
-use Rattle.lf_floor_model.specs.Queries.{best_at, query_of_cell}
-use Rattle.lf_floor_model.specs.Changes.{legalized, legalized_at, legalized_own, outcome_of_change}
+use Rattle.lf_floor_model.specs.Queries.{best_at}
+use Rattle.lf_floor_model.specs.Changes.{legalized, outcome_of_change}
 use Rattle.lf_floor_model.specs.Steps.{IsAnswerOf, Step, outcome_by_rules}
-use Rattle.lf_floor_model.specs.Verbs.{outcome_by_slot, unless_spent}
 use Rattle.lf_floor_model.specs.VerbLaws.{BestIsFound, KeepsCells, RefusalKeepsState, outcome_of_asking}
+use Rattle.lf_floor_model.specs.Verbs.{outcome_by_slot}
+use Rattle.lf_floor_model.proofs.Forms.{state_at, legalized_at, legalized_own, unless_spent}
 use Rattle.lf_floor_model.proofs.Answering.{own_answer}
 use Rattle.lf_floor_model.proofs.LegalPlaces.{member_there, moved_there, none_some, some_one}
 use Rattle.lf_repair_team.specs.CellEdits.{IsAnotherCell, IsUnchangedOrStepped, SameCells, SaysNoPlace}

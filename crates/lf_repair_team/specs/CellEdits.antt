@@ -1,12 +1,12 @@
 -- Changes of one cell, and what is read at the start and at the end of a repair. No public clause
 -- cites this module.
-use Rattle.std.specs.Prelude.{◌≡◌, ◌≢◌, ◌⊎◌, ℕ, ◌<◌, ◌≤◌, ◌+◌, ◌++◌, ◌∷◌, [], List, Bool, true, All, AllPairs, Contains, IsSome, None, Option, Some, length, map, max, min, slice_get}
+use Rattle.std.specs.Prelude.{◌≡◌, ◌≢◌, ◌⊎◌, ℕ, ◌<◌, ◌≤◌, ◌+◌, ◌++◌, ◌∷◌, [], List, Bool, true, All, AllPairs, Contains, IsSome, None, Option, Some, length, map, max, min, option_map, slice_get, slice_set}
 use Rattle.lf_floorplan.specs.declared.place.Place.{Place}
 use Rattle.lf_rules.specs.Legalizer.{Legalizer}
 use Rattle.lf_rules.specs.Team.{IsLegalCell}
 use Rattle.lf_proto.specs.declared.request.Command.{Command}
 use Rattle.lf_proto.specs.declared.reply.Reply.{Reply}
-use Rattle.lf_proto.specs.declared.reply.Reply.TheVariants.{Refused}
+use Rattle.lf_proto.specs.declared.reply.Reply.TheVariants.{Opened, Refused}
 use Rattle.lf_proto.specs.declared.reply.Refusal.TheVariants.{NoPlace}
 use Rattle.lf_proto.specs.declared.verb.Change.{Change}
 use Rattle.lf_proto.specs.declared.verb.Change.TheVariants.{Place as PlaceAt, Legalize, Unplace}
@@ -16,10 +16,10 @@ use Rattle.lf_legalize.specs.Members.{member_of}
 use Rattle.lf_floor_model.specs.States.{FloorState, TeamState}
 use Rattle.lf_floor_model.specs.Steps.{Step}
 use Rattle.lf_floor_model.specs.Teams.{state_of}
-use Rattle.lf_floor_model.specs.VerbLaws.{KeepsCells}
+use Rattle.lf_floor_model.specs.VerbLaws.{KeepsCells, committed_places}
 use Rattle.lf_repair_strategy.specs.WantedPlaces.{target_at}
 use Rattle.lf_repair_strategy.specs.declared.stats.RepairStats.{RepairStats}
-use Rattle.lf_repair_team.specs.TeamRepairs.{AreLegalExcept, HasNoPlace, IsIllegalIn, IsLegalIn, committed_in, team_cell_names, place_of_cell_in}
+use Rattle.lf_repair_team.specs.TeamRepairs.{AreLegalExcept, HasNoPlace, IsIllegalIn, IsLegalIn, IsOffSoft, committed_in, team_cell_names, place_of_cell_in}
 use Rattle.lf_repair_team.specs.Stats.{AreTurned, AreStatsOf, displacement}
 
 -- the floor is unchanged, or has executed the command
@@ -64,9 +64,10 @@ RemainsLegal team old new own = IsLegalIn old team own → IsLegalIn new team ow
 abbrev pub KeepsLockedLegal : List ℕ → List Bool → FloorState → FloorState → Type 0
 KeepsLockedLegal team marks old new = (own : ℕ) → slice_get marks own ≡ Some true → RemainsLegal team old new own
 
--- the locked cells are legal
-abbrev pub AreLockedLegal : List ℕ → List Bool → FloorState → Type 0
-AreLockedLegal team marks floor = (own : ℕ) → slice_get marks own ≡ Some true → IsLegalIn floor team own
+-- the locked cells are legal and have their places in `wanted_places`
+abbrev pub AreLockedInPlace : List ℕ → List Bool → List (Option Place) → FloorState → Type 0
+AreLockedInPlace team marks wanted_places floor = (own : ℕ) → slice_get marks own ≡ Some true
+    → IsLegalIn floor team own × (place_of_cell_in floor team own ≡ target_at wanted_places own)
 
 -- the legal cells remain legal and at the same places
 abbrev pub KeepsLegalCells : List ℕ → FloorState → FloorState → Type 0
@@ -76,6 +77,32 @@ KeepsLegalCells team old new = (own : ℕ) → IsLegalIn old team own
 -- the committed places are unchanged
 abbrev pub KeepsCommittedPlaces : List ℕ → FloorState → FloorState → Type 0
 KeepsCommittedPlaces team old new = committed_in new team ≡ committed_in old team
+
+-- ---- the session
+
+-- the reply says that this session is open
+abbrev pub SaysOpened : ℕ → Reply → Type 0
+SaysOpened session reply = (revision : ℕ) × (reply ≡ Opened session revision)
+
+-- the team's session slots with this one freed; None if there is no such team
+abbrev pub session_slots_without : ℕ → FloorState → List ℕ → Option (List (Option ℕ))
+session_slots_without session floor team = option_map (λ s. slice_set s.slots session None) (state_of floor team)
+
+-- the slots of the other sessions are unchanged
+abbrev pub KeepsOtherSlots : List ℕ → ℕ → FloorState → FloorState → Type 0
+KeepsOtherSlots team session old new =
+    session_slots_without session new team ≡ session_slots_without session old team
+
+-- the committed places of the team's cells, and its session slots with this one freed; None if there
+-- is no such team
+abbrev pub committed_and_slots : ℕ → FloorState → List ℕ → Option (List (Option Place) × List (Option ℕ))
+committed_and_slots session floor team =
+    option_map (λ s. (committed_places s, slice_set s.slots session None)) (state_of floor team)
+
+-- the committed places and the slots of the other sessions are unchanged
+abbrev pub KeepsCommittedAndSlots : List ℕ → ℕ → FloorState → FloorState → Type 0
+KeepsCommittedAndSlots team session old new =
+    committed_and_slots session new team ≡ committed_and_slots session old team
 
 -- ---- at the start of a repair
 
@@ -153,6 +180,32 @@ pub record AreUnrepaired (team : List ℕ) (floor : FloorState) (left : List ℕ
 abbrev pub IsAnotherCell : FloorState → List ℕ → List ℕ → ℕ → Type 0
 IsAnotherCell floor team cell other = (s : TeamState) → state_of floor team ≡ Some s
     → cell_named cell s.cells ≡ Some other → ⊥
+
+-- ---- soft blockages
+
+-- the cell at this position is unplaced or off soft blockages
+abbrev pub IsUnplacedOrOffSoft : FloorState → List ℕ → ℕ → Type 0
+IsUnplacedOrOffSoft floor team own = (place_of_cell_in floor team own ≡ None) ⊎ IsOffSoft floor team own
+
+-- each cell is at the same place, or is unplaced or off soft blockages
+abbrev pub MovesOffSoft : List ℕ → FloorState → FloorState → Type 0
+MovesOffSoft team old new = (own : ℕ) → (place_of_cell_in new team own ≡ place_of_cell_in old team own)
+    ⊎ IsUnplacedOrOffSoft new team own
+
+-- the cell at this position has its place in `wanted_places`, or is unplaced or off soft blockages
+abbrev pub IsAtTargetOrOffSoft : List ℕ → List (Option Place) → FloorState → ℕ → Type 0
+IsAtTargetOrOffSoft team wanted_places floor own =
+    (place_of_cell_in floor team own ≡ target_at wanted_places own) ⊎ IsUnplacedOrOffSoft floor team own
+
+-- each cell has its place in `wanted_places`, or is unplaced or off soft blockages
+abbrev pub AreAtTargetsOrOffSoft : List ℕ → List (Option Place) → FloorState → Type 0
+AreAtTargetsOrOffSoft team wanted_places floor = (own : ℕ) → IsAtTargetOrOffSoft team wanted_places floor own
+
+-- the cells that have their places in `wanted_places` keep them, and remain legal
+abbrev pub KeepsCellsAtTargets : List ℕ → List (Option Place) → FloorState → FloorState → Type 0
+KeepsCellsAtTargets team wanted_places old new =
+    (own : ℕ) → place_of_cell_in old team own ≡ target_at wanted_places own
+    → (place_of_cell_in new team own ≡ place_of_cell_in old team own) × RemainsLegal team old new own
 
 -- ---- the statistics
 

@@ -1,8 +1,9 @@
 -- The result of repairing a team.
 use Rattle.std.specs.Prelude.{◌≡◌, ◌≢◌, ◌⊎◌, ℕ, ◌<◌, List, Option, None, Some, All, Contains, length, map, slice_get, option_and_then, option_map}
 use Rattle.lf_floorplan.specs.declared.place.Place.{Place}
-use Rattle.lf_rules.specs.Choice.{SpotPlace, IsAllowedPlace}
-use Rattle.lf_rules.specs.Team.{IsLegalCell, query_from}
+use Rattle.lf_floorplan.specs.Ground.{OverlapsSoft}
+use Rattle.lf_rules.specs.Choice.{SpotPlace, IsAllowedPlace, spot_of}
+use Rattle.lf_rules.specs.Team.{IsLegalCell, box_in, query_from}
 use Rattle.lf_cells.specs.declared.cell.Cell.{Cell}
 use Rattle.lf_cells.specs.Cells.{working_at}
 use Rattle.lf_legalize.specs.Members.{member_of}
@@ -19,9 +20,17 @@ place_of_cell_in floor team own = option_and_then (λ s. working_at s.cells own)
 abbrev pub team_cell_names : FloorState → List ℕ → Option (List (List ℕ))
 team_cell_names floor team = option_map (λ s. map (λ c. c.name) s.cells) (state_of floor team)
 
+-- the macros of the team's cells, in loading order; None if there is no such team
+abbrev pub team_cell_macros : FloorState → List ℕ → Option (List ℕ)
+team_cell_macros floor team = option_map (λ s. map (λ c. c.mac) s.cells) (state_of floor team)
+
 -- the committed places of the team's cells, in loading order; None if there is no such team
 abbrev pub committed_in : FloorState → List ℕ → Option (List (Option Place))
 committed_in floor team = option_map committed_places (state_of floor team)
+
+-- the team's session slots; None if there is no such team
+abbrev pub session_slots_in : FloorState → List ℕ → Option (List (Option ℕ))
+session_slots_in floor team = option_map (λ s. s.slots) (state_of floor team)
 
 -- only the state of the team with this name may differ, the team has the same cells, and a fully
 -- legal committed design stays fully legal
@@ -30,6 +39,7 @@ pub record ChangesOnly (team : List ℕ) (old new : FloorState) : Type 0 where
   pub frame : new.frame ≡ old.frame
   pub components : new.components ≡ old.components
   pub names : team_cell_names new team ≡ team_cell_names old team
+  pub macros : team_cell_macros new team ≡ team_cell_macros old team
   pub legal : IsCommittedLegal old → IsCommittedLegal new
 
 -- the team has a cell at this position, which is legal
@@ -78,3 +88,18 @@ pub record HasNoPlace (floor : FloorState) (team : List ℕ) (own : ℕ) : Type 
   pub unplaced : cell.working ≡ None
   pub none : (p : SpotPlace)
       → IsAllowedPlace (query_from floor.frame number state.padding (map member_of state.cells) own cell.mac) p → ⊥
+
+-- the team's cell at this position is placed, and its box shares no point with a soft blockage
+pub record IsOffSoft (floor : FloorState) (team : List ℕ) (own : ℕ) : Type 0 where
+  pub state : TeamState
+  pub cell : Cell
+  pub place : Place
+  pub there : state_of floor team ≡ Some state
+  pub cell_is : slice_get state.cells own ≡ Some cell
+  pub placed : cell.working ≡ Some place
+  pub off_soft : OverlapsSoft floor.frame (box_in floor.frame cell.mac (spot_of place)) → ⊥
+
+-- each placed cell that is at another place than before is off soft blockages
+abbrev pub AreMovedOffSoft : List ℕ → FloorState → FloorState → Type 0
+AreMovedOffSoft team old new = (own : ℕ) → place_of_cell_in new team own ≢ None
+    → place_of_cell_in new team own ≢ place_of_cell_in old team own → IsOffSoft new team own

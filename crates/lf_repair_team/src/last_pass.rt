@@ -8,7 +8,7 @@ ghost use Rattle.lf_cells.specs.Cells.{cell_named, working_at};
 ghost use Rattle.lf_floor_model.specs.States.{TeamState};
 ghost use Rattle.lf_floor_model.specs.Outcomes.{name_at};
 ghost use Rattle.lf_floor_model.specs.Teams.{state_of, team_number};
-ghost use Rattle.lf_repair_team.specs.CellEdits.{AreUnrepaired, IsAnotherCell, IsLegalOrUnplaced, IsLegalOrWithoutPlace, KeepsCommittedPlaces, KeepsLegalCells, RemainsLegal, SaysNoPlace};
+ghost use Rattle.lf_repair_team.specs.CellEdits.{AreUnrepaired, IsAnotherCell, IsLegalOrUnplaced, IsLegalOrWithoutPlace, IsUnplacedOrOffSoft, KeepsCommittedAndSlots, KeepsLegalCells, MovesOffSoft, RemainsLegal, SaysNoPlace};
 ghost use Rattle.lf_repair_team.specs.TeamRepairs.{ChangesOnly, HasNoPlace, IsIllegalIn, KeepsLegalPlaces, place_of_cell_in};
 ghost use Rattle.lf_repair_team.specs.Runs.{IsRunWithCutLine, IsWrittenRun};
 
@@ -27,7 +27,7 @@ use std::alloc::Global;
 
 /// Unplaces the cell at position `own`. `Err` also if it cannot be unplaced: no line can contain its
 /// name.
-fn unplace_cell<S: Seeker + Drop, K: Sink>(
+pub(crate) fn unplace_cell<S: Seeker + Drop, K: Sink>(
     floor: &mut Floor<S>,
     seat: &TeamSession<'_>,
     own: usize,
@@ -42,7 +42,7 @@ fn unplace_cell<S: Seeker + Drop, K: Sink>(
     ensures cells { (other : ℕ) → other ≢ own
         → place_of_cell_in floor.new seat.now.team.now other ≡ place_of_cell_in floor.old seat.now.team.now other }
     ensures legal { (other : ℕ) → other ≢ own → RemainsLegal seat.now.team.now floor.old floor.new other }
-    ensures committed { KeepsCommittedPlaces seat.now.team.now floor.old floor.new }
+    ensures committed { KeepsCommittedAndSlots seat.now.team.now seat.now.session floor.old floor.new }
     ensures unplaced { OnOk result (place_of_cell_in floor.new seat.now.team.now own ≡ None) }
 {
     match run_edit(floor, seat, own, &Edit::Unplace, texts, lines) {
@@ -70,8 +70,9 @@ fn unplace_cells<S: Seeker + Drop, K: Sink>(
         IsRunWithCutLine l seat.now.team.now floor.old (K.contents lines.old) (K.contents lines.new) floor.new) }
     ensures only { ChangesOnly seat.now.team.now floor.old floor.new }
     ensures legal { KeepsLegalCells seat.now.team.now floor.old floor.new }
-    ensures committed { KeepsCommittedPlaces seat.now.team.now floor.old floor.new }
+    ensures committed { KeepsCommittedAndSlots seat.now.team.now seat.now.session floor.old floor.new }
     ensures unplaced { OnOk result (All (λ own. place_of_cell_in floor.new seat.now.team.now own ≡ None) cells.now) }
+    ensures off_soft { OnOk result (MovesOffSoft seat.now.team.now floor.old floor.new) }
 {
     for own in cells {
         match unplace_cell(floor, seat, *own as usize, texts, lines) {
@@ -101,7 +102,7 @@ fn legalize_named<S: Seeker + Drop, K: Sink>(
         → place_of_cell_in floor.new seat.now.team.now other ≡ place_of_cell_in floor.old seat.now.team.now other }
     ensures legal { (other : ℕ) → IsAnotherCell floor.old seat.now.team.now cell.now other
         → RemainsLegal seat.now.team.now floor.old floor.new other }
-    ensures committed { KeepsCommittedPlaces seat.now.team.now floor.old floor.new }
+    ensures committed { KeepsCommittedAndSlots seat.now.team.now seat.now.session floor.old floor.new }
     ensures without { (other : ℕ) → IsAnotherCell floor.old seat.now.team.now cell.now other
         → ((s : TeamState) (own : ℕ) → state_of floor.old seat.now.team.now ≡ Some s
         → cell_named cell.now s.cells ≡ Some own → working_at s.cells own ≡ None)
@@ -109,6 +110,9 @@ fn legalize_named<S: Seeker + Drop, K: Sink>(
     ensures refused { (s : TeamState) (own : ℕ) → state_of floor.old seat.now.team.now ≡ Some s
         → name_at s.cells own ≡ Some cell.now → working_at s.cells own ≡ None
         → IfOk result (λ reply. SaysNoPlace reply → HasNoPlace floor.new seat.now.team.now own) }
+    ensures off_soft { (s : TeamState) (own : ℕ) → state_of floor.old seat.now.team.now ≡ Some s
+        → name_at s.cells own ≡ Some cell.now → working_at s.cells own ≡ None
+        → IsUnplacedOrOffSoft floor.new seat.now.team.now own }
 {
     legalizer_exists();
     legal_in_range();
@@ -166,7 +170,7 @@ fn legalize_cell<S: Seeker + Drop, K: Sink>(
         IsRunWithCutLine l seat.now.team.now floor.old (K.contents lines.old) (K.contents lines.new) floor.new) }
     ensures only { ChangesOnly seat.now.team.now floor.old floor.new }
     ensures legal { KeepsLegalCells seat.now.team.now floor.old floor.new }
-    ensures committed { KeepsCommittedPlaces seat.now.team.now floor.old floor.new }
+    ensures committed { KeepsCommittedAndSlots seat.now.team.now seat.now.session floor.old floor.new }
     ensures others { (other : ℕ) → other ≢ own
         → place_of_cell_in floor.new seat.now.team.now other ≡ place_of_cell_in floor.old seat.now.team.now other }
     ensures without { IsLegalOrUnplaced floor.old seat.now.team.now own
@@ -174,6 +178,7 @@ fn legalize_cell<S: Seeker + Drop, K: Sink>(
         → HasNoPlace floor.new seat.now.team.now other }
     ensures done { IsLegalOrUnplaced floor.old seat.now.team.now own → OnOk result (
         IsLegalOrWithoutPlace floor.new seat.now.team.now own) }
+    ensures off_soft { MovesOffSoft seat.now.team.now floor.old floor.new }
 {
     floor.teams_match_frame();
     match floor.place_of(seat.team, own) {
@@ -214,8 +219,9 @@ fn legalize_cells<S: Seeker + Drop, K: Sink>(
         IsRunWithCutLine l seat.now.team.now floor.old (K.contents lines.old) (K.contents lines.new) floor.new) }
     ensures only { ChangesOnly seat.now.team.now floor.old floor.new }
     ensures legal { KeepsLegalCells seat.now.team.now floor.old floor.new }
-    ensures committed { KeepsCommittedPlaces seat.now.team.now floor.old floor.new }
+    ensures committed { KeepsCommittedAndSlots seat.now.team.now seat.now.session floor.old floor.new }
     ensures done { OnOk result (All (λ own. IsLegalOrWithoutPlace floor.new seat.now.team.now own) cells.now) }
+    ensures off_soft { OnOk result (MovesOffSoft seat.now.team.now floor.old floor.new) }
 {
     for own in cells {
         match legalize_cell(floor, seat, *own as usize, wanted_places, texts, lines) {
@@ -228,7 +234,7 @@ fn legalize_cells<S: Seeker + Drop, K: Sink>(
 
 /// Runs the last pass: unplaces the cells that are not legal, and then moves each to its best place,
 /// if there is one. Returns the positions of those without a place, in loading order. The other
-/// cells are legal. Legal cells do not move.
+/// cells are legal. Legal cells do not move, and the cells that move are then off soft blockages.
 pub(crate) fn run_last_pass<S: Seeker + Drop, K: Sink>(
     alloc: Global,
     floor: &mut Floor<S>,
@@ -244,8 +250,9 @@ pub(crate) fn run_last_pass<S: Seeker + Drop, K: Sink>(
         IsRunWithCutLine l seat.now.team.now floor.old (K.contents lines.old) (K.contents lines.new) floor.new) }
     ensures only { ChangesOnly seat.now.team.now floor.old floor.new }
     ensures legal { KeepsLegalPlaces seat.now.team.now floor.old floor.new }
-    ensures committed { KeepsCommittedPlaces seat.now.team.now floor.old floor.new }
+    ensures committed { KeepsCommittedAndSlots seat.now.team.now seat.now.session floor.old floor.new }
     ensures unrepaired { IfOk result (λ left. AreUnrepaired seat.now.team.now floor.new left.items) }
+    ensures off_soft { OnOk result (MovesOffSoft seat.now.team.now floor.old floor.new) }
 {
     let Ok(left) = illegal_cells(alloc, floor, seat) else {
         return Err(RepairFault::OutOfMemory);

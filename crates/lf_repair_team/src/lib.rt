@@ -4,8 +4,8 @@
 //! A team is repaired in one session of its own. Each command is sent to the floor, and its line is
 //! written exactly if the floor accepts it. So the lines are a run of the floor, all laws on runs
 //! hold for it, and they are a journal that `replay` reads. A plan of `lf_repair_planner` places
-//! the cells of one row's height. Other cells, and those whose place is refused, move to their best
-//! places.
+//! the cells of one row's height. Other cells, and those whose place is refused or on a soft
+//! blockage, move to their best places.
 //!
 //! Used by `lf_task_repair`.
 //!
@@ -16,6 +16,7 @@
 //! - `repair_input`: a team at the start of its repair
 //! - `outcome`: the changed and the unrepaired cells
 //! - `last_pass`: the last pass, over cells that are still illegal
+//! - `soft_pass`: the pass in front of it, over cells that have moved onto soft blockages
 //! - `stats`: the result of a repair, counted
 //! - `team`: the repair of one team
 //!
@@ -32,6 +33,7 @@ mod outcome;
 mod repair_input;
 mod run_command;
 mod run_edits;
+mod soft_pass;
 mod stats;
 mod team;
 

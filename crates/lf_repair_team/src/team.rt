@@ -1,13 +1,13 @@
 //! The repair of one team.
 
-ghost use Rattle.std.specs.Prelude.{◌≡◌, ◌≢◌, ◌↔◌, ◌<◌, [], All, AllPairs, IfOk, OnErr, Some, false, true};
+ghost use Rattle.std.specs.Prelude.{◌≡◌, ◌≢◌, ◌↔◌, ◌<◌, [], All, AllPairs, IfOk, OnErr, OnOk, Some, false, true};
 ghost use Rattle.lf_rules.specs.Legalizer.{Legalizer};
 ghost use Rattle.lf_floor_model.specs.Steps.{AllCommittedIn};
 ghost use Rattle.lf_floor_model.specs.Teams.{team_number};
 ghost use Rattle.lf_floor_model.specs.VerbLaws.{is_ok};
 ghost use Rattle.lf_repair_strategy.specs.declared.pass.MovePolicy.TheVariants.{KeepLegal};
-ghost use Rattle.lf_repair_team.specs.CellEdits.{AreLockedLegal, AreUnrepaired, KeepsCommittedPlaces, KeepsLockedLegal, KeepsLockedPlaces, KeepsPlaces, SameCells, TeamHasLeftTargets, TeamIsAtTargetsExcept};
-ghost use Rattle.lf_repair_team.specs.TeamRepairs.{AllListedMove, AreLegalExcept, ChangesOnly, HasNoPlace, IsIllegalIn, KeepsLegalPlaces, OnlyListedMove, committed_in};
+ghost use Rattle.lf_repair_team.specs.CellEdits.{AreAtTargetsOrOffSoft, AreLockedInPlace, AreUnrepaired, KeepsCommittedAndSlots, KeepsCommittedPlaces, KeepsLockedLegal, KeepsLockedPlaces, KeepsOtherSlots, KeepsPlaces, SameCells, SaysOpened, TeamHasLeftTargets, TeamIsAtTargetsExcept, session_slots_without};
+ghost use Rattle.lf_repair_team.specs.TeamRepairs.{AllListedMove, AreLegalExcept, AreMovedOffSoft, ChangesOnly, HasNoPlace, IsIllegalIn, KeepsLegalPlaces, OnlyListedMove, committed_in, session_slots_in};
 ghost use Rattle.lf_repair_team.specs.Runs.{IsRunWithCutLine, IsWrittenRun};
 ghost use Rattle.lf_repair_team.specs.Stats.{AreTeamStats};
 
@@ -18,6 +18,7 @@ use crate::run_command::{RepairFault, run_command};
 use crate::run_edits::{
     Buffers, TeamSession, continue_unless_out_of_memory, run_action, run_edits,
 };
+use crate::soft_pass::run_soft_pass;
 use crate::stats::stats_of;
 use lf_floor::{Floor, query_keeps_state};
 use lf_floorplan::Place;
@@ -44,6 +45,8 @@ fn open<S: Seeker + Drop, K: Sink>(
         IsRunWithCutLine l team.now floor.old (K.contents lines.old) (K.contents lines.new) floor.new) }
     ensures only { ChangesOnly team.now floor.old floor.new }
     ensures cells { SameCells team.now floor.old floor.new }
+    ensures slots { IfOk result (λ session.
+        session_slots_without session floor.new team.now ≡ session_slots_in floor.old team.now) }
 {
     legalizer_exists();
     query_keeps_state();
@@ -58,7 +61,9 @@ fn open<S: Seeker + Drop, K: Sink>(
 }
 
 /// The number of the opened session.
-fn session_of(reply: &Reply) -> Result<u32, RepairFault> {
+fn session_of(reply: &Reply) -> Result<u32, RepairFault>
+    ensures { IfOk result (λ session. SaysOpened session reply.now) }
+{
     match reply {
         Reply::Opened { session, .. } => Ok(*session),
         Reply::Refused(refusal) => Err(RepairFault::Refused(*refusal)),
@@ -79,6 +84,7 @@ fn commit<S: Seeker + Drop, K: Sink>(
         IsRunWithCutLine l seat.now.team.now floor.old (K.contents lines.old) (K.contents lines.new) floor.new) }
     ensures only { ChangesOnly seat.now.team.now floor.old floor.new }
     ensures places { KeepsPlaces seat.now.team.now floor.old floor.new }
+    ensures slots { KeepsOtherSlots seat.now.team.now seat.now.session floor.old floor.new }
     ensures committed { (l : Legalizer) → IfOk result (λ _. AllCommittedIn l floor.new seat.now.team.now) }
 {
     legalizer_exists();
@@ -113,6 +119,7 @@ fn commit_if_clean<S: Seeker + Drop, K: Sink>(
         IsRunWithCutLine l seat.now.team.now floor.old (K.contents lines.old) (K.contents lines.new) floor.new) }
     ensures only { ChangesOnly seat.now.team.now floor.old floor.new }
     ensures places { KeepsPlaces seat.now.team.now floor.old floor.new }
+    ensures slots { KeepsOtherSlots seat.now.team.now seat.now.session floor.old floor.new }
     ensures committed { (l : Legalizer) → left.now ≡ [] → IfOk result (λ _.
         AllCommittedIn l floor.new seat.now.team.now) }
     ensures kept { left.now ≢ [] → floor.new ≡ floor.old }
@@ -137,6 +144,8 @@ fn close<S: Seeker + Drop, K: Sink>(
         IsRunWithCutLine l seat.now.team.now floor.old (K.contents lines.old) (K.contents lines.new) floor.new) }
     ensures only { ChangesOnly seat.now.team.now floor.old floor.new }
     ensures cells { SameCells seat.now.team.now floor.old floor.new }
+    ensures slots { OnOk result (session_slots_in floor.new seat.now.team.now
+        ≡ session_slots_without seat.now.session floor.old seat.now.team.now) }
 {
     legalizer_exists();
     query_keeps_state();
@@ -173,6 +182,8 @@ fn finish<S: Seeker + Drop, K: Sink>(
         found.left.items ≡ [] → AllCommittedIn l floor.new seat.now.team.now) }
     ensures uncommitted { IfOk result (λ found.
         found.left.items ≢ [] → KeepsCommittedPlaces seat.now.team.now floor.old floor.new) }
+    ensures slots { OnOk result (session_slots_in floor.new seat.now.team.now
+        ≡ session_slots_without seat.now.session floor.old seat.now.team.now) }
 {
     legalizer_exists();
     let Ok(found) = found_of(alloc, floor, seat, wanted_places, left) else {
@@ -227,7 +238,7 @@ fn run_pass<S: Seeker + Drop, K: Sink>(
     ensures only { ChangesOnly seat.now.team.now floor.old floor.new }
     ensures marked { KeepsLockedPlaces seat.now.team.now pass.now.locked.items floor.old floor.new }
     ensures legal { KeepsLockedLegal seat.now.team.now pass.now.locked.items floor.old floor.new }
-    ensures committed { KeepsCommittedPlaces seat.now.team.now floor.old floor.new }
+    ensures committed { KeepsCommittedAndSlots seat.now.team.now seat.now.session floor.old floor.new }
 {
     for phase in &PHASES {
         let Ok(cell_edits) = cell_edits_in(alloc, floor, seat.number, pass, *phase) else {
@@ -274,7 +285,7 @@ fn run_local_pass<S: Seeker + Drop, K: Sink>(
     ensures err { (l : Legalizer) → OnErr result (
         IsRunWithCutLine l seat.now.team.now floor.old (K.contents lines.old) (K.contents lines.new) floor.new) }
     ensures only { ChangesOnly seat.now.team.now floor.old floor.new }
-    ensures committed { KeepsCommittedPlaces seat.now.team.now floor.old floor.new }
+    ensures committed { KeepsCommittedAndSlots seat.now.team.now seat.now.session floor.old floor.new }
 {
     let local_plan = match plan_local_pass(alloc, floor.placement(), seat.number, start, reach) {
         Ok(Some(local_plan)) => local_plan,
@@ -323,7 +334,7 @@ fn run_local_passes<S: Seeker + Drop, K: Sink>(
         IsRunWithCutLine l seat.now.team.now floor.old (K.contents lines.old) (K.contents lines.new) floor.new) }
     ensures only { ChangesOnly seat.now.team.now floor.old floor.new }
     ensures kept { start.now.how ≡ KeepLegal → floor.new ≡ floor.old }
-    ensures committed { KeepsCommittedPlaces seat.now.team.now floor.old floor.new }
+    ensures committed { KeepsCommittedAndSlots seat.now.team.now seat.now.session floor.old floor.new }
 {
     if !is_as_needed(start.how) {
         return Ok(());
@@ -351,10 +362,13 @@ fn run_passes<S: Seeker + Drop, K: Sink>(
     ensures err { (l : Legalizer) → OnErr result (
         IsRunWithCutLine l seat.now.team.now floor.old (K.contents lines.old) (K.contents lines.new) floor.new) }
     ensures only { ChangesOnly seat.now.team.now floor.old floor.new }
-    ensures marked { start.now.how ≡ KeepLegal → AreLockedLegal seat.now.team.now start.now.pass.locked.items floor.old
+    ensures marked { start.now.how ≡ KeepLegal
+        → AreLockedInPlace seat.now.team.now start.now.pass.locked.items start.now.pass.wanted_places.items floor.old
         → KeepsLockedPlaces seat.now.team.now start.now.pass.locked.items floor.old floor.new }
-    ensures committed { KeepsCommittedPlaces seat.now.team.now floor.old floor.new }
+    ensures committed { KeepsCommittedAndSlots seat.now.team.now seat.now.session floor.old floor.new }
     ensures unrepaired { IfOk result (λ left. AreUnrepaired seat.now.team.now floor.new left.items) }
+    ensures off_soft { OnOk result (
+        AreAtTargetsOrOffSoft seat.now.team.now start.now.pass.wanted_places.items floor.new) }
 {
     let mut texts = Buffers::new(alloc);
     match run_pass(alloc, floor, seat, &start.pass, &mut texts, lines) {
@@ -366,6 +380,10 @@ fn run_passes<S: Seeker + Drop, K: Sink>(
         Err(fault) => return Err(fault),
     }
     let wanted_places = start.pass.wanted_places.as_slice();
+    match run_soft_pass(floor, seat, wanted_places, &mut texts, lines) {
+        Ok(()) => {}
+        Err(fault) => return Err(fault),
+    }
     run_last_pass(alloc, floor, seat, wanted_places, &mut texts, lines)
 }
 
@@ -384,7 +402,8 @@ fn repair_in_session<S: Seeker + Drop, K: Sink>(
     ensures err { (l : Legalizer) → OnErr result (
         IsRunWithCutLine l team.now floor.old (K.contents lines.old) (K.contents lines.new) floor.new) }
     ensures only { ChangesOnly team.now floor.old floor.new }
-    ensures marked { start.now.how ≡ KeepLegal → AreLockedLegal team.now start.now.pass.locked.items floor.old
+    ensures marked { start.now.how ≡ KeepLegal
+        → AreLockedInPlace team.now start.now.pass.locked.items start.now.pass.wanted_places.items floor.old
         → KeepsLockedPlaces team.now start.now.pass.locked.items floor.old floor.new }
     ensures changed { IfOk result (λ found.
         TeamIsAtTargetsExcept team.now start.now.pass.wanted_places.items floor.new found.changed.items) }
@@ -395,6 +414,9 @@ fn repair_in_session<S: Seeker + Drop, K: Sink>(
         found.left.items ≡ [] → AllCommittedIn l floor.new team.now) }
     ensures uncommitted { IfOk result (λ found.
         found.left.items ≢ [] → KeepsCommittedPlaces team.now floor.old floor.new) }
+    ensures slots { OnOk result (session_slots_in floor.new team.now ≡ session_slots_in floor.old team.now) }
+    ensures off_soft { OnOk result (
+        AreAtTargetsOrOffSoft team.now start.now.pass.wanted_places.items floor.new) }
 {
     let mut texts = Buffers::new(alloc);
     let session = match open(floor, team, &mut texts, lines) {
@@ -425,11 +447,12 @@ fn repair_in_session<S: Seeker + Drop, K: Sink>(
 ///
 /// A cell is unrepaired only if it has no place: it is unplaced, and next to the team's other cells
 /// no place off soft blockages is legal for it. All other cells are legal. The unrepaired cells are
-/// listed in loading order.
+/// listed in loading order. Each placed cell that is elsewhere than before is off soft blockages.
 ///
 /// The team is committed if and only if no cell is unrepaired. Otherwise its cells stay at their
 /// working places, and the committed places are unchanged. No other team changes, and a fully legal
-/// committed design stays fully legal. The numbers in the result are exact.
+/// committed design stays fully legal. The session in which it is repaired is closed: the team's
+/// session slots are unchanged. The numbers in the result are exact.
 ///
 /// `Err` says why the repair stopped early. The floor is then as the accepted commands left it, and
 /// their lines are written; of the last line perhaps only a prefix.
@@ -459,6 +482,8 @@ pub fn repair_team<S: Seeker + Drop, K: Sink>(
         repaired.unrepaired.items ≡ [] ↔ AllCommittedIn l floor.new team.now) }
     ensures uncommitted { IfOk result (λ repaired.
         repaired.unrepaired.items ≢ [] → committed_in floor.new team.now ≡ committed_in floor.old team.now) }
+    ensures slots { OnOk result (session_slots_in floor.new team.now ≡ session_slots_in floor.old team.now) }
+    ensures off_soft { OnOk result (AreMovedOffSoft team.now floor.old floor.new) }
     ensures reported { IfOk result (λ repaired. AreTeamStats team.now floor.old floor.new repaired) }
 {
     let Some(number) = floor.team_number(team) else {

@@ -20,7 +20,7 @@ use lf_legalize::Seeker;
 use lf_proto::{Command, Refusal, Reply, Request, parse_line, reply_text};
 
 /// Returns the request of a line, or `None` if the line is too long or is no request.
-pub(crate) fn request_in<'a>(line: Option<&'a [u8]>) -> Option<Request<'a>>
+pub(crate) fn request_of_line<'a>(line: Option<&'a [u8]>) -> Option<Request<'a>>
     ensures { option_map command_with_names result ≡ requested_on (option_map (λ bytes. bytes.now) line.entry) }
 {
     match parse_line(line?) {

@@ -9,7 +9,7 @@ ghost use Rattle.lf_server.specs.Endings.{ServesLines};
 ghost use Rattle.lf_proto.specs.Pieces.{lines_from, between_line_feeds};
 ghost use Rattle.lf_server.specs.Progress.{FinishesServing, IsGivenLine, ContinuesServing, ActsOnLine, SinkFailsAtWriteFault, StopsServing, answered_count};
 
-use crate::answer::{answer, is_end, request_in, team_requested};
+use crate::answer::{answer, is_end, request_of_line, team_requested};
 use crate::line_buffer::LineBuffer;
 use crate::responses::send_response;
 use lf_floor::Floor;
@@ -87,7 +87,7 @@ fn answer_line<K: Seeker + Drop, W: Sink>(
         (writer (W.contents sink.new) (W.is_flushed sink.new) (W.has_failed sink.new))
         floor.old floor.new (option_map (λ bytes. bytes.now) line.entry) }
 {
-    let request = request_in(line);
+    let request = request_of_line(line);
     let response = answer(floor, &request);
     if send_response(sink, text, floor, team_requested(&request), &response).is_err() {
         return Some(Ending::WriteFault);

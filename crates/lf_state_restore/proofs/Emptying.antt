@@ -5,7 +5,7 @@ use Rattle.std.proofs.lemmas.List.{length-map}
 use Rattle.lf_cells.specs.declared.cell.Cell.{Cell}
 use Rattle.lf_cells.specs.Cells.{Cells, cells_of}
 use Rattle.lf_placement.specs.Placements.{OtherCellsStay}
-use Rattle.lf_state_text.specs.declared.saved_rows.TeamRow.{TeamRow}
+use Rattle.lf_state_text.specs.declared.saved_rows.SavedTeamRow.{SavedTeamRow}
 use Rattle.lf_state_text.specs.Saved.{SavedTeam, saved_at, team_view, team_views}
 use Rattle.lf_state_restore.specs.Saved.{map_two, restored_cell}
 use Rattle.lf_state_restore.specs.Placed.{AreAsMany, ArePlaced, without_cells}
@@ -38,29 +38,29 @@ all_emptied zero (t ∷ saved) few = absurd (omega (arith, few))
 all_emptied (suc n) [] few = refl
 all_emptied (suc n) (t ∷ saved) few = ap (λ (ts : List SavedTeam). without_cells t ∷ ts) (all_emptied n saved (omega (arith, few)))
 
-view_at : (rows : List TeamRow) (n : ℕ) (row : TeamRow) (d : SavedTeam) → n < length rows → team_view (get_or rows n row) ≡ get_or (team_views rows) n d
+view_at : (rows : List SavedTeamRow) (n : ℕ) (row : SavedTeamRow) (d : SavedTeam) → n < length rows → team_view (get_or rows n row) ≡ get_or (team_views rows) n d
 view_at [] n row d less = absurd (omega (arith, less))
 view_at (r ∷ rows) zero row d less = refl
 view_at (r ∷ rows) (suc n) row d less = view_at rows n row d (omega (arith, less))
 
-view_set : (rows : List TeamRow) (n : ℕ) (row : TeamRow) → team_views (set rows n row) ≡ set (team_views rows) n (team_view row)
+view_set : (rows : List SavedTeamRow) (n : ℕ) (row : SavedTeamRow) → team_views (set rows n row) ≡ set (team_views rows) n (team_view row)
 view_set [] n row = refl
 view_set (r ∷ rows) zero row = refl
 view_set (r ∷ rows) (suc n) row = ap (λ (ts : List SavedTeam). team_view r ∷ ts) (view_set rows n row)
 
 -- the cells of the first n saved teams are at their places, and their rows are without cells
-pub record PlacedSoFar (n : ℕ) (saved : List SavedTeam) (old now : Cells) (rows : List TeamRow) : Type 0 where
+pub record PlacedSoFar (n : ℕ) (saved : List SavedTeam) (old now : Cells) (rows : List SavedTeamRow) : Type 0 where
   pub cells : (team : ℕ) → team < n → cells_of now team ≡ map_two restored_cell (cells_of old team) (saved_at saved team).cells
   pub others : (team : ℕ) → n ≤ team → cells_of now team ≡ cells_of old team
   pub components : now.components ≡ old.components
   pub left : team_views rows ≡ first_emptied n saved
 
-pub none_placed : (old : Cells) (rows : List TeamRow) → PlacedSoFar 0 (team_views rows) old old rows
+pub none_placed : (old : Cells) (rows : List SavedTeamRow) → PlacedSoFar 0 (team_views rows) old old rows
 none_placed old rows = record { cells = λ team less. absurd (omega (arith, less)); others = λ team past. refl; components = refl; left = refl }
 
-module _ (n : ℕ) (all rows : List TeamRow) (old now : Cells) (less : n < length all) (long : length rows ≡ length all)
-    (so_far : PlacedSoFar n (team_views all) old now rows) (d : TeamRow) where
-  abbrev row : TeamRow
+module _ (n : ℕ) (all rows : List SavedTeamRow) (old now : Cells) (less : n < length all) (long : length rows ≡ length all)
+    (so_far : PlacedSoFar n (team_views all) old now rows) (d : SavedTeamRow) where
+  abbrev row : SavedTeamRow
   row = get_or rows n d
 
   -- the contents of the next row
@@ -77,7 +77,7 @@ module _ (n : ℕ) (all rows : List TeamRow) (old now : Cells) (less : n < lengt
       ∙ many n (omega (arith, less, length-map all team_view))
       ∙ sym (ap (λ (cs : List Cell). length cs) (so_far.others n (omega arith)))
 
-  pub next_placed : (new : Cells) (left : TeamRow) → team_view left ≡ without_cells (team_view row)
+  pub next_placed : (new : Cells) (left : SavedTeamRow) → team_view left ≡ without_cells (team_view row)
       → cells_of new n ≡ map_two restored_cell (cells_of now n) row.cells.items → OtherCellsStay n now new
       → PlacedSoFar (n + 1) (team_views all) old new (set rows n left)
   next_placed new left emptied own others = record {
@@ -97,7 +97,7 @@ module _ (n : ℕ) (all rows : List TeamRow) (old now : Cells) (less : n < lengt
         ∙ next_emptied n (team_views all) record { revision = 0; padding = 0; slots = []; cells = []; entries = [] } (omega (arith, less, length-map all team_view));
   }
 
-module _ (n : ℕ) (all rows : List TeamRow) (old now : Cells) (many : n ≡ length all) (so_far : PlacedSoFar n (team_views all) old now rows) where
+module _ (n : ℕ) (all rows : List SavedTeamRow) (old now : Cells) (many : n ≡ length all) (so_far : PlacedSoFar n (team_views all) old now rows) where
   pub all_placed : ArePlaced (team_views all) old now
   all_placed = record {
     cells = λ team less. so_far.cells team (omega (arith, less, many, length-map all team_view));

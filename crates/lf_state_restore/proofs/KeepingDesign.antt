@@ -13,8 +13,9 @@ use Rattle.lf_floor_model.specs.States.{FloorState, TeamState}
 use Rattle.lf_floor_model.specs.Teams.{TeamRules, team_rules, team_number}
 use Rattle.lf_floor_model.specs.Outcomes.{Outcome, is_short}
 use Rattle.lf_floor_model.specs.Verbs.{outcome_of}
-use Rattle.lf_floor_model.specs.Steps.{IsAnswerOf, MayRunOutOfMemory, answer_at, answer_by, answer_of, outcome_by_rules}
+use Rattle.lf_floor_model.specs.Steps.{IsAnswerOf, MayRunOutOfMemory, answer_at, answer_of, outcome_by_rules}
 use Rattle.lf_floor_model.specs.Runs.{Run}
+use Rattle.lf_floor_model.proofs.Forms.{answer_by}
 use Rattle.lf_floor_model.proofs.Cases.{Facts, order_facts, part_stays}
 use Rattle.lf_floor_model.proofs.LegalPlaces.{some_one}
 use Rattle.lf_state_restore.specs.Saved.{ShareDesign, RunKeepsDesign, fixed_cells, fixed_part}

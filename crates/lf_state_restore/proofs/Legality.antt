@@ -3,8 +3,9 @@ use Rattle.std.proofs.Common.{◌≡◌, List, [], ◌∷◌, map, refl, ap, sym
 use Rattle.lf_rules.specs.FullyLegal.{IsFullyLegal, DesignCell, design_cells_from}
 use Rattle.lf_rules.specs.Team.{Member}
 use Rattle.lf_cells.specs.declared.cell.Cell.{Cell}
-use Rattle.lf_floor_model.specs.Committed.{committed_design, committed_member, committed_members}
+use Rattle.lf_floor_model.specs.Committed.{committed_member, committed_members}
 use Rattle.lf_floor_model.specs.States.{FloorState, TeamState}
+use Rattle.lf_floor_model.proofs.Forms.{committed_design}
 use Rattle.lf_state_text.specs.declared.saved_rows.SavedCell.{SavedCell}
 use Rattle.lf_state_text.specs.Saved.{SavedTeam}
 use Rattle.lf_state_restore.specs.Saved.{RestoredIsCommitted, map_two, restored_floor, restored_cell, restored_team, saved_design, saved_member}

@@ -10,7 +10,7 @@ ghost use Rattle.lf_state_restore.specs.Placed.{AreAsMany, ArePlaced, without_ce
 use lf_cells::{CellId, CellTable};
 use lf_floorplan::{Place, same_place};
 use lf_placement::Placement;
-use lf_state_text::{SavedCell, TeamRow};
+use lf_state_text::{SavedCell, SavedTeamRow};
 use std::alloc::{AllocError, Global};
 use std::mem;
 
@@ -84,7 +84,7 @@ fn place_team(cells: &mut CellTable, team: usize, saved: &[SavedCell])
 }
 
 /// Removes the saved cells from the row and returns them.
-fn take_cells(alloc: Global, row: &mut TeamRow) -> Vec<SavedCell>
+fn take_cells(alloc: Global, row: &mut SavedTeamRow) -> Vec<SavedCell>
     ensures cells { result.items ≡ row.old.cells.items }
     ensures row { team_view row.new ≡ without_cells (team_view row.old) }
 {
@@ -93,7 +93,7 @@ fn take_cells(alloc: Global, row: &mut TeamRow) -> Vec<SavedCell>
 
 /// Sets the places of each team's cells to those of its row, and removes these from the row. There
 /// is a saved cell for each cell.
-fn place_in_table(alloc: Global, cells: &mut CellTable, rows: &mut [TeamRow])
+fn place_in_table(alloc: Global, cells: &mut CellTable, rows: &mut [SavedTeamRow])
     requires { AreAsMany (team_views rows.old) cells.old }
     ensures placed { ArePlaced (team_views rows.old) cells.old cells.new }
     ensures rows { team_views rows.new ≡ map without_cells (team_views rows.old) }
@@ -111,7 +111,7 @@ fn place_in_table(alloc: Global, cells: &mut CellTable, rows: &mut [TeamRow])
 pub fn place_teams(
     alloc: Global,
     placement: Placement,
-    rows: &mut [TeamRow],
+    rows: &mut [SavedTeamRow],
 ) -> Result<Placement, AllocError>
     requires { AreAsMany (team_views rows.old) placement.cells }
     ensures frame { IfOk result (λ placed. placed.frame ≡ placement.frame) }

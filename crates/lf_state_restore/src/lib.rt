@@ -2,7 +2,7 @@
 //! their undo entries.
 //!
 //! `place_teams` sets the working and committed places of the cells of all teams and builds the
-//! strips once. It empties the list of saved cells of each `TeamRow`, which frees its memory.
+//! strips once. It empties the list of saved cells of each `SavedTeamRow`, which frees its memory.
 //! `restore_entries` reverts the entries of a team on a list
 //! of its places, the newest first, and reserves room for the places before each entry. It moves no
 //! cell. The entries are then the team's undo stack.

@@ -7,7 +7,7 @@ use Rattle.lf_floorplan.specs.declared.place.Place.{Place}
 use Rattle.lf_undo.specs.declared.moves.Move.{Move}
 use Rattle.lf_proto.specs.ReplyText.{spaced_line}
 use Rattle.lf_state_text.specs.declared.saved_rows.SavedCell.{SavedCell}
-use Rattle.lf_state_text.specs.declared.saved_rows.TeamRow.{TeamRow}
+use Rattle.lf_state_text.specs.declared.saved_rows.SavedTeamRow.{SavedTeamRow}
 use Rattle.lf_state_text.specs.Designs.{NamedDesign, NamedTeam}
 use Rattle.lf_state_text.specs.Words.{place_text, slot_text}
 
@@ -22,7 +22,7 @@ pub record SavedTeam : Type 0 where
   pub cells : List SavedCell
   pub entries : List (List Move)
 
-abbrev pub team_view : TeamRow → SavedTeam
+abbrev pub team_view : SavedTeamRow → SavedTeam
 team_view t = record {
   revision = t.revision;
   padding = t.padding.sites;
@@ -31,7 +31,7 @@ team_view t = record {
   entries = t.entries.items;
 }
 
-abbrev pub team_views : List TeamRow → List SavedTeam
+abbrev pub team_views : List SavedTeamRow → List SavedTeam
 team_views teams = map team_view teams
 
 -- the team of that number; empty if there is none

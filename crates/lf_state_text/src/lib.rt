@@ -5,7 +5,7 @@
 //! (`DesignSchema`). They are compared byte by byte, and not stored. All numbers are within the
 //! design's limits (`AreOf`).
 //!
-//! Contracts see the teams that are written (`TeamViews`) and the rows that are read (`TeamRow`) as
+//! Contracts see the teams that are written (`TeamViews`) and the rows that are read (`SavedTeamRow`) as
 //! saved teams (`SavedTeam`), whose text is `state_text`.
 //!
 //! Used by `lf_state_restore`, `lf_floor`, `lf_task_faults`, `lf_task_designs` and
@@ -59,7 +59,7 @@ pub use fault::{StateError, StateFault, StateFaultNumber};
 pub use laws::saved_reads_back;
 pub use read::{read_chunks, read_state};
 pub use refusal::{ChunkError, StateRefused};
-pub use saved_rows::{SavedCell, TeamRow};
+pub use saved_rows::{SavedCell, SavedTeamRow};
 pub use schema::DesignSchema;
 pub use team_views::TeamViews;
 pub use write::write_state;

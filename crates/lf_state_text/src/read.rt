@@ -15,7 +15,7 @@ use crate::fault::{ReadError, StateError, StateFaultNumber};
 use crate::read_lists::{read_cells, read_entries, read_slots};
 use crate::read_words::{below_at, count_at, expect_bytes};
 use crate::refusal::{ChunkError, refusal_at};
-use crate::saved_rows::TeamRow;
+use crate::saved_rows::SavedTeamRow;
 use crate::schema::{DesignSchema, name_of_team};
 use crate::word_end::WordEnd;
 use lf_floorplan::Limits;
@@ -81,7 +81,7 @@ fn rows_at<D: DesignSchema>(
     team: usize,
     numbers: Numbers,
     cursor: &mut Cursor,
-) -> Result<TeamRow, ReadError>
+) -> Result<SavedTeamRow, ReadError>
     ensures read { ReadsState (λ row left. (team_view row, left)) result
         (rows_at (D.named design.now).limits (named_team_of (D.named design.now) team) (numbers_view numbers)
         (rest cursor.old)) (rest cursor.new) }
@@ -91,7 +91,7 @@ fn rows_at<D: DesignSchema>(
     let slots = read_slots(alloc, numbers.revision, design.limits().sessions, cursor)?;
     let places = read_cells(alloc, design, team, cursor)?;
     let entries = read_entries(alloc, cells, numbers.entries, cursor)?;
-    Ok(TeamRow {
+    Ok(SavedTeamRow {
         revision: numbers.revision,
         padding: numbers.padding,
         slots,
@@ -107,7 +107,7 @@ fn read_team<D: DesignSchema>(
     design: &D,
     team: usize,
     cursor: &mut Cursor,
-) -> Result<TeamRow, ReadError>
+) -> Result<SavedTeamRow, ReadError>
     ensures read { ReadsState (λ row left. (team_view row, left)) result
         (team_at (D.named design.now).limits (named_team_of (D.named design.now) team) (rest cursor.old))
         (rest cursor.new) }
@@ -123,7 +123,7 @@ fn read_teams<D: DesignSchema>(
     alloc: Global,
     design: &D,
     cursor: &mut Cursor,
-) -> Result<Vec<TeamRow>, ReadError>
+) -> Result<Vec<SavedTeamRow>, ReadError>
     ensures read { ReadsState (λ rows left. (team_views rows.items, left)) result
         (each_at (team_at (D.named design.now).limits) (D.named design.now).teams (rest cursor.old)) (rest cursor.new) }
     ensures ends { (text : List ℕ) → IsEnd text cursor.old → IsEnd text cursor.new }
@@ -168,7 +168,7 @@ fn read_all<D: DesignSchema>(
     alloc: Global,
     design: &D,
     cursor: &mut Cursor,
-) -> Result<Vec<TeamRow>, ReadError>
+) -> Result<Vec<SavedTeamRow>, ReadError>
     ensures read { ReadsState (λ rows _. team_views rows.items) result (all_at (D.named design.now) (rest cursor.old))
         (rest cursor.new) }
     ensures ends { (text : List ℕ) → IsEnd text cursor.old → IsEnd text cursor.new }
@@ -197,9 +197,9 @@ fn cursor_at(alloc: Global, pieces: VecDeque<Vec<u8>>) -> Cursor
 
 /// Returns the result of reading; a fault gets the end of the text.
 fn with_text_end(
-    read: Result<Vec<TeamRow>, ReadError>,
+    read: Result<Vec<SavedTeamRow>, ReadError>,
     cursor: Cursor,
-) -> Result<Vec<TeamRow>, ChunkError>
+) -> Result<Vec<SavedTeamRow>, ChunkError>
     ensures read { (text : List ℕ) (found : Result (List SavedTeam) TextFault) → IsEnd text cursor
         → ReadsState (λ rows _. team_views rows.items) read found (rest cursor)
         → ReturnsIn (λ rows. team_views rows.items) result (with_fault_line text found) }
@@ -221,7 +221,7 @@ pub fn read_chunks<D: DesignSchema>(
     alloc: Global,
     design: &D,
     pieces: VecDeque<Vec<u8>>,
-) -> Result<Vec<TeamRow>, ChunkError>
+) -> Result<Vec<SavedTeamRow>, ChunkError>
     // The teams, or the fault.
     ensures exact { ReturnsIn (λ rows. team_views rows.items) result
         (saved_state_of (D.named design.now) (text_of_chunks pieces.items)) }
@@ -247,7 +247,7 @@ fn piece_of(alloc: Global, text: &[u8]) -> Result<VecDeque<Vec<u8>>, ReadError>
 }
 
 /// Returns the same result without the end of a refused text.
-fn without_end(read: Result<Vec<TeamRow>, ChunkError>) -> Result<Vec<TeamRow>, StateError>
+fn without_end(read: Result<Vec<SavedTeamRow>, ChunkError>) -> Result<Vec<SavedTeamRow>, StateError>
     ensures { (found : Result (List SavedTeam) StateFault) → ReturnsIn (λ rows. team_views rows.items) read found
         → ReturnsAt (λ rows. team_views rows.items) result found }
 {
@@ -266,7 +266,7 @@ pub fn read_state<D: DesignSchema>(
     alloc: Global,
     design: &D,
     text: &[u8],
-) -> Result<Vec<TeamRow>, StateError>
+) -> Result<Vec<SavedTeamRow>, StateError>
     // The teams, or the fault.
     ensures exact { ReturnsAt (λ rows. team_views rows.items) result (saved_state_of (D.named design.now) text.now) }
     // The result is within the design's limits.

@@ -13,7 +13,7 @@ pub struct SavedCell {
 
 /// A team; its name and those of its cells are the design's.
 #[derive(Drop)]
-pub struct TeamRow {
+pub struct SavedTeamRow {
     pub revision: u32,
     pub padding: Padding,
     /// For each session slot the revision that its session has seen; `None` if the slot is free.

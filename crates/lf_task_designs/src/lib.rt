@@ -19,7 +19,7 @@
 //!
 //! ```
 //! let loaded = load_files(alloc, inputs.limits, texts, inputs.def, inputs.lefs)?;
-//! viewed_design(alloc, texts, loaded, inputs.state)
+//! viewed_design(alloc, texts, loaded, committed, inputs.state)
 //! ```
 #![tactic(auto)]
 

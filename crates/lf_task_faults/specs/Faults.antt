@@ -15,9 +15,13 @@ use Rattle.lf_task_faults.specs.declared.faults.TextFile.{TextFile}
 use Rattle.lf_task_faults.specs.declared.faults.TextKind.{TextKind}
 use Rattle.lf_task_faults.specs.declared.faults.TextKind.TheVariants.{Lef, Def, State}
 use Rattle.lf_task_faults.specs.declared.faults.OutputKind.{OutputKind}
-use Rattle.lf_task_faults.specs.declared.faults.OutputKind.TheVariants.{Export, Save, Lines}
+use Rattle.lf_task_faults.specs.declared.faults.OutputKind.TheVariants.{Export, Save, Lines, Working}
 use Rattle.lf_task_faults.specs.declared.faults.BindFailure.{BindFailure}
 use Rattle.lf_task_faults.specs.declared.faults.BindFailure.TheVariants as unbound
+use Rattle.lf_task_faults.specs.declared.hints.Compression.{Compression}
+use Rattle.lf_task_faults.specs.declared.hints.Compression.TheVariants as compression
+use Rattle.lf_task_faults.specs.declared.hints.Remark.{Remark}
+use Rattle.lf_task_faults.specs.declared.hints.Remark.TheVariants as remark
 use Rattle.lf_task_faults.specs.declared.hints.Hint.{Hint}
 use Rattle.lf_task_faults.specs.declared.hints.Hint.TheVariants.{Compressed, OtherKind}
 use Rattle.lf_task_faults.specs.declared.text_refusal.FenceLine.{FenceLine}
@@ -171,10 +175,20 @@ abbrev pub line_shown : Option ℕ → List ℕ → List ℕ → List ℕ
 line_shown None beside bytes = []
 line_shown (Some number) beside bytes = number_words number ++ beside ++ bytes_words bytes
 
--- The remark about that line: the line of an earlier entry, and the fences in conflict.
+-- What a refused design lacks.
+abbrev pub remark_words : Option Remark → List ℕ
+remark_words None = []
+remark_words (Some remark.NoRow) = codes " (there is no ROW: lefence-prepare makes rows)"
+remark_words (Some remark.NoCoreRow) = codes " (no ROW has a site of CLASS CORE, in capitals, with a SIZE)"
+remark_words (Some remark.Step) = codes " (its STEP is not the width of the core site)"
+remark_words (Some remark.NoMacro) = codes " (no LEF file has this MACRO in front of its END LIBRARY)"
+remark_words (Some remark.Size) = codes " (a length is not whole in the units of the design)"
+
+-- The remark about that line: the line of an earlier entry, the fences in conflict, and what the
+-- design lacks.
 abbrev pub beside_words : TextRefusal → List ℕ
-beside_words refusal =
-    earlier_words refusal.earlier ++ conflict_words refusal.first_overlapped refusal.second_overlapped
+beside_words refusal = earlier_words refusal.earlier
+    ++ conflict_words refusal.first_overlapped refusal.second_overlapped ++ remark_words refusal.remark
 
 abbrev pub shown_line : TextRefusal → List ℕ
 shown_line refusal = line_shown refusal.at (beside_words refusal) refusal.shown.items
@@ -183,6 +197,7 @@ abbrev pub output_kind_words : OutputKind → List ℕ
 output_kind_words Export = codes "export file "
 output_kind_words Save = codes "state file "
 output_kind_words Lines = codes "lines file "
+output_kind_words Working = codes "working export file "
 
 -- The kind of a written file, and its path.
 abbrev pub output_words : OutputKind → List ℕ → List ℕ
@@ -209,16 +224,35 @@ is_memory _ = false
 -- The hint at what a refused text of this kind may be instead.
 abbrev pub hint_words : TextKind → Option Hint → List ℕ
 hint_words kind None = []
-hint_words kind (Some Compressed) = codes " (it looks compressed)"
+hint_words kind (Some (Compressed its)) = []
 hint_words Lef (Some OtherKind) = codes " (read as LEF: is the DEF text first?)"
 hint_words Def (Some OtherKind) = codes " (read as DEF: is the DEF text first?)"
 hint_words State (Some OtherKind) = []
+
+-- The command that writes the text of a file of this compression.
+abbrev pub unpack_words : Compression → List ℕ
+unpack_words compression.Gzip = codes "zcat "
+unpack_words compression.Bzip2 = codes "bzcat "
+unpack_words compression.Xz = codes "xzcat "
+unpack_words compression.Zstd = codes "zstdcat "
+unpack_words compression.Zip = codes "unzip -p "
+
+-- How the text of a compressed file is read.
+abbrev pub compressed_words : Compression → List ℕ → List ℕ
+compressed_words compression path =
+    codes ": the text is compressed: read it as <(" ++ unpack_words compression ++ shown_bytes path ++ codes ")"
+
+-- What is said of a refused text after its path: how it is read if it is compressed, otherwise what
+-- it may be instead, and the line for which it is refused.
+abbrev pub refused_words : TextFile → TextRefusal → Option Hint → List ℕ
+refused_words file refusal (Some (Compressed its)) = compressed_words its file.path.now
+refused_words file refusal hint = hint_words file.kind hint ++ shown_line refusal
 
 -- The line of a refused text. It is empty if the refusal is a failed allocation.
 abbrev pub text_refusal_words : TextFile → TextRefusal → List ℕ
 text_refusal_words file refusal =
     if is_memory refusal.number then []
-    else codes "lefence: " ++ file_words file ++ hint_words file.kind refusal.hint ++ shown_line refusal ++ 10 ∷ []
+    else codes "lefence: " ++ file_words file ++ refused_words file refusal refusal.hint ++ 10 ∷ []
 
 -- The file, path, port or team at fault.
 abbrev pub subject_words : Fault → List ℕ

@@ -2,11 +2,15 @@
 use Rattle.std.specs.Prelude.{◌==◌, ◌-◌, ◌||◌, ℕ, Bool, true, false, List, [], ◌∷◌, Option, Some, None, bytes_eq, codes, if◌then◌else◌, is_some, nat_eq, option_and_then}
 use Rattle.std.specs.List.{starts_with}
 use Rattle.lf_lex.specs.declared.fault.FaultNumber.{FaultNumber}
-use Rattle.lf_lex.specs.declared.fault.FaultNumber.TheVariants.{SecondName, SecondRegion}
+use Rattle.lf_lex.specs.declared.fault.FaultNumber.TheVariants.{BadStep, NoMacro, NoRows, NotWhole, SecondName, SecondRegion}
 use Rattle.lf_lex.specs.declared.fault.LoadFault.{LoadFault}
 use Rattle.lf_lex.specs.Tokens.{Lexeme, tokens_of}
 use Rattle.lf_task_faults.specs.declared.faults.TextKind.{TextKind}
 use Rattle.lf_task_faults.specs.declared.faults.TextKind.TheVariants.{Lef, Def, State}
+use Rattle.lf_task_faults.specs.declared.hints.Compression.{Compression}
+use Rattle.lf_task_faults.specs.declared.hints.Compression.TheVariants.{Gzip, Bzip2, Xz, Zstd, Zip}
+use Rattle.lf_task_faults.specs.declared.hints.Remark.{Remark}
+use Rattle.lf_task_faults.specs.declared.hints.Remark.TheVariants as remark
 use Rattle.lf_task_faults.specs.declared.hints.Hint.{Hint}
 use Rattle.lf_task_faults.specs.declared.hints.Hint.TheVariants.{Compressed, OtherKind}
 
@@ -20,12 +24,14 @@ nth_line word passed (t ∷ ts) = if bytes_eq t.text word then
 abbrev pub has_word : List ℕ → List ℕ → Bool
 has_word text word = is_some (nth_line word 0 (tokens_of text).tokens)
 
--- True if the text begins as a file of gzip, bzip2, xz, zstd or zip.
-abbrev pub is_compressed : List ℕ → Bool
-is_compressed text =
-    starts_with nat_eq text (31 ∷ 139 ∷ []) || starts_with nat_eq text (codes "BZh")
-    || starts_with nat_eq text (253 ∷ codes "7zXZ")
-    || starts_with nat_eq text (40 ∷ 181 ∷ 47 ∷ 253 ∷ []) || starts_with nat_eq text (80 ∷ 75 ∷ 3 ∷ 4 ∷ [])
+-- The compression of a text that begins as a file of gzip, bzip2, xz, zstd or zip.
+abbrev pub compression_of : List ℕ → Option Compression
+compression_of text =
+    if starts_with nat_eq text (31 ∷ 139 ∷ []) then Some Gzip
+    else if starts_with nat_eq text (codes "BZh") then Some Bzip2
+    else if starts_with nat_eq text (253 ∷ codes "7zXZ") then Some Xz
+    else if starts_with nat_eq text (40 ∷ 181 ∷ 47 ∷ 253 ∷ []) then Some Zstd
+    else if starts_with nat_eq text (80 ∷ 75 ∷ 3 ∷ 4 ∷ []) then Some Zip else None
 
 -- True if the text has a word that only the other kind of text has.
 abbrev pub is_of_other_kind : TextKind → List ℕ → Bool
@@ -33,10 +39,22 @@ is_of_other_kind Lef text = has_word text (codes "DESIGN")
 is_of_other_kind Def text = has_word text (codes "MACRO") || has_word text (codes "LIBRARY")
 is_of_other_kind State text = false
 
+-- What a text may be instead, given its compression, and whether it is of the other kind.
+abbrev pub hint_by : Option Compression → Bool → Option Hint
+hint_by (Some compression) other = Some (Compressed compression)
+hint_by None other = if other then Some OtherKind else None
+
 -- What a refused text of this kind may be instead.
 abbrev pub hint_of : TextKind → List ℕ → Option Hint
-hint_of kind text = if is_compressed text then Some Compressed
-    else if is_of_other_kind kind text then Some OtherKind else None
+hint_of kind text = hint_by (compression_of text) (is_of_other_kind kind text)
+
+-- What a refused design with this DEF text lacks, by the number of its refusal.
+abbrev pub remark_of : List ℕ → FaultNumber → Option Remark
+remark_of text NoRows = if has_word text (codes "ROW") then Some remark.NoCoreRow else Some remark.NoRow
+remark_of text BadStep = Some remark.Step
+remark_of text NoMacro = Some remark.NoMacro
+remark_of text NotWhole = Some remark.Size
+remark_of text _ = None
 
 -- True if the refusal concerns the second of two entries of one name.
 abbrev pub is_second : FaultNumber → Bool

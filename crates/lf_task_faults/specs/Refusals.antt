@@ -10,7 +10,7 @@ use Rattle.lf_task_faults.specs.declared.faults.TextKind.{TextKind}
 use Rattle.lf_task_faults.specs.declared.text_refusal.FenceLine.{FenceLine}
 use Rattle.lf_task_faults.specs.declared.text_refusal.TextRefusal.{TextRefusal}
 use Rattle.lf_task_faults.specs.declared.text_refusal.StateRefusal.{StateRefusal}
-use Rattle.lf_task_faults.specs.Hints.{earlier_line, hint_of, fault_line_number, nth_line}
+use Rattle.lf_task_faults.specs.Hints.{earlier_line, hint_of, fault_line_number, nth_line, remark_of}
 
 -- What follows the line feed at this position. Empty if there is no line feed.
 abbrev pub after_feed : List ℕ → Option ℕ → List ℕ
@@ -65,7 +65,8 @@ IsReportedConflict found overlapping_one reported fences = ((reported ≡ found)
 
 -- What is reported about the fault of a text that was read as this kind, with these fences in
 -- conflict: its number, line and name; the line that it is about, with its first bytes; the line of
--- an earlier entry of its name; the fences with their lines; and what the text may be instead.
+-- an earlier entry of its name; the fences with their lines; what the text may be instead; and what
+-- the design lacks.
 pub record ReportsFault (kind : TextKind) (text : List ℕ) (fault : LoadFault) (overlapping_one : Conflict)
     (refusal : TextRefusal) : Type 0 where
   pub number : refusal.number ≡ fault.number
@@ -79,6 +80,7 @@ pub record ReportsFault (kind : TextKind) (text : List ℕ) (fault : LoadFault) 
   pub second_overlapped : option_map fence_line_of refusal.second_overlapped
       ≡ option_map (fence_line_in text) overlapping_one.second
   pub hint : refusal.hint ≡ hint_of kind text
+  pub remark : refusal.remark ≡ remark_of text fault.number
 
 -- What is reported about the fault of a state text: its number and its line, with the first bytes
 -- of that line.

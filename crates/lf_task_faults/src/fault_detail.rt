@@ -1,15 +1,15 @@
 //! The second line of a fault: the file, its faulty line, the port, or the team.
 
-ghost use Rattle.std.specs.Prelude.{◌≡◌, ◌<◌, OnErr, OnOk, true};
+ghost use Rattle.std.specs.Prelude.{◌≡◌, ◌<◌, ◌++◌, OnErr, OnOk, true};
 ghost use Rattle.std.specs.Io.KnownBytes.{Appends};
 ghost use Rattle.std.specs.Char.{digit_char};
-ghost use Rattle.lf_task_faults.specs.Faults.{bytes_words, complaint_line, complaint_words, earlier_words, fence_words, file_words, first_words};
-ghost use Rattle.lf_task_faults.specs.Faults.{hint_words, is_memory, conflict_words, number_words, output_kind_words, output_words, overlapped_fence_words, port_text, reason_words, text_refusal_words};
+ghost use Rattle.lf_task_faults.specs.Faults.{beside_words, bytes_words, complaint_line, complaint_words, compressed_words, earlier_words, fence_words, file_words, first_words};
+ghost use Rattle.lf_task_faults.specs.Faults.{hint_words, is_memory, conflict_words, number_words, output_kind_words, output_words, overlapped_fence_words, port_text, reason_words, refused_words, remark_words, text_refusal_words};
 ghost use Rattle.lf_task_faults.specs.Faults.{second_line, shown_bytes, shown_byte, shown_line, fence_line_words, state_line, subject_words, team_words};
-ghost use Rattle.lf_task_faults.specs.Faults.{claiming_fences_words, unbound_words, unreadable_words, unwritable_words};
+ghost use Rattle.lf_task_faults.specs.Faults.{claiming_fences_words, unbound_words, unpack_words, unreadable_words, unwritable_words};
 
 use crate::faults::{BindFailure, Fault, OutputKind, TextFile, TextKind};
-use crate::hints::Hint;
+use crate::hints::{Compression, Hint, Remark};
 use crate::read_failure::ReadFailureKind;
 use crate::text_refusal::{FenceLine, StateRefusal, TextRefusal};
 use itoa::Buffer;
@@ -167,6 +167,33 @@ fn put_overlapped<W: Sink>(
     }
 }
 
+/// Returns what a refused design lacks.
+fn remark_words(remark: Option<Remark>) -> &'static [u8]
+    ensures { result.now ≡ remark_words remark }
+{
+    match remark {
+        None => b"",
+        Some(Remark::NoRow) => b" (there is no ROW: lefence-prepare makes rows)",
+        Some(Remark::NoCoreRow) => {
+            b" (no ROW has a site of CLASS CORE, in capitals, with a SIZE)"
+        }
+        Some(Remark::Step) => b" (its STEP is not the width of the core site)",
+        Some(Remark::NoMacro) => b" (no LEF file has this MACRO in front of its END LIBRARY)",
+        Some(Remark::Size) => b" (a length is not whole in the units of the design)",
+    }
+}
+
+/// Writes the remark about the line for which a text is refused.
+fn put_beside<W: Sink>(sink: &mut W, refusal: &TextRefusal) -> Result<(), DeviceFault>
+    ensures ok { OnOk result (Appends (W.contents sink.old) (W.contents sink.new) (beside_words refusal.now)) }
+    ensures failed { OnErr result (W.has_failed sink.new ≡ true) }
+    ensures held { W.holds sink.new ≡ W.holds sink.old }
+{
+    put_earlier(sink, refusal.earlier)?;
+    put_overlapped(sink, &refusal.first_overlapped, &refusal.second_overlapped)?;
+    send(sink, remark_words(refusal.remark))
+}
+
 /// Writes the number of a line.
 fn put_number<W: Sink>(sink: &mut W, number: usize) -> Result<(), DeviceFault>
     ensures ok { OnOk result (Appends (W.contents sink.old) (W.contents sink.new) (number_words number)) }
@@ -197,8 +224,7 @@ fn put_shown_line<W: Sink>(sink: &mut W, refusal: &TextRefusal) -> Result<(), De
         return Ok(());
     };
     put_number(sink, number)?;
-    put_earlier(sink, refusal.earlier)?;
-    put_overlapped(sink, &refusal.first_overlapped, &refusal.second_overlapped)?;
+    put_beside(sink, refusal)?;
     put_line(sink, refusal.shown.as_slice())
 }
 
@@ -208,7 +234,7 @@ fn hint_words(kind: TextKind, hint: Option<Hint>) -> &'static [u8]
 {
     match (hint, kind) {
         (None, _) => b"",
-        (Some(Hint::Compressed), _) => b" (it looks compressed)",
+        (Some(Hint::Compressed(_)), _) => b"",
         (Some(Hint::OtherKind), TextKind::Lef) => b" (read as LEF: is the DEF text first?)",
         (Some(Hint::OtherKind), TextKind::Def) => b" (read as DEF: is the DEF text first?)",
         (Some(Hint::OtherKind), TextKind::State) => b"",
@@ -220,6 +246,69 @@ fn is_memory(number: FaultNumber) -> bool
     ensures { result ≡ is_memory number }
 {
     matches!(number, FaultNumber::OutOfMemory)
+}
+
+/// Returns the command that writes the text of a file of this compression.
+fn unpack_words(compression: Compression) -> &'static [u8]
+    ensures { result.now ≡ unpack_words compression }
+{
+    match compression {
+        Compression::Gzip => b"zcat ",
+        Compression::Bzip2 => b"bzcat ",
+        Compression::Xz => b"xzcat ",
+        Compression::Zstd => b"zstdcat ",
+        Compression::Zip => b"unzip -p ",
+    }
+}
+
+/// Writes how the text of a compressed file is read.
+fn put_compressed<W: Sink>(
+    sink: &mut W,
+    compression: Compression,
+    path: &str,
+) -> Result<(), DeviceFault>
+    ensures ok { OnOk result
+        (Appends (W.contents sink.old) (W.contents sink.new) (compressed_words compression path.now)) }
+    ensures failed { OnErr result (W.has_failed sink.new ≡ true) }
+    ensures held { W.holds sink.new ≡ W.holds sink.old }
+{
+    send(sink, b": the text is compressed: read it as <(")?;
+    send(sink, unpack_words(compression))?;
+    put_shown(sink, path.as_bytes())?;
+    send(sink, b")")
+}
+
+/// Writes what a refused text may be instead, and the line for which it is refused.
+fn put_hinted_line<W: Sink>(
+    sink: &mut W,
+    kind: TextKind,
+    refusal: &TextRefusal,
+) -> Result<(), DeviceFault>
+    ensures ok { OnOk result (Appends (W.contents sink.old) (W.contents sink.new)
+        (hint_words kind refusal.now.hint ++ shown_line refusal.now)) }
+    ensures failed { OnErr result (W.has_failed sink.new ≡ true) }
+    ensures held { W.holds sink.new ≡ W.holds sink.old }
+{
+    send(sink, hint_words(kind, refusal.hint))?;
+    put_shown_line(sink, refusal)
+}
+
+/// Writes what is said of a refused text after its path.
+fn put_refused_words<W: Sink>(
+    sink: &mut W,
+    file: &TextFile<'_>,
+    refusal: &TextRefusal,
+) -> Result<(), DeviceFault>
+    ensures ok { OnOk result (Appends (W.contents sink.old) (W.contents sink.new)
+        (refused_words file.now refusal.now refusal.now.hint)) }
+    ensures failed { OnErr result (W.has_failed sink.new ≡ true) }
+    ensures held { W.holds sink.new ≡ W.holds sink.old }
+{
+    match refusal.hint {
+        Some(Hint::Compressed(compression)) => put_compressed(sink, compression, file.path),
+        Some(Hint::OtherKind) => put_hinted_line(sink, file.kind, refusal),
+        None => put_hinted_line(sink, file.kind, refusal),
+    }
 }
 
 /// Writes where a text is refused. Writes nothing if the refusal is a failed allocation.
@@ -238,8 +327,7 @@ fn put_refused<W: Sink>(
     }
     send(sink, b"lefence: ")?;
     put_text_file(sink, file)?;
-    send(sink, hint_words(file.kind, refusal.hint))?;
-    put_shown_line(sink, refusal)?;
+    put_refused_words(sink, file, refusal)?;
     send(sink, b"\n")
 }
 
@@ -251,6 +339,7 @@ fn output_kind_words(kind: OutputKind) -> &'static [u8]
         OutputKind::Export => b"export file ",
         OutputKind::Save => b"state file ",
         OutputKind::Lines => b"lines file ",
+        OutputKind::Working => b"working export file ",
     }
 }
 

@@ -44,6 +44,8 @@ pub enum OutputKind {
     Save,
     /// The commands of a repair.
     Lines,
+    /// The text with the working places.
+    Working,
 }
 
 /// Why the program cannot listen on a port, if the system reports it.

@@ -2,18 +2,43 @@
 
 ghost use Rattle.std.specs.Prelude.{◌≡◌};
 ghost use Rattle.lf_lex.specs.Tokens.{tokens_of};
-ghost use Rattle.lf_task_faults.specs.Hints.{earlier_line, has_word, hint_of, is_compressed, is_of_other_kind, is_second, name_line, nth_line, fault_line_number};
+ghost use Rattle.lf_task_faults.specs.Hints.{compression_of, earlier_line, has_word, hint_of, is_of_other_kind, is_second, name_line, nth_line, fault_line_number, remark_of};
 
 use crate::faults::TextKind;
 use lf_lex::{FaultNumber, Lexer, LoadFault};
+
+/// The program that compressed a file.
+#[derive(Clone, Copy, Debug, PartialEq, Eq)]
+pub enum Compression {
+    Gzip,
+    Bzip2,
+    Xz,
+    Zstd,
+    Zip,
+}
 
 /// What a refused text may be instead.
 #[derive(Clone, Copy, Debug, PartialEq, Eq)]
 pub enum Hint {
     /// A compressed file.
-    Compressed,
+    Compressed(Compression),
     /// A text of the other kind: DEF for LEF, or LEF for DEF.
     OtherKind,
+}
+
+/// What a refused design lacks, if its number alone does not say it.
+#[derive(Clone, Copy, Debug, PartialEq, Eq)]
+pub enum Remark {
+    /// The DEF text has no ROW.
+    NoRow,
+    /// No ROW has a site of CLASS CORE with a SIZE.
+    NoCoreRow,
+    /// The STEP of the row is not the width of the core site.
+    Step,
+    /// No LEF text has the MACRO.
+    NoMacro,
+    /// A length is not whole in database units.
+    Size,
 }
 
 /// Returns the line of the word in the text, after `passed` earlier occurrences. `None` if it does
@@ -41,15 +66,44 @@ fn has_word(text: &[u8], word: &[u8]) -> bool
     nth_line(text, word, 0).is_some()
 }
 
-/// Returns whether the text begins as a file of gzip, bzip2, xz, zstd or zip.
-fn is_compressed(text: &[u8]) -> bool
-    ensures { result ≡ is_compressed text.now }
+/// Returns the compression of a text that begins as a file of gzip, bzip2, xz, zstd or zip.
+fn compression_of(text: &[u8]) -> Option<Compression>
+    ensures { result ≡ compression_of text.now }
 {
-    text.starts_with(b"\x1f\x8b")
-        || text.starts_with(b"BZh")
-        || text.starts_with(b"\xfd7zXZ")
-        || text.starts_with(b"\x28\xb5\x2f\xfd")
-        || text.starts_with(b"PK\x03\x04")
+    if text.starts_with(b"\x1f\x8b") {
+        return Some(Compression::Gzip);
+    }
+    if text.starts_with(b"BZh") {
+        return Some(Compression::Bzip2);
+    }
+    if text.starts_with(b"\xfd7zXZ") {
+        return Some(Compression::Xz);
+    }
+    if text.starts_with(b"\x28\xb5\x2f\xfd") {
+        return Some(Compression::Zstd);
+    }
+    if text.starts_with(b"PK\x03\x04") {
+        return Some(Compression::Zip);
+    }
+    None
+}
+
+/// Returns what a refused design with this DEF text lacks, by the number of its refusal.
+pub(crate) fn remark_of(text: &[u8], number: FaultNumber) -> Option<Remark>
+    ensures { result ≡ remark_of text.now number }
+{
+    match number {
+        FaultNumber::NoRows => {
+            if has_word(text, b"ROW") {
+                return Some(Remark::NoCoreRow);
+            }
+            Some(Remark::NoRow)
+        }
+        FaultNumber::BadStep => Some(Remark::Step),
+        FaultNumber::NoMacro => Some(Remark::NoMacro),
+        FaultNumber::NotWhole => Some(Remark::Size),
+        _ => None,
+    }
 }
 
 /// Returns whether the text has a word that only the other kind of text has.
@@ -67,8 +121,8 @@ fn is_of_other_kind(kind: TextKind, text: &[u8]) -> bool
 pub(crate) fn hint_of(kind: TextKind, text: &[u8]) -> Option<Hint>
     ensures { result ≡ hint_of kind text.now }
 {
-    if is_compressed(text) {
-        return Some(Hint::Compressed);
+    if let Some(compression) = compression_of(text) {
+        return Some(Hint::Compressed(compression));
     }
     if is_of_other_kind(kind, text) {
         return Some(Hint::OtherKind);

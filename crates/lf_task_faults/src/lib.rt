@@ -36,6 +36,6 @@ pub use faults::{
     BindFailure, Fault, OutputKind, TaskExit, TextFile, TextKind, exit_with, report_fault,
     status_of, unread_fault, write_fault,
 };
-pub use hints::Hint;
+pub use hints::{Compression, Hint, Remark};
 pub use read_failure::{ReadFailure, ReadFailureKind};
 pub use text_refusal::{FenceLine, StateRefusal, TextRefusal};

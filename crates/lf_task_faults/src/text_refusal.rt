@@ -11,7 +11,7 @@ ghost use Rattle.lf_state_text.specs.Refused.{HasEnd};
 ghost use Rattle.lf_task_faults.specs.Refusals.{IsReportedConflict, ReportsFault, ReportsStateFault, after_line, after_lines, first_line, text_line, line_front, fence_line_in, fence_line_of};
 
 use crate::faults::TextKind;
-use crate::hints::{Hint, earlier_line, fault_line, hint_of, nth_line};
+use crate::hints::{Hint, Remark, earlier_line, fault_line, hint_of, nth_line, remark_of};
 use lf_frame_checks::FenceConflict;
 use lf_lex::{FaultNumber, LoadFault};
 use lf_state_text::{StateFaultNumber, StateRefused};
@@ -48,6 +48,8 @@ pub struct TextRefusal {
     pub second_overlapped: Option<FenceLine>,
     /// What the text may be instead.
     pub hint: Option<Hint>,
+    /// What the design lacks.
+    pub remark: Option<Remark>,
 }
 
 /// Returns the position of the first line feed.
@@ -171,6 +173,7 @@ fn refusal_of(
         first_overlapped,
         second_overlapped,
         hint: hint_of(kind, text),
+        remark: remark_of(text, fault.number),
     })
 }
 
@@ -188,6 +191,7 @@ fn refusal_of_memory(alloc: Global, kind: TextKind, text: &[u8]) -> TextRefusal
         first_overlapped: None,
         second_overlapped: None,
         hint: hint_of(kind, text),
+        remark: None,
     }
 }
 

@@ -4,3 +4,4 @@ pub mod DesignSteps
 mod CommittedVerdicts
 mod Looking
 pub mod WorkSteps
+pub mod Measuring

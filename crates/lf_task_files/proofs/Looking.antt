@@ -1,6 +1,6 @@
 -- A saved state of a copy of a design is a saved state of the design, and gives the cells the same
 -- places.
-use Rattle.std.proofs.Common.{◌≡◌, ◌⊎◌, ◌∙◌, inl, inr, ℕ, zero, suc, ◌+◌, ◌<◌, List, [], ◌∷◌, ◌++◌, length, map, Option, None, Some, refl, ap, ap₂, sym, arith}
+use Rattle.std.proofs.Common.{◌≡◌, ◌⊎◌, ◌∙◌, inl, inr, Bool, ℕ, zero, suc, ◌+◌, ◌<◌, List, [], ◌∷◌, ◌++◌, length, map, Option, None, Some, refl, ap, ap₂, sym, arith}
 use Rattle.std.specs.Prelude.{All, replicate, slice_get}
 use Rattle.std.specs.Option.{option_and_then}
 use Rattle.std.specs.Borrow.{Bor}
@@ -88,7 +88,7 @@ teams_many design floor same =
     sym (length-map floor.teams fixed_cells) ∙ ap (λ (cells : List (List (List ℕ × ℕ))). length cells) same.cells
     ∙ length-map (initial_floor design).teams fixed_cells ∙ (opening_whole design).0
 
--- ---- cells at their working places
+-- ---- cells at their places on a floor
 
 some_at : {X : Type 0} (xs : List X) (k : ℕ) → k < length xs → (x : X) × (slice_get xs k ≡ Some x)
 some_at [] k within = absurd (omega (arith, within))
@@ -99,26 +99,26 @@ some_at (x ∷ xs) (suc k) within = some_at xs k (omega (arith, within))
 abbrev pub AreTabled : Cells → FloorState → Type 0
 AreTabled table floor = (number : ℕ) (s : TeamState) → slice_get floor.teams number ≡ Some s → cells_of table number ≡ s.cells
 
-place_alike : (f : Frame) (table : Cells) (floor other : FloorState) (c : LoadedCell) → AreTabled table floor → length floor.teams ≡ length f.teams + 1
-    → other.teams ≡ floor.teams → IsCell f c → place_named c.name (cells_of table c.team) ≡ place_on_floor other c
-place_alike f table floor other c tabled many same is =
+place_alike : (committed : Bool) (f : Frame) (table : Cells) (floor other : FloorState) (c : LoadedCell) → AreTabled table floor → length floor.teams ≡ length f.teams + 1
+    → other.teams ≡ floor.teams → IsCell f c → place_named committed c.name (cells_of table c.team) ≡ place_on_floor committed other c
+place_alike committed f table floor other c tabled many same is =
     let team = some_at floor.teams c.team (omega (arith, many, is.team_known)) in
-    let found = λ (s : TeamState). place_named c.name s.cells in
-    ap (λ (cs : List Cell). place_named c.name cs) (tabled c.team team.0 team.1)
+    let found = λ (s : TeamState). place_named committed c.name s.cells in
+    ap (λ (cs : List Cell). place_named committed c.name cs) (tabled c.team team.0 team.1)
     ∙ sym (ap (λ (ts : List TeamState). option_and_then found (slice_get ts c.team)) same ∙ ap (λ (o : Option TeamState). option_and_then found o) team.1)
 
--- Cells with their places in a table of the floor have their working places on the floor.
-pub places_alike : (f : Frame) (table : Bor Cells) (floor other : FloorState) (cells : List LoadedCell) → AreTabled table.now floor
-    → length floor.teams ≡ length f.teams + 1 → other.teams ≡ floor.teams → All (IsCell f) cells → map (placed_by_table (Some table)) cells ≡ map (placed_on_floor other) cells
-places_alike f table floor other [] tabled many same known = refl
-places_alike f table floor other (c ∷ cells) tabled many same known =
+-- Cells with their places in a table of the floor have their places on the floor.
+pub places_alike : (committed : Bool) (f : Frame) (table : Bor Cells) (floor other : FloorState) (cells : List LoadedCell) → AreTabled table.now floor
+    → length floor.teams ≡ length f.teams + 1 → other.teams ≡ floor.teams → All (IsCell f) cells → map (placed_by_table committed (Some table)) cells ≡ map (placed_on_floor committed other) cells
+places_alike committed f table floor other [] tabled many same known = refl
+places_alike committed f table floor other (c ∷ cells) tabled many same known =
     ap₂ (λ (p : Option Place) (cs : List LoadedCell). record c { place = p } ∷ cs)
-    (place_alike f table.now floor other c tabled many same (All-head (IsCell f) c cells known))
-    (places_alike f table floor other cells tabled many same (All-tail (IsCell f) c cells known))
+    (place_alike committed f table.now floor other c tabled many same (All-head (IsCell f) c cells known))
+    (places_alike committed f table floor other cells tabled many same (All-tail (IsCell f) c cells known))
 
-original_one : (floor : FloorState) (c : LoadedCell) → AreOneCell c (placed_on_floor floor c)
-original_one floor c = record { name = refl; team = refl; mac = refl; component = refl }
+original_one : (committed : Bool) (floor : FloorState) (c : LoadedCell) → AreOneCell c (placed_on_floor committed floor c)
+original_one committed floor c = record { name = refl; team = refl; mac = refl; component = refl }
 
--- Cells that make a design also make one at their working places.
-pub design_placed : (f : Frame) (floor : FloorState) (cells : List LoadedCell) → MakeDesign f cells → MakeDesign f (map (placed_on_floor floor) cells)
-design_placed f floor cells is = design_moved f (placed_on_floor floor) (original_one floor) cells is
+-- Cells that make a design also make one at these places.
+pub design_placed : (committed : Bool) (f : Frame) (floor : FloorState) (cells : List LoadedCell) → MakeDesign f cells → MakeDesign f (map (placed_on_floor committed floor) cells)
+design_placed committed f floor cells is = design_moved f (placed_on_floor committed floor) (original_one committed floor) cells is

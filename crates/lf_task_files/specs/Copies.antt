@@ -1,5 +1,5 @@
 -- Copies of designs and of their cells; no public clause cites it.
-use Rattle.std.specs.Prelude.{◌≡◌, List, Option, Some, None}
+use Rattle.std.specs.Prelude.{◌≡◌, Bool, List, Option, Some, None}
 use Rattle.std.specs.Borrow.{Bor}
 use Rattle.lf_floorplan.specs.declared.cells.CellParts.{CellParts}
 use Rattle.lf_floorplan.specs.declared.frame.Frame.{Frame}
@@ -19,7 +19,9 @@ pub record IsCopyWithCells (f : Frame) (all : List LoadedCell) (twin : Loaded) :
   pub frame : AreCopies f twin.frame
   pub cells : twin.cells ≡ all
 
--- The cell with its place in the table, if there is a table.
-abbrev pub placed_by_table : Option (Bor Cells) → LoadedCell → LoadedCell
-placed_by_table None c = c
-placed_by_table (Some table) c = record c { place = place_named c.name (cells_of table.now c.team) }
+-- The cell with its place in the table, if there is a table: the committed one if `committed`, else
+-- the working one.
+abbrev pub placed_by_table : Bool → Option (Bor Cells) → LoadedCell → LoadedCell
+placed_by_table committed None c = c
+placed_by_table committed (Some table) c =
+    record c { place = place_named committed c.name (cells_of table.now c.team) }

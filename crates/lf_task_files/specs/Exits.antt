@@ -1,5 +1,5 @@
 -- What is written of a design, or why it is not written.
-use Rattle.std.specs.Prelude.{◌≡◌, ◌⊎◌, ℕ, List, Option, Some, None, IfSome, map, take}
+use Rattle.std.specs.Prelude.{◌≡◌, ◌⊎◌, ℕ, false, List, Option, Some, None, IfSome, map, take}
 use Rattle.std.specs.Io.KnownBytes.{Appends}
 use Rattle.lf_floorplan.specs.declared.limits.Limits.{Limits}
 use Rattle.lf_floorplan.specs.declared.loaded.Loaded.{Loaded}
@@ -57,7 +57,7 @@ pub record IsDescribed (document : Document) (loaded : Loaded) (old new : Option
 abbrev pub IsViewDescribed : ReadsFile → Option (List ℕ) → Document → Loaded → Option (List ℕ)
     → Option (List ℕ) → ℕ → Type 0
 IsViewDescribed gives state document loaded before after status =
-    (seen : Loaded) × IsViewedDesign gives state loaded seen × IsDescribed document seen before after status
+    (seen : Loaded) × IsViewedDesign false gives state loaded seen × IsDescribed document seen before after status
 
 -- The design was opened and its description written, at the places of its DEF text or of the given
 -- state.
@@ -84,7 +84,7 @@ abbrev pub IsViewNotDescribed : ReadsFile → Option (List ℕ) → Document →
     → Option (List ℕ) → Fault → Type 0
 IsViewNotDescribed gives state document loaded before after fault =
     IsNotOpened gives state loaded fault
-    ⊎ ((seen : Loaded) × IsViewedDesign gives state loaded seen × IsUndescribed document seen before after fault)
+    ⊎ ((seen : Loaded) × IsViewedDesign false gives state loaded seen × IsUndescribed document seen before after fault)
 
 -- The design was opened, and is not described for this reason.
 pub record IsOpenUndescribed (limits : Limits) (gives : ReadsFile) (def : List ℕ) (lefs : List (List ℕ))

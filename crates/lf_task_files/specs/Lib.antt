@@ -5,3 +5,5 @@ pub mod CommittedLegality
 pub mod PlacedDesigns
 pub mod States
 pub mod Copies
+pub mod Measured
+pub mod HeldTexts

@@ -1,5 +1,5 @@
 -- The state of a floor that is read from a file before work begins, and written to one at the end.
-use Rattle.std.specs.Prelude.{◌≡◌, ◌⊎◌, ℕ, List, Option, Some, None, Ok, Err}
+use Rattle.std.specs.Prelude.{◌≡◌, ◌⊎◌, ℕ, Bool, List, Option, Some, None, Ok, Err}
 use Rattle.lf_io_files.specs.Shelf.{Put, PutsFile}
 use Rattle.lf_state_text.specs.declared.fault.StateFault.{StateFault}
 use Rattle.lf_state_text.specs.Reading.{saved_state_of}
@@ -76,20 +76,22 @@ IsFloorOf limits gives def lefs state begin = (loaded : Loaded) × IsDesignOf li
 
 -- ---- the design to show
 
--- The design with the working places of the floor in the state of the file of this path.
-abbrev pub IsDesignInState : ReadsFile → List ℕ → Loaded → Loaded → Type 0
-IsDesignInState gives path design seen = (floor : FloorState) × IsFileState gives path (initial_floor design) floor
-    × IsPlacedOnFloor floor design seen
+-- The design with the places of the floor in the state of the file of this path: the committed ones
+-- if `committed`, else the working ones.
+abbrev pub IsDesignInState : Bool → ReadsFile → List ℕ → Loaded → Loaded → Type 0
+IsDesignInState committed gives path design seen =
+    (floor : FloorState) × IsFileState gives path (initial_floor design) floor
+    × IsPlacedOnFloor committed floor design seen
 
--- The design to show: with the places of the state of the file, or without a path as loaded.
-abbrev pub IsViewedDesign : ReadsFile → Option (List ℕ) → Loaded → Loaded → Type 0
-IsViewedDesign gives None design seen = seen ≡ design
-IsViewedDesign gives (Some path) design seen = IsDesignInState gives path design seen
+-- The design to show: with these places of the state of the file, or without a path as loaded.
+abbrev pub IsViewedDesign : Bool → ReadsFile → Option (List ℕ) → Loaded → Loaded → Type 0
+IsViewedDesign committed gives None design seen = seen ≡ design
+IsViewedDesign committed gives (Some path) design seen = IsDesignInState committed gives path design seen
 
 -- The design of a DEF file over LEF files, with the places to show.
-abbrev pub IsViewedDesignOf : Limits → ReadsFile → List ℕ → List (List ℕ) → Option (List ℕ) → Loaded → Type 0
-IsViewedDesignOf limits gives def lefs state seen = (design : Loaded) × IsDesignOf limits gives def lefs design
-    × IsViewedDesign gives state design seen
+abbrev pub IsViewedDesignOf : Bool → Limits → ReadsFile → List ℕ → List (List ℕ) → Option (List ℕ) → Loaded → Type 0
+IsViewedDesignOf committed limits gives def lefs state seen =
+    (design : Loaded) × IsDesignOf limits gives def lefs design × IsViewedDesign committed gives state design seen
 
 -- ---- the state at the end
 

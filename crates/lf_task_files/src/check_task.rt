@@ -40,8 +40,9 @@ fn viewed_files<'a, T: InputFiles>(
     alloc: Global,
     texts: &T,
     inputs: DesignInput<'a>,
+    committed: bool,
 ) -> Result<Loaded, Fault<'a>>
-    ensures ok { IfOk result (IsViewedDesignOf inputs.entry.limits (T.gives texts.now) inputs.entry.def.now
+    ensures ok { IfOk result (IsViewedDesignOf committed inputs.entry.limits (T.gives texts.now) inputs.entry.def.now
         (map (λ lef. lef.now) inputs.entry.lefs.now)
         (path_of inputs.entry.state)) }
     ensures err { IfErr result (IsFloorFault inputs.entry.limits (T.gives texts.now) inputs.entry.def.now
@@ -49,12 +50,12 @@ fn viewed_files<'a, T: InputFiles>(
         (path_of inputs.entry.state)) }
 {
     let loaded = load_files(alloc, inputs.limits, texts, inputs.def, inputs.lefs)?;
-    viewed_design(alloc, texts, loaded, inputs.state)
+    viewed_design(alloc, texts, loaded, committed, inputs.state)
 }
 
-/// Writes the report of the design of these files. The cells are at the places of the DEF text, or
-/// at the working places of the state if one is given. Returns the exit status: 0, or 4 if the
-/// design is not fully legal.
+/// Writes the report of the design of these files. The cells are at the places of the DEF text. If
+/// a state is given, they are at its committed places if `committed`, else at its working places.
+/// Returns the exit status: 0, or 4 if the design is not fully legal.
 ///
 /// `Err` is the first fault, in this order: the LEF files, the DEF file, the design, the state,
 /// memory for the report, the writer. At most a front of the report is then written.
@@ -62,23 +63,24 @@ pub fn check<'a, T: InputFiles, W: Sink>(
     alloc: Global,
     texts: &T,
     inputs: DesignInput<'a>,
+    committed: bool,
     writer: &mut W,
 ) -> Result<u8, Fault<'a>>
     ensures ok { IfOk result (λ status. (seen : Loaded)
-        × IsViewedDesignOf inputs.entry.limits (T.gives texts.now) inputs.entry.def.now
+        × IsViewedDesignOf committed inputs.entry.limits (T.gives texts.now) inputs.entry.def.now
         (map (λ lef. lef.now) inputs.entry.lefs.now) (path_of inputs.entry.state) seen
         × IsReported seen (W.contents writer.old) (W.contents writer.new) status) }
     ensures err { IfErr result (λ fault.
-        (IsFloorFault inputs.entry.limits (T.gives texts.now) inputs.entry.def.now
+        ((IsFloorFault inputs.entry.limits (T.gives texts.now) inputs.entry.def.now
         (map (λ lef. lef.now) inputs.entry.lefs.now)
-        (path_of inputs.entry.state) fault
+        (path_of inputs.entry.state) fault × (W.contents writer.new ≡ W.contents writer.old))
         ⊎ ((seen : Loaded)
-        × IsViewedDesignOf inputs.entry.limits (T.gives texts.now) inputs.entry.def.now
+        × IsViewedDesignOf committed inputs.entry.limits (T.gives texts.now) inputs.entry.def.now
         (map (λ lef. lef.now) inputs.entry.lefs.now) (path_of inputs.entry.state) seen
         × IsNotReported seen (W.contents writer.old) (W.contents writer.new) fault))
         × BlamesWriter fault (writer.new ≡ writer.old) (W.has_failed writer.old) (W.has_failed writer.new)) }
     ensures held { W.holds writer.new ≡ W.holds writer.old }
 {
-    let seen = viewed_files(alloc, texts, inputs)?;
+    let seen = viewed_files(alloc, texts, inputs, committed)?;
     check_design(alloc, &seen, writer)
 }

@@ -13,24 +13,33 @@ use lf_floorplan::{CellParts, Frame, Loaded, LoadedCells, PackedPlace, Place, Un
 use lf_repair_bounds::clone_frame;
 use std::alloc::{AllocError, Global};
 
-/// Returns the working place of the team's cell of this name. `None` if it is unplaced, or there is
-/// no such cell.
-fn place_named(table: &CellTable, team: usize, name: &[u8]) -> Option<Place>
-    ensures { result ≡ place_named name.now (cells_of table.now team) }
+/// Returns the place of the team's cell of this name: the committed one if `committed`, else the
+/// working one. `None` if it is unplaced, or there is no such cell.
+fn place_named(committed: bool, table: &CellTable, team: usize, name: &[u8]) -> Option<Place>
+    ensures { result ≡ place_named committed name.now (cells_of table.now team) }
 {
     let id = table.find_own(team, name)?;
-    table.working(id)
+    if committed {
+        table.committed(id)
+    } else {
+        table.working(id)
+    }
 }
 
 /// Returns the cell of this name with its place in the table. If there is no table, returns the
 /// cell unchanged.
-fn moved_by(table: Option<&CellTable>, name: &[u8], cell: UnnamedCell) -> UnnamedCell
-    ensures { with_name name.now result ≡ placed_by_table table.entry (with_name name.now cell) }
+fn moved_by(
+    committed: bool,
+    table: Option<&CellTable>,
+    name: &[u8],
+    cell: UnnamedCell,
+) -> UnnamedCell
+    ensures { with_name name.now result ≡ placed_by_table committed table.entry (with_name name.now cell) }
 {
     match table {
         None => cell,
         Some(table) => UnnamedCell {
-            place: PackedPlace::of(place_named(table, cell.team as usize, name)),
+            place: PackedPlace::of(place_named(committed, table, cell.team as usize, name)),
             ..cell
         },
     }
@@ -46,21 +55,24 @@ fn plain_at(parts: &CellParts, at: usize) -> Option<UnnamedCell>
     }
 }
 
-/// Copies the cells, each with its place in the table if there is a table.
+/// Copies the cells, each with its place in the table if there is a table: the committed one if
+/// `committed`, else the working one.
 pub(crate) fn copy_cells(
     alloc: Global,
     parts: &CellParts,
+    committed: bool,
     table: Option<&CellTable>,
 ) -> Result<LoadedCells, AllocError>
     requires whole { length parts.now.names ≡ length parts.now.cells.items }
     requires named { CellsNamed (cells_of_parts parts.now) }
-    ensures { IfOk result (λ copies. copies ≡ map (placed_by_table table.entry) (cells_of_parts parts.now)) }
+    ensures { IfOk result
+        (λ copies. copies ≡ map (placed_by_table committed table.entry) (cells_of_parts parts.now)) }
 {
     let mut copies = LoadedCells::new(alloc);
     for at in 0..parts.cells.len() {
         let name = parts.names.name_at(at).unwrap();
         let cell = plain_at(parts, at).unwrap();
-        copies.push(name, moved_by(table, name, cell))?;
+        copies.push(name, moved_by(committed, table, name, cell))?;
     }
     Ok(copies)
 }
@@ -85,6 +97,6 @@ pub(crate) fn copy_of_design(
     ensures { IfOk result (IsCopyWithCells frame.now (cells_of_parts parts.now)) }
 {
     let copy = clone_frame(alloc, frame)?;
-    let cells = copy_cells(alloc, parts, None)?;
+    let cells = copy_cells(alloc, parts, false, None)?;
     Ok(design_of(copy, cells))
 }

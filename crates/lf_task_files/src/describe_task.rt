@@ -1,6 +1,6 @@
 //! The description of a design of files.
 
-ghost use Rattle.std.specs.Prelude.{◌≡◌, ◌⊎◌, List, ℕ, Ok, Some, IfErr, IfOk, map};
+ghost use Rattle.std.specs.Prelude.{◌≡◌, ◌⊎◌, false, List, ℕ, Ok, Some, IfErr, IfOk, map};
 ghost use Rattle.lf_def.specs.Contents.{contents};
 ghost use Rattle.lf_def.specs.Document.{Document, document_of};
 ghost use Rattle.lf_floorplan.specs.declared.loaded.Loaded.{Loaded};
@@ -57,7 +57,7 @@ fn seen_of_document<'a, T: InputFiles>(
 ) -> Result<Loaded, Fault<'a>>
     ensures ok { IfOk result
         (λ seen. (loaded : Loaded) × IsLoadedIn inputs.entry.limits library.now (contents document.now) loaded
-        × IsViewedDesign (T.gives texts.now) (path_of inputs.entry.state) loaded seen) }
+        × IsViewedDesign false (T.gives texts.now) (path_of inputs.entry.state) loaded seen) }
     ensures err { IfErr result (λ fault.
         IsRefusedText Def inputs.entry.def.now text.now
         (IsLoadRefusal inputs.entry.limits library.now (contents document.now)) fault
@@ -65,7 +65,7 @@ fn seen_of_document<'a, T: InputFiles>(
         × IsNotOpened (T.gives texts.now) (path_of inputs.entry.state) loaded fault)) }
 {
     let loaded = load_document(alloc, inputs.limits, library, inputs.def, text, document)?;
-    viewed_design(alloc, texts, loaded, inputs.state)
+    viewed_design(alloc, texts, loaded, false, inputs.state)
 }
 
 /// Describes the design of the DEF text over the library.

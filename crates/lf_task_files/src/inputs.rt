@@ -1,6 +1,6 @@
 //! The files that a task reads, and the floor with which its work begins.
 
-ghost use Rattle.std.specs.Prelude.{◌≡◌, IfErr, IfOk};
+ghost use Rattle.std.specs.Prelude.{◌≡◌, ◌+◌, IfErr, IfOk, length};
 ghost use Rattle.lf_floor_model.specs.Designs.{initial_floor};
 ghost use Rattle.lf_task_files.specs.Inputs.{path_of};
 ghost use Rattle.lf_task_files.specs.States.{IsOpenedFloor, IsNotOpened};
@@ -47,6 +47,7 @@ pub fn open_floor<'a, T: InputFiles>(
     state: Option<&'a str>,
 ) -> Result<Floor<IndexSeeker>, Fault<'a>>
     ensures ok { IfOk result (IsOpenedFloor (T.gives texts.now) (path_of state.entry) (initial_floor loaded)) }
+    ensures many { IfOk result (λ floor. length floor.teams ≡ length loaded.frame.teams + 1) }
     ensures err { IfErr result (IsNotOpened (T.gives texts.now) (path_of state.entry) loaded) }
 {
     match state {

@@ -19,11 +19,13 @@
 //! - `restore`: a floor in the state of a file
 //! - `copies`: copies of designs and of their cells
 //! - `viewed`: the design with the places to show, of the DEF text or of a state
+//! - `measured`: the floor with which a repair begins
 //! - `check_task`: the check of a design
 //! - `describe_task`: the description of a design
 //! - `committed_legality`: whether the committed design of a floor is fully legal
 //! - `output_file`: a file that a task writes
 //! - `export`: the exported text
+//! - `working_export`: the text with the working places
 //! - `save`: the saved state
 //! - `outputs`: the exported text and the state, written after the work
 //!
@@ -44,11 +46,13 @@ mod describe_task;
 mod exit_status;
 mod export;
 mod inputs;
+mod measured;
 mod output_file;
 mod outputs;
 mod restore;
 mod save;
 mod viewed;
+mod working_export;
 
 pub use check_task::check;
 pub use committed_legality::is_committed_legal;
@@ -56,5 +60,8 @@ pub use describe_task::describe_files;
 pub use exit_status::{ILLEGAL_STATUS, LEGAL_STATUS};
 pub use export::save_export;
 pub use inputs::{DesignInput, open_floor, start_floor};
+pub use measured::{MeasuredFloor, open_measured};
 pub use output_file::{check_output_path, put_file};
 pub use outputs::{OutputPaths, check_outputs, write_outputs};
+pub use save::save_to;
+pub use working_export::save_working;

@@ -14,14 +14,14 @@ ghost use Rattle.lf_task_files.specs.States.{FileHasState, IsFileState, IsStateF
 use lf_floor::Floor;
 use lf_floorplan::Loaded;
 use lf_legalize::IndexSeeker;
-use lf_state_text::{ChunkError, StateRefused, TeamRow};
+use lf_state_text::{ChunkError, SavedTeamRow, StateRefused};
 use lf_task_designs::{InputFiles, read_file_chunks};
 use lf_task_faults::{Fault, StateRefusal, TextFile, TextKind};
 use std::alloc::{AllocError, Global};
 use std::collections::VecDeque;
 
 /// Makes the description of a state file.
-fn state_file(path: &str) -> TextFile<'_>
+pub(crate) fn state_file(path: &str) -> TextFile<'_>
     ensures kind { result.kind ≡ State }
     ensures path { result.path.now ≡ path.now }
 {
@@ -48,7 +48,7 @@ fn read_rows<'a>(
     floor: &Floor<IndexSeeker>,
     path: &'a str,
     pieces: VecDeque<Vec<u8>>,
-) -> Result<Vec<TeamRow>, Fault<'a>>
+) -> Result<Vec<SavedTeamRow>, Fault<'a>>
     ensures ok { IfOk result
         (λ rows. saved_state_of (design_names floor.now) (text_of_chunks pieces.items) ≡ Ok (team_views rows.items)) }
     ensures due { IfOk result (λ rows. MatchDesign floor.now.frame.limits floor.now.teams (team_views rows.items)) }
@@ -68,7 +68,7 @@ fn rows_of_file<'a, T: InputFiles>(
     texts: &T,
     floor: &Floor<IndexSeeker>,
     path: &'a str,
-) -> Result<Vec<TeamRow>, Fault<'a>>
+) -> Result<Vec<SavedTeamRow>, Fault<'a>>
     ensures ok { IfOk result (λ rows. FileHasState (T.gives texts.now) path.now floor.now (team_views rows.items)) }
     ensures due { IfOk result (λ rows. MatchDesign floor.now.frame.limits floor.now.teams (team_views rows.items)) }
     ensures err { IfErr result (IsStateFileFault (T.gives texts.now) path.now floor.now) }

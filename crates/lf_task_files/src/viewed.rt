@@ -1,4 +1,4 @@
-//! The design that `check` and `describe` show: as loaded, or with the working places of a saved
+//! The design with the places to show: as loaded, or with the working or committed places of a saved
 //! state.
 //!
 //! A floor takes ownership of its design, so it is made from a copy. The places are then found by
@@ -22,13 +22,14 @@ use lf_task_designs::InputFiles;
 use lf_task_faults::Fault;
 use std::alloc::Global;
 
-/// Returns the cells of a design of this frame, with their working places in the state of the file
-/// of this path.
+/// Returns the cells of a design of this frame, with their places in the state of the file of this
+/// path: the committed ones if `committed`, else the working ones.
 fn cells_in_state<'a, T: InputFiles>(
     alloc: Global,
     texts: &T,
     frame: &Frame,
     parts: &CellParts,
+    committed: bool,
     path: &'a str,
 ) -> Result<LoadedCells, Fault<'a>>
     requires whole { length parts.now.names ≡ length parts.now.cells.items }
@@ -36,47 +37,50 @@ fn cells_in_state<'a, T: InputFiles>(
     ensures ok { (design : Loaded) → design.frame ≡ frame.now → design.cells ≡ cells_of_parts parts.now
         → IfOk result (λ cells. (floor : FloorState)
         × IsFileState (T.gives texts.now) path.now (initial_floor design) floor
-        × (cells ≡ map (placed_on_floor floor) design.cells)) }
+        × (cells ≡ map (placed_on_floor committed floor) design.cells)) }
     ensures err { (design : Loaded) → design.frame ≡ frame.now → design.cells ≡ cells_of_parts parts.now
         → IfErr result (λ fault. (fault ≡ SetupOutOfMemory)
         ⊎ IsStateFileFault (T.gives texts.now) path.now (initial_floor design) fault) }
 {
     let twin = copy_of_design(alloc, frame, parts)?;
     let floor = floor_in_state(alloc, texts, twin, path)?;
-    let cells = copy_cells(alloc, parts, Some(floor.placement().cells()))?;
+    let cells = copy_cells(alloc, parts, committed, Some(floor.placement().cells()))?;
     Ok(cells)
 }
 
-/// Returns the design with the working places in the state of the file of this path.
+/// Returns the design with the places in the state of the file of this path: the committed ones if
+/// `committed`, else the working ones.
 fn design_in_state<'a, T: InputFiles>(
     alloc: Global,
     texts: &T,
     design: Loaded,
+    committed: bool,
     path: &'a str,
 ) -> Result<Loaded, Fault<'a>>
-    ensures ok { IfOk result (IsDesignInState (T.gives texts.now) path.now design) }
+    ensures ok { IfOk result (IsDesignInState committed (T.gives texts.now) path.now design) }
     ensures err { IfErr result (λ fault. (fault ≡ SetupOutOfMemory)
         ⊎ IsStateFileFault (T.gives texts.now) path.now (initial_floor design) fault) }
 {
     let Loaded { frame, cells } = design;
     let parts = cells.into_parts();
-    let original_place = cells_in_state(alloc, texts, &frame, &parts, path)?;
+    let original_place = cells_in_state(alloc, texts, &frame, &parts, committed, path)?;
     Ok(design_of(frame, original_place))
 }
 
-/// Returns the design to show: as loaded, or with the working places in the state of the file of
-/// this path, if one is given.
+/// Returns the design to show: as loaded, or with the places in the state of the file of this path,
+/// if one is given. They are the committed ones if `committed`, else the working ones.
 pub(crate) fn viewed_design<'a, T: InputFiles>(
     alloc: Global,
     texts: &T,
     design: Loaded,
+    committed: bool,
     state: Option<&'a str>,
 ) -> Result<Loaded, Fault<'a>>
-    ensures ok { IfOk result (IsViewedDesign (T.gives texts.now) (path_of state.entry) design) }
+    ensures ok { IfOk result (IsViewedDesign committed (T.gives texts.now) (path_of state.entry) design) }
     ensures err { IfErr result (IsNotOpened (T.gives texts.now) (path_of state.entry) design) }
 {
     match state {
         None => Ok(design),
-        Some(path) => design_in_state(alloc, texts, design, path),
+        Some(path) => design_in_state(alloc, texts, design, committed, path),
     }
 }

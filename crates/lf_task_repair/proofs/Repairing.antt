@@ -1,6 +1,6 @@
 -- Runs of repairs one after the other, and what they leave unchanged.
 use Rattle.std.proofs.Common.{◌≡◌, ◌≢◌, ◌⊎◌, inl, inr, ⊎_elim, ℕ, zero, suc, ◌+◌, ◌<◌, List, [], ◌∷◌, ◌++◌, length, get_or, Bool, true, false, map, Option, Some, None, cond, is_some, refl, ap, sym, ◌∙◌, subst, append-nil, arith}
-use Rattle.std.specs.Prelude.{◌≤◌, ◌==◌, ◌||◌, All, Err, IfErr, IfOk, MatchBool, Ok, OnOk, Result, bytes_eq, option_and_then, position, slice_get, slice_set}
+use Rattle.std.specs.Prelude.{◌≤◌, ◌==◌, ◌||◌, All, Err, IfErr, MatchBool, Ok, Result, bytes_eq, option_and_then, position, slice_get, slice_set}
 use Rattle.std.specs.Borrow.{Bor}
 use Rattle.std.specs.List.{position_from}
 use Rattle.std.specs.Io.KnownBytes.{Appends}
@@ -22,11 +22,12 @@ use Rattle.lf_proto.specs.declared.request.TeamCommand.{TeamCommand}
 use Rattle.lf_proto.specs.declared.reply.Reply.{Reply}
 use Rattle.lf_io.proofs.Known.{Appends-more, Appends-same}
 use Rattle.lf_floor_model.specs.States.{FloorState, TeamState}
-use Rattle.lf_floor_model.specs.Teams.{state_at, state_of, team_number}
+use Rattle.lf_floor_model.specs.Teams.{state_of, team_number}
 use Rattle.lf_floor_model.specs.Outcomes.{is_short}
-use Rattle.lf_floor_model.specs.Steps.{IsAnswerOf, IsTo, MayRunOutOfMemory, answer_at, answer_by, answer_of}
+use Rattle.lf_floor_model.specs.Steps.{IsAnswerOf, IsTo, MayRunOutOfMemory, answer_at, answer_of}
 use Rattle.lf_floor_model.specs.Runs.{Run}
 use Rattle.lf_floor_model.specs.VerbLaws.{is_ok}
+use Rattle.lf_floor_model.proofs.Forms.{state_at, answer_by}
 use Rattle.lf_repair_team.specs.TeamRepairs.{IsLegalIn, KeepsLegalPlaces, place_of_cell_in}
 use Rattle.lf_repair_team.specs.Runs.{IsWrittenRun, request_lines}
 use Rattle.lf_proto.specs.Printed.{request_line}
@@ -34,7 +35,7 @@ use Rattle.lf_floorplan.specs.declared.frame.Frame.{Frame}
 use Rattle.lf_task_faults.specs.declared.faults.Fault.{Fault}
 use Rattle.lf_task_faults.specs.declared.faults.Fault.TheVariants.{Refused, File, RefusedState, NoTeam, ReadFault, WriteFault, TooManyLines, OutOfMemory, Output, Bind, Accept, NotWritten, SetupOutOfMemory, OutputOutOfMemory}
 use Rattle.lf_task_faults.specs.Faults.{BlamesDevices, IsEarly, IsOfWriter}
-use Rattle.lf_task_faults.specs.declared.faults.OutputKind.TheVariants.{Lines}
+use Rattle.lf_task_faults.specs.declared.faults.OutputKind.{OutputKind}
 use Rattle.lf_task_files.specs.Faults.{IsOutputFault}
 use Rattle.lf_task_repair.specs.Repairs.{KeepsAllLegalPlaces, IsKeptRun, IsPlainIfNamed, IsUnknown, OnlySelectedChange, is_selected}
 
@@ -252,9 +253,9 @@ as_many l teams old new before after run only many =
 
 -- ---- what is written
 
--- if no lines are requested, their file cannot fail
-pub none_unlisted : (lines : Option (List ℕ)) (fault : Fault) → lines ≡ None → IsOutputFault Lines lines fault → ⊥
-none_unlisted lines fault none is = subst (λ (l : Option (List ℕ)). IsOutputFault Lines l fault) none is
+-- a file that is not requested cannot fail
+pub none_fails : (kind : OutputKind) (path : Option (List ℕ)) (fault : Fault) → path ≡ None → IsOutputFault kind path fault → ⊥
+none_fails kind path fault none is = subst (λ (p : Option (List ℕ)). IsOutputFault kind p fault) none is
 
 -- an unknown name is reported when nothing is written yet
 pub unknown_early : (f : Frame) (teams : List (List ℕ)) (fault : Fault) → IsUnknown f teams fault → IsEarly fault
@@ -288,11 +289,6 @@ output_blames kept reader writer export service sound fault is failed =
       serving = λ of. absurd of;
       sparing = λ of. absurd of;
     })
-
--- what holds for a value, and what holds if there is one, give what is to be shown of it
-pub ok_and : {A E : Type 0} (r : Result A E) (P R : A → Type 0) (Q : Type 0) → IfOk r P → OnOk r Q → ((value : A) → P value → Q → R value) → IfOk r R
-ok_and (Ok value) P R Q is also gives = gives value is also
-ok_and (Err fault) P R Q is also gives = tt
 
 -- two facts of a fault give what is to be shown of it
 pub err_and : {A E : Type 0} (r : Result A E) (P Q R : E → Type 0) → IfErr r P → IfErr r Q → ((fault : E) → P fault → Q fault → R fault) → IfErr r R

@@ -9,6 +9,9 @@ use Rattle.std.proofs.lemmas.List.Concat.{flat_map-append}
 use Rattle.std.proofs.lemmas.Option.{slice_get-get_or}
 use Rattle.lf_floorplan.specs.declared.frame.Frame.{Frame}
 use Rattle.lf_floorplan.specs.declared.place.Place.{Place}
+use Rattle.lf_floorplan.specs.Ground.{OverlapsSoft}
+use Rattle.lf_rules.specs.Choice.{spot_of}
+use Rattle.lf_rules.specs.Team.{box_in}
 use Rattle.lf_cells.specs.Cells.{working_at}
 use Rattle.lf_floor_model.specs.States.{FloorState, TeamState}
 use Rattle.lf_floor_model.specs.Outcomes.{name_at}
@@ -16,7 +19,7 @@ use Rattle.lf_floor_model.specs.Steps.{AllCommittedIn}
 use Rattle.lf_floor_model.specs.VerbLaws.{committed_places}
 use Rattle.lf_floor_model.specs.Teams.{state_of, team_names, team_number}
 use Rattle.lf_repair_team.specs.Stats.{AreStatsOf, AreTeamStats, HowMany}
-use Rattle.lf_repair_team.specs.TeamRepairs.{HasNoPlace, IsIllegalIn, IsLegalIn}
+use Rattle.lf_repair_team.specs.TeamRepairs.{AreMovedOffSoft, HasNoPlace, IsIllegalIn, IsLegalIn}
 use Rattle.lf_repair_team.proofs.Legal.{committed_through}
 use Rattle.lf_repair_team.proofs.WithoutPlace.{none_through}
 use Rattle.lf_repair_strategy.specs.declared.stats.RepairStats.{RepairStats}
@@ -78,6 +81,21 @@ stats_same a b c d team r frame first last is s there =
     (subst (λ (o : Option TeamState). AreStatsOf (places_in (state_of c team)) (places_in o) (IsLegalIn a team) (length s.cells) r) (sym last)
     (subst (λ (o : Option TeamState). AreStatsOf (places_in o) (places_in (state_of b team)) (IsLegalIn a team) (length s.cells) r) (sym first) (is s (sym first ∙ there))))
 
+moved_off_soft_same : (a b c d : FloorState) (team : List ℕ) → d.frame ≡ b.frame → state_of c team ≡ state_of a team → state_of d team ≡ state_of b team
+    → AreMovedOffSoft team a b → AreMovedOffSoft team c d
+moved_off_soft_same a b c d team frame first last are own placed moved =
+    let is = are own (λ none. placed (ap (λ (o : Option TeamState). places_in o own) last ∙ none))
+    (λ same. moved (ap (λ (o : Option TeamState). places_in o own) last ∙ same ∙ sym (ap (λ (o : Option TeamState). places_in o own) first))) in
+    record {
+      state = is.state;
+      cell = is.cell;
+      place = is.place;
+      there = last ∙ is.there;
+      cell_is = is.cell_is;
+      placed = is.placed;
+      off_soft = subst (λ (f : Frame). OverlapsSoft f (box_in f is.cell.mac (spot_of is.place)) → ⊥) (sym frame) is.off_soft;
+    }
+
 repair_same : (a b c d : FloorState) (team : List ℕ) (r : RepairStats) → c.frame ≡ a.frame → d.frame ≡ b.frame → state_of c team ≡ state_of a team
     → state_of d team ≡ state_of b team → IsRepairOf team a b r → IsRepairOf team c d r
 repair_same a b c d team r frame frame' first last is = record {
@@ -92,6 +110,9 @@ repair_same a b c d team r frame frame' first last is = record {
   );
   uncommitted = λ some. ap (λ (o : Option TeamState). option_map committed_places o) last ∙ is.uncommitted some
       ∙ sym (ap (λ (o : Option TeamState). option_map committed_places o) first);
+  off_soft = moved_off_soft_same a b c d team frame' first last is.off_soft;
+  slots = ap (λ (o : Option TeamState). option_map (λ (s : TeamState). s.slots) o) last ∙ is.slots
+      ∙ sym (ap (λ (o : Option TeamState). option_map (λ (s : TeamState). s.slots) o) first);
 }
 
 reported_same : (bounds : List ℕ) (begin old new : FloorState) (t : TeamReport) → new.frame ≡ old.frame → state_of new t.name ≡ state_of old t.name

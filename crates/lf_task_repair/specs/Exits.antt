@@ -1,5 +1,5 @@
 -- The results of repairs.
-use Rattle.std.specs.Prelude.{◌≡◌, ◌⊎◌, ℕ, List, Option, None, take}
+use Rattle.std.specs.Prelude.{◌≡◌, ◌⊎◌, ℕ, List, map, Option, take}
 use Rattle.std.specs.Io.KnownBytes.{Appends}
 use Rattle.lf_floorplan.specs.declared.limits.Limits.{Limits}
 use Rattle.lf_floorplan.specs.declared.loaded.Loaded.{Loaded}
@@ -7,27 +7,41 @@ use Rattle.lf_rules.specs.Legalizer.{Legalizer}
 use Rattle.lf_def.specs.Document.{Document}
 use Rattle.lf_io_files.specs.Shelf.{Put}
 use Rattle.lf_floor_model.specs.States.{FloorState}
-use Rattle.lf_floor_model.specs.Designs.{initial_floor}
+use Rattle.lf_cli.specs.Command.{RepairPaths}
 use Rattle.lf_cli.specs.declared.parse.LegalCells.{LegalCells}
 use Rattle.lf_cli.specs.declared.parse.LegalCells.TheVariants.{KeepLegal}
 use Rattle.lf_task_faults.specs.declared.faults.Fault.{Fault}
 use Rattle.lf_task_faults.specs.declared.faults.Fault.TheVariants.{Output}
 use Rattle.lf_task_designs.specs.Designs.{ReadsFile, IsOpened}
-use Rattle.lf_task_faults.specs.declared.faults.OutputKind.TheVariants.{Export, Lines}
+use Rattle.lf_task_faults.specs.declared.faults.OutputKind.TheVariants.{Export, Lines, Save, Working}
+use Rattle.lf_floor.specs.Working.{with_working}
 use Rattle.lf_task_files.specs.Exits.{IsExported}
 use Rattle.lf_task_files.specs.Faults.{IsOutputFault}
-use Rattle.lf_task_files.specs.States.{IsFloorFault}
-use Rattle.lf_task_repair.specs.Repairs.{KeepsAllLegalPlaces, AreKnown, IsStatusOf, IsKeptRun, WritesLines, IsRepairFault, OnlySelectedChange, initial_lines}
-use Rattle.lf_task_repair.specs.Reports.{AreBounds, IsReport}
+use Rattle.lf_write.specs.Export.{clause_of}
+use Rattle.lf_task_files.specs.Measured.{IsMeasuredFloor}
+use Rattle.lf_task_repair.specs.declared.repair_task.ReadyRepair.{ReadyRepair}
+use Rattle.lf_task_files.specs.States.{IsFloorFault, IsSaved}
+use Rattle.lf_task_repair.specs.Repairs.{KeepsAllLegalPlaces, AreKnown, IsStatusOf, IsKeptRun, WritesLines, IsRepairFault, OnlySelectedChange, first_file, initial_lines, three_files, two_files}
+use Rattle.lf_task_repair.specs.Reports.{IsReport}
 
--- the report is written; then the exported text is written if requested, and then the command lines
-pub record IsPut (export lines : Option (List ℕ)) (text : List ℕ) (document : Document) (floor : FloorState)
+-- the requested files are written: the text with the committed places, the text with the working
+-- places, the command lines, and the state of the floor
+pub record AreWritten (files : RepairPaths) (text : List ℕ) (document : Document) (floor : FloorState)
+    (kept : Option (List ℕ)) (old new : Option (List Put)) : Type 0 where
+  pub exported : Option (List Put)
+  pub exports : IsExported files.export text document floor old exported
+  pub worked : Option (List Put)
+  pub works : IsExported files.working text document (with_working floor) exported worked
+  pub listed : Option (List Put)
+  pub lists : WritesLines files.lines kept worked listed
+  pub saves : IsSaved files.save floor listed new
+
+-- the report is written, and then the requested files
+pub record IsPut (files : RepairPaths) (text : List ℕ) (document : Document) (floor : FloorState)
     (kept : Option (List ℕ)) (report : List ℕ)
     (before after : Option (List ℕ)) (old_puts new_puts : Option (List Put)) : Type 0 where
   pub reported : Appends before after report
-  pub between : Option (List Put)
-  pub exports : IsExported export text document floor old_puts between
-  pub lists : WritesLines lines kept between new_puts
+  pub written : AreWritten files text document floor kept old_puts new_puts
 
 -- the first floor is repaired and becomes this one: each requested name is a team's; accepted
 -- commands lead from the first floor to this one, and they are the lines that are kept; only
@@ -43,82 +57,90 @@ pub record IsRepair (teams : List (List ℕ)) (legal : LegalCells) (lines : Opti
   pub stay : legal ≡ KeepLegal → KeepsAllLegalPlaces begin floor
   pub decides : IsReport teams bounds begin floor report
 
--- the first floor is repaired; the report is written; then the exported text is written if
--- requested, and then the command lines; the status says whether the committed design is fully
--- legal
-pub record IsRepaired (teams : List (List ℕ)) (legal : LegalCells) (export lines : Option (List ℕ)) (text : List ℕ)
+-- the first floor is repaired; the report is written, and then the requested files; the status says
+-- whether the committed design is fully legal
+pub record IsRepaired (teams : List (List ℕ)) (legal : LegalCells) (files : RepairPaths) (text : List ℕ)
     (document : Document)
     (bounds : List ℕ) (begin : FloorState) (before after : Option (List ℕ)) (old_puts new_puts : Option (List Put))
     (status : ℕ) : Type 0 where
   pub floor : FloorState
   pub kept : Option (List ℕ)
   pub report : List ℕ
-  pub repair : IsRepair teams legal lines bounds begin floor kept report
-  pub put : IsPut export lines text document floor kept report before after old_puts new_puts
+  pub repair : IsRepair teams legal files.lines bounds begin floor kept report
+  pub put : IsPut files text document floor kept report before after old_puts new_puts
   pub committed_checked : IsStatusOf floor status
 
--- the design is opened, and its teams are repaired and reported with the largest of the least
--- displacements of their cells
-pub record IsOpenRepaired (limits : Limits) (gives : ReadsFile) (def : List ℕ) (lefs teams : List (List ℕ))
-    (legal : LegalCells) (export lines : Option (List ℕ))
+-- the design is opened, its floor is brought into the given state, and its teams are repaired and
+-- reported with the largest of the least displacements of their cells from their first places
+pub record IsOpenRepaired (limits : Limits) (gives : ReadsFile) (def : List ℕ) (lefs : List (List ℕ))
+    (state : Option (List ℕ)) (teams : List (List ℕ)) (legal : LegalCells) (files : RepairPaths)
     (before after : Option (List ℕ)) (old_puts new_puts : Option (List Put)) (status : ℕ) : Type 0 where
   pub text : List ℕ
   pub document : Document
   pub loaded : Loaded
   pub opened : IsOpened limits gives def lefs text document loaded
+  pub begin : FloorState
   pub bounds : List ℕ
-  pub least : AreBounds loaded bounds
-  pub repaired : IsRepaired teams legal export lines text document bounds
-      (initial_floor loaded) before after old_puts new_puts status
+  pub measured : IsMeasuredFloor gives state loaded begin bounds
+  pub repaired : IsRepaired teams legal files text document bounds begin before after old_puts new_puts status
+
+-- the design is opened, and its floor is in the given state
+pub record IsReadyRepair (limits : Limits) (gives : ReadsFile) (def : List ℕ) (lefs : List (List ℕ))
+    (state : Option (List ℕ)) (ready : ReadyRepair) : Type 0 where
+  pub document : Document
+  pub loaded : Loaded
+  pub opened : IsOpened limits gives def lefs ready.original.text.items document loaded
+  pub clauses : ready.original.clauses ≡ map (clause_of ready.original.text.items) document.components
+  pub measured : IsMeasuredFloor gives state loaded ready.measured.floor ready.measured.least.items
 
 -- ---- faults
 
--- the requested files are not written: either the exported text fails, and no file is written; or
--- it is written if requested, and the command lines are not
-abbrev pub AreNotPut : Option (List ℕ) → Option (List ℕ) → List ℕ → Document → FloorState → Option (List Put)
+-- the requested files are not all written: those in front of the one at fault are, and no other
+abbrev pub AreNotPut : RepairPaths → List ℕ → Document → FloorState → Option (List ℕ) → Option (List Put)
     → Option (List Put) → Fault → Type 0
-AreNotPut export lines text document floor old new fault =
-    (IsOutputFault Export export fault × (new ≡ old))
-    ⊎ (IsOutputFault Lines lines fault × IsExported export text document floor old new)
+AreNotPut files text document floor kept old new fault =
+    (IsOutputFault Export files.export fault × (new ≡ old))
+    ⊎ ((IsOutputFault Working files.working fault × AreWritten (first_file files) text document floor kept old new)
+    ⊎ ((IsOutputFault Lines files.lines fault × AreWritten (two_files files) text document floor kept old new)
+    ⊎ (IsOutputFault Save files.save fault × AreWritten (three_files files) text document floor kept old new)))
 
 -- the report is not written, or only a prefix of it, and no file is written; or the report is
 -- written, and the requested files are not
-abbrev pub IsNotPut : Option (List ℕ) → Option (List ℕ) → List ℕ → Document → FloorState → List ℕ
+abbrev pub IsNotPut : RepairPaths → List ℕ → Document → FloorState → Option (List ℕ) → List ℕ
     → Option (List ℕ) → Option (List ℕ)
     → Option (List Put) → Option (List Put) → Fault → Type 0
-IsNotPut export lines text document floor report before after old new fault =
+IsNotPut files text document floor kept report before after old new fault =
     ((fault ≡ Output) × ((n : ℕ) × Appends before after (take n report)) × (new ≡ old))
-    ⊎ (Appends before after report × AreNotPut export lines text document floor old new fault)
+    ⊎ (Appends before after report × AreNotPut files text document floor kept old new fault)
 
 -- the first floor is not repaired, and nothing is written; or it is, and the report or the
 -- requested files are not written
-abbrev pub IsUnrepaired : List (List ℕ) → LegalCells → Option (List ℕ) → Option (List ℕ) → List ℕ → Document
-    → List ℕ → FloorState
+abbrev pub IsUnrepaired : List (List ℕ) → LegalCells → RepairPaths → List ℕ → Document → List ℕ → FloorState
     → Option (List ℕ) → Option (List ℕ) → Option (List Put) → Option (List Put) → Fault → Type 0
-IsUnrepaired teams legal export lines text document bounds begin before after old new fault =
-    (IsRepairFault begin.frame teams export lines fault × (after ≡ before) × (new ≡ old))
+IsUnrepaired teams legal files text document bounds begin before after old new fault =
+    (IsRepairFault begin.frame teams files fault × (after ≡ before) × (new ≡ old))
     ⊎ ((floor : FloorState) × (kept : Option (List ℕ)) × (report : List ℕ)
-    × IsRepair teams legal lines bounds begin floor kept report
-    × IsNotPut export lines text document floor report before after old new fault)
+    × IsRepair teams legal files.lines bounds begin floor kept report
+    × IsNotPut files text document floor kept report before after old new fault)
 
--- the design is opened, and is not repaired or its results are not written
-pub record IsOpenUnrepaired (limits : Limits) (gives : ReadsFile) (def : List ℕ) (lefs teams : List (List ℕ))
-    (legal : LegalCells) (export lines : Option (List ℕ))
+-- the design is opened and its floor is in the given state, and it is not repaired or its results
+-- are not written
+pub record IsOpenUnrepaired (limits : Limits) (gives : ReadsFile) (def : List ℕ) (lefs : List (List ℕ))
+    (state : Option (List ℕ)) (teams : List (List ℕ)) (legal : LegalCells) (files : RepairPaths)
     (before after : Option (List ℕ)) (old_puts new_puts : Option (List Put)) (fault : Fault) : Type 0 where
   pub text : List ℕ
   pub document : Document
   pub loaded : Loaded
   pub opened : IsOpened limits gives def lefs text document loaded
+  pub begin : FloorState
   pub bounds : List ℕ
-  pub least : AreBounds loaded bounds
-  pub unrepaired : IsUnrepaired teams legal export lines text document bounds
-      (initial_floor loaded) before after old_puts new_puts fault
+  pub measured : IsMeasuredFloor gives state loaded begin bounds
+  pub unrepaired : IsUnrepaired teams legal files text document bounds begin before after old_puts new_puts fault
 
--- the design has no floor, and nothing is written; or it has one, and is not repaired or its
--- results are not written
-abbrev pub IsNotRepaired : Limits → ReadsFile → List ℕ → List (List ℕ) → List (List ℕ) → LegalCells → Option (List ℕ)
-    → Option (List ℕ) → Option (List ℕ)
-    → Option (List ℕ) → Option (List Put) → Option (List Put) → Fault → Type 0
-IsNotRepaired limits gives def lefs teams legal export lines before after old new fault =
-    (IsFloorFault limits gives def lefs None fault × (after ≡ before) × (new ≡ old))
-    ⊎ IsOpenUnrepaired limits gives def lefs teams legal export lines before after old new fault
+-- the design has no floor in the given state, and nothing is written; or it has one, and is not
+-- repaired or its results are not written
+abbrev pub IsNotRepaired : Limits → ReadsFile → List ℕ → List (List ℕ) → Option (List ℕ) → List (List ℕ) → LegalCells
+    → RepairPaths → Option (List ℕ) → Option (List ℕ) → Option (List Put) → Option (List Put) → Fault → Type 0
+IsNotRepaired limits gives def lefs state teams legal files before after old new fault =
+    (IsFloorFault limits gives def lefs state fault × (after ≡ before) × (new ≡ old))
+    ⊎ IsOpenUnrepaired limits gives def lefs state teams legal files before after old new fault

@@ -5,6 +5,7 @@ use Rattle.lf_floorplan.specs.declared.frame.Frame.{Frame}
 use Rattle.lf_floorplan.specs.declared.place.Place.{Place}
 use Rattle.lf_rules.specs.Legalizer.{Legalizer}
 use Rattle.lf_io_files.specs.Shelf.{Put, PutsFile}
+use Rattle.lf_cli.specs.Command.{RepairPaths}
 use Rattle.lf_cli.specs.declared.parse.LegalCells.{LegalCells}
 use Rattle.lf_cli.specs.declared.parse.LegalCells.TheVariants.{KeepLegal, MoveAsNeeded, MoveAll}
 use Rattle.lf_repair_strategy.specs.declared.pass.MovePolicy.{MovePolicy}
@@ -24,7 +25,7 @@ use Rattle.lf_repair_team.specs.TeamRepairs.{KeepsLegalPlaces}
 use Rattle.lf_task_faults.specs.declared.faults.Fault.{Fault}
 use Rattle.lf_task_faults.specs.declared.faults.Fault.TheVariants.{SetupOutOfMemory, NoTeam}
 use Rattle.lf_task_faults.specs.Faults.{BlamesDevices}
-use Rattle.lf_task_faults.specs.declared.faults.OutputKind.TheVariants.{Export, Lines}
+use Rattle.lf_task_faults.specs.declared.faults.OutputKind.TheVariants.{Export, Lines, Save, Working}
 use Rattle.lf_task_files.specs.Faults.{IsDone, IsOutputFault}
 use Rattle.lf_task_repair.specs.declared.command_log.CommandLog.{CommandLog}
 
@@ -106,14 +107,44 @@ abbrev pub WritesLines : Option (List ℕ) → Option (List ℕ) → Option (Lis
 WritesLines None kept old new = new ≡ old
 WritesLines (Some path) kept old new = PutsFile old new path (kept_bytes kept)
 
+-- ---- the files
+
+-- no file is requested
+pub record WritesNoFile (files : RepairPaths) : Type 0 where
+  pub export : files.export ≡ None
+  pub working : files.working ≡ None
+  pub lines : files.lines ≡ None
+  pub save : files.save ≡ None
+
+-- no file is requested but that of the exported text
+pub record WritesExportAlone (files : RepairPaths) : Type 0 where
+  pub working : files.working ≡ None
+  pub lines : files.lines ≡ None
+  pub save : files.save ≡ None
+
+-- the first file alone, the first two, and all but the state, in the order in which they are written
+abbrev pub first_file : RepairPaths → RepairPaths
+first_file files = record { export = files.export; working = None; lines = None; save = None }
+
+abbrev pub two_files : RepairPaths → RepairPaths
+two_files files = record { export = files.export; working = files.working; lines = None; save = None }
+
+abbrev pub three_files : RepairPaths → RepairPaths
+three_files files = record { export = files.export; working = files.working; lines = files.lines; save = None }
+
 -- ---- faults
+
+-- a requested file cannot be written
+abbrev pub IsFileOutputFault : RepairPaths → Fault → Type 0
+IsFileOutputFault files fault = IsOutputFault Export files.export fault
+    ⊎ (IsOutputFault Working files.working fault
+    ⊎ (IsOutputFault Lines files.lines fault ⊎ IsOutputFault Save files.save fault))
 
 -- why no repair is made on this frame: a requested name is not a team's; a requested file cannot be
 -- written; or an allocation fails
-abbrev pub IsRepairFault : Frame → List (List ℕ) → Option (List ℕ) → Option (List ℕ) → Fault → Type 0
-IsRepairFault f teams export lines fault =
-    IsUnknown f teams fault
-    ⊎ (IsOutputFault Export export fault ⊎ (IsOutputFault Lines lines fault ⊎ (fault ≡ SetupOutOfMemory)))
+abbrev pub IsRepairFault : Frame → List (List ℕ) → RepairPaths → Fault → Type 0
+IsRepairFault f teams files fault =
+    IsUnknown f teams fault ⊎ (IsFileOutputFault files fault ⊎ (fault ≡ SetupOutOfMemory))
 
 -- what a fault means if the task uses only a writer and files, given whether each had failed
 -- earlier and has failed now

@@ -2,15 +2,13 @@
 use Rattle.std.specs.Prelude.{◌≡◌, ◌≢◌, ◌↔◌, ◌<◌, ◌+◌, ◌++◌, ℕ, Bool, IsTrue, List, [], ◌∷◌, All, AllPairs, filter, flat_map, length, map, slice_get}
 use Rattle.std.specs.Option.{option_map_or}
 use Rattle.lf_floorplan.specs.declared.frame.Frame.{Frame}
-use Rattle.lf_floorplan.specs.declared.loaded.Loaded.{Loaded}
 use Rattle.lf_rules.specs.Legalizer.{Legalizer}
 use Rattle.lf_floor_model.specs.States.{FloorState}
 use Rattle.lf_floor_model.specs.Steps.{AllCommittedIn}
 use Rattle.lf_floor_model.specs.Teams.{team_names, team_number}
 use Rattle.lf_floor_model.specs.Committed.{IsCommittedLegal}
-use Rattle.lf_repair_bounds.specs.MinDisplacements.{AreMaxMinDisplacements}
 use Rattle.lf_repair_team.specs.Stats.{AreTeamStats}
-use Rattle.lf_repair_team.specs.TeamRepairs.{AreLegalExcept, HasNoPlace, IsIllegalIn, committed_in}
+use Rattle.lf_repair_team.specs.TeamRepairs.{AreLegalExcept, AreMovedOffSoft, HasNoPlace, IsIllegalIn, committed_in, session_slots_in}
 use Rattle.lf_repair_strategy.specs.declared.stats.RepairStats.{RepairStats}
 use Rattle.lf_repair_report.specs.declared.report.RepairReport.{RepairReport}
 use Rattle.lf_repair_report.specs.declared.totals.Totals.{Totals}
@@ -46,7 +44,8 @@ selected_at f teams number =
 -- the result of a team's repair that began on one floor, on the other: the unrepaired cells are
 -- listed in loading order, are exactly those that are not legal, and have no place; the statistics
 -- are those of the team's cells from one floor to the other; the team is committed if and only if
--- no cell is unrepaired, and otherwise its committed places are as they were
+-- no cell is unrepaired, and otherwise its committed places are as they were; its session slots are
+-- as they were; each placed cell that is elsewhere is off soft blockages
 pub record IsRepairOf (team : List ℕ) (begin floor : FloorState) (became : RepairStats) : Type 0 where
   pub legal : AreLegalExcept team floor became.unrepaired.items
   pub illegal : All (IsIllegalIn floor team) became.unrepaired.items
@@ -55,6 +54,8 @@ pub record IsRepairOf (team : List ℕ) (begin floor : FloorState) (became : Rep
   pub stats : AreTeamStats team begin floor became
   pub committed : (l : Legalizer) → became.unrepaired.items ≡ [] ↔ AllCommittedIn l floor team
   pub uncommitted : became.unrepaired.items ≢ [] → committed_in floor team ≡ committed_in begin team
+  pub slots : session_slots_in floor team ≡ session_slots_in begin team
+  pub off_soft : AreMovedOffSoft team begin floor
 
 -- the team is reported with its own bound, the names of its unrepaired cells, and the result of its
 -- repair from the first floor to the last one
@@ -89,8 +90,3 @@ pub record IsReport (teams : List (List ℕ)) (bounds : List ℕ) (begin floor :
   pub legal : Bool
   pub right : IsTrue legal ↔ IsCommittedLegal floor
   pub is : text ≡ flat_map line_of_team reported ++ all_line (sums_with no_sums reported) legal
-
--- for each team of the design the largest of the least displacements of its cells
-pub record AreBounds (loaded : Loaded) (bounds : List ℕ) : Type 0 where
-  pub many : length bounds ≡ length loaded.frame.teams + 1
-  pub each : AreMaxMinDisplacements loaded.frame loaded.cells bounds

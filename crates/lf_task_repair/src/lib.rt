@@ -2,9 +2,10 @@
 //!
 //! `repair` opens a design (`lf_task_designs`), and repairs the selected teams one after the other
 //! (`lf_repair_team`). The result of each is reported in a line of JSON (`lf_repair_report`). The
-//! exported DEF text and the lines of all accepted commands are written at the end, if requested.
-//! Their paths are tested first. A `Progress` reports how far the repair is. The exit status is 0,
-//! or 4 if the committed design is not fully legal. Messages of faults are not written here.
+//! requested files are written at the end: the DEF text with the committed and with the working
+//! places, the lines of all accepted commands, and the state. Their paths are tested first. A
+//! `Progress` reports how far the repair is. The exit status is 0, or 4 if the committed design is
+//! not fully legal. Messages of faults are not written here.
 //!
 //! Used by `lf_app`.
 //!

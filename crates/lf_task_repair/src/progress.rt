@@ -19,6 +19,14 @@ pub trait Progress {
 
     /// Reports that one more command was accepted.
     fn step(&mut self);
+
+    /// Reports that the text with the working places was written to this path, and that some of
+    /// them are not committed.
+    fn uncommitted_in(&mut self, path: &str);
+
+    /// Reports that the text with the committed places was written to this path, and that some
+    /// cells have other working places.
+    fn uncommitted_outside(&mut self, path: &str);
 }
 
 /// Reports nothing.
@@ -29,6 +37,10 @@ impl Progress for NoProgress {
     fn begin(&mut self, _team: &[u8], _number: usize, _teams: usize) {}
 
     fn step(&mut self) {}
+
+    fn uncommitted_in(&mut self, _path: &str) {}
+
+    fn uncommitted_outside(&mut self, _path: &str) {}
 }
 
 /// The clock is read once in this number of commands.
@@ -107,6 +119,21 @@ impl<'a, T: Clock, W: Write> Progress for TimedProgress<'a, T, W> {
         if self.commands % COMMANDS == 0 {
             self.report_in_time();
         }
+    }
+
+    // (if the line cannot be written, that is no fault)
+    fn uncommitted_in(&mut self, path: &str) {
+        let _ = writeln!(
+            self.writer,
+            "lefence: {path} has working places that are not committed"
+        );
+    }
+
+    fn uncommitted_outside(&mut self, path: &str) {
+        let _ = writeln!(
+            self.writer,
+            "lefence: {path} has the committed places alone: --export-working FILE writes the others"
+        );
     }
 }
 

@@ -3,14 +3,11 @@
 ghost use Rattle.std.specs.Prelude.{◌≡◌, ◌≢◌, ◌⊎◌, ◌+◌, ℕ, List, None, Option, Some, IfErr, IfOk, IsTrue, OnErr, OnOk};
 ghost use Rattle.std.specs.Prelude.{bytes_eq, is_some, length, map, position, take, true};
 ghost use Rattle.std.specs.Io.KnownBytes.{Appends};
+ghost use Rattle.lf_cli.specs.Command.{repair_paths};
 ghost use Rattle.lf_cli.specs.declared.parse.LegalCells.TheVariants.{KeepLegal};
 ghost use Rattle.lf_def.specs.Document.{Document};
-ghost use Rattle.lf_io_files.specs.Shelf.{Put};
-ghost use Rattle.lf_floorplan.specs.declared.limits.Limits.{Limits as TheLimits};
 ghost use Rattle.lf_floorplan.specs.declared.place.Place.{Place};
-ghost use Rattle.lf_lef.specs.Contents.{Contents};
 ghost use Rattle.lf_rules.specs.Legalizer.{Legalizer};
-ghost use Rattle.lf_floor_model.specs.Designs.{initial_floor};
 ghost use Rattle.lf_floor_model.specs.Places.{AreCommittedPlaces};
 ghost use Rattle.lf_floor_model.specs.States.{FloorState};
 ghost use Rattle.lf_floor_model.specs.Teams.{state_of, team_number};
@@ -20,18 +17,17 @@ ghost use Rattle.lf_repair_team.specs.TeamRepairs.{ChangesOnly, KeepsLegalPlaces
 ghost use Rattle.lf_repair_strategy.specs.declared.stats.RepairStats.{RepairStats};
 ghost use Rattle.lf_repair_report.specs.RepairReports.{IsOneMore};
 ghost use Rattle.lf_task_faults.specs.declared.faults.Fault.TheVariants.{SetupOutOfMemory, Output};
-ghost use Rattle.lf_task_designs.specs.Designs.{IsLoadedText};
-ghost use Rattle.lf_task_files.specs.Exits.{IsExported};
-ghost use Rattle.lf_task_files.specs.Faults.{ExportFails, IsDone, IsOutputFault};
+ghost use Rattle.lf_task_files.specs.Faults.{ExportFails, IsDone};
+ghost use Rattle.lf_task_files.specs.States.{IsFloorFault};
 ghost use Rattle.lf_task_files.specs.Inputs.{path_of};
-ghost use Rattle.lf_task_repair.specs.Exits.{AreNotPut, IsNotPut, IsNotRepaired, IsOpenRepaired, IsPut, IsRepaired, IsUnrepaired};
-ghost use Rattle.lf_task_repair.specs.Repairs.{KeepsAllLegalPlaces, AreKnown, BlamesOutputs, IsStatusOf, IsKeptRun, WritesLines, IsUnknown, OnlySelectedChange};
+ghost use Rattle.lf_task_repair.specs.Exits.{AreNotPut, AreWritten, IsNotPut, IsNotRepaired, IsOpenRepaired, IsPut, IsReadyRepair, IsRepaired, IsUnrepaired};
+ghost use Rattle.lf_task_repair.specs.Repairs.{KeepsAllLegalPlaces, AreKnown, BlamesOutputs, IsStatusOf, IsFileOutputFault, IsKeptRun, IsUnknown, OnlySelectedChange, WritesExportAlone, WritesNoFile};
 ghost use Rattle.lf_task_repair.specs.Repairs.{initial_lines, how_of, is_selected, kept_text};
-ghost use Rattle.lf_task_repair.specs.Reports.{AreBounds, AddsTeamLines, IsRepairOf, IsReport, AddsTotalLine, selected_at, selected_names};
+ghost use Rattle.lf_task_repair.specs.Reports.{AddsTeamLines, IsRepairOf, IsReport, AddsTotalLine, selected_at, selected_names};
 
 use crate::command_log::{CommandLog, save_lines};
 use crate::progress::{Progress, ProgressSink};
-use lf_cli::LegalCells;
+use lf_cli::{LegalCells, RepairFiles};
 use lf_floor::{Floor, team_name};
 use lf_floor_model::places_follow_design;
 use lf_floorplan::{Frame, Limits};
@@ -39,14 +35,14 @@ use lf_io::{Sink, send};
 use lf_io_files::OutputFiles;
 use lf_laws_roundtrip::loaded_cells_are_exportable;
 use lf_legalize::IndexSeeker;
-use lf_repair_bounds::max_min_displacements;
 use lf_repair_report::RepairReport;
 use lf_repair_team::{MovePolicy, repair_team};
 use lf_rules::legalizer_exists;
 use lf_task_designs::{InputFiles, OpenedDesign, SourceText, open_design};
 use lf_task_faults::{Fault, OutputKind};
 use lf_task_files::{
-    ILLEGAL_STATUS, LEGAL_STATUS, check_output_path, is_committed_legal, save_export, start_floor,
+    ILLEGAL_STATUS, LEGAL_STATUS, MeasuredFloor, check_output_path, is_committed_legal,
+    open_measured, save_export, save_to, save_working,
 };
 use lf_write::kept_clauses_suffice;
 use std::alloc::Global;
@@ -58,14 +54,14 @@ pub struct RepairJob<'a> {
     pub def: &'a str,
     /// The paths of the LEF files, in the order in which they are read.
     pub lefs: &'a [&'a str],
+    /// The path of the state with which the repair begins, if one is given.
+    pub state: Option<&'a str>,
     /// The names of the selected teams. All teams are repaired if it is empty.
     pub teams: &'a [&'a str],
     /// Whether legal cells may move.
     pub legal: LegalCells,
-    /// The path of the exported DEF text, if requested.
-    pub export: Option<&'a str>,
-    /// The path of the command lines, if requested.
-    pub lines: Option<&'a str>,
+    /// The paths of the files to write.
+    pub files: RepairFiles<'a>,
     pub limits: Limits,
 }
 
@@ -253,7 +249,8 @@ fn repair_selected<'a, P: Progress>(
 ) -> Result<FinishedRepair, Fault<'a>>
     requires { length floor.old.teams ≡ length floor.old.frame.teams + 1 }
     ensures run { (l : Legalizer) → IfOk result
-        (λ done. IsKeptRun l floor.old (initial_lines (path_of requested.now.lines)) (kept_text done.lines) floor.new) }
+        (λ done. IsKeptRun l floor.old (initial_lines (repair_paths requested.now.files).lines) (kept_text done.lines)
+        floor.new) }
     ensures only { OnOk result
         (OnlySelectedChange (map (λ team. team.now) requested.now.teams.now) floor.old floor.new) }
     ensures kept { requested.now.legal ≡ KeepLegal → OnOk result (KeepsAllLegalPlaces floor.old floor.new) }
@@ -263,7 +260,7 @@ fn repair_selected<'a, P: Progress>(
     ensures err { IfErr result (λ fault. fault ≡ SetupOutOfMemory) }
 {
     legalizer_exists();
-    let lines = CommandLog::new(alloc, requested.lines);
+    let lines = CommandLog::new(alloc, requested.files.lines);
     let mut lines = ProgressSink { lines, progress };
     let mut report = RepairReport::new(alloc, least)?;
     repair_teams(alloc, floor, requested, &mut lines, &mut report)?;
@@ -297,19 +294,21 @@ fn try_files<'a, E: OutputFiles>(
     requested: &RepairJob<'a>,
     exports: &mut E,
 ) -> Result<(), Fault<'a>>
-    ensures err { IfErr result (λ fault. IsOutputFault OutputKind.Export (path_of requested.now.export) fault
-        ⊎ IsOutputFault OutputKind.Lines (path_of requested.now.lines) fault) }
+    ensures err { IfErr result (IsFileOutputFault (repair_paths requested.now.files)) }
     ensures fails { IfErr result (λ fault. ExportFails fault (E.has_failed exports.old) (E.has_failed exports.new)) }
     ensures sound { OnOk result (E.has_failed exports.new ≡ E.has_failed exports.old) }
     ensures unput { E.puts exports.new ≡ E.puts exports.old }
-    ensures unasked { path_of requested.now.lines ≡ None → path_of requested.now.export
-        ≡ None → exports.new ≡ exports.old }
+    ensures unasked { WritesNoFile (repair_paths requested.now.files) → exports.new ≡ exports.old }
 {
-    check_output_path(OutputKind::Export, requested.export, exports)?;
-    check_output_path(OutputKind::Lines, requested.lines, exports)
+    let files = requested.files;
+    check_output_path(OutputKind::Export, files.export, exports)?;
+    check_output_path(OutputKind::Working, files.working, exports)?;
+    check_output_path(OutputKind::Lines, files.lines, exports)?;
+    check_output_path(OutputKind::Save, files.save, exports)
 }
 
-/// Writes the requested files: the exported text and then the command lines.
+/// Writes the requested files: the text with the committed places, the text with the working
+/// places, the command lines, and the state.
 fn put_files<'a, E: OutputFiles>(
     floor: &Floor<IndexSeeker>,
     original: &SourceText,
@@ -317,27 +316,28 @@ fn put_files<'a, E: OutputFiles>(
     requested: &RepairJob<'a>,
     exports: &mut E,
 ) -> Result<(), Fault<'a>>
-    requires fits { (places : List (ℕ × Option Place)) → AreCommittedPlaces floor.now places
+    requires fits { (s : FloorState) (places : List (ℕ × Option Place)) → s.components ≡ floor.now.components
+        → AreCommittedPlaces s places
         → CanBeRenewed original.now.text.items original.now.clauses places }
     ensures ok { (document : Document)
         → original.now.clauses ≡ map (clause_of original.now.text.items) document.components
-        → OnOk result ((between : Option (List Put))
-        × IsExported (path_of requested.now.export) original.now.text.items document floor.now
-        (E.puts exports.old) between
-        × WritesLines (path_of requested.now.lines) (kept_text lines.now) between (E.puts exports.new)) }
+        → OnOk result (AreWritten (repair_paths requested.now.files) original.now.text.items document floor.now
+        (kept_text lines.now) (E.puts exports.old) (E.puts exports.new)) }
     ensures err { (document : Document)
         → original.now.clauses ≡ map (clause_of original.now.text.items) document.components
-        → IfErr result (AreNotPut (path_of requested.now.export)
-        (path_of requested.now.lines) original.now.text.items document floor.now
-        (E.puts exports.old) (E.puts exports.new)) }
+        → IfErr result (AreNotPut (repair_paths requested.now.files) original.now.text.items document floor.now
+        (kept_text lines.now) (E.puts exports.old) (E.puts exports.new)) }
     ensures fails { IfErr result (λ fault. ExportFails fault (E.has_failed exports.old) (E.has_failed exports.new)) }
     ensures sound { OnOk result (E.has_failed exports.new ≡ E.has_failed exports.old) }
-    ensures unput { path_of requested.now.lines ≡ None → OnErr result (E.puts exports.new ≡ E.puts exports.old) }
-    ensures unasked { path_of requested.now.lines ≡ None → path_of requested.now.export
-        ≡ None → exports.new ≡ exports.old }
+    ensures unput { WritesExportAlone (repair_paths requested.now.files)
+        → OnErr result (E.puts exports.new ≡ E.puts exports.old) }
+    ensures unasked { WritesNoFile (repair_paths requested.now.files) → exports.new ≡ exports.old }
 {
-    save_export(floor, original, requested.export, exports)?;
-    save_lines(lines, requested.lines, exports)
+    let files = requested.files;
+    save_export(floor, original, files.export, exports)?;
+    save_working(floor, original, files.working, exports)?;
+    save_lines(lines, files.lines, exports)?;
+    save_to(floor, files.save, exports)
 }
 
 /// Writes the report, and then the requested files.
@@ -349,32 +349,60 @@ fn put_all<'a, E: OutputFiles, W: Sink>(
     exports: &mut E,
     writer: &mut W,
 ) -> Result<u8, Fault<'a>>
-    requires fits { (places : List (ℕ × Option Place)) → AreCommittedPlaces floor.now places
+    requires fits { (s : FloorState) (places : List (ℕ × Option Place)) → s.components ≡ floor.now.components
+        → AreCommittedPlaces s places
         → CanBeRenewed original.now.text.items original.now.clauses places }
     ensures status { IfOk result (λ status. status ≡ done.now.status) }
     ensures ok { (document : Document)
         → original.now.clauses ≡ map (clause_of original.now.text.items) document.components
-        → OnOk result (IsPut (path_of requested.now.export)
-        (path_of requested.now.lines) original.now.text.items document floor.now (kept_text done.now.lines)
+        → OnOk result (IsPut (repair_paths requested.now.files) original.now.text.items document floor.now
+        (kept_text done.now.lines)
         done.now.report.text.items (W.contents writer.old) (W.contents writer.new) (E.puts exports.old)
         (E.puts exports.new)) }
     ensures err { (document : Document)
         → original.now.clauses ≡ map (clause_of original.now.text.items) document.components
-        → IfErr result (IsNotPut (path_of requested.now.export)
-        (path_of requested.now.lines) original.now.text.items document floor.now
+        → IfErr result (IsNotPut (repair_paths requested.now.files) original.now.text.items document floor.now
+        (kept_text done.now.lines)
         done.now.report.text.items (W.contents writer.old) (W.contents writer.new) (E.puts exports.old)
         (E.puts exports.new)) }
     ensures blames { IfErr result
         (λ fault. BlamesOutputs fault (writer.new ≡ writer.old) (W.has_failed writer.old) (W.has_failed writer.new)
         (E.has_failed exports.old) (E.has_failed exports.new)) }
-    ensures unput { path_of requested.now.lines ≡ None → OnErr result (E.puts exports.new ≡ E.puts exports.old) }
-    ensures unasked { path_of requested.now.lines ≡ None → path_of requested.now.export
-        ≡ None → exports.new ≡ exports.old }
+    ensures unput { WritesExportAlone (repair_paths requested.now.files)
+        → OnErr result (E.puts exports.new ≡ E.puts exports.old) }
+    ensures unasked { WritesNoFile (repair_paths requested.now.files) → exports.new ≡ exports.old }
     ensures held { W.holds writer.new ≡ W.holds writer.old }
 {
     put_report(writer, &done.report)?;
     put_files(floor, original, &done.lines, requested, exports)?;
     Ok(done.status)
+}
+
+/// Returns whether a cell's working place is not its committed one.
+fn has_uncommitted(floor: &Floor<IndexSeeker>) -> bool {
+    let cells = floor.placement().cells();
+    for id in cells.cell_ids() {
+        if cells.working(*id) != cells.committed(*id) {
+            return true;
+        }
+    }
+    false
+}
+
+/// Reports which of the written texts lacks places, or has places that are not committed.
+fn note_uncommitted<P: Progress>(
+    floor: &Floor<IndexSeeker>,
+    files: &RepairFiles<'_>,
+    progress: &mut P,
+) {
+    if !has_uncommitted(floor) {
+        return;
+    }
+    if let Some(path) = files.working {
+        progress.uncommitted_in(path);
+    } else if let Some(path) = files.export {
+        progress.uncommitted_outside(path);
+    }
 }
 
 /// What a repair needs besides the floor of a design. It is built first.
@@ -404,71 +432,97 @@ fn repair_on_floor<'a, E: OutputFiles, W: Sink, P: Progress>(
     ensures ok { (document : Document)
         → before.old.original.clauses ≡ map (clause_of before.old.original.text.items) document.components
         → IfOk result (IsRepaired (map (λ team. team.now) requested.now.teams.now) requested.now.legal
-        (path_of requested.now.export) (path_of requested.now.lines)
+        (repair_paths requested.now.files)
         before.old.original.text.items document before.old.least.items floor.old
         (W.contents writer.old) (W.contents writer.new) (E.puts exports.old) (E.puts exports.new)) }
     ensures err { (document : Document)
         → before.old.original.clauses ≡ map (clause_of before.old.original.text.items) document.components
         → IfErr result (IsUnrepaired (map (λ team. team.now) requested.now.teams.now) requested.now.legal
-        (path_of requested.now.export) (path_of requested.now.lines)
+        (repair_paths requested.now.files)
         before.old.original.text.items document before.old.least.items floor.old
         (W.contents writer.old) (W.contents writer.new) (E.puts exports.old) (E.puts exports.new)) }
     ensures blames { IfErr result
         (λ fault. BlamesOutputs fault (writer.new ≡ writer.old) (W.has_failed writer.old) (W.has_failed writer.new)
         (E.has_failed exports.old) (E.has_failed exports.new)) }
-    ensures unput { path_of requested.now.lines ≡ None → OnErr result (E.puts exports.new ≡ E.puts exports.old) }
-    ensures unasked { path_of requested.now.lines ≡ None → path_of requested.now.export
-        ≡ None → exports.new ≡ exports.old }
+    ensures unput { WritesExportAlone (repair_paths requested.now.files)
+        → OnErr result (E.puts exports.new ≡ E.puts exports.old) }
+    ensures unasked { WritesNoFile (repair_paths requested.now.files) → exports.new ≡ exports.old }
     ensures held { W.holds writer.new ≡ W.holds writer.old }
 {
     all_known(floor, requested.teams)?;
     try_files(requested, exports)?;
     let done = repair_selected(alloc, floor, requested, &before.least, before.progress)?;
-    put_all(floor, &before.original, &done, requested, exports, writer)
+    let status = put_all(floor, &before.original, &done, requested, exports, writer)?;
+    note_uncommitted(floor, &requested.files, before.progress);
+    Ok(status)
 }
 
-/// Repairs the teams of the design of an opened text.
+/// A repair that is ready to begin.
+#[derive(Drop)]
+struct ReadyRepair {
+    measured: MeasuredFloor,
+    original: SourceText,
+}
+
+/// Opens the design of the files, and the floor with which its repair begins.
+fn ready_repair<'a, T: InputFiles>(
+    alloc: Global,
+    texts: &T,
+    requested: &RepairJob<'a>,
+) -> Result<ReadyRepair, Fault<'a>>
+    ensures ok { IfOk result (IsReadyRepair requested.now.limits (T.gives texts.now) requested.now.def.now
+        (map (λ lef. lef.now) requested.now.lefs.now) (path_of requested.now.state)) }
+    ensures err { IfErr result (IsFloorFault requested.now.limits (T.gives texts.now) requested.now.def.now
+        (map (λ lef. lef.now) requested.now.lefs.now) (path_of requested.now.state)) }
+{
+    let opened = open_design(
+        alloc,
+        requested.limits,
+        texts,
+        requested.def,
+        requested.lefs,
+    )?;
+    let OpenedDesign { loaded, original } = opened;
+    let measured = open_measured(alloc, texts, loaded, requested.state)?;
+    Ok(ReadyRepair { measured, original })
+}
+
+/// Repairs the teams of a floor of an opened text.
 fn repair_opened<'a, E: OutputFiles, W: Sink, P: Progress>(
     alloc: Global,
-    opened: OpenedDesign,
+    ready: ReadyRepair,
     requested: &RepairJob<'a>,
     exports: &mut E,
     writer: &mut W,
     progress: &mut P,
 ) -> Result<u8, Fault<'a>>
-    requires loads { (limits : TheLimits) × (library : Contents) × (document : Document)
-        × IsLoadedText limits opened.original.text.items library document opened.original.clauses opened.loaded }
+    requires teams { length ready.measured.floor.teams ≡ length ready.measured.floor.frame.teams + 1 }
+    requires fits { (s : FloorState) (places : List (ℕ × Option Place)) → s.components
+        ≡ ready.measured.floor.components
+        → AreCommittedPlaces s places
+        → CanBeRenewed ready.original.text.items ready.original.clauses places }
     ensures ok { (document : Document)
-        → opened.original.clauses ≡ map (clause_of opened.original.text.items) document.components
-        → IfOk result (λ status. (bounds : List ℕ) × AreBounds opened.loaded bounds
-        × IsRepaired (map (λ team. team.now) requested.now.teams.now) requested.now.legal (path_of requested.now.export)
-        (path_of requested.now.lines)
-        opened.original.text.items document bounds (initial_floor opened.loaded)
-        (W.contents writer.old) (W.contents writer.new) (E.puts exports.old) (E.puts exports.new) status) }
+        → ready.original.clauses ≡ map (clause_of ready.original.text.items) document.components
+        → IfOk result (IsRepaired (map (λ team. team.now) requested.now.teams.now) requested.now.legal
+        (repair_paths requested.now.files)
+        ready.original.text.items document ready.measured.least.items ready.measured.floor
+        (W.contents writer.old) (W.contents writer.new) (E.puts exports.old) (E.puts exports.new)) }
     ensures err { (document : Document)
-        → opened.original.clauses ≡ map (clause_of opened.original.text.items) document.components
-        → IfErr result (λ fault.
-        ((fault ≡ SetupOutOfMemory) × (W.contents writer.new ≡ W.contents writer.old)
-        × (E.puts exports.new ≡ E.puts exports.old))
-        ⊎ ((bounds : List ℕ) × AreBounds opened.loaded bounds
-        × IsUnrepaired (map (λ team. team.now) requested.now.teams.now) requested.now.legal
-        (path_of requested.now.export) (path_of requested.now.lines)
-        opened.original.text.items document bounds (initial_floor opened.loaded)
-        (W.contents writer.old) (W.contents writer.new) (E.puts exports.old) (E.puts exports.new) fault)) }
+        → ready.original.clauses ≡ map (clause_of ready.original.text.items) document.components
+        → IfErr result (IsUnrepaired (map (λ team. team.now) requested.now.teams.now) requested.now.legal
+        (repair_paths requested.now.files)
+        ready.original.text.items document ready.measured.least.items ready.measured.floor
+        (W.contents writer.old) (W.contents writer.new) (E.puts exports.old) (E.puts exports.new)) }
     ensures blames { IfErr result
         (λ fault. BlamesOutputs fault (writer.new ≡ writer.old) (W.has_failed writer.old) (W.has_failed writer.new)
         (E.has_failed exports.old) (E.has_failed exports.new)) }
-    ensures unput { path_of requested.now.lines ≡ None → OnErr result (E.puts exports.new ≡ E.puts exports.old) }
-    ensures unasked { path_of requested.now.lines ≡ None → path_of requested.now.export
-        ≡ None → exports.new ≡ exports.old }
+    ensures unput { WritesExportAlone (repair_paths requested.now.files)
+        → OnErr result (E.puts exports.new ≡ E.puts exports.old) }
+    ensures unasked { WritesNoFile (repair_paths requested.now.files) → exports.new ≡ exports.old }
     ensures held { W.holds writer.new ≡ W.holds writer.old }
 {
-    kept_clauses_suffice();
-    loaded_cells_are_exportable();
-    places_follow_design();
-    let OpenedDesign { loaded, original } = opened;
-    let least = max_min_displacements(alloc, &loaded)?;
-    let mut floor = start_floor(alloc, loaded)?;
+    let ReadyRepair { measured, original } = ready;
+    let MeasuredFloor { mut floor, least } = measured;
     let mut before = RepairContext {
         original,
         least,
@@ -477,22 +531,24 @@ fn repair_opened<'a, E: OutputFiles, W: Sink, P: Progress>(
     repair_on_floor(alloc, &mut floor, &mut before, requested, exports, writer)
 }
 
-/// Repairs the teams of the design of a DEF file and LEF files by the floor's own commands.
+/// Repairs the teams of the design of a DEF file and LEF files by the floor's own commands. The
+/// floor begins in the state of a state file, if one is given.
 ///
 /// Writes the results as JSON Lines and then the requested files. Returns the exit status: 0, or 4
 /// if the committed design is not fully legal. `Err` is the first fault in this order:
 ///
 /// - the files, LEF and then DEF
 /// - the design
+/// - the state
 /// - a name that is not a team's
 /// - the paths of the requested files
 /// - memory
 /// - the writer
-/// - the requested files, the exported text and then the command lines
+/// - the requested files: the texts with the committed and with the working places, the command
+///   lines, and the state
 ///
-/// No file is written unless the fault is that of the command lines. If the writer is at fault, a
-/// prefix of the report is written. If a file is at fault after the repair, all of the report is
-/// written.
+/// If a file is at fault after the repair, those in front of it and all of the report are written.
+/// At other faults no file is written. If the writer is at fault, a prefix of the report is written.
 pub fn repair<'a, T: InputFiles, E: OutputFiles, W: Sink, P: Progress>(
     alloc: Global,
     texts: &T,
@@ -502,28 +558,23 @@ pub fn repair<'a, T: InputFiles, E: OutputFiles, W: Sink, P: Progress>(
     requested: &RepairJob<'a>,
 ) -> Result<u8, Fault<'a>>
     ensures ok { IfOk result (IsOpenRepaired requested.now.limits (T.gives texts.now) requested.now.def.now
-        (map (λ lef. lef.now) requested.now.lefs.now)
-        (map (λ team. team.now) requested.now.teams.now) requested.now.legal (path_of requested.now.export)
-        (path_of requested.now.lines)
+        (map (λ lef. lef.now) requested.now.lefs.now) (path_of requested.now.state)
+        (map (λ team. team.now) requested.now.teams.now) requested.now.legal (repair_paths requested.now.files)
         (W.contents writer.old) (W.contents writer.new) (E.puts exports.old) (E.puts exports.new)) }
     ensures err { IfErr result (λ fault. IsNotRepaired requested.now.limits (T.gives texts.now) requested.now.def.now
-        (map (λ lef. lef.now) requested.now.lefs.now)
-        (map (λ team. team.now) requested.now.teams.now) requested.now.legal (path_of requested.now.export)
-        (path_of requested.now.lines)
+        (map (λ lef. lef.now) requested.now.lefs.now) (path_of requested.now.state)
+        (map (λ team. team.now) requested.now.teams.now) requested.now.legal (repair_paths requested.now.files)
         (W.contents writer.old) (W.contents writer.new) (E.puts exports.old) (E.puts exports.new) fault
         × BlamesOutputs fault (writer.new ≡ writer.old) (W.has_failed writer.old) (W.has_failed writer.new)
         (E.has_failed exports.old) (E.has_failed exports.new)) }
-    ensures unput { path_of requested.now.lines ≡ None → OnErr result (E.puts exports.new ≡ E.puts exports.old) }
-    ensures unasked { path_of requested.now.lines ≡ None → path_of requested.now.export
-        ≡ None → exports.new ≡ exports.old }
+    ensures unput { WritesExportAlone (repair_paths requested.now.files)
+        → OnErr result (E.puts exports.new ≡ E.puts exports.old) }
+    ensures unasked { WritesNoFile (repair_paths requested.now.files) → exports.new ≡ exports.old }
     ensures held { W.holds writer.new ≡ W.holds writer.old }
 {
-    let opened = open_design(
-        alloc,
-        requested.limits,
-        texts,
-        requested.def,
-        requested.lefs,
-    )?;
-    repair_opened(alloc, opened, requested, exports, writer, progress)
+    kept_clauses_suffice();
+    loaded_cells_are_exportable();
+    places_follow_design();
+    let ready = ready_repair(alloc, texts, requested)?;
+    repair_opened(alloc, ready, requested, exports, writer, progress)
 }

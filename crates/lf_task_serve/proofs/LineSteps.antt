@@ -46,7 +46,7 @@ pub undone : (limits : Limits) (gives : ReadsFile) (def : List ℕ) (lefs : List
     → IsNotServedDesign gives state save export lines loaded text document fault io
     → IsUndone limits gives def lefs state save export (IsServingFault lines) (AreAnswered lines) fault io
 undone limits gives def lefs state save export lines text document loaded fault io is (inl unbegun) =
-    inl (inl (inr (loaded, design_opened limits gives def lefs text document loaded is, unbegun.0)), unbegun.1)
+    inl (inl (inr (loaded, design_opened limits gives def lefs text document loaded is, unbegun.0), unbegun.1), unbegun.1.unput)
 undone limits gives def lefs state save export lines text document loaded fault io is (inr (begin, begins, inl stopped)) =
     inl (inr (begin, (loaded, design_opened limits gives def lefs text document loaded is, begins), stopped.0), stopped.1)
 undone limits gives def lefs state save export lines text document loaded fault io is (inr (begin, begins, inr unsaved)) =

@@ -141,10 +141,12 @@ IsServeFault save export why Work fault io =
     ⊎ (((IsOutputFault Export export fault ⊎ IsOutputFault Save save fault) × IsUntouched io)
     ⊎ (IsOutputFault Export export fault × ((floor : FloorState) × Work floor io)))
 
--- There is nothing to work on for this reason; or there is, and this is why the work on it fails.
+-- There is nothing to work on for this reason, and neither input nor output, files or connections
+-- are touched; or there is, and this is why the work on it fails.
 abbrev pub IsJobStop : {A : Type 0} → (Fault → Type 0) → (A → Type 0) → (A → Fault → Streams → Type 0)
     → Fault → Streams → Type 0
-IsJobStop {A} nothing IsWorkedOn why fault io = nothing fault ⊎ ((on : A) × IsWorkedOn on × why on fault io)
+IsJobStop {A} nothing IsWorkedOn why fault io =
+    (nothing fault × IsUntouched io) ⊎ ((on : A) × IsWorkedOn on × why on fault io)
 
 -- Why a job on lines fails: it stopped, and no file is written; or everything is done except that
 -- the state is not saved.

@@ -20,7 +20,7 @@ use Rattle.lf_task_serve.specs.declared.environment.Environment.{Environment}
 use Rattle.lf_task_serve.specs.declared.line_source.LineSource.{LineSource}
 use Rattle.lf_task_serve.specs.declared.serve_task.OpenDesign.{OpenDesign}
 use Rattle.lf_task_serve.specs.declared.line_source.LineSource.TheVariants.{Reader, Port}
-use Rattle.lf_task_serve.specs.Exits.{AnswersInput, EndsWithFault, IsFinished, IsOffered, IsServiceFault, IsServeFault, Streams}
+use Rattle.lf_task_serve.specs.Exits.{AnswersInput, EndsWithFault, IsFinished, IsOffered, IsServiceFault, IsServeFault, IsUntouched, Streams}
 use Rattle.lf_task_serve.specs.Lines.{ReadsFail}
 use Rattle.lf_task_serve.specs.Services.{OffersLocal}
 use Rattle.lf_task_serve.specs.Surroundings.{IsSound}
@@ -63,11 +63,11 @@ IsUnfinished save export lines begin text document fault io =
     ⊎ (IsOutputFault Save save fault × IsFinished (AreAnswered lines begin) None export text document io)
 
 -- Why the work on the design of a text is not finished: there is no floor with which to begin, and
--- no file is written; or the work on its floor is not finished.
+-- nothing is touched; or the work on its floor is not finished.
 abbrev pub IsNotServedDesign : ReadsFile → Option (List ℕ) → Option (List ℕ) → Option (List ℕ) → LineSource → Loaded
     → List ℕ → Document → Fault → Streams → Type 0
 IsNotServedDesign gives state save export lines loaded text document fault io =
-    (IsNotOpened gives state loaded fault × (io.new_puts ≡ io.old_puts))
+    (IsNotOpened gives state loaded fault × IsUntouched io)
     ⊎ ((begin : FloorState) × IsOpenedFloor gives state (initial_floor loaded) begin
     × IsUnfinished save export lines begin text document fault io)
 

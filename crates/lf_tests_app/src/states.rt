@@ -152,6 +152,7 @@ fn checked(rt: &HostRuntime, state: &[u8]) -> Result<Run, AllocError> {
         lefs: only_lef(rt.alloc())?,
         state: Some(STATE),
         slots: Slots::standard(),
+        committed: false,
     };
     Ok(done(rt, &files_with(state), &task, ""))
 }

@@ -479,6 +479,7 @@ fn check_of_w<'a>(alloc: Global) -> Result<Task<'a>, AllocError> {
         lefs: only_lef(alloc)?,
         state: None,
         slots: Slots::standard(),
+        committed: false,
     })
 }
 

@@ -1,6 +1,6 @@
 //! The words of the command line.
 
-use lf_cli::{LegalCells, Task, UsageFault, command_of};
+use lf_cli::{LegalCells, RepairFiles, Task, UsageFault, command_of};
 use std::alloc::{AllocError, Global};
 use std::test::Fail;
 
@@ -13,6 +13,7 @@ enum Named<'a> {
         lefs: &'a [&'a str],
         state: Option<&'a str>,
         sessions: u32,
+        committed: bool,
     },
     Describe {
         def: &'a str,
@@ -42,10 +43,11 @@ enum Named<'a> {
     Repair {
         def: &'a str,
         lefs: &'a [&'a str],
+        state: Option<&'a str>,
+        sessions: u32,
         teams: &'a [&'a str],
         legal: LegalCells,
-        export: Option<&'a str>,
-        lines: Option<&'a str>,
+        files: RepairFiles<'a>,
     },
     Nothing(UsageFault),
 }
@@ -59,11 +61,13 @@ fn as_named<'a>(task: &'a Task<'a>) -> Named<'a> {
             lefs,
             state,
             slots,
+            committed,
         } => Named::Check {
             def: *def,
             lefs: lefs.as_slice(),
             state: *state,
             sessions: slots.number,
+            committed: *committed,
         },
         Task::Describe {
             def,
@@ -115,17 +119,19 @@ fn as_named<'a>(task: &'a Task<'a>) -> Named<'a> {
         Task::Repair {
             def,
             lefs,
+            state,
+            slots,
             teams,
             legal,
-            export,
-            lines,
+            files,
         } => Named::Repair {
             def: *def,
             lefs: lefs.as_slice(),
+            state: *state,
+            sessions: slots.number,
             teams: teams.as_slice(),
             legal: *legal,
-            export: *export,
-            lines: *lines,
+            files: *files,
         },
     }
 }
@@ -168,6 +174,7 @@ fn words_name_the_demo_a_check_and_a_description(rt: HostRuntime) -> Result<(), 
         lefs: &["x.lef"],
         state: None,
         sessions: 8,
+        committed: false,
     };
     assert!(rt; names(rt.alloc(), "lefence check x.def x.lef", &check)?);
     let describe = Named::Describe {
@@ -281,6 +288,7 @@ fn words_name_the_state_that_is_looked_at(rt: HostRuntime) -> Result<(), Fail> {
         lefs: &["b", "c"],
         state: Some("s"),
         sessions: 8,
+        committed: false,
     };
     let lines = [
         "lefence check a b c --state s",
@@ -297,6 +305,52 @@ fn words_name_the_state_that_is_looked_at(rt: HostRuntime) -> Result<(), Fail> {
     Ok(())
 }
 
+/// The committed places of a saved state are shown.
+#[test]
+fn words_name_the_committed_places(rt: HostRuntime) -> Result<(), Fail> {
+    for (line, state) in [
+        ("lefence check a b --committed", None),
+        ("lefence check a b --state s --committed", Some("s")),
+        ("lefence check --committed a --state=s b", Some("s")),
+    ] {
+        let check = Named::Check {
+            def: "a",
+            lefs: &["b"],
+            state,
+            sessions: 8,
+            committed: true,
+        };
+        assert!(rt; names(rt.alloc(), line, &check)?, "{line}");
+    }
+    Ok(())
+}
+
+/// A repair begins with a saved state, and writes all of its files.
+#[test]
+fn words_name_the_files_of_a_repair(rt: HostRuntime) -> Result<(), Fail> {
+    let files = RepairFiles {
+        export: Some("a"),
+        working: Some("w"),
+        lines: Some("l"),
+        save: Some("s"),
+    };
+    let repair = Named::Repair {
+        def: "a",
+        lefs: &["b"],
+        state: Some("s"),
+        sessions: 9,
+        teams: &["A"],
+        legal: LegalCells::KeepLegal,
+        files,
+    };
+    let lines = [
+        "lefence repair a b --state s --sessions 9 --team A --keep --export a --export-working w --lines l --save s",
+        "lefence repair --save=s --lines=l --export-working=w --export=a --keep --team=A --sessions=9 --state=s a b",
+    ];
+    assert!(rt; all_name(rt.alloc(), lines.as_slice(), &repair)?);
+    Ok(())
+}
+
 /// A number of session slots is given.
 #[test]
 fn words_name_the_number_of_sessions(rt: HostRuntime) -> Result<(), Fail> {
@@ -310,6 +364,7 @@ fn words_name_the_number_of_sessions(rt: HostRuntime) -> Result<(), Fail> {
             lefs: &["b"],
             state: None,
             sessions,
+            committed: false,
         };
         assert!(rt; names(rt.alloc(), line, &check)?, "{line}");
     }
@@ -369,7 +424,7 @@ fn other_numbers_of_sessions_are_refused(rt: HostRuntime) -> Result<(), Fail> {
         "lefence replay a b --sessions 4294967304",
         "lefence replay a b --sessions 9 --sessions 9",
         "lefence serve a b --port 80 --connections 3 --sessions 65",
-        "lefence repair a b --sessions 9",
+        "lefence repair a b --sessions 65",
         "lefence demo --sessions 9",
     ];
     let nothing = Named::Nothing(UsageFault::Usage);
@@ -468,6 +523,18 @@ fn files_of_other_arguments_are_not_written(rt: HostRuntime) -> Result<(), Fail>
         "lefence repair a b c --lines c",
         "lefence repair a b --export x --lines x",
         "lefence repair a b --export a --lines a",
+        "lefence repair a b --state s --lines s",
+        "lefence repair a b --state s --export s",
+        "lefence repair a b --state s --export-working s",
+        "lefence repair a b --save a",
+        "lefence repair a b c --save c",
+        "lefence repair a b --save x --lines x",
+        "lefence repair a b --save x --export x",
+        "lefence repair a b --export-working a",
+        "lefence repair a b c --export-working c",
+        "lefence repair a b --export-working x --export x",
+        "lefence repair a b --export-working x --lines x",
+        "lefence repair a b --export-working x --save x",
     ];
     let nothing = Named::Nothing(UsageFault::Usage);
     assert!(rt; all_name(rt.alloc(), lines.as_slice(), &nothing)?);
@@ -513,7 +580,13 @@ fn other_words_are_refused(rt: HostRuntime) -> Result<(), Fail> {
         "lefence repair x.def x.lef --keep=true",
         "lefence repair x.def x.lef --team",
         "lefence repair x.def x.lef --team -x",
-        "lefence repair x.def x.lef --state s",
+        "lefence repair x.def x.lef --state s --state s",
+        "lefence repair x.def x.lef --save",
+        "lefence repair x.def x.lef --export-working",
+        "lefence check x.def x.lef --committed --committed",
+        "lefence check x.def x.lef --committed=true",
+        "lefence describe x.def x.lef --committed",
+        "lefence replay x.def x.lef --export-working w",
         "lefence replay x.def x.lef --save s --save s",
     ];
     let nothing = Named::Nothing(UsageFault::Usage);

@@ -59,6 +59,12 @@ fn narrow_def_of(alloc: Global, cells: &Cells) -> Result<Vec<u8>, AllocError> {
     with_line(alloc, def.as_slice(), 11, fence)
 }
 
+/// The built-in DEF text with these lines, and with a soft blockage.
+fn soft_def_of(alloc: Global, cells: &Cells, soft: &[u8]) -> Result<Vec<u8>, AllocError> {
+    let def = def_of(alloc, cells)?;
+    with_line(alloc, def.as_slice(), 22, soft)
+}
+
 /// A condition on a floor.
 trait Requested {
     /// Whether the condition holds.
@@ -236,6 +242,48 @@ fn legal_cells_stay(rt: HostRuntime) -> Result<(), Fail> {
         left: &[],
     };
     assert!(rt; holds(rt.alloc(), &def, &comes)?);
+    Ok(())
+}
+
+#[test]
+fn a_cell_that_moves_keeps_clear_of_a_soft_blockage(rt: HostRuntime) -> Result<(), Fail> {
+    let soft = b"- PLACEMENT + SOFT RECT ( 400 0 ) ( 800 2000 ) ;";
+    let def = soft_def_of(rt.alloc(), &OVERLAPPING, soft)?;
+    for how in [
+        MovePolicy::KeepLegal,
+        MovePolicy::MoveAsNeeded,
+        MovePolicy::MoveAll,
+    ] {
+        let comes = Comes {
+            how,
+            counts: [2, 1, 1, 0, 0],
+            ways: (600, 600),
+            changed: &[1],
+            left: &[],
+        };
+        assert!(rt; holds(rt.alloc(), &def, &comes)?);
+    }
+    Ok(())
+}
+
+#[test]
+fn a_legal_cell_on_a_soft_blockage_stays(rt: HostRuntime) -> Result<(), Fail> {
+    let soft = b"- PLACEMENT + SOFT RECT ( 0 0 ) ( 4000 4000 ) ;";
+    let def = soft_def_of(rt.alloc(), &LEGAL, soft)?;
+    for how in [
+        MovePolicy::KeepLegal,
+        MovePolicy::MoveAsNeeded,
+        MovePolicy::MoveAll,
+    ] {
+        let comes = Comes {
+            how,
+            counts: [0, 3, 0, 0, 0],
+            ways: (0, 0),
+            changed: &[],
+            left: &[],
+        };
+        assert!(rt; holds(rt.alloc(), &def, &comes)?);
+    }
     Ok(())
 }
 

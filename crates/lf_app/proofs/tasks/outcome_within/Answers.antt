@@ -1,7 +1,9 @@
-use Rattle.std.proofs.Common.{◌∙◌, refl, sym}
+use Rattle.std.proofs.Common.{◌∙◌, refl, subst, sym}
 use Rattle.lf_task_serve.specs.Lines.{default_most_lines}
 use Rattle.lf_task_serve.proofs.Answering.{streams_blame}
 use Rattle.lf_task_files.proofs.WorkSteps.{also_fails, blames_as, writer_blames}
+use Rattle.lf_task_repair.specs.Repairs.{WritesExportAlone, WritesNoFile}
+use Rattle.lf_app.proofs.TaskSteps.{stops_untouched}
 use Rattle.lf_app.proofs.tasks.outcome_within.Goals as goal
 
 pub returns-in-Replay-clause-ok : goal.returns-in-Replay-clause-ok
@@ -38,7 +40,8 @@ returns-in-Check-clause-ok g c =
 pub returns-in-Check-clause-err : goal.returns-in-Check-clause-err
 returns-in-Check-clause-err g c =
     let i = rw c.in-Check.is at c.input_of-inputs.ensures in
-    rw c.in-Check.is (also_fails c.check.result _ _ _ (rw (i.def_is, i.lefs_are, i.state_is, i.limits_are) at c.check.ensures.err)
+    rw c.in-Check.is (stops_untouched c.check.result _ _ _ _ _ _ (rw (i.def_is, i.lefs_are, i.state_is, i.limits_are) at c.check.ensures.err)
+    (λ same. record { unread = refl; unwritten = same; unput = refl; unaccepted = refl })
     (λ fault blames. writer_blames fault _ _ _ _ _ _ _ _ blames (λ k. k) (λ same. record { exports = refl; services = refl; reader = refl; writer = same })))
 
 pub returns-in-Describe-clause-ok : goal.returns-in-Describe-clause-ok
@@ -76,7 +79,8 @@ returns-in-Serve-clause-unasked g c = λ asks.
 
 pub returns-in-Demo-clause-err : goal.returns-in-Demo-clause-err
 returns-in-Demo-clause-err g c =
-    rw c.in-Demo.is (also_fails c.demo.result _ _ _ c.demo.ensures.err
+    rw c.in-Demo.is (stops_untouched c.demo.result _ _ _ _ _ _ c.demo.ensures.err
+    (λ same. record { unread = same.unread; unwritten = same.unwritten; unput = refl; unaccepted = refl })
     (λ fault blames. streams_blame default_most_lines fault _ _ _ _ _ _ _ _ blames
     (λ sound. record { exports = refl; services = refl; reader = sound.0 ∙ sym c.requires.ready.readable; writer = sound.1 ∙ sym c.requires.ready.writable })))
 
@@ -84,26 +88,25 @@ pub returns-in-Repair-clause-ok : goal.returns-in-Repair-clause-ok
 returns-in-Repair-clause-ok g c =
     let i = rw c.in-Repair.is at c.input_of-inputs.ensures in
     let r = c.repair_job-requested.ensures in
-    let ok = rw (r.def, r.lefs, r.teams, r.legal, r.export, r.lines, r.limits) at c.repair.ensures.ok in
-    rw c.in-Repair.is (rw (i.def_is, i.lefs_are, i.limits_are, c.as_slice.ensures) at ok)
+    let ok = rw (r.def, r.lefs, r.teams, r.legal, r.state, r.files, r.limits) at c.repair.ensures.ok in
+    rw c.in-Repair.is (rw (i.def_is, i.lefs_are, i.state_is, i.limits_are, c.as_slice.ensures) at ok)
 
 pub returns-in-Repair-clause-err : goal.returns-in-Repair-clause-err
 returns-in-Repair-clause-err g c =
     let i = rw c.in-Repair.is at c.input_of-inputs.ensures in
     let r = c.repair_job-requested.ensures in
-    let err = rw (r.def, r.lefs, r.teams, r.legal, r.export, r.lines, r.limits) at c.repair.ensures.err in
-    rw c.in-Repair.is (also_fails c.repair.result _ _ _ (rw (i.def_is, i.lefs_are, i.limits_are, c.as_slice.ensures) at err)
+    let err = rw (r.def, r.lefs, r.teams, r.legal, r.state, r.files, r.limits) at c.repair.ensures.err in
+    rw c.in-Repair.is (also_fails c.repair.result _ _ _ (rw (i.def_is, i.lefs_are, i.state_is, i.limits_are, c.as_slice.ensures) at err)
     (λ fault blames. blames_as fault _ _ _ _ _ _ _ _ _ _ _ _ blames (λ k. k) (λ none. absurd none) (λ w. w) (λ e. e) (λ none. absurd none)
     (λ sound. record { exports = sound.1; services = refl; reader = refl; writer = sound.0 })))
 
 pub returns-in-Repair-clause-unput : goal.returns-in-Repair-clause-unput
-returns-in-Repair-clause-unput g c = λ none. c.repair.ensures.unput (c.repair_job-requested.ensures.lines ∙ (rw c.in-Repair.is at none))
+returns-in-Repair-clause-unput g c = λ alone.
+    c.repair.ensures.unput (subst WritesExportAlone (sym c.repair_job-requested.ensures.files) (rw c.in-Repair.is at alone))
 
 pub returns-in-Repair-clause-unasked : goal.returns-in-Repair-clause-unasked
-returns-in-Repair-clause-unasked g c = λ asks.
-    let none = rw c.in-Repair.is at asks in
-    let r = c.repair_job-requested.ensures in
-    c.repair.ensures.unasked (r.lines ∙ none.0) (r.export ∙ none.1)
+returns-in-Repair-clause-unasked g c = λ none.
+    c.repair.ensures.unasked (subst WritesNoFile (sym c.repair_job-requested.ensures.files) (rw c.in-Repair.is at none))
 
 pub returns-in-Repair-clause-silent : goal.returns-in-Repair-clause-silent
 returns-in-Repair-clause-silent g c = λ nothing. absurd (rw c.in-Repair.is at nothing)

@@ -1,6 +1,6 @@
 use Rattle.std.proofs.Common.{◌≡◌, ◌≤◌, ◌+◌, List, [], ◌∷◌, length, refl, sym, ap, ◌∙◌, arith, rules}
 use Rattle.std.proofs.lemmas.List.{length-append}
-use Rattle.lf_state_text.specs.declared.saved_rows.TeamRow.{TeamRow}
+use Rattle.lf_state_text.specs.declared.saved_rows.SavedTeamRow.{SavedTeamRow}
 use Rattle.lf_state_text.specs.Saved.{team_view, team_views}
 use Rattle.lf_state_restore.proofs.Framing.{due_many}
 use Rattle.lf_floor_verbs.specs.Tables.{frame_of, teams_in}
@@ -31,10 +31,10 @@ restore_team-requires c =
     let left = c.loop-alloc.left.items in
     let k = length c.as_slice-number.result.now in
     let is = views_more rest left c.in-Some.row c.in-Some.ensures.items in
-    let here : k ≡ length rest = ap (λ (rows : List TeamRow). length rows) c.as_slice-number.ensures.value in
+    let here : k ≡ length rest = ap (λ (rows : List SavedTeamRow). length rows) c.as_slice-number.ensures.value in
     let at = here ∙ sym (views_many rest) in
     let few : length (team_views left) ≤ length (teams_in start) = let f = c.loop-alloc.invariant.few in omega (arith, f, views_many left) in
-    let more : length left ≡ length rest + 1 = ap (λ (rows : List TeamRow). length rows) c.in-Some.ensures.items ∙ length-append rest (c.in-Some.row ∷ []) in
+    let more : length left ≡ length rest + 1 = ap (λ (rows : List SavedTeamRow). length rows) c.in-Some.ensures.items ∙ length-append rest (c.in-Some.row ∷ []) in
     record {
       served = last_team_served start now all (team_views left) (team_views rest) (team_view c.in-Some.row) k is at few c.loop-alloc.invariant.cells c.loop-alloc.invariant.left;
       due = last_is_saved start now all (team_views left) (team_views rest) (team_view c.in-Some.row) k is at few c.loop-alloc.invariant.cells c.loop-alloc.invariant.left;
@@ -51,10 +51,10 @@ loop-alloc-preserved c =
     let left = c.loop-alloc.left.items in
     let k = length c.as_slice-number.result.now in
     let is = views_more rest left c.in-Some.row c.in-Some.ensures.items in
-    let here : k ≡ length rest = ap (λ (rows : List TeamRow). length rows) c.as_slice-number.ensures.value in
+    let here : k ≡ length rest = ap (λ (rows : List SavedTeamRow). length rows) c.as_slice-number.ensures.value in
     let at = here ∙ sym (views_many rest) in
     let few : length (team_views left) ≤ length (teams_in start) = let f = c.loop-alloc.invariant.few in omega (arith, f, views_many left) in
-    let more : length left ≡ length rest + 1 = ap (λ (rows : List TeamRow). length rows) c.in-Some.ensures.items ∙ length-append rest (c.in-Some.row ∷ []) in
+    let more : length left ≡ length rest + 1 = ap (λ (rows : List SavedTeamRow). length rows) c.in-Some.ensures.items ∙ length-append rest (c.in-Some.row ∷ []) in
     record {
       left =
           last_keeps_others start now all (team_views left) (team_views rest) (team_view c.in-Some.row) k is at few c.loop-alloc.invariant.cells c.loop-alloc.invariant.left

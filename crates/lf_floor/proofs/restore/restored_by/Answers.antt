@@ -1,5 +1,5 @@
 use Rattle.std.proofs.Common.{◌≡◌, List, length, map, ap, subst, sym, ◌∙◌}
-use Rattle.lf_state_text.specs.declared.saved_rows.TeamRow.{TeamRow}
+use Rattle.lf_state_text.specs.declared.saved_rows.SavedTeamRow.{SavedTeamRow}
 use Rattle.lf_state_text.specs.Saved.{SavedTeam, team_views}
 use Rattle.lf_state_restore.specs.Saved.{MatchDesign, restored_floor}
 use Rattle.lf_state_restore.specs.Placed.{without_cells}
@@ -18,10 +18,10 @@ restore_teams-requires c =
     let are = c.requires.tables in
     let due = c.requires.due in
     let same = c.deref_mut.ensures.value in
-    let placed : PlacesTeams saved old new = subst (λ (rows : List TeamRow). PlacesTeams (team_views rows) old new) same c.in_ok-placed.ensures.places in
+    let placed : PlacesTeams saved old new = subst (λ (rows : List SavedTeamRow). PlacesTeams (team_views rows) old new) same c.in_ok-placed.ensures.places in
     let emptied : team_views left ≡ map without_cells saved =
-    c.place_cells.ensures.rows ∙ ap (λ (rows : List TeamRow). map without_cells (team_views rows)) same in
-    let back = in_place c.args.rows.len rows left c.args.rows.ok.0 (c.place_cells.auto.rows ∙ ap (λ (rows : List TeamRow). length rows) same) in
+    c.place_cells.ensures.rows ∙ ap (λ (rows : List SavedTeamRow). map without_cells (team_views rows)) same in
+    let back = in_place c.args.rows.len rows left c.args.rows.ok.0 (c.place_cells.auto.rows ∙ ap (λ (rows : List SavedTeamRow). length rows) same) in
     record {
       tables = tables_placed saved old are due new placed;
       many = rows_many saved old are due new placed _ left back emptied;
@@ -42,9 +42,9 @@ returns-clause-floor c =
     let are = c.requires.tables in
     let due = c.requires.due in
     let same = c.deref_mut.ensures.value in
-    let placed : PlacesTeams saved old new = subst (λ (rows : List TeamRow). PlacesTeams (team_views rows) old new) same c.in_ok-placed.ensures.places in
+    let placed : PlacesTeams saved old new = subst (λ (rows : List SavedTeamRow). PlacesTeams (team_views rows) old new) same c.in_ok-placed.ensures.places in
     let emptied : team_views left ≡ map without_cells saved =
-    c.place_cells.ensures.rows ∙ ap (λ (rows : List TeamRow). map without_cells (team_views rows)) same in
-    let back = in_place c.args.rows.len rows left c.args.rows.ok.0 (c.place_cells.auto.rows ∙ ap (λ (rows : List TeamRow). length rows) same) in
+    c.place_cells.ensures.rows ∙ ap (λ (rows : List SavedTeamRow). map without_cells (team_views rows)) same in
+    let back = in_place c.args.rows.len rows left c.args.rows.ok.0 (c.place_cells.auto.rows ∙ ap (λ (rows : List SavedTeamRow). length rows) same) in
     floor_placed saved old are due new placed (floor_in c.restore_teams.new.tables)
     (c.in_ok-restore_teams.ensures.floor ∙ ap (restored_floor (floor_in new)) (rows_reported saved old are due new placed _ left back emptied))

@@ -1,7 +1,8 @@
-use Rattle.std.proofs.Common.{◌≡◌, ◌∙◌, ℕ, List, Some, ap, inl, inr, sym}
+use Rattle.std.proofs.Common.{◌∙◌, ℕ, List, Some, ap, inl, inr, sym}
 use Rattle.std.proofs.lemmas.Result.{on_ok_weaker}
 use Rattle.lf_repair_team.specs.Runs.{IsRunWithCutLine, IsWrittenRun}
 use Rattle.lf_repair_team.proofs.LastPass.{another_cell, legal_unless, named_unplaced, none_affected, now_legal, placed_is_legal, state_named, unplaced_is_illegal}
+use Rattle.lf_repair_team.proofs.OffSoft.{none_moves_onto_soft, one_moves_off_soft}
 use Rattle.lf_repair_team.proofs.Results.{err_from, ok_from}
 use Rattle.lf_repair_team.proofs.Runs.{none_cut, nothing, unchanged, uncut}
 use Rattle.lf_repair_team.proofs.Steps.{place_of_state}
@@ -127,3 +128,39 @@ returns-clause-done g c = λ ok.
     (λ says. inr (c.in-Ok.ensures.refused s.0 c.args.own s.1 (s.2 ∙ ap (λ (n : List ℕ). Some n) (sym c.as_slice.ensures.value))
     (sym (place_of_state c.args.floor.now c.args.seat.now.team.now c.args.own s.0 s.1) ∙ (sym c.place_of.ensures ∙ c.in-None.is)) says))
     c.stop_unless_no_place.ensures
+
+pub returns-in-Some-clause-off_soft : goal.returns-in-Some-clause-off_soft
+returns-in-Some-clause-off_soft g c = none_moves_onto_soft c.args.seat.now.team.now c.args.floor.now
+
+pub returns-in-Ok-false-clause-off_soft : goal.returns-in-Ok-false-clause-off_soft
+returns-in-Ok-false-clause-off_soft g c = none_moves_onto_soft c.args.seat.now.team.now c.args.floor.now
+
+pub returns-in-Err-clause-off_soft : goal.returns-in-Err-clause-off_soft
+returns-in-Err-clause-off_soft g c = none_moves_onto_soft c.args.seat.now.team.now c.args.floor.now
+
+pub returns-in-Err-legalize_named-clause-off_soft : goal.returns-in-Err-legalize_named-clause-off_soft
+returns-in-Err-legalize_named-clause-off_soft g c =
+    let s = state_named c.args.seat.now.team.now c.args.floor.now c.args.own _ (c.in-Ok-true.ensures.known c.in-Ok-true.field-0-test) in
+    one_moves_off_soft c.args.seat.now.team.now c.args.floor.now c.legalize_named.new.floor c.args.own
+    (λ other differ. c.in-Err-legalize_named.ensures.cells other (another_cell c.args.seat.now.team.now c.as_slice.result.now c.args.floor.now c.args.own other c.teams_match_frame.ensures
+    (λ s there. c.in-Ok-true.ensures.name s c.in-Ok-true.field-0-test there ∙ ap (λ (n : List ℕ). Some n) (sym c.as_slice.ensures.value)) differ))
+    (c.in-Err-legalize_named.ensures.off_soft s.0 c.args.own s.1 (s.2 ∙ ap (λ (n : List ℕ). Some n) (sym c.as_slice.ensures.value))
+    (sym (place_of_state c.args.floor.now c.args.seat.now.team.now c.args.own s.0 s.1) ∙ (sym c.place_of.ensures ∙ c.in-None.is)))
+
+pub returns-then-is_cell_legal-clause-off_soft : goal.returns-then-is_cell_legal-clause-off_soft
+returns-then-is_cell_legal-clause-off_soft g c =
+    let s = state_named c.args.seat.now.team.now c.args.floor.now c.args.own _ (c.in-Ok-true.ensures.known c.in-Ok-true.field-0-test) in
+    one_moves_off_soft c.args.seat.now.team.now c.args.floor.now c.legalize_named.new.floor c.args.own
+    (λ other differ. c.in-Ok.ensures.cells other (another_cell c.args.seat.now.team.now c.as_slice.result.now c.args.floor.now c.args.own other c.teams_match_frame.ensures
+    (λ s there. c.in-Ok-true.ensures.name s c.in-Ok-true.field-0-test there ∙ ap (λ (n : List ℕ). Some n) (sym c.as_slice.ensures.value)) differ))
+    (c.in-Ok.ensures.off_soft s.0 c.args.own s.1 (s.2 ∙ ap (λ (n : List ℕ). Some n) (sym c.as_slice.ensures.value))
+    (sym (place_of_state c.args.floor.now c.args.seat.now.team.now c.args.own s.0 s.1) ∙ (sym c.place_of.ensures ∙ c.in-None.is)))
+
+pub returns-clause-off_soft : goal.returns-clause-off_soft
+returns-clause-off_soft g c =
+    let s = state_named c.args.seat.now.team.now c.args.floor.now c.args.own _ (c.in-Ok-true.ensures.known c.in-Ok-true.field-0-test) in
+    one_moves_off_soft c.args.seat.now.team.now c.args.floor.now c.legalize_named.new.floor c.args.own
+    (λ other differ. c.in-Ok.ensures.cells other (another_cell c.args.seat.now.team.now c.as_slice.result.now c.args.floor.now c.args.own other c.teams_match_frame.ensures
+    (λ s there. c.in-Ok-true.ensures.name s c.in-Ok-true.field-0-test there ∙ ap (λ (n : List ℕ). Some n) (sym c.as_slice.ensures.value)) differ))
+    (c.in-Ok.ensures.off_soft s.0 c.args.own s.1 (s.2 ∙ ap (λ (n : List ℕ). Some n) (sym c.as_slice.ensures.value))
+    (sym (place_of_state c.args.floor.now c.args.seat.now.team.now c.args.own s.0 s.1) ∙ (sym c.place_of.ensures ∙ c.in-None.is)))

@@ -7,6 +7,7 @@ use Rattle.lf_floor_model.specs.Teams.{team_number}
 use Rattle.lf_repair_team.specs.CellEdits.{IsLegalOrUnplaced, IsLegalOrWithoutPlace}
 use Rattle.lf_repair_team.specs.TeamRepairs.{place_of_cell_in}
 use Rattle.lf_repair_team.proofs.LastPass.{done_more, none_affected, still_unplaced, then_legal}
+use Rattle.lf_repair_team.proofs.OffSoft.{none_moves_onto_soft, then_off_soft}
 use Rattle.lf_repair_team.proofs.Runs.{nothing, then_cut, then_only, then_written, unchanged}
 use Rattle.lf_repair_team.proofs.last_pass.legalize_cells.Goals as goal
 
@@ -19,6 +20,7 @@ loop-own-init g c = record {
   all = All-weaker (λ own. place_of_cell_in c.args.floor.now c.args.seat.now.team.now own ≡ None) (λ own. IsLegalOrUnplaced c.args.floor.now c.args.seat.now.team.now own) (λ own none. inr none)
       c.args.cells.now c.requires.unplaced;
   done = All-nil (λ own. IsLegalOrWithoutPlace c.args.floor.now c.args.seat.now.team.now own);
+  off_soft = none_moves_onto_soft c.args.seat.now.team.now c.args.floor.now;
 }
 
 pub returns-in-Err-clause-err : goal.returns-in-Err-clause-err
@@ -62,6 +64,7 @@ loop-own-preserved g c = record {
         done = c.in-Ok.ensures.done (All-get_or (λ own. IsLegalOrUnplaced c.loop-own.floor c.args.seat.now.team.now own) c.args.cells.now c.loop-own.own-index 0 c.loop-own-test.true
             c.loop-own.invariant.all);
       }) c.loop-own.invariant.done;
+  off_soft = then_off_soft c.args.seat.now.team.now c.loop-own.floor c.legalize_cell.new.floor c.in-Ok.ensures.only c.args.floor.now c.loop-own.invariant.off_soft c.in-Ok.ensures.off_soft;
 }
 
 pub legalize_cell-requires : goal.legalize_cell-requires

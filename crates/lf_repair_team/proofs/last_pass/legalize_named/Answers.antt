@@ -7,9 +7,10 @@ use Rattle.lf_floor_model.specs.Steps.{Step}
 use Rattle.lf_repair_team.specs.CellEdits.{SaysNoPlace}
 use Rattle.lf_repair_team.specs.TeamRepairs.{HasNoPlace}
 use Rattle.lf_repair_team.proofs.Cells.{others_stay}
+use Rattle.lf_repair_team.proofs.OffSoft.{legalize_off_soft}
 use Rattle.lf_repair_team.proofs.OthersLegal.{other_remains_legal}
 use Rattle.lf_repair_team.proofs.Results.{ok_weaker}
-use Rattle.lf_repair_team.proofs.Steps.{committed_stays}
+use Rattle.lf_repair_team.proofs.Slots.{committed_and_slots_stay}
 use Rattle.lf_repair_team.proofs.WithoutPlace.{other_has_none, refused_has_none}
 use Rattle.lf_repair_team.proofs.last_pass.legalize_named.Goals as goal
 
@@ -26,8 +27,8 @@ returns-clause-legal g c = λ other differ.
 
 pub returns-clause-committed : goal.returns-clause-committed
 returns-clause-committed g c =
-    committed_stays c.legalizer_exists.ensures c.args.floor.now c.run_action.new.floor c.args.seat.now.team.now
-    (Within c.args.seat.now.session (Changing (Legalize c.args.cell.now c.target_in_range.result))) refl (c.run_action.ensures.requested c.legalizer_exists.ensures)
+    committed_and_slots_stay c.legalizer_exists.ensures c.args.floor.now c.run_action.new.floor c.args.seat.now.team.now c.args.seat.now.session
+    (Legalize c.args.cell.now c.target_in_range.result) (c.run_action.ensures.requested c.legalizer_exists.ensures) refl
 
 pub returns-clause-without : goal.returns-clause-without
 returns-clause-without g c = λ other differ unplaced has.
@@ -45,3 +46,8 @@ returns-clause-refused g c = λ s own there at unplaced.
     (λ reply step. refused_has_none l old new team c.args.cell.now c.args.seat.now.session own c.target_in_range.result s reply c.best_is_found.ensures c.refusal_keeps_state.ensures
     c.teams_match_frame.ensures c.run_action.ensures.only.frame there at unplaced step)
     (c.run_action.ensures.replied l)
+
+pub returns-clause-off_soft : goal.returns-clause-off_soft
+returns-clause-off_soft g c = λ s own there at unplaced.
+    legalize_off_soft c.legalizer_exists.ensures c.args.floor.now c.run_action.new.floor c.args.seat.now.team.now c.args.cell.now c.args.seat.now.session own c.target_in_range.result s
+    c.best_is_found.ensures c.teams_match_frame.ensures c.run_action.ensures.only.frame there at unplaced (c.run_action.ensures.requested c.legalizer_exists.ensures)

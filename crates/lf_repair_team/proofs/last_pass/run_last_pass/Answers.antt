@@ -1,11 +1,12 @@
-use Rattle.std.proofs.Common.{◌≡◌, ◌∙◌, ℕ, List, None, ap, refl, subst, sym}
+use Rattle.std.proofs.Common.{◌≡◌, ◌∙◌, ℕ, List, None, ap, subst, sym}
 use Rattle.std.specs.Prelude.{All}
 use Rattle.lf_floorplan.specs.declared.frame.Frame.{Frame}
 use Rattle.lf_floor_model.specs.Teams.{team_number}
 use Rattle.lf_repair_team.specs.CellEdits.{IsLegalOrWithoutPlace}
 use Rattle.lf_repair_team.specs.TeamRepairs.{IsIllegalIn, place_of_cell_in}
 use Rattle.lf_repair_team.proofs.LastPass.{empty_none, illegal_have_none, legal_places, none_unrepaired, some_there, then_legal}
-use Rattle.lf_repair_team.proofs.Runs.{none_cut, nothing, then_cut, then_only, then_written, unchanged, uncut}
+use Rattle.lf_repair_team.proofs.OffSoft.{none_moves_onto_soft, then_off_soft}
+use Rattle.lf_repair_team.proofs.Runs.{none_cut, nothing, then_cut, then_only, then_written, uncut}
 use Rattle.lf_repair_team.proofs.last_pass.run_last_pass.Goals as goal
 
 pub returns-in_default-clause-err : goal.returns-in_default-clause-err
@@ -82,3 +83,11 @@ returns-in-Ok-illegal_cells-clause-unrepaired g c = record {
       c.in-Ok-illegal_cells.ensures.illegal;
   rise = c.in-Ok-illegal_cells.ensures.rise;
 }
+
+pub returns-then-is_empty-clause-off_soft : goal.returns-then-is_empty-clause-off_soft
+returns-then-is_empty-clause-off_soft g c = none_moves_onto_soft c.args.seat.now.team.now c.args.floor.now
+
+pub returns-in-Ok-illegal_cells-clause-off_soft : goal.returns-in-Ok-illegal_cells-clause-off_soft
+returns-in-Ok-illegal_cells-clause-off_soft g c =
+    then_off_soft c.args.seat.now.team.now c.unplace_cells.new.floor c.legalize_cells.new.floor c.in-Ok-legalize_cells.ensures.only c.args.floor.now c.in-Ok-unplace_cells.ensures.off_soft
+    c.in-Ok-legalize_cells.ensures.off_soft

@@ -1,9 +1,10 @@
-use Rattle.std.proofs.Common.{◌≡◌, ◌∙◌, ℕ, List, None, arith, get_or, refl, subst}
+use Rattle.std.proofs.Common.{◌≡◌, ◌∙◌, ℕ, List, None, arith, get_or, inl, refl, subst}
 use Rattle.std.specs.Prelude.{All}
 use Rattle.std.proofs.lemmas.List.{take_all}
 use Rattle.std.proofs.lemmas.List.Elements.{All-get_or, All-nil}
 use Rattle.lf_repair_team.specs.TeamRepairs.{IsIllegalIn, place_of_cell_in}
 use Rattle.lf_repair_team.proofs.LastPass.{legal_beside_illegal, none_affected, unplaced_more}
+use Rattle.lf_repair_team.proofs.OffSoft.{none_moves_onto_soft, one_moves_off_soft, then_off_soft}
 use Rattle.lf_repair_team.proofs.Runs.{nothing, then_cut, then_only, then_written, unchanged}
 use Rattle.lf_repair_team.proofs.last_pass.unplace_cells.Goals as goal
 
@@ -14,6 +15,7 @@ loop-own-init g c = record {
   legal = none_affected c.args.seat.now.team.now c.args.floor.now;
   committed = refl;
   unplaced = All-nil (λ own. place_of_cell_in c.args.floor.now c.args.seat.now.team.now own ≡ None);
+  off_soft = none_moves_onto_soft c.args.seat.now.team.now c.args.floor.now;
 }
 
 pub returns-in-Err-clause-err : goal.returns-in-Err-clause-err
@@ -45,6 +47,8 @@ loop-own-preserved g c = record {
   committed = c.in-Ok.ensures.committed ∙ c.loop-own.invariant.committed;
   unplaced = unplaced_more c.args.seat.now.team.now c.loop-own.floor c.unplace_cell.new.floor c.args.cells.now c.loop-own.own-index 0 c.loop-own-test.true
       c.loop-own.invariant.unplaced c.in-Ok.ensures.cells c.in-Ok.ensures.unplaced;
+  off_soft = then_off_soft c.args.seat.now.team.now c.loop-own.floor c.unplace_cell.new.floor c.in-Ok.ensures.only c.args.floor.now c.loop-own.invariant.off_soft
+      (one_moves_off_soft c.args.seat.now.team.now c.loop-own.floor c.unplace_cell.new.floor (get_or c.args.cells.now c.loop-own.own-index 0) c.in-Ok.ensures.cells (inl c.in-Ok.ensures.unplaced));
 }
 
 pub returns-clause-unplaced : goal.returns-clause-unplaced

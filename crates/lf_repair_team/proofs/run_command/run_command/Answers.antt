@@ -5,7 +5,7 @@ use Rattle.lf_repair_team.specs.Runs.{AppendsSomeOf}
 use Rattle.lf_proto.specs.Printed.{request_line}
 use Rattle.lf_repair_team.proofs.Results.{err_is, ok_is}
 use Rattle.lf_repair_team.proofs.Runs.{left_out, none_cut, one_cut, one_written, step_only, unchanged}
-use Rattle.lf_repair_team.proofs.Steps.{step_names}
+use Rattle.lf_repair_team.proofs.Steps.{step_macros, step_names}
 use Rattle.lf_repair_team.proofs.run_command.run_command.Goals as goal
 
 pub returns-then-is_err-clause-err : goal.returns-then-is_err-clause-err
@@ -27,6 +27,7 @@ returns-then-not-is_accepted-clause-only g c = λ team to.
     let l = c.legalizer_exists.ensures in
     step_only team (command_with_names c.args.request.now) c.args.floor.now c.step-reply.new.self to c.step-reply.ensures.others c.step-reply.ensures.frame
     c.step-reply.ensures.components (step_names l team (command_with_names c.args.request.now) c.args.floor.now c.step-reply.new.self c.step-reply.result to (c.step-reply.ensures.step l))
+    (step_macros l team (command_with_names c.args.request.now) c.args.floor.now c.step-reply.new.self c.step-reply.result to (c.step-reply.ensures.step l))
     c.step-reply.ensures.legal
 
 pub returns-then-not-is_accepted-clause-requested : goal.returns-then-not-is_accepted-clause-requested
@@ -56,6 +57,7 @@ returns-then-is_err-2-clause-only g c = λ team to.
     let l = c.legalizer_exists.ensures in
     step_only team (command_with_names c.args.request.now) c.args.floor.now c.step-reply.new.self to c.step-reply.ensures.others c.step-reply.ensures.frame
     c.step-reply.ensures.components (step_names l team (command_with_names c.args.request.now) c.args.floor.now c.step-reply.new.self c.step-reply.result to (c.step-reply.ensures.step l))
+    (step_macros l team (command_with_names c.args.request.now) c.args.floor.now c.step-reply.new.self c.step-reply.result to (c.step-reply.ensures.step l))
     c.step-reply.ensures.legal
 
 pub returns-clause-run : goal.returns-clause-run
@@ -76,4 +78,5 @@ returns-clause-only g c = λ team to.
     let l = c.legalizer_exists.ensures in
     step_only team (command_with_names c.args.request.now) c.args.floor.now c.step-reply.new.self to c.step-reply.ensures.others c.step-reply.ensures.frame
     c.step-reply.ensures.components (step_names l team (command_with_names c.args.request.now) c.args.floor.now c.step-reply.new.self c.step-reply.result to (c.step-reply.ensures.step l))
+    (step_macros l team (command_with_names c.args.request.now) c.args.floor.now c.step-reply.new.self c.step-reply.result to (c.step-reply.ensures.step l))
     c.step-reply.ensures.legal

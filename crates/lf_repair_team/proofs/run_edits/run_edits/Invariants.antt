@@ -1,5 +1,5 @@
 use Rattle.lf_rules.specs.Legalizer.{Legalizer}
-use Rattle.lf_repair_team.specs.CellEdits.{KeepsCommittedPlaces, KeepsLockedLegal, KeepsLockedPlaces}
+use Rattle.lf_repair_team.specs.CellEdits.{KeepsCommittedAndSlots, KeepsLockedLegal, KeepsLockedPlaces}
 use Rattle.lf_repair_team.specs.TeamRepairs.{ChangesOnly}
 use Rattle.lf_repair_team.specs.Runs.{IsWrittenRun}
 use Rattle.lf_repair_team.proofs.run_edits.run_edits.Given as goal
@@ -10,5 +10,5 @@ invariant-loop-cell_edit g l = record {
   only : ChangesOnly l.seat.team.now l.fn.floor l.floor;
   marked : KeepsLockedPlaces l.seat.team.now l.marks l.fn.floor l.floor;
   legal : KeepsLockedLegal l.seat.team.now l.marks l.fn.floor l.floor;
-  committed : KeepsCommittedPlaces l.seat.team.now l.fn.floor l.floor;
+  committed : KeepsCommittedAndSlots l.seat.team.now l.seat.session l.fn.floor l.floor;
 }

@@ -1,10 +1,12 @@
 use Rattle.std.proofs.Common.{◌≡◌, refl, true}
+use Rattle.lf_proto.specs.declared.verb.Change.TheVariants.{Commit}
 use Rattle.lf_floor_model.specs.Steps.{AllCommittedIn}
 use Rattle.lf_floor_model.specs.VerbLaws.{is_ok}
 use Rattle.lf_repair_team.specs.Runs.{IsRunWithCutLine, IsWrittenRun}
 use Rattle.lf_repair_team.proofs.Cells.{commit_stays}
 use Rattle.lf_repair_team.proofs.Results.{err_from, ok_from, ok_then}
 use Rattle.lf_repair_team.proofs.Runs.{uncut}
+use Rattle.lf_repair_team.proofs.Slots.{other_slots_stay}
 use Rattle.lf_repair_team.proofs.team.commit.Goals as goal
 
 pub returns-in-Ok-clause-run : goal.returns-in-Ok-clause-run
@@ -34,4 +36,14 @@ returns-in-Ok-clause-places g c =
 pub returns-in-Err-clause-places : goal.returns-in-Err-clause-places
 returns-in-Err-clause-places g c =
     commit_stays c.legalizer_exists.ensures c.args.floor.now c.run_action.new.floor c.args.seat.now.team.now c.args.seat.now.session
+    (c.in-Err.ensures.requested c.legalizer_exists.ensures)
+
+pub returns-in-Ok-clause-slots : goal.returns-in-Ok-clause-slots
+returns-in-Ok-clause-slots g c =
+    other_slots_stay c.legalizer_exists.ensures c.args.floor.now c.run_action.new.floor c.args.seat.now.team.now c.args.seat.now.session Commit
+    (c.in-Ok.ensures.requested c.legalizer_exists.ensures)
+
+pub returns-in-Err-clause-slots : goal.returns-in-Err-clause-slots
+returns-in-Err-clause-slots g c =
+    other_slots_stay c.legalizer_exists.ensures c.args.floor.now c.run_action.new.floor c.args.seat.now.team.now c.args.seat.now.session Commit
     (c.in-Err.ensures.requested c.legalizer_exists.ensures)

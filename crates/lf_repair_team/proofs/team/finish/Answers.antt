@@ -1,4 +1,4 @@
-use Rattle.std.proofs.Common.{◌∙◌, ℕ, List, refl, subst, sym}
+use Rattle.std.proofs.Common.{◌∙◌, ℕ, List, subst, sym}
 use Rattle.lf_repair_team.specs.CellEdits.{AreUnrepaired}
 use Rattle.lf_repair_team.proofs.Finding.{elsewhere_through, wanted_place_through}
 use Rattle.lf_repair_team.proofs.LastPass.{unrepaired_committed, unrepaired_through}
@@ -60,3 +60,6 @@ returns-in-Ok-close-clause-places g c = λ own.
 pub returns-in-Err-close-clause-places : goal.returns-in-Err-close-clause-places
 returns-in-Err-close-clause-places g c = λ own.
     same_places c.args.seat.now.team.now c.commit_if_clean.new.floor c.close.new.floor c.in-Err-close.ensures.cells own ∙ c.in-Ok-commit_if_clean.ensures.places own
+
+pub returns-in-Ok-close-clause-slots : goal.returns-in-Ok-close-clause-slots
+returns-in-Ok-close-clause-slots g c = c.in-Ok-close.ensures.slots ∙ c.in-Ok-commit_if_clean.ensures.slots

@@ -1,12 +1,15 @@
-use Rattle.std.proofs.Common.{◌≢◌, ◌∙◌, [], List, Option, subst}
+use Rattle.std.proofs.Common.{◌≡◌, ◌≢◌, ◌∙◌, [], List, Option, subst}
 use Rattle.std.specs.Prelude.{IfOk}
+use Rattle.std.proofs.lemmas.Result.{on_ok_weaker}
 use Rattle.lf_floorplan.specs.declared.place.Place.{Place}
-use Rattle.lf_repair_team.specs.CellEdits.{KeepsCommittedPlaces, TeamHasLeftTargets, TeamIsAtTargetsExcept}
+use Rattle.lf_repair_team.specs.CellEdits.{AreAtTargetsOrOffSoft, KeepsCommittedPlaces, TeamHasLeftTargets, TeamIsAtTargetsExcept, session_slots_without}
+use Rattle.lf_repair_team.specs.TeamRepairs.{session_slots_in}
 use Rattle.lf_repair_team.specs.Runs.{IsRunWithCutLine, IsWrittenRun}
-use Rattle.lf_repair_team.proofs.LastPass.{locked_in_session}
 use Rattle.lf_repair_team.proofs.Legal.{same_committed}
-use Rattle.lf_repair_team.proofs.Results.{err_then, ok_then, ok_weaker}
-use Rattle.lf_repair_team.proofs.Runs.{then_cut, then_only, then_written}
+use Rattle.lf_repair_team.proofs.OffSoft.{locked_in_session, targets_stay}
+use Rattle.lf_repair_team.proofs.Results.{err_then, ok_then, ok_weaker, on_ok_from}
+use Rattle.lf_repair_team.proofs.Runs.{then_cut, then_written}
+use Rattle.lf_repair_team.proofs.Slots.{committed_kept, other_slots_kept}
 use Rattle.lf_repair_team.proofs.team.repair_in_session.Goals as goal
 
 pub returns-in-Err-run_passes-clause-err : goal.returns-in-Err-run_passes-clause-err
@@ -36,13 +39,13 @@ returns-clause-err g c = λ l.
 
 pub returns-in-Err-run_passes-clause-marked : goal.returns-in-Err-run_passes-clause-marked
 returns-in-Err-run_passes-clause-marked g c = λ keep.
-    locked_in_session c.args.team.now c.args.start.now.pass.locked.items c.args.floor.now c.open.new.floor c.run_passes.new.floor c.in-Ok.ensures.only.frame c.in-Ok.ensures.cells
+    locked_in_session c.args.team.now c.args.start.now.pass.locked.items c.args.start.now.pass.wanted_places.items c.args.floor.now c.open.new.floor c.run_passes.new.floor c.in-Ok.ensures.only.frame c.in-Ok.ensures.cells
     (c.in-Err-run_passes.ensures.marked keep)
 
 pub returns-clause-marked : goal.returns-clause-marked
 returns-clause-marked g c = λ keep locked own mark.
     c.finish.ensures.places own
-    ∙ locked_in_session c.args.team.now c.args.start.now.pass.locked.items c.args.floor.now c.open.new.floor c.run_passes.new.floor c.in-Ok.ensures.only.frame c.in-Ok.ensures.cells
+    ∙ locked_in_session c.args.team.now c.args.start.now.pass.locked.items c.args.start.now.pass.wanted_places.items c.args.floor.now c.open.new.floor c.run_passes.new.floor c.in-Ok.ensures.only.frame c.in-Ok.ensures.cells
     (c.in-Ok-run_passes.ensures.marked keep) locked own mark
 
 pub returns-clause-changed : goal.returns-clause-changed
@@ -60,5 +63,19 @@ returns-clause-uncommitted g c =
     let team = c.args.team.now in
     ok_weaker c.finish.result (λ found. found.left.items ≢ [] → KeepsCommittedPlaces team c.run_passes.new.floor c.finish.new.floor)
     (λ found. found.left.items ≢ [] → KeepsCommittedPlaces team c.args.floor.now c.finish.new.floor)
-    (λ found stay some. stay some ∙ c.in-Ok-run_passes.ensures.committed ∙ same_committed team c.args.floor.now c.open.new.floor c.in-Ok.ensures.cells)
+    (λ found stay some. stay some ∙ committed_kept team c.in-Ok.session c.open.new.floor c.run_passes.new.floor c.in-Ok-run_passes.ensures.committed ∙ same_committed team c.args.floor.now c.open.new.floor c.in-Ok.ensures.cells)
     c.finish.ensures.uncommitted
+
+pub returns-clause-slots : goal.returns-clause-slots
+returns-clause-slots g c =
+    let team = c.args.team.now in
+    let session = c.in-Ok.session in
+    on_ok_weaker c.finish.result (λ (closed : session_slots_in c.finish.new.floor team ≡ session_slots_without session c.run_passes.new.floor team). closed
+    ∙ other_slots_kept team session c.open.new.floor c.run_passes.new.floor c.in-Ok-run_passes.ensures.committed ∙ c.in-Ok.ensures.slots)
+    c.finish.ensures.slots
+
+pub returns-clause-off_soft : goal.returns-clause-off_soft
+returns-clause-off_soft g c =
+    on_ok_from c.finish.result (AreAtTargetsOrOffSoft c.args.team.now c.args.start.now.pass.wanted_places.items c.finish.new.floor)
+    (targets_stay c.args.team.now c.run_passes.new.floor c.finish.new.floor c.finish.ensures.only c.args.start.now.pass.wanted_places.items
+    c.finish.ensures.places c.in-Ok-run_passes.ensures.off_soft)

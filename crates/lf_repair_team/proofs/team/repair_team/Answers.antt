@@ -4,6 +4,7 @@ use Rattle.lf_floor_model.specs.Teams.{team_number}
 use Rattle.lf_repair_team.specs.TeamRepairs.{AllListedMove, AreLegalExcept, HasNoPlace, IsIllegalIn, OnlyListedMove}
 use Rattle.lf_repair_team.proofs.Finding.{all_move, only_move}
 use Rattle.lf_repair_team.proofs.Legal.{none_left}
+use Rattle.lf_repair_team.proofs.OffSoft.{locked_at_start, moved_off_soft}
 use Rattle.lf_repair_team.proofs.Runs.{none_cut}
 use Rattle.lf_repair_team.proofs.StatsLemmas.{team_stats_of}
 use Rattle.lf_repair_team.proofs.team.repair_team.Goals as goal
@@ -14,12 +15,16 @@ items_same v w same = ap (λ (u : Vec ℕ Global). u.items) same
 pub returns-in-Ok-repair_in_session-clause-kept : goal.returns-in-Ok-repair_in_session-clause-kept
 returns-in-Ok-repair_in_session-clause-kept g c = λ keep own legal.
     let flags = c.in-Ok.ensures.marked c.args.team.now keep (sym c.team_number.ensures ∙ c.in-Some.is) in
-    c.in-Ok-repair_in_session.ensures.marked (c.in-Ok.ensures.how ∙ keep) (λ k mark. flags.only legal.state legal.there k mark) own (flags.legal own legal)
+    c.in-Ok-repair_in_session.ensures.marked (c.in-Ok.ensures.how ∙ keep)
+    (locked_at_start c.args.team.now c.args.floor.now c.in-Some.number c.in-Ok.start.pass.locked.items c.in-Ok.start.pass.wanted_places.items (sym c.team_number.ensures ∙ c.in-Some.is)
+    c.in-Ok.ensures.wanted_places (λ k mark. flags.only legal.state legal.there k mark)) own (flags.legal own legal)
 
 pub returns-clause-kept : goal.returns-clause-kept
 returns-clause-kept g c = λ keep own legal.
     let flags = c.in-Ok.ensures.marked c.args.team.now keep (sym c.team_number.ensures ∙ c.in-Some.is) in
-    c.in-Err.ensures.marked (c.in-Ok.ensures.how ∙ keep) (λ k mark. flags.only legal.state legal.there k mark) own (flags.legal own legal)
+    c.in-Err.ensures.marked (c.in-Ok.ensures.how ∙ keep)
+    (locked_at_start c.args.team.now c.args.floor.now c.in-Some.number c.in-Ok.start.pass.locked.items c.in-Ok.start.pass.wanted_places.items (sym c.team_number.ensures ∙ c.in-Some.is)
+    c.in-Ok.ensures.wanted_places (λ k mark. flags.only legal.state legal.there k mark)) own (flags.legal own legal)
 
 pub returns-in-Ok-repair_in_session-clause-changed : goal.returns-in-Ok-repair_in_session-clause-changed
 returns-in-Ok-repair_in_session-clause-changed g c =
@@ -78,3 +83,8 @@ returns-in-Ok-repair_in_session-clause-reported g c =
     let named : team_number c.args.floor.now.frame team ≡ Some c.in-Some.number = sym c.team_number.ensures ∙ c.in-Some.is in
     team_stats_of team c.args.floor.now c.repair_in_session.new.floor c.in-Some.number c.in-Ok.start.pass.wanted_places.items c.in-Ok.start.legal.items c.stats_of.result named
     c.in-Ok-repair_in_session.ensures.only c.in-Ok.ensures.wanted_places (c.in-Ok.ensures.legal team named) c.stats_of.ensures.tally
+
+pub returns-in-Ok-repair_in_session-clause-off_soft : goal.returns-in-Ok-repair_in_session-clause-off_soft
+returns-in-Ok-repair_in_session-clause-off_soft g c =
+    moved_off_soft c.args.team.now c.args.floor.now c.repair_in_session.new.floor c.in-Some.number c.in-Ok.start.pass.wanted_places.items (sym c.team_number.ensures ∙ c.in-Some.is)
+    c.in-Ok.ensures.wanted_places c.in-Ok-repair_in_session.ensures.only.names c.in-Ok-repair_in_session.ensures.off_soft

@@ -1,6 +1,9 @@
-use Rattle.std.proofs.Common.{◌∙◌, List, Option, subst}
+use Rattle.std.proofs.Common.{◌∙◌, List, Option, refl, subst}
+use Rattle.std.proofs.lemmas.Result.{on_ok_weaker}
+use Rattle.lf_floorplan.specs.declared.place.Place.{Place}
+use Rattle.lf_repair_team.specs.CellEdits.{AreAtTargetsOrOffSoft, KeepsCellsAtTargets}
 use Rattle.lf_repair_team.specs.Runs.{IsRunWithCutLine, IsWrittenRun}
-use Rattle.lf_repair_team.proofs.LastPass.{locked_stay}
+use Rattle.lf_repair_team.proofs.OffSoft.{locked_stay, targets_then_off_soft}
 use Rattle.lf_repair_team.proofs.Results.{err_then, ok_then}
 use Rattle.lf_repair_team.proofs.Runs.{then_cut, then_only, then_written}
 use Rattle.lf_repair_team.proofs.team.run_passes.Goals as goal
@@ -10,42 +13,75 @@ returns-in-Err-run_local_passes-clause-err g c = λ l.
     then_cut l c.args.seat.now.team.now c.args.floor.now c.run_pass.new.floor c.run_local_passes.new.floor (g.K.Sink.contents c.args.lines.now) (g.K.Sink.contents c.run_pass.new.lines)
     (g.K.Sink.contents c.run_local_passes.new.lines) (c.in-Ok.ensures.run l) (c.in-Err-run_local_passes.ensures.err l)
 
+pub returns-in-Err-run_soft_pass-clause-err : goal.returns-in-Err-run_soft_pass-clause-err
+returns-in-Err-run_soft_pass-clause-err g c = λ l.
+    let team = c.args.seat.now.team.now in
+    then_cut l team c.args.floor.now c.run_local_passes.new.floor c.run_soft_pass.new.floor (g.K.Sink.contents c.args.lines.now) (g.K.Sink.contents c.run_local_passes.new.lines)
+    (g.K.Sink.contents c.run_soft_pass.new.lines) (then_written l team c.args.floor.now c.run_pass.new.floor c.run_local_passes.new.floor (g.K.Sink.contents c.args.lines.now) (g.K.Sink.contents c.run_pass.new.lines)
+    (g.K.Sink.contents c.run_local_passes.new.lines) (c.in-Ok.ensures.run l) (c.in-Ok-run_local_passes.ensures.run l)) (c.in-Err-run_soft_pass.ensures.err l)
+
 pub returns-clause-run : goal.returns-clause-run
 returns-clause-run g c = λ l.
     let team = c.args.seat.now.team.now in
     ok_then c.run_last_pass.result
-    (IsWrittenRun l team c.run_local_passes.new.floor (g.K.Sink.contents c.run_local_passes.new.lines) (g.K.Sink.contents c.run_last_pass.new.lines) c.run_last_pass.new.floor)
+    (IsWrittenRun l team c.run_soft_pass.new.floor (g.K.Sink.contents c.run_soft_pass.new.lines) (g.K.Sink.contents c.run_last_pass.new.lines) c.run_last_pass.new.floor)
     (IsWrittenRun l team c.args.floor.now (g.K.Sink.contents c.args.lines.now) (g.K.Sink.contents c.run_last_pass.new.lines) c.run_last_pass.new.floor)
-    (λ last. then_written l team c.args.floor.now c.run_local_passes.new.floor c.run_last_pass.new.floor (g.K.Sink.contents c.args.lines.now) (g.K.Sink.contents c.run_local_passes.new.lines)
-    (g.K.Sink.contents c.run_last_pass.new.lines)
-    (then_written l team c.args.floor.now c.run_pass.new.floor c.run_local_passes.new.floor (g.K.Sink.contents c.args.lines.now) (g.K.Sink.contents c.run_pass.new.lines)
-    (g.K.Sink.contents c.run_local_passes.new.lines) (c.in-Ok.ensures.run l) (c.in-Ok-run_local_passes.ensures.run l)) last) (c.run_last_pass.ensures.run l)
+    (λ last. then_written l team c.args.floor.now c.run_soft_pass.new.floor c.run_last_pass.new.floor (g.K.Sink.contents c.args.lines.now) (g.K.Sink.contents c.run_soft_pass.new.lines)
+    (g.K.Sink.contents c.run_last_pass.new.lines) (then_written l team c.args.floor.now c.run_local_passes.new.floor c.run_soft_pass.new.floor (g.K.Sink.contents c.args.lines.now) (g.K.Sink.contents c.run_local_passes.new.lines)
+    (g.K.Sink.contents c.run_soft_pass.new.lines) (then_written l team c.args.floor.now c.run_pass.new.floor c.run_local_passes.new.floor (g.K.Sink.contents c.args.lines.now) (g.K.Sink.contents c.run_pass.new.lines)
+    (g.K.Sink.contents c.run_local_passes.new.lines) (c.in-Ok.ensures.run l) (c.in-Ok-run_local_passes.ensures.run l)) (c.in-Ok-run_soft_pass.ensures.run l)) last) (c.run_last_pass.ensures.run l)
 
 pub returns-clause-err : goal.returns-clause-err
 returns-clause-err g c = λ l.
     let team = c.args.seat.now.team.now in
     err_then c.run_last_pass.result
-    (IsRunWithCutLine l team c.run_local_passes.new.floor (g.K.Sink.contents c.run_local_passes.new.lines) (g.K.Sink.contents c.run_last_pass.new.lines) c.run_last_pass.new.floor)
+    (IsRunWithCutLine l team c.run_soft_pass.new.floor (g.K.Sink.contents c.run_soft_pass.new.lines) (g.K.Sink.contents c.run_last_pass.new.lines) c.run_last_pass.new.floor)
     (IsRunWithCutLine l team c.args.floor.now (g.K.Sink.contents c.args.lines.now) (g.K.Sink.contents c.run_last_pass.new.lines) c.run_last_pass.new.floor)
-    (λ last. then_cut l team c.args.floor.now c.run_local_passes.new.floor c.run_last_pass.new.floor (g.K.Sink.contents c.args.lines.now) (g.K.Sink.contents c.run_local_passes.new.lines)
-    (g.K.Sink.contents c.run_last_pass.new.lines)
-    (then_written l team c.args.floor.now c.run_pass.new.floor c.run_local_passes.new.floor (g.K.Sink.contents c.args.lines.now) (g.K.Sink.contents c.run_pass.new.lines)
-    (g.K.Sink.contents c.run_local_passes.new.lines) (c.in-Ok.ensures.run l) (c.in-Ok-run_local_passes.ensures.run l)) last) (c.run_last_pass.ensures.err l)
+    (λ last. then_cut l team c.args.floor.now c.run_soft_pass.new.floor c.run_last_pass.new.floor (g.K.Sink.contents c.args.lines.now) (g.K.Sink.contents c.run_soft_pass.new.lines)
+    (g.K.Sink.contents c.run_last_pass.new.lines) (then_written l team c.args.floor.now c.run_local_passes.new.floor c.run_soft_pass.new.floor (g.K.Sink.contents c.args.lines.now) (g.K.Sink.contents c.run_local_passes.new.lines)
+    (g.K.Sink.contents c.run_soft_pass.new.lines) (then_written l team c.args.floor.now c.run_pass.new.floor c.run_local_passes.new.floor (g.K.Sink.contents c.args.lines.now) (g.K.Sink.contents c.run_pass.new.lines)
+    (g.K.Sink.contents c.run_local_passes.new.lines) (c.in-Ok.ensures.run l) (c.in-Ok-run_local_passes.ensures.run l)) (c.in-Ok-run_soft_pass.ensures.run l)) last) (c.run_last_pass.ensures.err l)
 
 pub returns-in-Err-run_local_passes-clause-only : goal.returns-in-Err-run_local_passes-clause-only
 returns-in-Err-run_local_passes-clause-only g c =
     then_only c.args.seat.now.team.now c.args.floor.now c.run_pass.new.floor c.run_local_passes.new.floor c.in-Ok.ensures.only c.in-Err-run_local_passes.ensures.only
 
+pub returns-in-Err-run_soft_pass-clause-only : goal.returns-in-Err-run_soft_pass-clause-only
+returns-in-Err-run_soft_pass-clause-only g c =
+    then_only c.args.seat.now.team.now c.args.floor.now c.run_local_passes.new.floor c.run_soft_pass.new.floor
+    (then_only c.args.seat.now.team.now c.args.floor.now c.run_pass.new.floor c.run_local_passes.new.floor c.in-Ok.ensures.only c.in-Ok-run_local_passes.ensures.only) c.in-Err-run_soft_pass.ensures.only
+
 pub returns-clause-only : goal.returns-clause-only
 returns-clause-only g c =
-    then_only c.args.seat.now.team.now c.args.floor.now c.run_local_passes.new.floor c.run_last_pass.new.floor
-    (then_only c.args.seat.now.team.now c.args.floor.now c.run_pass.new.floor c.run_local_passes.new.floor c.in-Ok.ensures.only c.in-Ok-run_local_passes.ensures.only)
-    c.run_last_pass.ensures.only
+    then_only c.args.seat.now.team.now c.args.floor.now c.run_soft_pass.new.floor c.run_last_pass.new.floor
+    (then_only c.args.seat.now.team.now c.args.floor.now c.run_local_passes.new.floor c.run_soft_pass.new.floor
+    (then_only c.args.seat.now.team.now c.args.floor.now c.run_pass.new.floor c.run_local_passes.new.floor c.in-Ok.ensures.only c.in-Ok-run_local_passes.ensures.only) c.in-Ok-run_soft_pass.ensures.only) c.run_last_pass.ensures.only
+
+pub returns-in-Err-run_soft_pass-clause-marked : goal.returns-in-Err-run_soft_pass-clause-marked
+returns-in-Err-run_soft_pass-clause-marked g c = λ keep.
+    locked_stay c.args.seat.now.team.now c.args.start.now.pass.locked.items c.args.start.now.pass.wanted_places.items c.args.floor.now c.run_pass.new.floor c.run_local_passes.new.floor
+    c.run_soft_pass.new.floor c.run_soft_pass.new.floor c.in-Ok.ensures.marked c.in-Ok.ensures.legal (c.in-Ok-run_local_passes.ensures.kept keep)
+    (subst (λ (places : List (Option Place)). KeepsCellsAtTargets c.args.seat.now.team.now places c.run_local_passes.new.floor c.run_soft_pass.new.floor) c.as_slice-wanted_places.ensures.value
+    c.in-Err-run_soft_pass.ensures.targets) (λ own legal. refl)
 
 pub returns-clause-marked : goal.returns-clause-marked
 returns-clause-marked g c = λ keep.
-    locked_stay c.args.seat.now.team.now c.args.start.now.pass.locked.items c.args.floor.now c.run_pass.new.floor c.run_local_passes.new.floor c.run_last_pass.new.floor
-    c.in-Ok.ensures.marked c.in-Ok.ensures.legal (c.in-Ok-run_local_passes.ensures.kept keep) c.run_last_pass.ensures.legal
+    locked_stay c.args.seat.now.team.now c.args.start.now.pass.locked.items c.args.start.now.pass.wanted_places.items c.args.floor.now c.run_pass.new.floor c.run_local_passes.new.floor
+    c.run_soft_pass.new.floor c.run_last_pass.new.floor c.in-Ok.ensures.marked c.in-Ok.ensures.legal (c.in-Ok-run_local_passes.ensures.kept keep)
+    (subst (λ (places : List (Option Place)). KeepsCellsAtTargets c.args.seat.now.team.now places c.run_local_passes.new.floor c.run_soft_pass.new.floor) c.as_slice-wanted_places.ensures.value
+    c.in-Ok-run_soft_pass.ensures.targets) c.run_last_pass.ensures.legal
+
+pub returns-in-Err-run_soft_pass-clause-committed : goal.returns-in-Err-run_soft_pass-clause-committed
+returns-in-Err-run_soft_pass-clause-committed g c =
+    c.in-Err-run_soft_pass.ensures.committed ∙ c.in-Ok-run_local_passes.ensures.committed ∙ c.in-Ok.ensures.committed
 
 pub returns-clause-committed : goal.returns-clause-committed
-returns-clause-committed g c = c.run_last_pass.ensures.committed ∙ c.in-Ok-run_local_passes.ensures.committed ∙ c.in-Ok.ensures.committed
+returns-clause-committed g c =
+    c.run_last_pass.ensures.committed ∙ c.in-Ok-run_soft_pass.ensures.committed ∙ c.in-Ok-run_local_passes.ensures.committed ∙ c.in-Ok.ensures.committed
+
+pub returns-clause-off_soft : goal.returns-clause-off_soft
+returns-clause-off_soft g c =
+    on_ok_weaker c.run_last_pass.result
+    (λ moves. targets_then_off_soft c.args.seat.now.team.now c.run_soft_pass.new.floor c.run_last_pass.new.floor c.run_last_pass.ensures.only c.args.start.now.pass.wanted_places.items
+    (subst (λ (places : List (Option Place)). AreAtTargetsOrOffSoft c.args.seat.now.team.now places c.run_soft_pass.new.floor) c.as_slice-wanted_places.ensures.value
+    c.in-Ok-run_soft_pass.ensures.settled) moves) c.run_last_pass.ensures.off_soft

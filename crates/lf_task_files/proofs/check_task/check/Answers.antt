@@ -11,7 +11,7 @@ use Rattle.lf_task_files.proofs.check_task.check.Goals as goal
 
 pub returns-clause-ok : goal.returns-clause-ok
 returns-clause-ok g c =
-    let design = IsViewedDesignOf c.args.inputs.limits (g.T.InputFiles.gives c.args.texts.now) c.args.inputs.def.now (map (λ lef. lef.now) c.args.inputs.lefs.now) (path_of c.args.inputs.state) in
+    let design = IsViewedDesignOf c.args.committed c.args.inputs.limits (g.T.InputFiles.gives c.args.texts.now) c.args.inputs.def.now (map (λ lef. lef.now) c.args.inputs.lefs.now) (path_of c.args.inputs.state) in
     comes_of design c.in_ok-seen.seen c.in_ok-seen.ensures.ok c.check_design.result
     (λ l. IsReported l (g.W.Sink.contents c.args.writer.now) (g.W.Sink.contents c.check_design.new.writer)) c.check_design.ensures.ok
 
@@ -20,8 +20,9 @@ returns-clause-err g c =
     let gives = g.T.InputFiles.gives c.args.texts.now in
     let lefs = map (λ lef. lef.now) c.args.inputs.lefs.now in
     let state = path_of c.args.inputs.state in
-    fails (IsViewedDesignOf c.args.inputs.limits gives c.args.inputs.def.now lefs state) c.in_ok-seen.seen c.in_ok-seen.ensures.ok c.check_design.result
-    (IsFloorFault c.args.inputs.limits gives c.args.inputs.def.now lefs state) _
+    fails (IsViewedDesignOf c.args.committed c.args.inputs.limits gives c.args.inputs.def.now lefs state) c.in_ok-seen.seen c.in_ok-seen.ensures.ok c.check_design.result
+    (λ fault. IsFloorFault c.args.inputs.limits gives c.args.inputs.def.now lefs state fault
+    × (g.W.Sink.contents c.check_design.new.writer ≡ g.W.Sink.contents c.args.writer.now)) _
     (λ l. IsNotReported l (g.W.Sink.contents c.args.writer.now) (g.W.Sink.contents c.check_design.new.writer)) c.check_design.ensures.err
 
 pub returns-in_err-seen-clause-err : goal.returns-in_err-seen-clause-err
@@ -33,5 +34,5 @@ returns-in_err-seen-clause-err g c =
     let state = path_of c.args.inputs.state in
     let bytes = g.W.Sink.contents c.args.writer.now in
     rw (p.1, p.2) (first_fails (IsFloorFault c.args.inputs.limits gives def lefs state)
-    (λ fault. IsFloorFault c.args.inputs.limits gives def lefs state fault ⊎ ((seen : Loaded) × IsViewedDesignOf c.args.inputs.limits gives def lefs state seen × IsNotReported seen bytes bytes fault))
-    (c.args.writer.now ≡ c.args.writer.now) _ _ _ _ _ _ refl refl c.in_err-seen.ensures.err (floor_early c.args.inputs.limits gives def lefs state) (λ fault why. inl why))
+    (λ fault. (IsFloorFault c.args.inputs.limits gives def lefs state fault × (bytes ≡ bytes)) ⊎ ((seen : Loaded) × IsViewedDesignOf c.args.committed c.args.inputs.limits gives def lefs state seen × IsNotReported seen bytes bytes fault))
+    (c.args.writer.now ≡ c.args.writer.now) _ _ _ _ _ _ refl refl c.in_err-seen.ensures.err (floor_early c.args.inputs.limits gives def lefs state) (λ fault why. inl (why, refl)))

@@ -22,7 +22,7 @@ unwrap-cell-requires c =
 pub push-requires : goal.push-requires
 push-requires c =
     let parts = c.args.parts.now in
-    let f = placed_by_table c.args.table in
+    let f = placed_by_table c.args.committed c.args.table in
     let all = cells_of_parts parts in
     let at = c.loop-at.at in
     let name = c.unwrap-name.result.now in
@@ -36,12 +36,12 @@ push-requires c =
     let whole : c.loop-at.copies ++ x ∷ map f (drop (at + 1) all) ≡ map f all =
     ap (λ (ds : List LoadedCell). c.loop-at.copies ++ ds) (sym here) ∙ c.loop-at.invariant in
     apart_before (λ a b. a.name ≢ b.name) c.loop-at.copies x (map f (drop (at + 1) all))
-    (subst (AllPairs (λ (a : LoadedCell) (b : LoadedCell). a.name ≢ b.name)) (sym whole) (named_apart f (moved_one c.args.table) all c.requires.named))
+    (subst (AllPairs (λ (a : LoadedCell) (b : LoadedCell). a.name ≢ b.name)) (sym whole) (named_apart f (moved_one c.args.committed c.args.table) all c.requires.named))
 
 pub loop-at-preserved : goal.loop-at-preserved
 loop-at-preserved c =
     let parts = c.args.parts.now in
-    let f = placed_by_table c.args.table in
+    let f = placed_by_table c.args.committed c.args.table in
     let all = cells_of_parts parts in
     let at = c.loop-at.at in
     let name = c.unwrap-name.result.now in
@@ -57,7 +57,7 @@ loop-at-preserved c =
 pub returns : goal.returns
 returns c =
     let parts = c.args.parts.now in
-    let f = placed_by_table c.args.table in
+    let f = placed_by_table c.args.committed c.args.table in
     let all = cells_of_parts parts in
     let many = many_seen parts.names parts.cells.items c.requires.whole in
     let past : length all ≤ c.loop-at.at = omega (arith, many, c.len-at-end.ensures) in

@@ -15,11 +15,11 @@ pub returns-clause-ok : goal.returns-clause-ok
 returns-clause-ok g c = λ design frame cells.
     let twin : IsCopyWithCells design.frame design.cells c.in_ok-twin.twin = rw (frame, cells) c.in_ok-twin.ensures in
     let state = state_alike (g.T.InputFiles.gives c.args.texts.now) c.args.path.now design c.in_ok-twin.twin c.in_ok-floor.floor twin c.in_ok-floor.ensures.ok in
-    let is_in_place = places_alike c.args.frame.now c.cells.result c.in_ok-floor.floor state.0 (cells_of_parts c.args.parts.now)
+    let is_in_place = places_alike c.args.committed c.args.frame.now c.cells.result c.in_ok-floor.floor state.0 (cells_of_parts c.args.parts.now)
     (λ number s is. ap (λ (t : Cells). cells_of t number) c.cells.ensures ∙ c.placement.ensures.cells number s is)
     (c.in_ok-floor.ensures.many ∙ ap (λ (ts : List Team). length ts + 1) c.in_ok-twin.ensures.frame.teams) state.2
     c.requires.design.cells_known in
-    (state.0, state.1, c.in_ok-cells.ensures ∙ is_in_place ∙ ap (λ (cs : List LoadedCell). map (placed_on_floor state.0) cs) (sym cells))
+    (state.0, state.1, c.in_ok-cells.ensures ∙ is_in_place ∙ ap (λ (cs : List LoadedCell). map (placed_on_floor c.args.committed state.0) cs) (sym cells))
 
 pub returns-in_err-floor-clause-err : goal.returns-in_err-floor-clause-err
 returns-in_err-floor-clause-err g c = λ design frame cells.

@@ -21,7 +21,7 @@ pub design_of-requires : goal.design_of-requires
 design_of-requires g c =
     let design = c.args.design in
     let made = c.in_ok-original_place.ensures.ok design refl (sym c.into_parts-parts.ensures.cells) in
-    subst (MakeDesign design.frame) (sym made.2) (design_placed design.frame made.0 design.cells (record {
+    subst (MakeDesign design.frame) (sym made.2) (design_placed c.args.committed design.frame made.0 design.cells (record {
       few_cells = design.few_cells;
       cells_known = design.cells_known;
       names_differ = design.names_differ;

@@ -6,8 +6,7 @@ use Rattle.lf_task_repair.proofs.repair_task.put_all.Goals as goal
 
 pub returns-clause-ok : goal.returns-clause-ok
 returns-clause-ok g c = λ document kept.
-    let put = c.in_ok-put_files.ensures.ok document kept in
-    record { reported = c.in_ok-put_report.ensures.ok; between = put.0; exports = put.1; lists = put.2 }
+    record { reported = c.in_ok-put_report.ensures.ok; written = c.in_ok-put_files.ensures.ok document kept }
 
 pub returns-in_err-put_report-clause-err : goal.returns-in_err-put_report-clause-err
 returns-in_err-put_report-clause-err g c = λ document kept.

@@ -18,5 +18,7 @@ returns-in_ok-add-in-Ok-clause-reported g c = (
     stats = c.in-Ok.ensures.reported;
     committed = c.in-Ok.ensures.committed;
     uncommitted = c.in-Ok.ensures.uncommitted;
+    slots = c.in-Ok.ensures.slots;
+    off_soft = c.in-Ok.ensures.off_soft;
   },
 )

@@ -1,16 +1,16 @@
 use Rattle.std.proofs.Common.{◌∙◌, ℕ, List, Option, inl, inr, map, refl, subst, sym}
-use Rattle.std.proofs.lemmas.Result.{IfErr-weaker, err_from_is_err_and}
+use Rattle.std.proofs.lemmas.Result.{err_from_is_err_and}
 use Rattle.lf_io_files.specs.Shelf.{Put}
 use Rattle.lf_task_repair.specs.Exits.{IsNotPut, IsPut}
 use Rattle.lf_task_repair.specs.Repairs.{IsStatusOf, kept_text}
 use Rattle.lf_task_repair.specs.Reports.{IsReport}
-use Rattle.lf_task_files.specs.Inputs.{path_of}
-use Rattle.lf_task_repair.proofs.Repairing.{memory_early, ok_and, unknown_early}
+use Rattle.lf_cli.specs.Command.{repair_paths}
+use Rattle.lf_task_repair.proofs.Repairing.{memory_early, unknown_early}
 use Rattle.lf_task_files.proofs.WorkSteps.{blames_as, early_blames, export_blames}
 use Rattle.lf_task_repair.proofs.repair_task.repair_on_floor.Goals as goal
 
 pub put_all-requires : goal.put_all-requires
-put_all-requires g c = record { fits = λ places are. c.requires.fits c.repair_selected.new.floor places c.in_ok-done.ensures.only.components are }
+put_all-requires g c = record { fits = λ s places same are. c.requires.fits s places (same ∙ c.in_ok-done.ensures.only.components) are }
 
 pub returns-clause-ok : goal.returns-clause-ok
 returns-clause-ok g c = λ document kept.
@@ -18,8 +18,7 @@ returns-clause-ok g c = λ document kept.
     let lines = kept_text c.in_ok-done.done.lines in
     let report = c.in_ok-done.done.report.text.items in
     let requested = c.args.requested.now in
-    ok_and c.put_all.result _ _ _ c.put_all.ensures.status (c.put_all.ensures.ok document kept)
-    (λ status is put. record {
+    record {
       floor = floor;
       kept = lines;
       report = report;
@@ -30,19 +29,20 @@ returns-clause-ok g c = λ document kept.
         stay = λ to_stay. c.in_ok-done.ensures.kept to_stay;
         decides = subst (λ (bounds : List ℕ). IsReport (map (λ team. team.now) requested.teams.now) bounds c.args.floor.now floor report) c.deref.ensures.value c.in_ok-done.ensures.reported;
       };
-      put = subst (λ (puts : Option (List Put)). IsPut (path_of requested.export) (path_of requested.lines) c.args.before.now.original.text.items document floor lines
-          report (g.W.Sink.contents c.args.writer.now) (g.W.Sink.contents c.put_all.new.writer) puts (g.E.OutputFiles.puts c.put_all.new.exports)) c.try_files.ensures.unput put;
-      committed_checked = subst (λ (n : ℕ). IsStatusOf floor n) (sym is) c.in_ok-done.ensures.committed_checked;
-    })
+      put = subst (λ (puts : Option (List Put)). IsPut (repair_paths requested.files) c.args.before.now.original.text.items document floor lines
+          report (g.W.Sink.contents c.args.writer.now) (g.W.Sink.contents c.put_all.new.writer) puts (g.E.OutputFiles.puts c.put_all.new.exports)) c.try_files.ensures.unput
+          (c.in_ok-status.ensures.ok document kept);
+      committed_checked = subst (λ (n : ℕ). IsStatusOf floor n) (sym c.in_ok-status.ensures.status) c.in_ok-done.ensures.committed_checked;
+    }
 
-pub returns-clause-err : goal.returns-clause-err
-returns-clause-err g c = λ document kept.
+pub returns-in_err-status-clause-err : goal.returns-in_err-status-clause-err
+returns-in_err-status-clause-err g c = λ document kept.
+    let p = err_from_is_err_and c.from_residual-in_err-status.result c.from_residual-in_err-status.ensures.1 in
     let floor = c.repair_selected.new.floor in
     let lines = kept_text c.in_ok-done.done.lines in
     let report = c.in_ok-done.done.report.text.items in
     let requested = c.args.requested.now in
-    IfErr-weaker c.put_all.result _ _
-    (λ fault unput. inr (
+    rw (p.1, p.2) (inr (
       floor,
       lines,
       report,
@@ -53,18 +53,16 @@ returns-clause-err g c = λ document kept.
         stay = λ to_stay. c.in_ok-done.ensures.kept to_stay;
         decides = subst (λ (bounds : List ℕ). IsReport (map (λ team. team.now) requested.teams.now) bounds c.args.floor.now floor report) c.deref.ensures.value c.in_ok-done.ensures.reported;
       },
-      subst (λ (puts : Option (List Put)). IsNotPut (path_of requested.export) (path_of requested.lines) c.args.before.now.original.text.items document floor
-          report (g.W.Sink.contents c.args.writer.now) (g.W.Sink.contents c.put_all.new.writer) puts (g.E.OutputFiles.puts c.put_all.new.exports) fault)
-          c.try_files.ensures.unput unput,
+      subst (λ (puts : Option (List Put)). IsNotPut (repair_paths requested.files) c.args.before.now.original.text.items document floor lines
+          report (g.W.Sink.contents c.args.writer.now) (g.W.Sink.contents c.put_all.new.writer) puts (g.E.OutputFiles.puts c.put_all.new.exports) c.in_err-status.field-0.0)
+          c.try_files.ensures.unput (c.in_err-status.ensures.err document kept),
     ))
-    (c.put_all.ensures.err document kept)
 
-pub returns-clause-blames : goal.returns-clause-blames
-returns-clause-blames g c =
-    IfErr-weaker c.put_all.result _ _
-    (λ fault blames. blames_as fault _ _ _ _ _ _ _ _ _ _ _ _ blames (λ k. k) (λ r. r) (λ w. w) (λ e. e) (λ s. s)
+pub returns-in_err-status-clause-blames : goal.returns-in_err-status-clause-blames
+returns-in_err-status-clause-blames g c =
+    let p = err_from_is_err_and c.from_residual-in_err-status.result c.from_residual-in_err-status.ensures.1 in
+    rw (p.1, p.2) (blames_as _ _ _ _ _ _ _ _ _ _ _ _ _ c.in_err-status.ensures.blames (λ k. k) (λ r. r) (λ w. w) (λ e. e) (λ s. s)
     (λ sound. (sound.0, sound.1 ∙ c.in_ok-try_files.ensures.sound)))
-    c.put_all.ensures.blames
 
 pub returns-in_err-all_known-clause-err : goal.returns-in_err-all_known-clause-err
 returns-in_err-all_known-clause-err g c = λ document kept.
@@ -82,14 +80,7 @@ returns-in_err-all_known-clause-blames g c =
 pub returns-in_err-try_files-clause-err : goal.returns-in_err-try_files-clause-err
 returns-in_err-try_files-clause-err g c = λ document kept.
     let p = err_from_is_err_and c.from_residual-in_err-try_files.result c.from_residual-in_err-try_files.ensures.1 in
-    rw (p.1, p.2) (inl (
-      elim c.in_err-try_files.ensures.err [
-        | inl exported ↦ inr (inl exported)
-        | inr listed ↦ inr (inr (inl listed))
-      ],
-      refl,
-      c.try_files.ensures.unput,
-    ))
+    rw (p.1, p.2) (inl (inr (inl c.in_err-try_files.ensures.err), refl, c.try_files.ensures.unput))
 
 pub returns-in_err-try_files-clause-blames : goal.returns-in_err-try_files-clause-blames
 returns-in_err-try_files-clause-blames g c =
@@ -99,7 +90,7 @@ returns-in_err-try_files-clause-blames g c =
 pub returns-in_err-done-clause-err : goal.returns-in_err-done-clause-err
 returns-in_err-done-clause-err g c = λ document kept.
     let p = err_from_is_err_and c.from_residual-in_err-done.result c.from_residual-in_err-done.ensures.1 in
-    rw (p.1, p.2) (inl (inr (inr (inr c.in_err-done.ensures.err)), refl, c.try_files.ensures.unput))
+    rw (p.1, p.2) (inl (inr (inr c.in_err-done.ensures.err), refl, c.try_files.ensures.unput))
 
 pub returns-in_err-done-clause-blames : goal.returns-in_err-done-clause-blames
 returns-in_err-done-clause-blames g c =

@@ -38,7 +38,7 @@ pub returns-in_err-floor-clause-err : goal.returns-in_err-floor-clause-err
 returns-in_err-floor-clause-err g c = λ text document are.
     let p = err_from_is_err_and c.from_residual.result c.from_residual.ensures.1 in
     rw (p.1, p.2) (
-      inl (c.in_err-floor.ensures.err, refl),
+      inl (c.in_err-floor.ensures.err, record { unread = refl; unwritten = refl; unput = refl; unaccepted = refl }),
       early_blames _ _ _ _ _ _ _ refl (still_sound g.E.OutputFiles.has_failed g.V.Acceptor.has_failed g.R.Source.has_failed g.W.Sink.has_failed c.args.around.now)
           (unbegun_early (g.T.InputFiles.gives c.args.around.now.texts) (path_of c.args.state) c.args.design.loaded _ c.in_err-floor.ensures.err),
     )

@@ -50,4 +50,4 @@ returns-in_err-design-clause-err g c =
     (io_of g.R.Source.remaining g.W.Sink.contents g.E.OutputFiles.puts g.V.Acceptor.accepted c.args.around.now c.args.around.now))
     (c.args.around.now.writer ≡ c.args.around.now.writer) _ _ _ _ _ _ refl
     (still_sound g.E.OutputFiles.has_failed g.V.Acceptor.has_failed g.R.Source.has_failed g.W.Sink.has_failed c.args.around.now) c.in_err-design.ensures.err
-    (design_early c.args.inputs.limits gives def lefs) (λ fault why. inl (inl (inl why), refl)))
+    (design_early c.args.inputs.limits gives def lefs) (λ fault why. inl (inl (inl why, record { unread = refl; unwritten = refl; unput = refl; unaccepted = refl }), refl)))

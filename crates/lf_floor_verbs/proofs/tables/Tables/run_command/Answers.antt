@@ -1,7 +1,7 @@
 use Rattle.std.proofs.Common.{◌≡◌, Option, ℕ, ap, sym}
 use Rattle.lf_proto.specs.declared.request.TeamCommand.TheVariants.{Within}
 use Rattle.lf_proto.specs.Verbs.{action_of}
-use Rattle.lf_floor_model.specs.Verbs.{outcome_by_slot, outcome_of, outcome_within}
+use Rattle.lf_floor_model.specs.Verbs.{outcome_of, outcome_within, outcome_by_slot}
 use Rattle.lf_floor_verbs.specs.Tables.{context_in, team_in}
 use Rattle.lf_floor_verbs.proofs.tables.Tables.run_command.Goals as goal
 
