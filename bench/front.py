@@ -65,10 +65,12 @@ def where(client: int, turn: int) -> bytes:
 
 
 class Hub:
-    """A hub over the design, with a session 0 for each team that all its clients share."""
+    """A hub over the design, with a session 0 for each fence's team that all its clients share."""
 
-    def __init__(self, folder: Path, program: str, *extra: str, is_slow: bool = False) -> None:
-        self.folder = folder
+    def __init__(
+        self, folder: Path, program: str, *extra: str, is_slow: bool = False, fences: int = FENCES
+    ) -> None:
+        self.folder, self.fences = folder, fences
         tool = [sys.executable, "-c", SLOW, str(TOP / "front")] if is_slow else [str(TOP / "front/bin/lefence-hub")]
         words = [
             str(folder / "t.def"), str(folder / "t.lef"), "--sockets", str(folder / "s"), "--journal", str(folder / "j")
@@ -79,14 +81,14 @@ class Hub:
         while b"ready" not in self.process.stderr.readline():
             pass
         self.seconds = time.monotonic() - begin
-        self.owners = [self.client(team) for team in range(FENCES)]
+        self.owners = [self.client(team) for team in range(fences)]
         for team, owner in enumerate(self.owners):
             owner.sendall(b"open f%d\n" % team)
             owner.recv(100)
 
     def client(self, number: int) -> socket.socket:
         end = socket.socket(socket.AF_UNIX)
-        end.connect(str(self.folder / f"s/f{number % FENCES}.sock"))
+        end.connect(str(self.folder / f"s/f{number % self.fences}.sock"))
         return end
 
     def end(self) -> None:

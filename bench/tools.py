@@ -96,7 +96,7 @@ def measure(folder: Path, what: str, tool: str, *words: str) -> None:
     with open(folder / "output", "wb") as output:
         process = subprocess.Popen([TOP / "front/bin" / tool, *words], cwd=folder, stdout=output, stderr=output)
     _, status, usage = os.wait4(process.pid, 0)
-    if status:
+    if os.waitstatus_to_exitcode(status) not in (0, 4):
         sys.exit((folder / "output").read_text())
     busy = usage.ru_utime + usage.ru_stime
     print(

@@ -21,6 +21,7 @@ from .client.blocking import Connection, ConnectionLost, Pending, Pipeline, Sess
 from .client.cells import Cell
 from .client.refusals import (
     BadRequest,
+    Frozen,
     Illegal,
     NoCell,
     NoPlace,
@@ -29,6 +30,7 @@ from .client.refusals import (
     NotExported,
     NothingToUndo,
     OutOfMemory,
+    QueriesOnly,
     Refusal,
     RevisionsSpent,
     SessionsFull,
@@ -45,6 +47,7 @@ __all__ = [
     "Cell",
     "Connection",
     "ConnectionLost",
+    "Frozen",
     "Illegal",
     "Legalized",
     "NoCell",
@@ -58,6 +61,7 @@ __all__ = [
     "Pipeline",
     "Place",
     "ProtocolError",
+    "QueriesOnly",
     "Refusal",
     "Report",
     "RevisionsSpent",

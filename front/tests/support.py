@@ -186,6 +186,22 @@ class Talker:
         self.socket.close()
 
 
+def slow_program(folder: Path, program: str, start: bytes, seconds: float) -> str:
+    """The path of a program like this one, which waits so long before each line of `replay` that starts so."""
+    script = folder / "slow"
+    script.write_text(
+        "#!/usr/bin/env python3\nimport subprocess, sys, time\n"
+        f"words = [{program!r}, *sys.argv[1:]]\n"
+        "if sys.argv[1] != 'replay':\n    sys.exit(subprocess.run(words).returncode)\n"
+        "with subprocess.Popen(words, stdin=subprocess.PIPE) as process:\n"
+        "    for line in sys.stdin.buffer:\n"
+        f"        time.sleep({seconds} if line.startswith({start!r}) else 0)\n"
+        "        process.stdin.write(line)\n        process.stdin.flush()\n"
+    )
+    script.chmod(0o755)
+    return str(script)
+
+
 def converse(talker: Talker, text: bytes) -> bytes:
     """All replies of a client to the text, which is sent in pieces of odd sizes."""
     return talker.converse(text, 1, 7, 60, 1000)
@@ -347,7 +363,7 @@ class Hub:
             int(word) for word in Path(f"/proc/{self.process.pid}/task/{self.process.pid}/children").read_text().split()
         ]
 
-    def server_pid(self) -> int:
+    def replay_pid(self) -> int:
         """The process id of its program."""
         return self.children()[0]
 

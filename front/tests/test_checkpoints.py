@@ -2,12 +2,12 @@
 
 from __future__ import annotations
 
+import asyncio
 import itertools
 import os
 import shlex
 import shutil
 import signal
-import subprocess
 import tempfile
 import time
 import unittest
@@ -21,10 +21,11 @@ from support import CELLS, FRONT, LEF, PATIENCE, PROGRAM, TEAMS, Hub, HubCase, S
 from lefence.base.faults import Fault
 from lefence.base.protocol import is_change, text_length
 from lefence.hub.checkpoints import Checkpoints as Checkpointer, TailLimits, _sync_and_hash
+from lefence.hub.journal_writer import JournalWriter
 from lefence.hub.status import read_status
 from lefence.journal.frames import Reader, Record, Text, frame_of, header_of
 from lefence.journal.journal import Journal
-from lefence.journal.segments import Archive, read_records
+from lefence.journal.segments import Archive, last_state, open_segments, read_records, records_in
 
 TEXTS = [Text("0" * 64, Path("/a.def")), Text("f" * 64, Path("/b.lef"))]
 
@@ -125,6 +126,8 @@ class Segments(unittest.TestCase):
         journal.keep_state(path, *_sync_and_hash(path))
         journal.archive.prune(2)
 
+    prune = staticmethod(Archive.prune)
+
     def fill(self, rounds: int, report: Callable[[], object] = lambda: None) -> None:
         """Appends a change, starts a segment, appends a change meanwhile, and saves the state; `count` times."""
         journal = self.open()
@@ -143,14 +146,31 @@ class Segments(unittest.TestCase):
     def names(self) -> list[str]:
         return sorted(path.name for path in Archive(self.path).folder.iterdir())
 
-    def end_at(self, step: int, is_cut: bool) -> int | None:
-        """The changes acknowledged by a process that ends at this step; None if it ran to its end."""
+    def resize(self, report: Callable[[], object] = lambda: None) -> None:
+        """Appends a change, goes on with other session slots, and appends another change."""
+        journal = self.open()
+        self.append(journal)
+        report()
+        journal.roll([])
+        self.keep(journal)
+        copy, state = journal.archive.temporary_state(9), journal.state
+        assert state
+        shutil.copy(state.path, copy)
+        journal.roll_with_state(copy, *_sync_and_hash(copy), [b"team A 1 0 -"], 16)
+        self.append(journal)
+        report()
+        journal.close()
+
+    def end_at(
+        self, step: int, is_cut: bool, work: Callable[["Segments", Callable[[], object]], object]
+    ) -> int | None:
+        """The changes acknowledged by a process that ends at this step of its work; None if it ran to its end."""
         saved = self.folder / "saved"
         saved.mkdir()
         reading, writing = os.pipe()
         if not (child := os.fork()):
             Disk(saved, step, is_cut)
-            self.fill(4, lambda: os.write(writing, b"x"))
+            work(self, lambda: os.write(writing, b"x"))
             os._exit(0)
         os.close(writing)
         with open(reading, "rb") as log:
@@ -160,11 +180,19 @@ class Segments(unittest.TestCase):
     @mock.patch("os.fsync", mock.Mock())
     @mock.patch("os.fdatasync", mock.Mock())
     def test_a_kill_or_a_power_cut_at_any_step_loses_nothing(self) -> None:
+        self.end_at_each_step(lambda case, report: case.fill(4, report), 60)
+
+    @mock.patch("os.fsync", mock.Mock())
+    @mock.patch("os.fdatasync", mock.Mock())
+    def test_a_kill_or_a_power_cut_while_the_slots_change_loses_nothing(self) -> None:
+        self.end_at_each_step(lambda case, report: case.resize(report), 30)
+
+    def end_at_each_step(self, work: Callable[["Segments", Callable[[], object]], object], most: int) -> None:
         for is_cut in (False, True):
             for step in itertools.count():
-                count = self.end_at(step, is_cut)
+                count = self.end_at(step, is_cut, work)
                 if count is None:
-                    self.assertGreater(step, 60)
+                    self.assertGreater(step, most)
                     break
                 with self.subTest(step=step, is_cut=is_cut):
                     lines = self.found()
@@ -187,6 +215,35 @@ class Segments(unittest.TestCase):
             list(read_records(self.path))
         self.assertIn("its first 5 changes exist only as a state", str(caught.exception))
         self.assertEqual((self.found(), self.messages), (self.lines(8), []))
+
+    def test_all_segments_can_be_kept_and_are_read_one_at_a_time(self) -> None:
+        with mock.patch.object(Archive, "prune", lambda archive, keep: self.prune(archive, keep, True)):
+            self.fill(20)
+        self.assertEqual(len(self.names()), 20 + 2)
+        self.assertEqual([record.line for record in read_records(self.path)], self.lines(40))
+        opened = set[int]()
+        before = len(os.listdir("/proc/self/fd"))
+        with open_segments(self.path) as readers:
+            for _ in records_in(readers):
+                opened.add(len(os.listdir("/proc/self/fd")) - before)
+            self.assertEqual([reader.header().number for reader in readers], list(range(1, 22)))
+        self.assertEqual((max(opened), len(os.listdir("/proc/self/fd"))), (2, before))
+
+    def test_another_number_of_slots_begins_with_a_state(self) -> None:
+        self.resize()
+        names = ["1.journal", "2.journal", "2.state", "3.state"]
+        self.assertEqual((self.found(), self.names()), (self.lines(2), names))
+        journal = self.open()
+        self.assertEqual((journal.header.slots, journal.header.number), (16, 3))
+        journal.close()
+        with open_segments(self.path) as readers:
+            for is_all in (False, True):
+                state, following = last_state(self.path, readers, is_all)
+                self.assertEqual((state and state.path.name, len(following)), ("3.state", 1))
+            self.assertEqual([record.line for record in records_in(readers)], self.lines(2))
+        Archive(self.path).state(3).unlink()
+        with self.assertRaisesRegex(Fault, "segment 3 has no intact state, and .*2.journal has 8 session slots"):
+            self.open()
 
     def test_the_state_before_replaces_a_damaged_one(self) -> None:
         self.fill(3)
@@ -289,7 +346,7 @@ class Checkpoints(HubCase):
             if changes and self.rng.random() < 0.01:
                 self.wait_states(talkers + 2)
                 talkers, changes = talkers + 1, 0
-                os.kill(self.hub.server_pid(), signal.SIGKILL)
+                os.kill(self.hub.replay_pid(), signal.SIGKILL)
         self.assertEqual(found, self.direct(b"\n".join(lines) + b"\n"))
         self.assertEqual(self.hub.end(), 0)
 
@@ -333,8 +390,8 @@ class Checkpoints(HubCase):
 
     def test_the_last_checkpoint_is_made_if_it_is_worth_its_time(self) -> None:
         for words, is_made in (
-            (("--tail-bytes", "100000"), False),
-            (("--tail-bytes", "10000"), True),
+            (("--tail-bytes", "100000", "--tail-seconds", "1000"), False),
+            (("--tail-bytes", "10000", "--tail-seconds", "1000"), True),
             (("--tail-seconds", "0"), True),
         ):
             self.start(*words)
@@ -393,9 +450,9 @@ class Limited(unittest.TestCase):
     def test_a_checkpoint_is_due_by_bytes_or_seconds_and_after_a_failure_later(self) -> None:
         journal = mock.Mock(tail_changes=1, tail_bytes=1001)
         journal.roll.side_effect = OSError(28, "x")
-        made = Checkpointer(mock.Mock(), journal, TailLimits(1000, 10), mock.Mock())
+        made = Checkpointer(mock.Mock(), JournalWriter(journal, mock.Mock()), TailLimits(1000, 10), mock.Mock())
         self.assertTrue(made.is_due())
-        made.begin(mock.Mock(owners={}), mock.Mock(teams={}))
+        asyncio.run(made.make_last(mock.Mock(owners={}), mock.Mock(teams={}), False))
         self.assertFalse(made.is_due())
         journal.tail_bytes = 2001
         self.assertTrue(made.is_due())
@@ -403,8 +460,31 @@ class Limited(unittest.TestCase):
         self.assertEqual((made.is_due(), made.is_due(1.1)), (True, False))
         journal.tail_changes = 0
         self.assertFalse(made.is_due())
-        never = Checkpointer(mock.Mock(), mock.Mock(tail_changes=1, tail_bytes=1 << 40), TailLimits(0), mock.Mock())
+        writer = JournalWriter(mock.Mock(tail_changes=1, tail_bytes=1 << 40), mock.Mock())
+        never = Checkpointer(mock.Mock(), writer, TailLimits(0), mock.Mock())
         self.assertFalse(never.is_due())
+
+    def test_by_default_a_checkpoint_is_due_when_a_replay_takes_two_seconds(self) -> None:
+        journal = mock.MagicMock(tail_changes=1, tail_bytes=1 << 40)
+        side = mock.MagicMock(write=mock.AsyncMock(return_value=(0.5, 0.25)))
+        made = Checkpointer(side, JournalWriter(journal, mock.Mock()), TailLimits(), mock.Mock())
+
+        def due_after(seconds: float) -> bool:
+            made.add(seconds)
+            return made.is_due()
+
+        self.assertEqual([due_after(1.5) for _ in range(2)], [False, True])
+
+        async def make() -> None:
+            with mock.patch("lefence.hub.checkpoints._sync_and_hash", return_value=(1, "")):
+                await made.make_last(mock.Mock(owners={}), mock.Mock(teams={}), True)
+
+        asyncio.run(make())
+        # The replay was twelve times as fast as what was served.
+        self.assertEqual([due_after(12) for _ in range(3)], [False, False, True])
+        # A start that loads for long may replay for as long.
+        made.loading = 5
+        self.assertEqual([due_after(12) for _ in range(3)], [False, False, True])
 
 
 class Pages(HubCase):
@@ -428,6 +508,12 @@ class Pages(HubCase):
         self.addCleanup(self.hub.kill)
         self.hub.wait_ready()
         return self.hub.log_text()
+
+    def journal_tool(self, line: str) -> str:
+        """Runs a line of lefence-journal with the program of the tests; returns its output."""
+        done = self.tool("lefence-journal", *shlex.split(line)[1:], "--program", PROGRAM)
+        self.assertEqual(done.returncode, 0, done.stderr)
+        return done.stdout.decode()
 
     def test_an_upgrade(self) -> None:
         roll, serve = self.lines(
@@ -462,13 +548,14 @@ class Pages(HubCase):
         self.assertEqual(talker.ask("open f0", "place f0 0 f0c1 0 0 N")[1], "ok 1")
         self.hub.wait_for("a state of")
         self.assertEqual(talker.ask("place f0 0 f0c1 200 0 N"), ["ok 2"])
-        subprocess.run(["sh", "-c", *self.lines("mkdir saved")], cwd=self.folder, check=True)
+        backup, restore = self.lines("lefence-journal backup")
+        self.journal_tool(backup)
         self.assertEqual(talker.ask("place f0 0 f0c1 400 0 N"), ["ok 3"])
         self.hub.kill()
         for path in self.folder.glob("chip.journal*"):
             shutil.rmtree(path) if path.is_dir() else path.unlink()
-        subprocess.run(["sh", "-c", "mv saved/* ."], cwd=self.folder, check=True)
-        self.assertIn("ready", self.begin(serve, "--program", PROGRAM))
+        line = self.journal_tool(restore).strip().replace("--sockets DIR", "--sockets s")
+        self.assertIn("ready", self.begin(line, "--program", PROGRAM))
         self.assertEqual(self.talk("f0").ask("open f0", "where f0 0 f0c1"), ["ok 0 2", "ok 200 0 N"])
 
 

@@ -10,10 +10,12 @@ import sys
 import time
 import unittest
 from collections.abc import Callable
+from pathlib import Path
 
 from support import CELLS, PATIENCE, PROGRAM, TURNS, Hub, HubCase, Talker, spot, wait_gone
 
 from lefence.hub.clients import ClientPool
+from lefence.hub.status import read_status
 from lefence.journal.segments import Archive
 
 # Changes that each of four teams has in flight at a crash.
@@ -21,8 +23,14 @@ MANY = 2000
 
 
 class Crashes(HubCase):
-    # More options of the hub.
+    # More options of the hub, and of each start of it.
     extra: tuple[str, ...] = ()
+    programs: tuple[str, ...] = ()
+
+    def words(
+        self, *extra: str, sockets: str = "s", journal: str = "journal", design: Path | None = None
+    ) -> list[str]:
+        return super().words(*extra, *self.programs, sockets=sockets, journal=journal, design=design)
 
     def changes(self, team: int, revision: int) -> Talker:
         """A client that has sent many changes and got no replies."""
@@ -88,11 +96,15 @@ class Crashes(HubCase):
         self.start_again()
 
     def kill_9_of_server(self) -> None:
-        os.kill(self.hub.server_pid(), signal.SIGKILL)
+        os.kill(self.a_server(), signal.SIGKILL)
+
+    def a_server(self) -> int:
+        """The process id of a program that serves."""
+        return int(self.rng.choice(read_status(self.folder / "s")["programs"])["pid"])
 
     def kill_9_of_both(self) -> None:
         self.addCleanup(wait_gone, self.hub.children())
-        for pid in self.rng.sample([self.hub.server_pid(), self.hub.process.pid], 2):
+        for pid in self.rng.sample([self.a_server(), self.hub.process.pid], 2):
             with contextlib.suppress(ProcessLookupError):
                 # The program ends with the hub.
                 os.kill(pid, signal.SIGKILL)
@@ -135,6 +147,12 @@ class Crashes(HubCase):
         self.assertEqual(talker.ask(*lines), ["ok 5", "ok 6", "no 6 Unplaced f0c2", "ok 7", "no 9 NothingToUndo"])
 
 
+class CrashesOfThree(Crashes):
+    """The same with three programs."""
+
+    programs = ("--programs", "3")
+
+
 class Programs(HubCase):
     """A program that dies by itself."""
 
@@ -152,7 +170,7 @@ class Programs(HubCase):
         self.start()
         talker = self.talk("f0")
         self.assertEqual(talker.ask("open f0", "place f0 0 f0c1 0 0 N"), ["ok 0 0", "ok 1"])
-        os.kill(self.hub.server_pid(), signal.SIGKILL)
+        os.kill(self.hub.replay_pid(), signal.SIGKILL)
         self.assertEqual(talker.ask("where f0 0 f0c1", "place f0 0 f0c1 200 0 N"), ["ok 0 0 N", "ok 2"])
         self.assertEqual((self.hub.end(), (self.folder / "starts").read_text().count("x")), (0, 5))
 
@@ -161,7 +179,7 @@ class Programs(HubCase):
         self.start()
         talker = self.talk("f0")
         self.assertEqual(talker.ask("open f0", "place f0 0 f0c1 0 0 N"), ["ok 0 0", "ok 1"])
-        os.kill(self.hub.server_pid(), signal.SIGKILL)
+        os.kill(self.hub.replay_pid(), signal.SIGKILL)
         self.assertEqual((talker.ask("where f0 0 f0c1"), self.hub.process.wait(PATIENCE)), ([""], 3))
         self.assertIn("giving up", self.hub.log_text())
         self.program = PROGRAM

@@ -19,12 +19,14 @@ SCRIPT = FRONT / "examples/day.sh"
 # A command of KLayout and what it prints.
 KLAYOUT = re.compile(r"^klayout .*\n(?:#> .*\n)+", re.M)
 PRINTED = re.compile(r"^#> (.*\n)", re.M)
+# The progress that a tool prints on a slow machine.
+PROGRESS = re.compile(r"^lefence-\w+: .*, \d+ s\n", re.M)
 
 
 class Day(FrontCase):
     def run_script(self, text: str, script: Path = SCRIPT, **environment: str) -> str:
-        """Runs the text of a script in the folder of the test; returns both output streams, after all its processes
-        have ended.
+        """Runs the text of a script in the folder of the test; returns both output streams without progress, after all
+        its processes have ended.
         """
         environment = {**os.environ, "QT_QPA_PLATFORM": "offscreen", **environment}
         with subprocess.Popen(
@@ -36,7 +38,7 @@ class Day(FrontCase):
             start_new_session=True,
         ) as process:
             try:
-                return process.communicate(timeout=5 * PATIENCE)[0].decode()
+                return PROGRESS.sub("", process.communicate(timeout=10 * PATIENCE)[0].decode())
             finally:
                 with contextlib.suppress(ProcessLookupError):
                     os.killpg(process.pid, signal.SIGKILL)

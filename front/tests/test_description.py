@@ -2,6 +2,7 @@
 
 from __future__ import annotations
 
+import json
 import unittest
 
 from support import CELLS, TEAMS, FrontCase
@@ -54,6 +55,32 @@ class Descriptions(FrontCase):
             found = list(description.cells_of(team))
             self.assertEqual((len(found), found), (CELLS, [cell for cell in cells if cell.team == team]))
             self.assertEqual(description.total.cells, len(cells))
+
+    def test_lines_of_cells_have_what_the_cells_have(self) -> None:
+        names = ["a", "u\\[0\\]", 'q"x', "\\u0041", "tab\t", '\\"', "\\\\n"]
+        printed, program = self.folder / "printed", self.folder / "printing"
+        program.write_text(f"#!/bin/sh\ncat '{printed}'\nexit 4\n")
+        program.chmod(0o755)
+        extras: list[dict[str, object]] = [{}, {"zone": 1}]
+        for more in extras:
+            text = '{"kind":"design","name":"t","site":"core","site_height":2000,"site_width":200,"units":1000}\n'
+            for at, name in enumerate(names):
+                keys: dict[str, object] = {"kind": "cell", "name": name, "team": name, "macro": name}
+                keys |= {"width": 200, "height": 2000}
+                place: list[object] = [[-at, 0, 200 - at, 2000], "FS", 8, names[0]] if at else [None] * 4
+                line = keys | dict(zip(("box", "orient", "rule", "other"), place)) | more
+                text += json.dumps(line, separators=(",", ":"), sort_keys=True) + "\n"
+            total = ",".join(f'"{key}":{7 if key == "cells" else 0}' for key in Total._fields)
+            printed.write_text(f'{text}{{"kind":"total",{total}}}\n')
+            with Description(str(program), self.design, []) as description:
+                lines = [line for part in description.cell_lines() for line in part]
+                self.assertEqual(description.total.cells, 7)
+            expected = [
+                (b"%d,0" % -at, b"%d,2000" % (200 - at), b"2000", name.encode(), b"FS", b"8", name.encode(), b"200")
+                for at, name in enumerate(names)
+            ]
+            expected[0] = (b"", b"", b"2000", b"a", b"", b"", b"a", b"200")
+            self.assertEqual(lines, expected)
 
     def test_a_refusal_has_its_status_and_message(self) -> None:
         for text, status, expected in (

@@ -7,7 +7,7 @@ import unittest
 
 from support import SEED
 
-from lefence.base.design import entries, statements, words_in
+from lefence.base.design import entries, section_parts, statements, words_in
 
 WHITE = b" \t\r\n"
 # The parts of random texts: white space, comments, complete and incomplete quotes, and words that contain them.
@@ -107,6 +107,17 @@ class Texts(unittest.TestCase):
         found = list(entries(text, statements(text), b"COMPONENTS"))
         words = [(b"a", [b"a", b"INV"]), (b"b;", [b"b;", b'"; - x"', b"x"]), (b"", []), (b"", [])]
         self.assertEqual([(each.name, each.words) for each in found], words)
+
+    def test_the_head_of_a_section_ends_with_its_first_semicolon(self) -> None:
+        for head, rest, names in (
+            (b"COMPONENTS 2 ;", b" ;", [b"a", b"b"]),
+            (b"COMPONENTS 2 entries ; # ;", b" entries ;", [b"a", b"b"]),
+            (b"COMPONENTS 2;", b"\n- a INV ;", [b"b"]),
+            (b"COMPONENTS ;", b"", [b"a", b"b"]),
+        ):
+            text = head + b"\n- a INV ;\n- b INV ;\nEND COMPONENTS\nEND DESIGN"
+            _, found, entries_found = section_parts(text, statements(text)[0])
+            self.assertEqual((found, [each.name for each in entries_found]), (rest, names), head)
 
     def test_long_texts_take_time_and_memory_in_proportion(self) -> None:
         many = 200_000

@@ -17,12 +17,13 @@ from support import CELLS, FRONT, PATIENCE, PROGRAM, FrontCase, tool_words
 
 from lefence.base.design import Design
 from lefence.base.faults import Fault
+from lefence.base.slices import slices_of
 from lefence.journal.journal import Journal, texts_in
 from lefence.journal.owner import this_process
 from lefence.tools.farm import ranges_of
 from lefence.tools.farm_runs import teams_of
 from lefence.tools.merge import merge
-from lefence.tools.slice import slice_of, slices_of
+from lefence.tools.slice import slice_of
 
 # Two fences and the ground around them, with two cells each.
 TEAMS = ("A", "B", "-")
@@ -186,12 +187,15 @@ class Farms(FarmCase):
 
     def refused_when_the_text_changes(self) -> None:
         """The design changes between the slices and the end, or before a second run."""
-        self.design.write_text(self.design.read_text().replace("a1 INV", "a1 BUF"))
-        done = self.tool("lefence-farm", "work", "--collect")
-        expected = f"lefence-farm: {self.design.resolve()} has changed since the slices were made\n"
-        self.assertEqual((done.returncode, done.stderr.decode()), (1, expected))
-        done = self.tool("lefence-farm", "work", "t.def", "t.lef", "--program", PROGRAM, "--", "true")
-        self.assertEqual((done.returncode, done.stderr.count(b"is of another design than")), (1, 1))
+        for path, change in ((self.lef, ("0.6", "0.8")), (self.design, ("a1 INV", "a1 BUF"))):
+            text = path.read_text()
+            path.write_text(text.replace(*change))
+            done = self.tool("lefence-farm", "work", "--collect")
+            expected = f"lefence-farm: {path.resolve()} has changed since the slices were made\n"
+            self.assertEqual((done.returncode, done.stderr.decode()), (1, expected))
+            done = self.tool("lefence-farm", "work", "t.def", "t.lef", "--program", PROGRAM, "--", "true")
+            self.assertEqual((done.returncode, done.stderr.count(b"is of another design than")), (1, 1))
+            path.write_text(text)
 
     def by_engine(self, name: str, engine: str, option: str, *words: str) -> str:
         """Runs a farm with a substitute engine; returns its output."""
@@ -318,7 +322,7 @@ class Merges(FrontCase):
         text = self.design.read_bytes().replace(b"END DESIGN", more.encode() + b"END DESIGN")
         design = Design(text)
         teams = teams_of(design)
-        slices = [b"".join(pieces) for pieces in slices_of(design, [team.encode() for team in teams])]
+        slices = [b"".join(pieces) for pieces in slices_of(design, [[team.encode()] for team in teams])]
         self.assertEqual(slices, [slice_of(text, team) for team in teams])
 
     def test_slices_are_merged_back_into_the_design(self) -> None:

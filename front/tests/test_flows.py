@@ -128,7 +128,7 @@ class Flows(FrontCase):
         self.assertNotIn("LEF file", output)
         for expected in (
             "2 cells of team - are inside fence dsp: FILLER_1, FILLER_2; --adopt dsp binds them to its team\n",
-            "1 cell can move and is higher than 8 rows: ram2 (RAM); no place is legal for them; --fix PATTERN",
+            "1 cell can move and is higher than 8 rows: ram2 (RAM); no rows hold such a cell; --fix PATTERN",
             "group h is bound to pd, which is not a fence",
         ):
             self.assertIn(expected, output)
@@ -232,8 +232,9 @@ class Flows(FrontCase):
         self.assertEqual(done.returncode, 0, done.stderr)
         expected = DESIGN.replace("( 400 0 ) N", "( 800 2000 ) FS").replace("+ PLACED ( 8000 2000 ) FS", "+ UNPLACED")
         self.assertEqual((self.folder / "back.def").read_text(), expected)
-        self.assertIn(b"2 components have new places", done.stderr)
-        self.assertIn(b"2 movable components of the original are not movable in the prepared file", done.stderr)
+        self.assertIn(b"2 components with a new place", done.stderr)
+        stay = b"2 movable components of the original not movable in the prepared file: at the old place"
+        self.assertIn(stay, done.stderr)
 
     def test_a_prepared_flow_is_repaired(self) -> None:
         self.prepared("--adopt", "dsp", "--fix", "RAM", "--halos", "--as-fence", "pd")

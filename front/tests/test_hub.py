@@ -65,7 +65,7 @@ class Replies(HubCase):
             text = b"".join(self.rng.choice(scripts).line() + b"\n" for _ in range(1200))
             ends = [b"", b"bye", b"bye\r", b"open f0", b"open f0\r", b"x" * 5000, b"bye\nopen f0\n", b" bye\t\r\nx\n"]
             text += self.rng.choice(ends)
-            self.start("--no-sync")
+            self.start("--no-sync", "--tail-bytes", "0")
             sizes = self.rng.choices([1, 2, 7, 60, 1000, 20000], k=20)
             self.assertEqual(self.talk("operator").converse(text, *sizes), self.direct(text))
             self.assertEqual(self.hub.end(), 0)
@@ -73,7 +73,7 @@ class Replies(HubCase):
 
     def test_concurrent_teams_get_the_replies_to_their_own_commands(self) -> None:
         for _ in range(2):
-            self.start()
+            self.start("--tail-bytes", "0")
             texts = {team: Script(self.rng, team).lines(1200) for team in (0, 1, 2, TEAMS)}
             talkers = [self.talk(f"f{team}" if team < TEAMS else "-") for team in texts]
             with ThreadPoolExecutor() as pool:
@@ -122,18 +122,21 @@ class Sockets(HubCase):
 
     def test_modes_and_groups_of_sockets_are_kept_over_restarts(self) -> None:
         self.start()
-        first = {"-.sock": 0o660, "operator.sock": 0o600} | {f"f{team}.sock": 0o660 for team in range(TEAMS)}
+        teams = ["-", *(f"f{team}" for team in range(TEAMS))]
+        first = {"operator.sock": 0o600} | {f"{team}{kind}.sock": 0o660 for team in teams for kind in ("", ".query")}
         self.assertEqual(self.modes(), first)
         self.hub.end()
-        (self.folder / "s/f1.sock").chmod(0o600)
+        kept = {"f1.sock": 0o600, "f0.query.sock": 0o666}
+        for name, mode in kept.items():
+            (self.folder / "s" / name).chmod(mode)
         (self.folder / "s/operator.sock").chmod(0o666)
         if os.geteuid() == 0:
             os.chown(self.folder / "s/f0.sock", -1, 12345)
         self.start()
-        self.assertEqual(self.modes(), first | {"f1.sock": 0o600})
+        self.assertEqual(self.modes(), first | kept)
         self.hub.kill()
         self.start()
-        self.assertEqual(self.modes(), first | {"f1.sock": 0o600})
+        self.assertEqual(self.modes(), first | kept)
         if os.geteuid() == 0:
             self.assertEqual((self.folder / "s/f0.sock").stat().st_gid, 12345)
 
@@ -278,7 +281,7 @@ class Disk(HubCase):
     """Replies wait for the disk."""
 
     def test_a_full_disk_refuses_changes_and_answers_the_rest(self) -> None:
-        self.start()
+        self.start("--tail-bytes", "0")
         talker = self.talk("f0")
         self.assertEqual(talker.ask("open f0", "place f0 0 f0c1 0 0 N"), ["ok 0 0", "ok 1"])
         pid = self.hub.process.pid
@@ -311,9 +314,9 @@ class Disk(HubCase):
     def test_replies_wait_for_the_disk_and_a_disk_that_fails_ends_the_hub(self) -> None:
         for error in (None, OSError(5, "the disk")):
             steps = mock.Mock(**{"sync.side_effect": error})
-            server = mock.Mock(execute=mock.AsyncMock(return_value=[b"ok 0 0\n"]))
+            replay = mock.Mock(execute=mock.AsyncMock(return_value=[b"ok 0 0\n"]))
             hub = hub_module.Hub(
-                server, Journal(self.folder / str(error), [], mock.Mock()), hub_module.HubLimits(), mock.Mock()
+                replay, Journal(self.folder / str(error), [], mock.Mock()), hub_module.HubLimits(), mock.Mock()
             )
             client = Client(hub, b"f0")
             client.transport = mock.Mock(**{"is_closing.return_value": False, "write": steps.write})
@@ -323,7 +326,8 @@ class Disk(HubCase):
                 stack.enter_context(mock.patch("os.fdatasync", steps.sync))
                 if error:
                     stack.enter_context(self.assertRaises(Fault))
-                asyncio.run(hub.answer(hub.next_batch()))
+                [shard] = hub.shards
+                asyncio.run(hub.answer(shard, hub.next_batch(shard)))
             self.assertEqual([call[0] for call in steps.mock_calls], ["sync"] if error else ["sync", "write"])
 
 
@@ -494,6 +498,29 @@ class Ends(HubCase):
         )
         self.assertIn(b"each team has 9 session slots", self.tool("lefence-journal", "check", self.journal).stdout)
         self.assertIn(b"with --sessions 9", self.tool("lefence-journal", "export", self.journal).stderr)
+
+    def test_a_roll_can_change_the_number_of_sessions(self) -> None:
+        self.start("--tail-bytes", "1")
+        talker = self.talk("operator")
+        self.assertEqual(talker.ask("open f0", "place f0 0 f0c1 0 0 N", "open f0"), ["ok 0 0", "ok 1", "ok 1 1"])
+        self.hub.kill()
+        # The session of number 1 is open.
+        self.assertIn("team f0 has an open session of number 1 or more", self.start("--roll", "--sessions", "1"))
+        self.assertEqual(self.hub.process.wait(PATIENCE), 1)
+        for number in (11, 2):
+            self.assertIn(f"each team has {number} session slots", self.start("--roll", "--sessions", str(number)))
+            self.assertEqual(self.hub.process.wait(PATIENCE), 0)
+        self.assertIn("each team has 11 session slots", self.start("--roll", "--sessions", "11"))
+        self.assertIn("ready", self.start("--sessions", "11"))
+        talker = self.talk("operator")
+        self.assertEqual(talker.ask(*["open f0"] * 11), [f"ok {number} 1" for number in range(11)])
+        self.assertEqual(talker.ask("where f0 0 f0c1", "undo f0 10"), ["ok 0 0 N", "ok 2"])
+        self.assertEqual(self.hub.end(), 0)
+        for words in ((), ("--all",)):
+            done = self.tool("lefence-journal", "verify", self.journal, "--program", PROGRAM, *words)
+            self.assertEqual(done.returncode, 0, done.stderr)
+        listed = self.tool("lefence-journal", "list", self.journal).stdout
+        self.assertEqual(listed.count(b"undo f0 10"), 1)
 
 
 if __name__ == "__main__":

@@ -233,6 +233,46 @@ class Journals(unittest.TestCase):
         first.close()
         self.open().close()
 
+    def test_a_roll_keeps_group_and_mode_and_moves_another_file_aside(self) -> None:
+        journal = self.open()
+        os.chmod(self.path, 0o640)
+        if os.geteuid() == 0:
+            os.chown(self.path, -1, 12345)
+        journal.archive.make()
+        journal.archive.segment(1).write_text("an export")
+        before = self.path.stat()
+        journal.append(RECORDS[:1])
+        journal.roll([])
+        after = self.path.stat()
+        self.assertEqual((after.st_mode, after.st_gid), (before.st_mode, before.st_gid))
+        self.assertNotEqual(after.st_ino, before.st_ino)
+        self.assertEqual(journal.archive.segment(1).stat().st_ino, before.st_ino)
+        self.assertEqual((journal.archive.folder / "1.journal.aside").read_text(), "an export")
+        journal.close()
+
+    def test_a_segment_is_copied_where_no_link_is_possible(self) -> None:
+        journal = self.open()
+        journal.append(RECORDS[:2])
+        with mock.patch("os.link", side_effect=OSError(errno.EXDEV, "x")):
+            journal.roll([])
+        journal.append(RECORDS[2:])
+        journal.close()
+        self.assertEqual((self.found(), list(read_records(self.path))), (RECORDS, RECORDS))
+
+    def test_a_pipe_is_refused(self) -> None:
+        os.mkfifo(self.path)
+        with self.assertRaisesRegex(Fault, "is not a regular file"):
+            texts_in(self.path)
+        with self.assertRaisesRegex(Fault, "is not a regular file"):
+            list(read_records(self.path))
+
+    def test_fewer_bytes_are_reserved_if_the_disk_has_no_more(self) -> None:
+        journal = self.open()
+        with mock.patch("os.posix_fallocate", side_effect=[OSError(errno.ENOSPC, "x"), None]) as tried:
+            self.assertTrue(journal.has_room(1000))
+        self.assertLess(tried.mock_calls[1].args[2], 3000)
+        self.assertFalse(journal.has_room(1 << 60))
+
     def test_a_full_disk_is_reported_and_a_failing_one_is_a_fault(self) -> None:
         journal = self.open()
         for number in (errno.ENOSPC, errno.EDQUOT, errno.EFBIG):

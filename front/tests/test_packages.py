@@ -5,6 +5,7 @@ from __future__ import annotations
 import ast
 import subprocess
 import sys
+import tomllib
 import unittest
 from collections.abc import Iterator
 from pathlib import Path
@@ -54,6 +55,14 @@ class Packages(unittest.TestCase):
             docstring = ast.get_docstring(ast.parse((PACKAGE / package / "__init__.py").read_text(encoding="utf-8")))
             for path in (PACKAGE / package).glob("[a-z]*.py"):
                 self.assertIn(f"`{path.stem}`", docstring or "", package)
+
+    def test_pip_installs_the_tcl_package_the_unit_and_the_examples(self) -> None:
+        project = tomllib.loads((FRONT / "pyproject.toml").read_text(encoding="utf-8"))["tool"]["setuptools"]
+        self.assertEqual({f"lefence.{name}" for name in ALLOWED} | {"lefence"}, {*project["packages"]})
+        patterns = [pattern for group in project["data-files"].values() for pattern in group]
+        found = {path for pattern in patterns for path in FRONT.glob(pattern)}
+        wanted = {FRONT / "lefence-hub.service", *(FRONT / "tcl").iterdir(), *(FRONT / "examples").iterdir()}
+        self.assertEqual(found, wanted)
 
     def test_the_client_library_needs_no_asyncio(self) -> None:
         code = (

@@ -133,9 +133,9 @@ class Preparations(FrontCase):
         done = self.run_on()
         lines = TEXT.replace("\nTRACKS", f"{ROWS}\nTRACKS").split("\n")
         line = next(line for line in lines if line.startswith("- x FILL"))
-        expected = (
-            f"it does not load: 14 NoMacro FILL; the prepared DEF file, line {lines.index(line) + 1}: {line}\n".encode()
-        )
+        says = "no LEF file has this MACRO in front of its END LIBRARY"
+        where = f"the prepared DEF file, line {lines.index(line) + 1} ({says}): {line}\n"
+        expected = f"it does not load: 14 NoMacro FILL; {where}".encode()
         expected += b"lefence-prepare: nothing is written; --force writes it anyway\n"
         self.assertEqual((done.returncode, self.output.exists()), (1, False))
         self.assertTrue(done.stderr.endswith(expected), done.stderr)

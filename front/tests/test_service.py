@@ -16,11 +16,13 @@ import shutil
 import signal
 import socket
 import subprocess
+import sys
 import tempfile
 import threading
 import time
 import unittest
 from collections.abc import Callable
+from hashlib import sha256
 from pathlib import Path
 from typing import Any
 from unittest import mock
@@ -55,25 +57,35 @@ class Texts(HubCase):
         self.assertEqual(self.talk("f0").ask(*lines), ["ok 0 0", "ok 1", "ok 2 9", "ok 3"])
         self.design.write_text("DESIGN other ;\nEND DESIGN\n")
         self.lef.unlink()
-        os.kill(self.hub.server_pid(), signal.SIGKILL)
+        os.kill(self.hub.replay_pid(), signal.SIGKILL)
         self.assertEqual(self.talk("f0").ask("open f0", "where f0 0 f0c1"), ["ok 1 3", "ok 0 0 N"])
         refused = f"no 13 NotExported {self.design} is the journal or a file of the design"
         self.assertEqual(self.talk("operator").ask(f"export {exported}", f"export {self.design}"), ["ok", refused])
+        inside = kept / "new.def"
+        refused = f"no 13 NotExported {inside} is in a folder of the journal"
+        self.assertEqual(self.talk("operator").ask(f"export {inside}"), [refused])
         self.assertIn("f0c1 INV + PLACED ( 0 0 ) N", exported.read_text())
+        listed = [(text["path"], text["sha256"]) for text in status.read_status(self.folder / "s")["texts"]]
+        self.assertEqual(listed[0], (str(self.design), sha256(design_text().encode()).hexdigest()))
         self.hub.kill()
-        self.assertIn("ready", self.start())
+        # A start uses the copies only if the operator says so.
+        refusal, output = self.start_refused(*self.words())
+        expected = f"t.def has changed since {self.journal} was made: --kept-texts"
+        self.assertEqual((refusal, expected in output), (1, True))
+        self.assertIn("ready", self.start("--kept-texts"))
         self.assertIn("t.def has changed since the journal was made", self.hub.log_text())
+        self.assertIn("t.lef is missing since the journal was made", self.hub.log_text())
         self.assertEqual(self.talk("f0").ask("open f0", "where f0 0 f0c1"), ["ok 0 3", "ok 0 0 N"])
         self.assertEqual(self.hub.end(), 0)
         # Another file is not accepted, nor one without a copy.
         self.lef.write_text("x")
         other = self.folder / "other.def"
         other.write_text(design_text() + "\n")
-        status, output = self.start_refused(*self.words(design=other))
-        self.assertEqual((status, "of another design" in output), (1, True), output)
+        refusal, output = self.start_refused(*self.words(design=other))
+        self.assertEqual((refusal, "of another design" in output), (1, True), output)
         shutil.rmtree(kept)
-        status, output = self.start_refused(*self.words())
-        self.assertEqual((status, "no copy of that is kept" in output), (1, True), output)
+        refusal, output = self.start_refused(*self.words())
+        self.assertEqual((refusal, "no copy of that is kept" in output), (1, True), output)
 
     def test_missing_or_damaged_copies_are_made_again(self) -> None:
         self.start()
@@ -237,9 +249,9 @@ class Shares(unittest.TestCase):
 
         self.lines: list[bytes] = []
         self.messages: list[str] = []
-        server = mock.Mock(**{"execute": mock.AsyncMock(side_effect=execute), "pid": None})
+        replay = mock.Mock(**{"execute": mock.AsyncMock(side_effect=execute), "pid": None})
         journal = Journal(Path(self.enterContext(tempfile.TemporaryDirectory())) / "j", [], self.messages.append)
-        self.hub = Hub(server, journal, HubLimits(), self.messages.append)
+        self.hub = Hub(replay, journal, HubLimits(), self.messages.append)
         self.hub.teams, self.hub.unused_name, self.hub.pool.most_clients = ["f0", "f1"], b"~", 8
 
     def client(self, team: bytes, uid: int = 4242) -> Client:
@@ -247,6 +259,10 @@ class Shares(unittest.TestCase):
         made.uid = uid
         self.transport = mock.Mock(**{"is_closing.return_value": False, "get_write_buffer_size.return_value": 100000})
         made.transport = self.transport
+        near, self.far = socket.socketpair()
+        self.transport.get_extra_info.return_value = near
+        for end in (near, self.far):
+            self.addCleanup(end.close)
         return made
 
     def send(self, client: Client, text: bytes) -> None:
@@ -258,8 +274,9 @@ class Shares(unittest.TestCase):
         self.lines.clear()
 
         async def answer() -> None:
-            while batch := self.hub.next_batch():
-                await self.hub.answer(batch)
+            [shard] = self.hub.shards
+            while batch := self.hub.next_batch(shard):
+                await self.hub.answer(shard, batch)
 
         asyncio.run(answer())
         return self.lines[:]
@@ -282,29 +299,90 @@ class Shares(unittest.TestCase):
         self.send(self.client(b"f0", 9), b"open f1\n" * 8)
         self.assertEqual(self.answer_all(), [b"open ~"] * 8)
 
-    def test_long_replies_wait_for_unread_ones(self) -> None:
-        first, second, third, other = (self.client(team) for team in (b"f0", b"f0", b"f0", b"f1"))
-        for client in (first, second):
+    def test_a_session_that_is_closed_makes_room_for_another(self) -> None:
+        many = self.client(b"f0")
+        replies = {b"close f0 0": b"ok\n", b"open f0": b"ok 5 0\n"}
+        execute = mock.AsyncMock(side_effect=lambda lines: [replies[line] for line in lines])
+        [shard] = self.hub.shards
+        shard.replay = mock.Mock(execute=execute, pid=None)
+        self.hub.pool.owners = {(b"f0", number): clients.SessionOwner(many, 0) for number in range(6)}
+        self.send(many, b"close f0 0\nclose f0 0\nopen f0\nopen f0\n")
+        self.answer_all()
+        written = b"".join(call.args[0] for call in self.transport.write.mock_calls)
+        self.assertEqual(written, b"ok\nok\nok 5 0\nno 10 SessionsFull\n")
+
+    def test_slow_readers_hold_no_long_replies_of_others(self) -> None:
+        slow = [self.client(team) for team in (b"f0", b"f0", b"f1", b"f1")]
+        for client in slow:
             client.is_slow = True
+            self.transport.get_write_buffer_size.return_value = 1 << 40
             self.hub.mark_slow(client)
+        third, other = self.client(b"f0"), self.client(b"f2")
         self.send(third, b"where f0 0 x\ncheck f0 0\nwhere f0 0 y\n")
-        self.send(other, b"def f1 0\n")
-        self.assertEqual(self.answer_all(), [b"where f0 0 x", b"def f1 0"])
-        first.is_slow = False
-        self.hub.unmark_slow(first)
-        self.assertEqual(self.answer_all(), [b"check f0 0", b"where f0 0 y"])
-        with mock.patch.object(clients, "_MOST_UNREAD", 50000):
-            self.send(other, b"def f1 0\n")
-            self.assertEqual(self.answer_all(), [])
-            self.hub.remove(second)
-            self.assertEqual(self.answer_all(), [b"def f1 0"])
+        self.send(other, b"def f2 0\n")
+        lines = [b"where f0 0 x", b"def f2 0", b"check f0 0", b"where f0 0 y"]
+        self.assertEqual(sorted(self.answer_all()), sorted(lines))
+
+    def read_reply(self, size: int, is_closed: bool) -> bytes:
+        """What a client gets that begins to read late a reply of this size, between two short ones."""
+
+        async def converse() -> bytes:
+            near, far = socket.socketpair()
+            with far:
+                connected = await asyncio.get_running_loop().connect_accepted_socket(
+                    lambda: Client(self.hub, b"f0"), near
+                )
+                client, text = connected[1], b"ok %d\n" % size + bytes(size)
+                for reply in (b"first\n", text, b"last\n"):
+                    client.reply(reply)
+                client.flush()
+                if is_closed:
+                    client.disconnect()
+                self.assertEqual(client.is_slow, size > 1 << 20)
+                self.assertLess(client.transport.get_write_buffer_size(), 1 << 18)
+                self.unread = client.unread_bytes()
+                found = await asyncio.to_thread(self.received, far, len(text) + 11, is_closed)
+                self.assertEqual((client.is_slow, client.unread_bytes()), (False, 0))
+                if not is_closed:
+                    client.transport.abort()
+                return found
+
+        return asyncio.run(converse())
+
+    def received(self, far: socket.socket, count: int, is_closed: bool) -> bytes:
+        found = b""
+        while (is_closed or len(found) < count) and (piece := far.recv(1 << 16)):
+            found += piece
+        return found
+
+    def test_a_long_reply_waits_in_a_file_until_it_is_read(self) -> None:
+        for size in (100, 70_000, 5 << 20):
+            for is_closed in (False, True):
+                want = b"first\nok %d\n" % size + bytes(size) + b"last\n"
+                self.assertTrue(self.read_reply(size, is_closed) == want, size)
+        self.assertGreater(self.unread, 4 << 20)
+
+    def test_a_long_reply_without_room_is_refused(self) -> None:
+        patches: list[Any] = [
+            mock.patch.object(clients, "_MOST_UNREAD", 1000),
+            mock.patch.object(clients, "_FREE", 1 << 60),
+            mock.patch("lefence.hub.spool.Spool.write", side_effect=OSError(28, "no room")),
+        ]
+        for patch in patches:
+            with patch:
+                client = self.client(b"f0")
+                client.reply(b"ok 1\n")
+                client.reply(b"ok 70000\n" + bytes(70000))
+                client.flush()
+                written = b"".join(call.args[0] for call in self.transport.write.mock_calls)
+                self.assertEqual(written, b"ok 1\nno 12 OutOfMemory\n")
 
     def test_an_export_is_answered_when_its_name_is_on_the_disk(self) -> None:
         steps, target = mock.Mock(), Path(self.hub.journal.path).with_name("new.def")
         second = mock.Mock(start=mock.AsyncMock(), restore=mock.AsyncMock(), kill=mock.AsyncMock())
         second.end = mock.AsyncMock(side_effect=lambda: [steps.end(), 0][1])
-        self.hub.server.program.texts = []
-        with mock.patch.object(exporter, "Server", return_value=second), mock.patch.object(
+        self.hub.replay.program.texts = []
+        with mock.patch.object(exporter, "ReplayProcess", return_value=second), mock.patch.object(
             atomic_file, "sync_folder", steps.sync
         ):
             self.assertIsNone(asyncio.run(self.hub.exporter.write(str(target), self.hub.journal.position)))
@@ -350,7 +428,7 @@ class Shares(unittest.TestCase):
                 _, client = await asyncio.get_running_loop().connect_accepted_socket(
                     lambda: Client(self.hub, b"f0"), near
                 )
-                client.replies.append(bytes(unread))
+                client.reply(bytes(unread))
                 client.flush()
                 client.disconnect()
                 while client.is_slow and read:
@@ -442,7 +520,7 @@ class Operator(HubCase):
             self.addCleanup(listener.join)
             self.addCleanup(self.send_end, address)
             with mock.patch.dict(os.environ, {"NOTIFY_SOCKET": str(address)}):
-                self.start()
+                self.start("--slow", "0.000001")
             talker = self.talk("f0")
             talker.ask("open f0", "place f0 0 f0c1 0 0 N", "place f0 0 f0c2 2000 0 N")
             self.talk("f1").ask("open f1", "tidy f1 0", "commit f1 0")
@@ -459,8 +537,13 @@ class Operator(HubCase):
                 and hub_status["program_bytes"] > 1 << 20
                 and hub_status["journal_bytes"] > 300
             )
+            self.assertEqual((teams["f0"]["lines_total"], len(hub_status["slow_lines"])), (3, 6))
+            self.assertTrue(0 < teams["f0"]["line_seconds_p50"] <= teams["f0"]["line_seconds_p99"])
+            self.assertGreater(teams["f0"]["work_seconds_total"], 0)
+            self.assertIn("a slow `open` of team f0: ", self.hub.log_text())
             metrics = self.ask_hub("--metrics")
             self.assertIn('lefence_team_revision{team="f0"} 2\n', metrics)
+            self.assertIn('lefence_team_line_seconds_p99{team="f0"} ', metrics)
             for line in metrics.splitlines():
                 self.assertRegex(
                     line,
@@ -489,6 +572,47 @@ class Operator(HubCase):
             with self.assertRaisesRegex(Fault, "no reply for 0.2 seconds"):
                 status.read_status(self.folder)
 
+    def test_status_waits_for_no_line(self) -> None:
+        self.start()
+        talker = self.talk("f0")
+        self.assertEqual(talker.ask("open f0"), ["ok 0 0"])
+        os.kill(self.hub.replay_pid(), signal.SIGSTOP)
+        talker.socket.sendall(b"sync f0 0\n")
+        with mock.patch.object(status, "_PATIENCE", PATIENCE):
+            self.assertEqual(status.read_status(self.folder / "s")["clients"], 2)
+        os.kill(self.hub.replay_pid(), signal.SIGCONT)
+        self.assertEqual(talker.replies.readline(), b"ok 0\n")
+
+    def test_a_team_whose_socket_has_a_long_path_is_served_by_the_operator(self) -> None:
+        long = "a/" * 40
+        self.design.write_text(
+            design_text().replace("- f1 (", f"- {long} (").replace("REGION f1 ", f"REGION {long} ")
+        )
+        self.assertIn("ready: 9 teams", self.start())
+        self.assertIn(f"team {long} has no socket", self.hub.log_text())
+        self.assertEqual((self.talk("f0").ask("open f0"), self.talk("operator").ask(f"open {long}")), (["ok 0 0"],) * 2)
+
+    def test_a_second_hangup_gives_nothing_up(self) -> None:
+        async def signals(*numbers: int) -> bool:
+            with mock.patch("os._exit") as exits, mock.patch.object(hub_tool, "say"), mock.patch("threading.Timer"):
+                hub_tool.end_by_signals(mock.Mock(), asyncio.Event(), 1)
+                for number in numbers:
+                    os.kill(os.getpid(), number)
+                    await asyncio.sleep(0.05)
+                return exits.called
+
+        self.assertFalse(asyncio.run(signals(signal.SIGHUP, signal.SIGHUP)))
+        self.assertTrue(asyncio.run(signals(signal.SIGHUP, signal.SIGTERM)))
+
+    def test_a_log_that_nobody_reads_holds_nothing(self) -> None:
+        script = "from lefence.tools.hub import say\nfor turn in range(5000):\n    say('x' * 100)"
+        reading, writing = os.pipe()
+        self.addCleanup(os.close, reading)
+        words = ["-c", f"import sys; sys.path.insert(0, {str(FRONT)!r})\n{script}"]
+        done = subprocess.run([sys.executable, *words], stderr=writing, timeout=PATIENCE)
+        os.close(writing)
+        self.assertEqual(done.returncode, 0)
+
     def test_bad_numbers_are_refused(self) -> None:
         needed = ["t.def", "t.lef", "--sockets", "s", "--journal", "j"]
         seconds, least = "a number of seconds, 0 or more", "0 or more"
@@ -515,21 +639,56 @@ class Operator(HubCase):
         self.start("--deadline", "2", "--idle", "2", "--grace", "1")
         talker, idle = self.talk("f0"), self.talk("f1")
         self.assertEqual(talker.ask("open f0", "place f0 0 f0c1 0 0 N"), ["ok 0 0", "ok 1"])
-        os.kill(self.hub.server_pid(), signal.SIGSTOP)
+        os.kill(self.hub.replay_pid(), signal.SIGSTOP)
         self.assertEqual(talker.ask("where f0 0 f0c1"), ["ok 0 0 N"])
         self.assertIn("was silent for 2 seconds", self.hub.log_text())
         # A silent client without a session is dropped.
         self.assertEqual(idle.replies.read(), b"")
         self.assertEqual(talker.ask("where f0 0 f0c1"), ["ok 0 0 N"])
         self.hub.kill()
-        self.start("--grace", "1")
+        exported = self.folder / "new.def"
+        self.start("--grace", "40", "--export", str(exported))
         talker = self.talk("f0")
-        self.assertEqual(talker.ask("open f0"), ["ok 0 1"])
-        os.kill(self.hub.server_pid(), signal.SIGSTOP)
-        talker.socket.sendall(b"sync f0 0\n")
+        self.assertEqual(talker.ask("open f0", "tidy f0 0", "commit f0 0"), ["ok 0 1", "ok 2 9", "ok 3"])
+        os.kill(self.hub.replay_pid(), signal.SIGSTOP)
+        talker.socket.sendall(b"place f0 0 f0c1 400 0 N\nsync f0 0\n")
         time.sleep(0.1)
+        self.assertEqual(self.hub.end(), 0)
+        self.assertIn("not all lines were answered within 10 seconds", self.hub.log_text())
+        self.assertEqual(talker.replies.read(), b"no 12 OutOfMemory\n" * 2)
+        self.assertIn("f0c1 INV + PLACED ( 0 0 ) N", exported.read_text())
+
+    def test_a_program_that_hangs_in_the_last_export_cannot_hold_the_end(self) -> None:
+        script = self.folder / "hanging"
+        script.write_text(f"#!/bin/sh\ncase \"$*\" in *--export*) sleep 30;; esac\nexec '{PROGRAM}' \"$@\"\n")
+        script.chmod(0o755)
+        self.program = str(script)
+        self.start("--grace", "1", "--export", str(self.folder / "new.def"))
         self.assertEqual(self.hub.end(), 3)
         self.assertIn("killed: not ended within", self.hub.log_text())
+
+    def test_slow_readers_hold_neither_the_end_nor_the_last_export(self) -> None:
+        exported = self.folder / "new.def"
+        self.start("--grace", "30", "--export", str(exported), "--tail-seconds", "0")
+        talker, slow = self.talk("f0"), [self.talk("f0") for _ in range(2)]
+        lines = ["open f0", "place f0 0 f0c1 0 0 N", "tidy f0 0", "commit f0 0"]
+        self.assertEqual(talker.ask(*lines), ["ok 0 0", "ok 1", "ok 2 9", "ok 3"])
+        for reader in slow:
+            reader.socket.settimeout(0.2)
+            with self.assertRaises(TimeoutError):
+                reader.socket.sendall(b"def f0 0\n" * 100_000)
+        last = time.monotonic() + PATIENCE
+        while status.read_status(self.folder / "s")["unread_bytes"] < 2 << 16:
+            self.assertLess(time.monotonic(), last)
+            time.sleep(0.05)
+        talker.socket.sendall(b"check f0 0\n")
+        time.sleep(0.2)
+        self.hub.process.terminate()
+        # The reply comes at once, the file before the readers get their time to read.
+        self.assertRegex(talker.replies.readline(), b'^ok {"')
+        self.hub.wait_for("saved a state of")
+        self.assertEqual(self.hub.process.wait(PATIENCE), 0)
+        self.assertIn("f0c1 INV + PLACED ( 0 0 ) N", exported.read_text())
 
     def test_spent_descriptors_make_no_flood_of_lines(self) -> None:
         self.start()

@@ -63,6 +63,21 @@ class Words(HubCase):
         done = self.tool("lefence-shell", "t.def", "t.lef", "--program", PROGRAM, "--raw", lines=text)
         self.assertEqual((done.returncode, done.stdout, done.stderr), (0, self.direct(text), b""))
 
+    def test_a_strict_shell_ends_with_1_if_a_line_was_refused(self) -> None:
+        scripts = {
+            ("team f0", "place f0c1 0 0 N", "check"): 0,
+            ("team f0", "place f0c1 100 0 N", "check"): 1,
+            ("team f0", "nonsense"): 1,
+            ("raw open f0", "raw place f0 0 f0c1 100 0 N"): 1,
+        }
+        for lines, status in scripts.items():
+            text = "".join(f"{line}\n" for line in lines).encode()
+            done = self.tool("lefence-shell", "t.def", "t.lef", "--program", PROGRAM, "--strict", lines=text)
+            self.assertEqual(done.returncode, status, done.stdout)
+        for line, status in ((b"open f0\ndef f0 0\n", 0), (b"open f0\nopen Z\n", 1)):
+            done = self.tool("lefence-shell", "t.def", "t.lef", "--program", PROGRAM, "--strict", "--raw", lines=line)
+            self.assertEqual(done.returncode, status, done.stdout)
+
     def test_a_report_is_a_table(self) -> None:
         output = self.say("team f0", "place f0c1 0 0 N", "place f0c2 400 0 N", "pad 1", "check")
         head = ["10 cells, 8 unplaced, 2 break a rule", "cell  rule  what"]

@@ -49,7 +49,7 @@ t.def, line 19: + REGION B of component b1 has no effect, only a group binds to 
 t.def, line 24: nobody of group g matches no component
 t.def, line 24: \\* of group g matches no component
 t.def, line 24: zz* of group g matches no component
-t.def, line 25: group i is bound to C, which is not a fence: its cells are in team -
+t.def, line 25: group i is bound to C, which is not a fence: its cells are in team -; --as-fence C makes it one
 t.def, line 10: fence B has no cells
 t.def, line 6: 2 rows of site wide skipped: the core site is core
 """
@@ -144,7 +144,7 @@ class Looks(FrontCase):
         )
         done = self.run_on("--output", "y.def")
         expected = b"no cell fits the rows of site core, 2 microns high: the cells are 2.5 microns high;"
-        expected += b" use --rows --site NAME for another site\n"
+        expected += b" --site NAME keeps the rows of another site, --rows --site NAME makes such rows\n"
         self.assertEqual((done.returncode, (self.folder / "y.def").exists()), (1, False), done.stderr)
         self.assertIn(expected, done.stderr)
         self.assertEqual(self.run_on("--output", "y.def", "--force").returncode, 1)
@@ -160,7 +160,8 @@ class Looks(FrontCase):
         )
         self.design.write_text("DESIGN t ;\nUNITS DISTANCE MICRONS 1000 ;\nEND DESIGN\n")
         done = self.run_on("--look")
-        expected = b"no ROW; a run with --output adds rows\nit does not load: 9 NoRows t; t.def, line 1: DESIGN t ;\n"
+        where = b"t.def, line 1 (there is no ROW: lefence-prepare makes rows): DESIGN t ;\n"
+        expected = b"no ROW; a run with --output adds rows\nit does not load: 9 NoRows t; " + where
         self.assertEqual((done.returncode, done.stdout), (1, expected))
 
     def test_a_file_that_is_not_def_is_reported(self) -> None:

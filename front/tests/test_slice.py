@@ -190,7 +190,9 @@ class Pushes(HubCase):
         name = f"f{team}"
         sliced = self.folder / f"{name}.def"
         sliced.write_bytes(slice_of(self.design.read_bytes(), name))
-        words = self.words(*more, sockets=f"s{name}", journal=f"j{name}", design=sliced)
+        # (on a busy machine a state would take the place of the first changes)
+        options = ("--tail-bytes", "0", *more)
+        words = self.words(*options, sockets=f"s{name}", journal=f"j{name}", design=sliced)
         hub = Hub(self.folder, words, log=f"log{name}")
         self.addCleanup(hub.kill)
         self.assertIn("ready", hub.wait_ready())
@@ -298,12 +300,9 @@ class Pushes(HubCase):
         for _ in range(4):
             journal = self.work_away(0, 20, "--tail-bytes", "1")
         status, output = self.push(journal, "f0")
-        self.assertEqual(
-            (status, "exist only as a state; to push a journal, run its hub with --keep 0 from the start\n" in output),
-            (1, True),
-            output,
-        )
-        status, output = self.push(self.work_away(1, 20, "--tail-bytes", "1", "--keep", "0"), "f1")
+        expected = "exist only as a state; to push a journal, run its hub with --keep-segments from the start\n"
+        self.assertEqual((status, expected in output), (1, True), output)
+        status, output = self.push(self.work_away(1, 20, "--tail-bytes", "1", "--keep-segments"), "f1")
         self.assertEqual(status, 0, output)
 
     def test_the_number_of_a_session_is_no_revision(self) -> None:

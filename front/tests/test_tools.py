@@ -157,8 +157,7 @@ class Package(FrontCase):
     def installed(self, *words: str) -> Path:
         """Installs a copy of the package without a network; returns the folder with its commands."""
         copy, made = self.folder / "copy", self.folder / "made"
-        shutil.copytree(FRONT / "lefence", copy / "lefence", ignore=shutil.ignore_patterns("__pycache__"))
-        shutil.copy(FRONT / "pyproject.toml", copy)
+        shutil.copytree(FRONT, copy, ignore=shutil.ignore_patterns("__pycache__", "tests"))
         venv.create(made, system_site_packages=True, symlinks=True)
         pip = [
             str(made / "bin/python"),
@@ -202,6 +201,10 @@ class Package(FrontCase):
             return {str(path.relative_to(folder)) for path in folder.rglob("*") if "__pycache__" not in path.parts}
 
         self.assertEqual(files_of(package), files_of(FRONT / "lefence"))
+        shared = commands.parent / "share/lefence"
+        for part in ("tcl", "examples"):
+            self.assertEqual(files_of(shared / part), files_of(FRONT / part))
+        self.assertTrue((shared / "lefence-hub.service").is_file())
 
     def test_an_editable_installation_runs_the_files_of_the_folder(self) -> None:
         commands = self.installed("--editable")

@@ -8,6 +8,7 @@ Modules in reading order:
 - `program`, `async_run`, `progress`: runs of the lefence program, blocking and for asyncio, and their progress.
 - `description`: the output of `lefence describe`.
 - `state_text`: saved states of a floor.
+- `slices`: DEF texts with the cells of some teams.
 - `design`, `lef`: the sections, statements and words of DEF and LEF files.
 
 It must not import any other sub-package.

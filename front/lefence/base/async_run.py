@@ -6,12 +6,15 @@ import asyncio
 import contextlib
 import os
 import signal
+import sys
 import tempfile
-from typing import IO
+from collections.abc import AsyncIterator
+from typing import IO, TypeVar
 
 from .faults import Fault
 from .program import PIECE, fault_of
 
+T = TypeVar("T")
 # More bytes than any line of a description has.
 _LONGEST = 1 << 30
 
@@ -33,6 +36,19 @@ async def start_run(words: list[str], has_input: bool) -> AsyncRun:
         limit=PIECE if has_input else _LONGEST,
     )
     return AsyncRun(process, errors)
+
+
+@contextlib.asynccontextmanager
+async def in_threads(context: contextlib.AbstractContextManager[T]) -> AsyncIterator[T]:
+    """Enters and leaves a context that waits for the disk in a thread, not in the event loop."""
+    value = await asyncio.to_thread(context.__enter__)
+    try:
+        yield value
+    except BaseException:
+        if not await asyncio.to_thread(context.__exit__, *sys.exc_info()):
+            raise
+    else:
+        await asyncio.to_thread(context.__exit__, None, None, None)
 
 
 class AsyncRun:

@@ -6,8 +6,10 @@ database units. The keys are those of docs/PROTOCOL.md ("The description").
 
 from __future__ import annotations
 
+import hashlib
 import itertools
 import json
+import re
 import sys
 import time
 from collections.abc import Callable, Iterator
@@ -15,13 +17,29 @@ from dataclasses import dataclass
 from pathlib import Path
 from typing import Any, NamedTuple
 
-from .faults import Fault
+from .faults import FAILED, Fault
 from .program import PAUSE, Program
 
 # Exit statuses of a complete description: 0 if the design is fully legal, else 4.
 _WRITTEN = (0, 4)
 # A part of the last line only: in names, quotes are escaped.
 _TOTAL = b'"kind":"total"'
+# A text with its escapes; and the line of a cell with the keys that are known today.
+_TEXT = rb'[^"\\]*(?:\\.[^"\\]*)*'
+_CELL = re.compile(
+    rb'^\{"box":(?:null|\[(-?\d+,-?\d+),(-?\d+,-?\d+)\]),"height":(\d+),"kind":"cell","macro":"%b","name":"(%b)",'
+    rb'"orient":(?:null|"(\w+)"),"other":(?:null|"%b"),"rule":(?:null|(\d+)),"team":"(%b)","width":(\d+)\}$'
+    % (_TEXT, _TEXT, _TEXT, _TEXT),
+    re.M,
+)
+# The line of a cell, without the rule that it breaks and the cell that it overlaps: the keys in front of these, the
+# keys after these, and the team.
+_OWN_PART = re.compile(
+    rb'^(\{.*?),"other":(?:null|"%b"),"rule":(?:null|\d+),("team":"(%b)","width":.*)$' % (_TEXT, _TEXT), re.M
+)
+# A cell as its line has it, `b""` for null: the lower left corner, the upper right corner, the height, the name, the
+# orientation, the broken rule, the team and the width.
+CellLine = tuple[bytes, bytes, bytes, bytes, bytes, bytes, bytes, bytes]
 
 
 class Box(NamedTuple):
@@ -94,6 +112,16 @@ class Cell(NamedTuple):
     orient: str | None
     rule: int | None
     other: str | None
+
+
+class TeamCells(NamedTuple):
+    """The cells of a team: their number, and the SHA-256 of all that is known of them, in loading order.
+
+    The rules that they break do not count, which cells of other teams may cause.
+    """
+
+    number: int
+    sum: str
 
 
 class Total(NamedTuple):
@@ -179,6 +207,42 @@ class Description:
         """Yields the movable cells in loading order, once. `total` is set after the last one."""
         return self._cells(lambda lines: lines)
 
+    def cell_lines(self) -> Iterator[list[CellLine]]:
+        """Yields the movable cells in loading order, many at a time, in a third of the time of `cells`. `total` is set
+        after the last one.
+        """
+        for lines in itertools.chain([self._read_ahead], self._batches):
+            total = lines.pop() if lines and _TOTAL in lines[-1] else None
+            text = b"\n".join(lines)
+            found: list[CellLine] = _CELL.findall(text)
+            if len(found) < len(lines):
+                # (a line has a key that is not known today)
+                every = json.loads(b"[" + b",".join(lines) + b"]")
+                found = [_line_of(_cell(line)) for line in every if line["kind"] == "cell"]
+            elif b"\\" in text:
+                found = [_unescaped(line) if b"\\" in line[3] or b"\\" in line[6] else line for line in found]
+            yield found
+            if total is not None:
+                self._end(json.loads(total))
+                return
+
+    def cells_by_team(self) -> dict[str, TeamCells]:
+        """Reads all cells and returns those of each team that has any. `total` is set afterwards."""
+        counts: dict[bytes, int] = {}
+        hashes: dict[bytes, Any] = {}
+        for lines in itertools.chain([self._read_ahead], self._batches):
+            total = lines.pop() if lines and _TOTAL in lines[-1] else None
+            found = _OWN_PART.findall(b"\n".join(lines))
+            if len(found) < len(lines):
+                raise Fault(FAILED, "the program describes cells in another form")
+            for head, tail, team in found:
+                counts[team] = counts.get(team, 0) + 1
+                hashes.setdefault(team, hashlib.sha256()).update(b"%b,%b\n" % (head, tail))
+            if total is not None:
+                self._end(json.loads(total))
+                break
+        return {_plain(team).decode(): TeamCells(counts[team], hashes[team].hexdigest()) for team in counts}
+
     def cells_of(self, team: str) -> Iterator[Cell]:
         """Yields the cells of one team. The lines of other teams are not parsed."""
         own = b'"team":%b,' % json.dumps(team).encode()
@@ -191,10 +255,14 @@ class Description:
                 if line["kind"] == "cell":
                     yield _cell(line)
                 elif line["kind"] == "total":
-                    self.total = Total(*(line[key] for key in Total._fields))
-                    if self._run.wait() not in _WRITTEN:
-                        raise self._fault()
+                    self._end(line)
                     return
+
+    def _end(self, line: dict[str, Any]) -> None:
+        """Reads the last line, and waits for the program to end."""
+        self.total = Total(*(line[key] for key in Total._fields))
+        if self._run.wait() not in _WRITTEN:
+            raise self._fault()
 
     def _read_batches(self) -> Iterator[list[bytes]]:
         """Yields the lines in batches. Raises a Fault at the end of the output."""
@@ -251,3 +319,24 @@ def _cell(line: dict[str, Any]) -> Cell:
         line["rule"],
         line["other"],
     )
+
+
+def _line_of(cell: Cell) -> CellLine:
+    """A cell as `cell_lines` yields it."""
+    corners = (b"%d,%d" % cell.box[:2], b"%d,%d" % cell.box[2:]) if cell.box else (b"", b"")
+    rule = b"" if cell.rule is None else b"%d" % cell.rule
+    orient = (cell.orient or "").encode()
+    return *corners, b"%d" % cell.height, cell.name.encode(), orient, rule, cell.team.encode(), b"%d" % cell.width
+
+
+def _unescaped(line: CellLine) -> CellLine:
+    """A cell whose name and team have no JSON escapes."""
+    left_bottom, right_top, height, name, orient, rule, team, width = line
+    return left_bottom, right_top, height, _plain(name), orient, rule, _plain(team), width
+
+
+def _plain(text: bytes) -> bytes:
+    """A text of a line without its JSON escapes."""
+    if b"\\" in text.replace(b"\\\\", b"").replace(b'\\"', b""):
+        return str(json.loads(b'"%b"' % text)).encode()
+    return text.replace(b'\\"', b'"').replace(b"\\\\", b"\\")

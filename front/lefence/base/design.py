@@ -30,6 +30,8 @@ _SEMICOLON = rb";" + _ALONE
 # An entry of a section, from `-` to its semicolon; its first word is its name.
 _NAME = rb"(?:" + _SKIP + rb"(?!" + _SEMICOLON + rb")(" + _TOKEN + rb"))?"
 _MORE = rb"(?>(?:" + _SKIP + rb"(?!" + _SEMICOLON + rb")" + _TOKEN + rb")*)"
+# The rest of a section's head after its count, up to the first semicolon.
+_HEAD = re.compile(_MORE + _SKIP + _SEMICOLON, re.S)
 _ENTRY = re.compile(_SKIP + rb"-" + _ALONE + _NAME + _MORE + _SKIP + _SEMICOLON, re.S)
 
 # Tokens matched at a time: the memory of a match grows with them.
@@ -147,7 +149,7 @@ def section_parts(text: bytes, section: Statement) -> tuple[bytes, bytes, Iterat
     count = TOKENS.match(text, keyword.end() if keyword else section.stop, section.stop)
     if count is None:
         return text[section.start : section.stop], b"", iter(())
-    head = re.compile(_SKIP + _SEMICOLON).match(text, count.end(), section.stop)
+    head = _HEAD.match(text, count.end(), section.stop) if count[1] != b";" else None
     start = head.end() if head else count.end()
     return text[section.start : count.start(1)], text[count.end() : start], _entries(text, start, section.stop)
 

@@ -31,6 +31,13 @@ def sites_of(text: bytes) -> Iterator[Site]:
         yield Site(name, classes[-1:] == [[b"CORE"]], *_sizes(words)[-1], b"SYMMETRY" in words)
 
 
+def classes_of_sites(text: bytes) -> Iterator[tuple[bytes, bytes]]:
+    """Yields the sites of a LEF text in its order, each with the last word after CLASS in any case, or `b""`."""
+    for name, words in _sections(text, b"SITE"):
+        classes = [words[at + 1] for at, word in enumerate(words[:-1]) if word.upper() == b"CLASS"]
+        yield name, classes[-1] if classes else b""
+
+
 def sizes_of(text: bytes) -> Iterator[tuple[bytes, Decimal, Decimal]]:
     """Yields the macros of a LEF text in its order, with their widths and heights in microns."""
     for name, words in _sections(text, b"MACRO"):

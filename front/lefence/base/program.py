@@ -59,9 +59,14 @@ class Program:
         """
         self.path = path
         self.texts = texts
+        self.slots = slots
         # (without the option, earlier programs work too)
         self._slots = [] if slots == SLOTS else ["--sessions", str(slots)]
         self._words = path_words(texts)
+
+    def with_design(self, design: Path) -> Program:
+        """The same program over another DEF file and the same LEF files."""
+        return Program(self.path, [design, *self.texts[1:]], self.slots)
 
     def answer(self, lines: Iterable[bytes], replies: IO[bytes], export: Path | None = None) -> None:
         """Has the program answer lines, given in pieces, into a file, and export. Raises a Fault if it fails."""

@@ -32,6 +32,15 @@ class Progress:
                 self._say(f"{done} {self._what}")
             yield thing
 
+    def over_lists(self, lists: Iterable[list[_T]]) -> Iterator[list[_T]]:
+        """Yields lists of things; those of a list count as done when the next list is requested."""
+        done = 0
+        for things in lists:
+            if time.monotonic() >= self._next:
+                self._say(f"{done} {self._what}")
+            yield things
+            done += len(things)
+
     def output_of(self, process: subprocess.Popen[bytes], progress_line: Callable[[], str | None]) -> bytes:
         """Waits for a process; returns its standard output. Meanwhile it prints the progress, if `how_far` has one."""
         while True:

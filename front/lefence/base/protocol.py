@@ -65,7 +65,7 @@ VERBS = {row[0]: Verb(*row) for row in tables.VERBS}
 
 # Verbs that, if accepted, may change later replies. The journal keeps only these. The program's theorem
 # (docs/THEOREM.md) allows to leave out the others.
-CHANGES = frozenset(name.encode() for name, verb in VERBS.items() if verb.is_change)
+CHANGE_VERBS = frozenset(name.encode() for name, verb in VERBS.items() if verb.is_change)
 # Verbs that, if accepted, make a revision of the team, the first word of the reply.
 REVISIONS = frozenset(name.encode() for name, verb in VERBS.items() if verb.makes_revision)
 # Verbs whose replies may have any length: those with other words than these, which are short.
@@ -73,7 +73,7 @@ _SHORT = frozenset("N REV X Y O MOVED".split())
 UNBOUNDED = frozenset(name.encode() for name, verb in VERBS.items() if not _SHORT.issuperset(verb.reply))
 
 # Refusals of the hub; then all refusals by number.
-HUB_REFUSALS = {13: "NotExported"}
+HUB_REFUSALS = {13: "NotExported", 14: "Frozen", 15: "QueriesOnly"}
 REFUSALS = {**tables.REFUSALS, **HUB_REFUSALS}
 # The names of the rules of a place by number.
 RULES = tables.RULES
@@ -97,7 +97,7 @@ def on_one_line(text: str) -> bytes:
 
 def is_change(fields: list[bytes], reply: bytes) -> bool:
     """Whether a line with this reply may have changed later replies."""
-    return bool(fields) and fields[0] in CHANGES and is_accepted(reply)
+    return bool(fields) and fields[0] in CHANGE_VERBS and is_accepted(reply)
 
 
 def text_length(line: bytes, reply: bytes) -> int:
@@ -120,6 +120,16 @@ def socket_name(team: str | None) -> str:
         return "operator.sock"
     plain = "".join(chr(byte) if byte in _PLAIN_BYTES else f"%{byte:02X}" for byte in team.encode())
     return ("%6Fperator" if plain == "operator" else plain) + ".sock"
+
+
+def query_socket_name(team: str) -> str:
+    """Returns the file name of a team's query socket."""
+    return socket_name(team).removesuffix("sock") + "query.sock"
+
+
+def team_of_query_socket(name: str) -> str | None:
+    """Returns the team whose query socket has this file name, or None if it is not one."""
+    return team_of_socket(name.removesuffix("query.sock") + "sock") if name.endswith(".query.sock") else None
 
 
 def team_of_socket(name: str) -> str | None:

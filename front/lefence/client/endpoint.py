@@ -12,7 +12,7 @@ from pathlib import Path
 from ..base.description import add_team
 from ..base.faults import FAILED, REFUSED, USAGE, Fault
 from ..base.program import Program, Run, find_program
-from ..base.protocol import GROUND, team_of_socket
+from ..base.protocol import GROUND, team_of_query_socket, team_of_socket
 from .blocking import Connection, connect
 
 _PORT = re.compile(r"([^/]+):(\d{1,5})")
@@ -47,10 +47,19 @@ def connect_to(where: str) -> Endpoint:
         raise Fault(FAILED, f"{where}: {reason or error}") from None
 
 
+def one_team(endpoint: Endpoint, teams: list[str]) -> str:
+    """Returns the requested team, else the socket's. Raises a Fault if that is not one team."""
+    named = teams or endpoint.teams
+    if len(named) != 1:
+        raise Fault(USAGE, "exactly one --team is needed")
+    return named[0]
+
+
 def _teams_at(path: Path) -> list[str]:
     """Lists the teams of a hub's socket by file names: one for a team's socket, all for the operator's."""
     if path.name != "operator.sock":
-        return [team] if (team := team_of_socket(path.name)) else []
+        team = team_of_socket(path.name) or team_of_query_socket(path.name)
+        return [team] if team else []
     return sorted(team for each in path.parent.iterdir() if (team := team_of_socket(each.name)))
 
 

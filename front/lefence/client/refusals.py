@@ -202,6 +202,20 @@ class NotExported(Refusal):
         return f"the file was not written: {' '.join(self.fields) or 'the hub gives no reason'}"
 
 
+class Frozen(Refusal):
+    """14, from a hub only: a change, and the operator has frozen the team."""
+
+    number = 14
+    text = "the operator has frozen the team"
+
+
+class QueriesOnly(Refusal):
+    """15, from a hub only: the line is no query, and this is a team's query socket."""
+
+    number = 15
+    text = "this is a query socket: only the team's other socket takes changes"
+
+
 _KINDS: dict[int, type[Refusal]] = {kind.number: kind for kind in Refusal.__subclasses__()}
 
 

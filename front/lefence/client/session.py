@@ -75,7 +75,7 @@ class Method(Generic[P, T]):
 
 
 class Verbs:
-    """A method for each verb except `open` and `close`. `lefence.client.verbs` describes them."""
+    """A method for each verb except `open` and `close`, and `wait`. `lefence.client.verbs` describes them."""
 
     sync = Method(verbs.sync)
     check = Method(verbs.check)
@@ -91,6 +91,7 @@ class Verbs:
     commit = Method(verbs.commit)
     revert = Method(verbs.revert)
     pad = Method(verbs.pad)
+    wait = Method(verbs.wait)
 
 
 @dataclass(frozen=True)

@@ -281,6 +281,14 @@ def revert(scope: Scope) -> Request[int]:
     return Request(scope.line("revert"), _revision)
 
 
+def wait(scope: Scope, revision: int) -> Request[int]:
+    """On a query socket: waits until the team's revision is greater than this one; returns it.
+
+    Later lines of the connection wait too. Refused by OutOfMemory when the hub ends, and BadRequest elsewhere.
+    """
+    return Request(f"wait {name(scope.team)} {int(revision)}".encode(), _revision)
+
+
 def pad(scope: Scope, padding: int) -> Request[int]:
     """Sets the padding between the team's own cells along x, 0 to 16 core sites; returns the revision. No cell moves.
 

@@ -3,8 +3,10 @@
 from __future__ import annotations
 
 import os
+import shutil
 import time
 from dataclasses import dataclass
+from pathlib import Path
 
 from .hub_client import Client, Entry
 
@@ -13,10 +15,9 @@ MOST_CLIENTS = 256
 # The part of a socket's connections and of a team's sessions that one user may have. The hub's own user has no such
 # limit.
 _QUOTA = 3 / 4
-# Bytes of unread replies of all clients, and slow clients per socket, above which only lines with short replies are
-# executed.
-_MOST_UNREAD = 256 << 20
-_MOST_SLOW = 2
+# The most bytes of a socket's unread replies on the disk, and the bytes that stay free there.
+_MOST_UNREAD = 1 << 30
+_FREE = 256 << 20
 
 
 @dataclass
@@ -41,7 +42,7 @@ class ClientPool:
 
     def admit(self, client: Client) -> bool:
         """Adds a new client. Returns False if its socket, or its user there, has too many."""
-        others = [other for other in self.clients if other.team == client.team]
+        others = [other for other in self.clients if _has_same_socket(other, client)]
         of_user = sum(other.uid == client.uid for other in others)
         self.clients.add(client)
         return len(others) < self.most_clients and (
@@ -55,14 +56,12 @@ class ClientPool:
 
     def unread_bytes(self) -> int:
         """Bytes of unread replies, summed over slow clients."""
-        return sum(client.transport.get_write_buffer_size() for client in self.slow)
+        return sum(client.unread_bytes() for client in self.slow)
 
-    def must_wait(self, client: Client) -> bool:
-        """Whether a client's next line must wait because its reply may be long and too many replies are unread."""
-        if not self.slow or not client.is_unbounded():
-            return False
-        slow_here = sum(other.team == client.team for other in self.slow)
-        return slow_here >= _MOST_SLOW or self.unread_bytes() >= _MOST_UNREAD
+    def has_space(self, client: Client, count: int, folder: Path) -> bool:
+        """Whether a reply of this length may wait on the disk of the folder."""
+        here = sum(other.unread_bytes() for other in self.slow if _has_same_socket(other, client))
+        return here + count <= _MOST_UNREAD and shutil.disk_usage(folder).free >= count + _FREE
 
     def idle(self, seconds: float) -> list[Client]:
         """Lists the clients that have no session, wait for nothing, and were silent for this many seconds."""
@@ -72,7 +71,7 @@ class ClientPool:
         return [
             client
             for client in found
-            if not (client.waiting or client.is_exporting or client.is_slow or client.is_ended)
+            if not (client.waiting or client.is_busy or client.is_slow or client.is_ended)
         ]
 
     def orphans(self) -> list[tuple[bytes, int]]:
@@ -91,8 +90,14 @@ class ClientPool:
         """Lists the lines of the batch that would give a user too many sessions of a team."""
         found = []
         counts: dict[tuple[bytes, int], int] = {}
+        closed: set[tuple[bytes, int]] = set()
         for entry in batch:
             client = entry.client
+            if (session := _session_of_close(entry)) and session not in closed and (owner := self.owners.get(session)):
+                closed.add(session)
+                if owner.client:
+                    key = session[0], owner.client.uid
+                    counts[key] = counts.get(key, self._session_count(*key)) - 1
             if (
                 entry.reply is not None
                 or entry.verb != b"open"
@@ -111,6 +116,18 @@ class ClientPool:
         """Counts the sessions of a team that the clients of a user own."""
         owners = [self.owners.get((team, number)) for number in range(self._slots)]
         return sum(each is not None and each.client is not None and each.client.uid == uid for each in owners)
+
+
+def _session_of_close(entry: Entry) -> tuple[bytes, int] | None:
+    """The session that a line closes."""
+    if entry.verb == b"close" and len(entry.fields) == 3 and entry.fields[2].isdigit():
+        return entry.fields[1], int(entry.fields[2])
+    return None
+
+
+def _has_same_socket(one: Client, other: Client) -> bool:
+    """Whether two clients are of one team, and both of its query socket or both of the other one."""
+    return one.team == other.team and type(one) is type(other)
 
 
 def _is_own(client: Client) -> bool:

@@ -5,65 +5,83 @@ from __future__ import annotations
 import asyncio
 import os
 import shutil
+import time
 from collections.abc import Callable
 from pathlib import Path
 
+from ..base.async_run import in_threads
 from ..base.atomic_file import is_special, partial_file
 from ..base.compression import is_packed_name, packing
 from ..base.faults import FAILED, Fault, reason_of
 from ..journal.journal import Journal
 from ..journal.segments import Position
-from .server import Server, ServerLost
+from ..journal.texts import texts_folder
+from .journal_writer import JournalWriter
+from .replay_process import ReplayLost, ReplayProcess
+from .slices import slices_folder
 
 
 class SideProgram:
     """A second program that replays the journal and writes an export or a state, one at a time."""
 
-    def __init__(self, server: Server, journal: Journal) -> None:
-        """Makes the side program of the design that `server` has."""
+    def __init__(self, replay: ReplayProcess, writer: JournalWriter) -> None:
+        """Makes the side program of the design that `replay` has, and of a writer's journal."""
         # Take the turn before each write.
         self.turn = asyncio.Lock()
         # The running side program.
-        self.server: Server | None = None
-        self._server = server
-        self._journal = journal
+        self.replay: ReplayProcess | None = None
+        self._replay = replay
+        self._writer = writer
 
-    async def write(self, position: Position, export: str | None = None, save: Path | None = None) -> None:
-        """Replays the journal up to a position and writes the files. Raises a Fault or ServerLost if they are not
-        complete.
+    async def write(
+        self, position: Position, export: str | None = None, save: Path | None = None
+    ) -> tuple[float, float]:
+        """Replays the journal up to a position and writes the files; returns the seconds of loading and replaying.
+
+        Raises a Fault or ReplayLost if the files are not complete.
         """
-        self.server = side_server = Server(self._server.program, self._server.sums, export, save)
+        self.replay = side_replay = ReplayProcess(self._replay.program, self._replay.sums, export, save)
         try:
-            self._journal.refuse_loss()
-            with self._journal.tail(position) as tail:
-                await side_server.start(tail.state)
-                await side_server.restore(tail.records, None, tail.changes)
-            if await side_server.end():
+            await self._writer.run(self._writer.journal.refuse_loss)
+            begin = time.monotonic()
+            async with self._writer.tail(position) as tail:
+                await side_replay.start(tail.state)
+                loaded = time.monotonic()
+                await side_replay.restore(tail.records, None, tail.changes)
+            replayed = time.monotonic()
+            if await side_replay.end():
                 raise Fault(FAILED, "the program could not write the file; see the hub's standard error")
+            return loaded - begin, replayed - loaded
         finally:
-            self.server = None
-            await side_server.kill()
+            self.replay = None
+            await side_replay.kill()
 
 
 class Exporter:
     """Writes one export at a time."""
 
-    def __init__(self, server: Server, journal: Journal, side_program: SideProgram, say: Callable[[str], None]) -> None:
-        """Makes the exporter of a server and its journal."""
+    def __init__(
+        self, replay: ReplayProcess, journal: Journal, side_program: SideProgram, say: Callable[[str], None]
+    ) -> None:
+        """Makes the exporter of a program and its journal."""
         # Files that no export may replace, besides the journal and its copies of the design.
         self.protected: list[Path] = []
-        self._server = server
+        self._replay = replay
         self._journal = journal
         self._side_program = side_program
         self._say = say
 
     def refuse(self, path: str) -> None:
         """Raises a Fault if an export to the path would replace the journal or the design, or cannot be written."""
-        inputs = [file for file in (self._journal.path, *self._server.program.texts, *self.protected) if file.exists()]
+        inputs = [file for file in (self._journal.path, *self._replay.program.texts, *self.protected) if file.exists()]
         if os.path.exists(path) and any(
             os.path.samefile(path, file) for file in [*inputs, *self._journal.archive.files()]
         ):
             raise Fault(FAILED, f"{path} is the journal or a file of the design")
+        path_of_journal = self._journal.path
+        folders = (self._journal.archive.folder, texts_folder(path_of_journal), slices_folder(path_of_journal))
+        if any(folder in Path(os.path.realpath(path)).parents for folder in folders):
+            raise Fault(FAILED, f"{path} is in a folder of the journal")
         if os.path.isdir(path) or not os.access(os.path.dirname(os.path.abspath(path)), os.W_OK):
             raise Fault(FAILED, f"cannot write {path}")
 
@@ -77,13 +95,13 @@ class Exporter:
                     return None
                 # (A killed hub leaves a program that writes what it has. The bytes are on the disk before the file gets
                 # its name.)
-                with partial_file(Path(path)) as partial:
+                async with in_threads(partial_file(Path(path))) as partial:
                     if is_packed_name(Path(path)):
                         await self._write_packed(path, partial, position)
                     else:
                         await self._side_program.write(position, export=str(partial))
                 return None
-            except (Fault, OSError, ServerLost) as fault:
+            except (Fault, OSError, ReplayLost) as fault:
                 self._say(f"export: {reason_of(fault)}")
                 return reason_of(fault)
 

@@ -8,37 +8,34 @@ from __future__ import annotations
 
 import asyncio
 import os
-import time
-from collections import OrderedDict
 from collections.abc import Callable
 from dataclasses import dataclass, field
+from pathlib import Path
 
 from ..base.design import fences_in, units_in
-from ..base.faults import FAILED, REFUSED, Fault
-from ..base.protocol import CHANGES, GROUND, UNBOUNDED, is_change, on_one_line
-from ..journal.frames import Record
+from ..base.faults import REFUSED, Fault, reason_of
+from ..base.protocol import CHANGE_VERBS, GROUND, is_change, on_one_line
 from ..journal.journal import MOST_REPLY, Journal
 from ..journal.segments import Position
 from .checkpoints import Checkpoints, TailLimits, restore_notes
 from .clients import ClientPool
 from .exporter import Exporter, SideProgram
-from .hub_client import Client, Entry
+from .hub_client import NOT_DONE, Client, Entry
+from .journal_writer import JournalWriter, complete
+from .latency import Latency
+from .line_queue import ALONE, clients_of
 from .log_limit import RateLimitedLog
 from .metrics import Metrics
 from .notify import notify_alive
-from .server import Note, Server, ServerLost, described_teams
+from .operator import Operator, is_savepoint
+from .query_sockets import Queries
+from .replay_process import ReplayProcess, described_teams
+from .shards import Follower, Shard, ShardPool, run_all
+from .slices import SliceTexts
 from .status import status_text, uncommitted_text
 
-# The most weight of a batch, which `_adjust_budget` lowers. A line of one cell weighs 1, one of a whole team _WHOLE.
-_BATCH = 1024
-_WHOLE = 64
-_WHOLE_TEAM = frozenset((b"tidy", b"commit", b"revert", b"undo"))
-# Seconds of a batch above which the next batches get lighter, and below which heavier.
-_SLOW, _FAST = 0.02, 0.005
 # The part of a sync's time that the hub waits for more lines, and the most seconds.
 _LINGER, _MOST_LINGER = 0.25, 0.002
-# How often a program that dies is restarted for the same lines.
-_STARTS = 5
 # Seconds until closes that a full disk refused are tried again.
 _RETRY = 1
 
@@ -47,56 +44,58 @@ _RETRY = 1
 class HubLimits:
     """Timeouts in seconds: unread replies, idle clients without a session, a silent program.
 
-    `tail` limits the changes after the journal's last state.
+    `tail` limits the changes after the journal's last state; lines that take more than `slow` seconds are logged. There
+    are at most `programs` programs.
     """
 
     patience: float = 60
     idle: float = 900
     deadline: float = 600
     tail: TailLimits = field(default_factory=TailLimits)
+    slow: float = 1
+    programs: int = 1
 
 
 class Hub:
-    """Each batch is executed, journaled and answered before the next one is collected.
+    """Each batch of a shard is executed, journaled and answered before the next one is collected.
 
-    So between batches the owner of each session is known, and the program has the state of the journal.
+    So between its batches the owner of each session is known, and its program has the state of the journal.
     """
 
-    def __init__(self, server: Server, journal: Journal, limits: HubLimits, say: Callable[[str], None]) -> None:
+    def __init__(self, replay: ReplayProcess, journal: Journal, limits: HubLimits, say: Callable[[str], None]) -> None:
         """Makes a hub; `start` starts it."""
-        self.server = server
+        self.replay = replay
         self.journal = journal
+        self.writer = JournalWriter(journal, self._note_changes)
+        self.shards = ShardPool(replay, self.writer, say)
         self.patience = limits.patience
         self.limits = limits
         self.say = say
         self.log_limited = RateLimitedLog(say)
         self.metrics = Metrics()
+        self.latency = Latency(limits.slow, self.log_limited)
         self.pool = ClientPool(journal.header.slots)
-        self.side_program = SideProgram(server, journal)
-        self.exporter = Exporter(server, journal, self.side_program, say)
-        self.checkpoints = Checkpoints(self.side_program, journal, limits.tail, self.log_limited)
+        self.queries = Queries(self.pool, self.metrics)
+        self.side_program = SideProgram(replay, self.writer)
+        self.exporter = Exporter(replay, journal, self.side_program, say)
+        self.checkpoints = Checkpoints(self.side_program, self.writer, limits.tail, self.log_limited)
+        self.operator = Operator(self.pool, self.writer, self.checkpoints, lambda: status_text(self))
         self.unused_name, self.units = b"", b""
         self.teams: list[str] = []
-        # Clients whose lines may be executed, in turn; and clients that wait until others have read.
-        self._queue: OrderedDict[Client, None] = OrderedDict()
-        self._waiting: OrderedDict[Client, None] = OrderedDict()
-        # Some open sessions may have no client.
-        self._has_orphans = True
+        self.folder = Path(os.path.realpath(journal.path)).parent
         self._exports: set[asyncio.Task[None]] = set()
-        self._work = asyncio.Event()
-        self._is_stopping = False
+        # It ends; all lines are answered; the others are refused.
+        self._is_stopping = self._is_answered = self._is_over = False
         self._is_full = False
-        self._budget = _BATCH
 
     async def start(self, wanted: list[str]) -> list[str]:
         """Starts the program from the journal; returns the teams to serve: all, or the wanted ones."""
-        text = await asyncio.to_thread(self.server.program.texts[0].read_bytes)
-        teams = [GROUND, *await asyncio.to_thread(fences_in, text)]
-        self.units = await asyncio.to_thread(units_in, text)
+        fences, self.units = await asyncio.to_thread(fences_and_units, self.replay.program.texts[0])
+        teams = [GROUND, *fences]
         self.unused_name = first_unused_name(teams)
-        described = asyncio.create_task(described_teams(self.server.program))
+        described = asyncio.create_task(described_teams(self.replay.program))
         try:
-            await self._start_program()
+            await self._start_programs()
             refuse_team_mismatch(teams, await described)
         finally:
             described.cancel()
@@ -104,27 +103,23 @@ class Hub:
         if missing := [team for team in wanted if team not in teams]:
             raise Fault(REFUSED, f"no team: {', '.join(missing)}")
         self.teams = list(dict.fromkeys(wanted)) or teams
+        self.latency.serve(self.teams)
+        self.operator.teams = frozenset(team.encode() for team in self.teams)
         return self.teams
 
-    async def _start_program(self) -> None:
-        try:
-            await self._restore(self._note_line)
-        except ServerLost as lost:
-            await self._restart(lost, self._note_line)
+    async def _start_programs(self) -> None:
+        """Starts the programs from the journal's last state, each with the changes after it of its teams."""
+        if self.limits.programs > 1:
+            try:
+                self.shards.divide(await SliceTexts(self.journal, self.replay.program).get(self.limits.programs))
+            except (Fault, OSError) as fault:
+                self.say(f"one program serves all teams: {reason_of(fault)}")
+        await self.shards.start(Follower(self._restore_notes, self._note))
+        self.checkpoints.loading = max(shard.loading for shard in self.shards)
+        self.checkpoints.seconds = sum(shard.replaying for shard in self.shards)
 
-    async def _restore(self, on_record: Note | None = None) -> None:
-        """Starts the program from the journal's last state and replays the changes after it; calls `on_record` for
-        each.
-        """
-        begin = time.monotonic()
-        with self.journal.tail(self.journal.position) as tail:
-            await self.server.start(tail.state)
-            if on_record:
-                restore_notes(tail.notes, self.pool, self.metrics)
-                begin = time.monotonic()
-            await self.server.restore(tail.records, on_record, tail.changes)
-        if on_record:
-            self.checkpoints.seconds = time.monotonic() - begin
+    def _restore_notes(self, notes: list[bytes], is_own: Callable[[bytes], bool]) -> None:
+        restore_notes(notes, self.pool, self.metrics, is_own)
 
     # Called by clients.
 
@@ -133,72 +128,75 @@ class Hub:
         return self.pool.admit(client)
 
     def enqueue(self, client: Client) -> None:
-        """Queues a client for its turn if it has a line that may be executed."""
-        if client.waiting and not (client.is_slow or client.is_exporting or client.is_ended):
-            self._queue.setdefault(client)
-            self._work.set()
+        """Queues a client for its turn if it has a line that may be executed. A `status` is answered at once, unless a
+        line of the same client is in front of it.
+        """
+        while client.is_ready() and client.next_is_status() and not self.shards.has_at_work(client):
+            client.next_entry(not self._is_stopping)
+            client.reply(b"ok %b\n" % status_text(self))
+            client.flush()
+        if client.is_ready():
+            shard = self.shards.of(client)
+            shard.queue.add(client)
+            shard.work.set()
 
     def remove(self, client: Client) -> None:
-        """Removes a client that is gone. The next batch closes its sessions."""
+        """Removes a client that is gone, with its lines. The next batch closes its sessions."""
+        self.shards.remove(client)
         self.pool.remove(client)
         self.unmark_slow(client)
-        self._close_orphans()
+        self.shards.check_orphans()
 
     def mark_slow(self, client: Client) -> None:
         """Marks a client that leaves many bytes unread."""
         self.pool.slow.add(client)
 
     def unmark_slow(self, client: Client) -> None:
-        """Unmarks a client that has read or is gone. The clients that waited for it get their turn."""
+        """Unmarks a client that has read or is gone."""
         self.pool.slow.discard(client)
-        while self._waiting:
-            self.enqueue(self._waiting.popitem(last=False)[0])
 
-    def _close_orphans(self) -> None:
-        self._has_orphans = True
-        self._work.set()
+    def has_space(self, client: Client, count: int) -> bool:
+        """Whether a client's reply of this length may wait on the disk."""
+        return self.pool.has_space(client, count, self.folder)
 
     # Batches.
 
-    def next_batch(self) -> list[Entry]:
-        """Collects the next batch: closes of orphaned sessions, then one line of each client in turn."""
-        batch: list[Entry] = []
-        if self._has_orphans:
-            self._has_orphans = False
-            batch += [Entry(None, [b"close", team, b"%d" % number]) for team, number in self.pool.orphans()]
-        weight = 0
-        while self._queue and weight < self._budget:
-            client, _ = self._queue.popitem(last=False)
-            if client.is_slow or client.is_ended:
-                continue
-            if self.pool.must_wait(client):
-                self._waiting[client] = None
-                continue
-            entry = client.next_entry(not self._is_stopping)
-            batch.append(entry)
-            if is_export(entry):
-                client.is_exporting, entry.reply = True, b""
-            elif is_status(entry):
-                entry.reply = b"ok %b\n" % status_text(self)
-            self.enqueue(client)
-            weight += _WHOLE if entry.verb in _WHOLE_TEAM else 1
-            # A reply of any length is the last of its batch: this bounds the replies held in memory.
-            if entry.verb in UNBOUNDED or is_export(entry):
-                break
+    def next_batch(self, shard: Shard) -> list[Entry]:
+        """Collects the next batch of a shard: closes of orphaned sessions, or what its queue takes."""
+        if shard.has_orphans:
+            shard.has_orphans = False
+            if orphans := [session for session in self.pool.orphans() if shard.has_team(session[0])]:
+                return [Entry(None, [b"close", team, b"%d" % number]) for team, number in orphans]
+        batch = shard.queue.next_batch(not self._is_stopping)
+        for entry in batch:
+            if entry.client and is_export(entry):
+                entry.client.is_busy, entry.reply = True, b""
+            elif is_savepoint(entry):
+                entry.reply = b""
+            elif reply := self.operator.reply_to(entry):
+                entry.reply = reply
         return batch
 
     async def run(self) -> None:
         """Answers batch after batch. Returns when the hub is stopping, no line waits and no export runs."""
         self.checkpoints.begin(self.pool, self.metrics)
+        await run_all(self._serve(shard) for shard in self.shards)
+
+    async def _serve(self, shard: Shard) -> None:
+        """Answers the batches of a shard."""
         while True:
-            while batch := self.next_batch():
-                await self.answer(batch)
+            while batch := self.next_batch(shard):
+                await self.answer(shard, batch)
                 self.checkpoints.begin(self.pool, self.metrics)
                 await asyncio.sleep(self._linger(batch))
-            if self._is_stopping and not (self._exports or self._waiting):
+            if self._is_stopping and not self._exports and not self.shards.is_busy():
+                # (no other shard has lines to answer either)
+                self._is_answered = True
+                self.shards.wake()
+            if self._is_answered:
                 return
-            await self._work.wait()
-            self._work.clear()
+            await shard.work.wait()
+            shard.work.clear()
 
     async def watch(self) -> None:
         """Checks each second for hung programs and idle clients. Raises a Fault if the journal is no longer in its
@@ -207,14 +205,14 @@ class Hub:
         while True:
             await asyncio.sleep(1)
             notify_alive(bool(self.teams))
-            self.journal.refuse_loss()
-            for server in (self.server, self.side_program.server):
-                if server and server.seconds_silent() > self.limits.deadline:
+            for replay in self._servers():
+                if replay.seconds_silent() > self.limits.deadline:
                     self.say(f"the program was silent for {self.limits.deadline:g} seconds and is killed")
-                    server.send_kill()
+                    replay.send_kill()
             for client in self.pool.idle(self.limits.idle):
                 self.log_limited("idle", f"{client.name}: dropped, idle without a session")
                 client.disconnect()
+            await self.writer.run(self.journal.refuse_loss)
 
     def _linger(self, batch: list[Entry]) -> float:
         """Seconds to wait for more lines, so that clients just answered share the next sync.
@@ -224,85 +222,124 @@ class Hub:
         return min(_MOST_LINGER, self.journal.seconds * _LINGER) if len(batch) > 1 else 0
 
     def kill_programs(self) -> None:
-        """Kills the program and the side program without waiting."""
-        for server in (self.server, self.side_program.server):
-            if server:
-                server.send_kill()
+        """Kills the programs and the side program without waiting."""
+        for replay in self._servers():
+            replay.send_kill()
 
-    def stop(self) -> None:
-        """Stops reading; `run` answers what was read."""
+    def _servers(self) -> list[ReplayProcess]:
+        """The programs and the side program."""
+        side = self.side_program.replay
+        return [*(shard.replay for shard in self.shards), *([side] if side else [])]
+
+    async def stop(self, run: asyncio.Task[None], seconds: float) -> None:
+        """Stops reading, has `run` answer what was read, and after these seconds refuses the rest."""
         self._is_stopping = True
         for client in self.pool.clients:
             client.transport.pause_reading()
-        self._work.set()
+        self.queries.end()
+        self.shards.wake()
+        await asyncio.wait({run}, timeout=seconds)
+        if run.done():
+            run.result()
+        else:
+            self.say(f"not all lines were answered within {seconds:g} seconds; the rest is refused")
+            run.cancel()
+            await asyncio.gather(run, return_exceptions=True)
+        self._is_over = True
+        for client in list(self.pool.clients):
+            self._refuse_waiting(client)
 
-    async def answer(self, batch: list[Entry]) -> None:
-        """Executes and journals a batch, then sends the replies."""
-        self._refuse_if_disk_full(batch)
-        for entry in self.pool.over_quota(batch):
-            # (the program refuses unknown teams)
-            if entry.fields[1].decode() in self.teams:
-                entry.reply = b"no 10 SessionsFull\n"
-        self.metrics.count(len(batch))
-        sent = [entry for entry in batch if entry.reply is None]
-        begin = time.monotonic()
-        for entry, reply in zip(sent, await self._execute([entry.line for entry in sent])):
-            entry.reply = reply
-        seconds = time.monotonic() - begin
-        changes = [
-            Record(entry.line, entry.reply, entry.who)
-            for entry in sent
-            if entry.reply and is_change(entry.fields, entry.reply)
-        ]
-        if changes:
-            # If this process ends before here, nobody has got a reply to these changes.
-            self.journal.append(changes)
-            self.metrics.syncs.append(self.journal.seconds)
-            self.checkpoints.seconds += seconds * len(changes) / len(sent)
-        for entry in batch:
-            self._reply(entry)
-        for client in {entry.client for entry in batch if entry.client}:
+    def _refuse_waiting(self, client: Client) -> None:
+        """Refuses the waiting lines of a client at the end."""
+        entries = []
+        while client.waiting and not (client.is_busy or client.is_ended):
+            entries.append(client.next_entry(False))
+        self._refuse(entries)
+
+    def _refuse(self, entries: list[Entry]) -> None:
+        """Refuses lines at the end that have no reply yet."""
+        for entry in entries:
+            if entry.client:
+                entry.client.reply(NOT_DONE if entry.reply is None else entry.reply)
+        for client in clients_of(entries):
             client.flush()
 
-    async def _execute(self, lines: list[bytes]) -> list[bytes]:
-        """Returns the program's replies. A program that dies is restored and gets the lines again; none is in the
-        journal yet.
+    async def answer(self, shard: Shard, batch: list[Entry]) -> None:
+        """Executes and journals a batch of a shard, then sends the replies."""
+        clients = clients_of(batch)
+        shard.begin(batch, clients)
+        try:
+            sent, seconds = await self._execute(shard)
+            finish = self._finish(shard, sent, seconds)
+            # (without a change it does not wait, except for a savepoint or an export, and cannot be cancelled)
+            await (complete(finish) if shard.reserved or batch[0].verb in ALONE else finish)
+        finally:
+            shard.end()
+        for client in clients:
+            if client.team is None:
+                # (its next line may be for another shard)
+                self.enqueue(client)
+
+    async def _execute(self, shard: Shard) -> tuple[list[Entry], float]:
+        """Executes the lines of a shard's batch that are not answered yet; returns them and the program's seconds."""
+        batch = shard.batch
+        try:
+            await self._refuse_if_disk_full(shard)
+            for entry in self.pool.over_quota(batch):
+                # (the program refuses unknown teams)
+                if entry.fields[1].decode() in self.teams:
+                    entry.reply = b"no 10 SessionsFull\n"
+            self.operator.refuse_frozen(batch)
+            self.metrics.count(len(batch))
+            sent = [entry for entry in batch if entry.reply is None]
+            replies, seconds = await self.queries.execute(sent, shard.execute)
+        except asyncio.CancelledError:
+            # (no line of it is in the journal)
+            self._refuse(batch)
+            raise
+        for entry, reply in zip(sent, replies):
+            entry.reply = reply
+        shard.queue.charge(batch, seconds)
+        return sent, seconds
+
+    async def _finish(self, shard: Shard, sent: list[Entry], seconds: float) -> None:
+        """Journals the accepted changes of the executed lines of a shard's batch, then sends its replies."""
+        batch = shard.batch
+        if changes := [entry for entry in sent if entry.reply and is_change(entry.fields, entry.reply)]:
+            # If this process ends before here, nobody has got a reply to these changes.
+            await self.writer.append(changes)
+            self.checkpoints.add(seconds * len(changes) / len(sent))
+        await self.operator.write_savepoints(batch)
+        position = await self.writer.position() if is_export(batch[0]) else None
+        for entry in batch:
+            self._reply(entry, position)
+        for client in shard.at_work:
+            client.flush()
+        self.latency.note(batch, seconds)
+        self.queries.answer_waiting({change.fields[1] for change in changes})
+
+    def _note_changes(self, entries: list[Entry]) -> None:
+        """Records session owners and metrics by changes that are on the disk."""
+        self.metrics.syncs.append(self.journal.seconds)
+        for entry in entries:
+            self._note(entry.fields, entry.reply or b"", entry.client)
+            if entry.client and entry.client.is_ended:
+                self.shards.check_orphans()
+
+    def _note(self, fields: list[bytes], reply: bytes, client: Client | None = None) -> None:
+        self.metrics.note(fields, reply)
+        self.pool.note(fields, reply, client)
+
+    async def _refuse_if_disk_full(self, shard: Shard) -> None:
+        """Refuses changes as OutOfMemory, without executing them, if the journal cannot grow. Else it reserves bytes
+        for them.
         """
-        for _ in range(_STARTS):
-            begin = time.monotonic()
-            try:
-                replies = await self.server.execute(lines)
-            except ServerLost as lost:
-                await self._restart(lost)
-                continue
-            self._adjust_budget(time.monotonic() - begin)
-            return replies
-        raise Fault(FAILED, f"the program died {_STARTS} times on the same lines")
-
-    def _adjust_budget(self, seconds: float) -> None:
-        """Makes the next batches lighter or heavier, so that slow lines do not block others for long."""
-        if seconds > _SLOW:
-            self._budget = max(1, self._budget // 2)
-        elif seconds < _FAST:
-            self._budget = min(_BATCH, self._budget * 2)
-
-    async def _restart(self, lost: ServerLost, on_record: Note | None = None) -> None:
-        """Starts the program again from the journal; several times if it keeps dying."""
-        for _ in range(_STARTS):
-            self.say(f"{lost}; restarting it and restoring {self.journal.changes} changes")
-            self.metrics.restores += 1
-            try:
-                return await self._restore(on_record)
-            except ServerLost as again:
-                lost = again
-        raise Fault(FAILED, f"{lost}; giving up after {_STARTS} starts, no acknowledged change is lost")
-
-    def _refuse_if_disk_full(self, batch: list[Entry]) -> None:
-        """Refuses changes as OutOfMemory, without executing them, if the journal cannot grow."""
-        changes = [entry for entry in batch if entry.reply is None and entry.verb in CHANGES]
+        changes = [entry for entry in shard.batch if entry.reply is None and entry.verb in CHANGE_VERBS]
         if not changes:
             return
-        is_full = not self.journal.has_room(sum(len(entry.line) + MOST_REPLY for entry in changes))
+        count = sum(len(entry.line) + MOST_REPLY for entry in changes)
+        is_full = not await self.writer.reserve(count)
+        shard.reserved = 0 if is_full else count
         if is_full != self._is_full:
             self._is_full = is_full
             text = (
@@ -311,48 +348,42 @@ class Hub:
             self.log_limited(text, text)
         if is_full:
             for entry in changes:
-                entry.reply = b"no 12 OutOfMemory\n"
-            asyncio.get_running_loop().call_later(_RETRY, self._close_orphans)
+                entry.reply = NOT_DONE
+            asyncio.get_running_loop().call_later(_RETRY, self.shards.check_orphans)
 
-    def _reply(self, entry: Entry) -> None:
-        """Appends an entry's reply to its client, and handles its consequences."""
+    def _reply(self, entry: Entry, position: Position | None) -> None:
+        """Appends an entry's reply to its client, and handles its consequences. An export is of a position of the
+        journal.
+        """
         client, reply = entry.client, entry.reply or b""
-        self._note(entry.fields, reply, client)
         if client is None:
             return
-        client.replies.append(reply)
+        client.reply(reply)
         if entry.is_last:
             client.flush()
             client.disconnect()
-            self._close_orphans()
-        elif is_export(entry):
+            self.shards.check_orphans()
+        elif position and is_export(entry):
             path = os.fsdecode(entry.fields[1])
             if text := uncommitted_text(self):
                 self.say(f"export {path}: {text}")
-            task = asyncio.create_task(self._answer_export(client, path, self.journal.position))
+            task = asyncio.create_task(self._answer_export(client, path, position))
             self._exports.add(task)
             task.add_done_callback(self._export_done)
-
-    def _note_line(self, fields: list[bytes], reply: bytes) -> None:
-        self._note(fields, reply, None)
-
-    def _note(self, fields: list[bytes], reply: bytes, client: Client | None) -> None:
-        """Records session owners and metrics."""
-        if is_change(fields, reply):
-            self.metrics.note(fields, reply)
-            self.pool.note(fields, reply, client)
 
     async def _answer_export(self, client: Client, path: str, position: Position) -> None:
         """Exports the committed places as of the client's turn, and replies, while others are served."""
         reason = await self.exporter.write(path, position)
-        client.replies.append(b"ok\n" if reason is None else b"no 13 NotExported %b\n" % on_one_line(reason))
+        client.reply(b"ok\n" if reason is None else b"no 13 NotExported %b\n" % on_one_line(reason))
         client.flush()
-        client.is_exporting = False
+        client.is_busy = False
+        if self._is_over:
+            self._refuse_waiting(client)
         self.enqueue(client)
 
     def _export_done(self, task: asyncio.Task[None]) -> None:
         self._exports.discard(task)
-        self._work.set()
+        self.shards.wake()
 
 
 def first_unused_name(teams: list[str]) -> bytes:
@@ -360,6 +391,12 @@ def first_unused_name(teams: list[str]) -> bytes:
     signs = [chr(byte) for byte in range(33, 127)]
     names = (first + second for second in ("", *signs) for first in signs)
     return next(name for name in names if name not in teams).encode()
+
+
+def fences_and_units(path: Path) -> tuple[list[str], bytes]:
+    """Reads the fences and the database units of a DEF text. The text is not kept."""
+    text = path.read_bytes()
+    return fences_in(text), units_in(text)
 
 
 def refuse_team_mismatch(found: list[str], reported: list[str]) -> None:
@@ -375,11 +412,6 @@ def refuse_team_mismatch(found: list[str], reported: list[str]) -> None:
 def is_export(entry: Entry) -> bool:
     """Whether the line is the operator's `export PATH`."""
     return entry.verb == b"export" and len(entry.fields) == 2 and is_from_operator(entry)
-
-
-def is_status(entry: Entry) -> bool:
-    """Whether the line is the operator's `status`."""
-    return entry.fields == [b"status"] and is_from_operator(entry)
 
 
 def is_from_operator(entry: Entry) -> bool:

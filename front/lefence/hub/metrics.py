@@ -28,10 +28,8 @@ class Metrics:
     """Counters of one hub."""
 
     def __init__(self) -> None:
-        self.started = time.time()
+        self.started = time.monotonic()
         self.teams: dict[bytes, TeamMetrics] = {}
-        # Restarts of the program.
-        self.restores = 0
         self.lines = 0
         # Seconds of the last syncs, and lines of the last batches.
         self.syncs: deque[float] = deque(maxlen=_BATCHES)
@@ -82,12 +80,17 @@ _METRICS = {
     "batch_lines_p99": ("gauge", "The same, 99 of 100."),
     "program_bytes": ("gauge", "Memory of the program."),
     "hub_bytes": ("gauge", "Memory of the hub."),
+    "slow_lines_total": ("counter", "Slow lines since this start."),
 }
 _TEAM_METRICS = {
-    "clients": ("gauge", "Connections of the team's socket."),
+    "clients": ("gauge", "Connections of the team's sockets."),
     "sessions": ("gauge", "Open sessions of the team."),
     "revision": ("counter", "The team's revision."),
     "uncommitted": ("gauge", "Changes of the team since its last commit or revert."),
+    "lines_total": ("counter", "Lines of the team answered since this start."),
+    "work_seconds_total": ("counter", "Seconds of the program's work for the team since this start."),
+    "line_seconds_p50": ("gauge", "Median seconds from a line's arrival to its reply, of the team's last lines."),
+    "line_seconds_p99": ("gauge", "The same, 99 of 100."),
 }
 
 
@@ -106,7 +109,7 @@ def _head(name: str, kind: str, help_text: str) -> list[str]:
     return [f"# HELP {name} {help_text}", f"# TYPE {name} {kind}"]
 
 
-def _of_teams(status: dict[str, Any], name: str) -> Iterator[tuple[str, int]]:
+def _of_teams(status: dict[str, Any], name: str) -> Iterator[tuple[str, float]]:
     for team in status["teams"]:
         value = team[name]
         quoted = team["team"].replace("\\", "\\\\").replace('"', '\\"')

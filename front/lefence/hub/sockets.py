@@ -12,7 +12,7 @@ from ..base.faults import FAILED, REFUSED, USAGE, Fault
 from ..journal.journal import lock
 
 # The most bytes of a socket's path on this system.
-_MOST_PATH = 107
+MOST_PATH = 107
 
 
 def claim_folder(path: Path) -> None:
@@ -47,16 +47,19 @@ def groups_of(words: list[str]) -> dict[str, int]:
     return info
 
 
+def is_too_long(path: Path) -> bool:
+    """Whether the system allows no socket with this path."""
+    return len(os.fsencode(path)) > MOST_PATH
+
+
 def bind_socket(path: Path, mode: int, keeps_mode: bool, group: int | None) -> socket.socket:
     """Makes a socket at the path, in that group, which does not listen yet.
 
     A dead socket of this user at the path passes on its group if none is given, and its mode if `keeps_mode`. Raises a
     Fault if the group cannot be set.
     """
-    if len(os.fsencode(path)) > _MOST_PATH:
-        raise Fault(
-            FAILED, f"{path}: longer than {_MOST_PATH} bytes; use a shorter --sockets, or serve other teams by --team"
-        )
+    if is_too_long(path):
+        raise Fault(FAILED, f"{path}: longer than {MOST_PATH} bytes; use a shorter --sockets")
     previous = _dead_socket(path)
     if previous:
         path.unlink()

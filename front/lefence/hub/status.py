@@ -10,12 +10,14 @@ from collections.abc import Iterator
 from pathlib import Path
 from typing import TYPE_CHECKING, Any
 
-from ..base.faults import FAILED, Fault
+from ..base.design import shown
+from ..base.faults import FAILED, Fault, printable
 from ..client.blocking import connect
 from .metrics import TeamMetrics, memory_of, percentile
 
 if TYPE_CHECKING:
     from .hub import Hub
+    from .shards import Shard
 
 # The most teams named in a line of the log.
 _MOST_TEAMS = 50
@@ -31,11 +33,11 @@ def status_text(hub: Hub) -> bytes:
 def _status(hub: Hub) -> dict[str, Any]:
     metrics, journal, now = hub.metrics, hub.journal, time.time()
     return {
-        "uptime_seconds": round(now - metrics.started, 1),
+        "uptime_seconds": round(time.monotonic() - metrics.started, 1),
         "clients": len(hub.pool.clients),
         "unread_bytes": hub.pool.unread_bytes(),
         "lines_total": metrics.lines,
-        "restores_total": metrics.restores,
+        "restores_total": hub.shards.restores,
         "changes_total": journal.changes,
         "states_total": hub.checkpoints.count,
         "journal_bytes": journal.end,
@@ -43,10 +45,23 @@ def _status(hub: Hub) -> dict[str, Any]:
         "journal_age_seconds": round(now - (journal.last or now), 1),
         **{f"sync_seconds_p{part}": round(percentile(metrics.syncs, part / 100), 6) for part in (50, 99)},
         **{f"batch_lines_p{part}": percentile(metrics.batches, part / 100) for part in (50, 99)},
-        "program_bytes": memory_of(hub.server.pid),
+        "program_bytes": sum(memory_of(shard.replay.pid) for shard in hub.shards),
         "hub_bytes": memory_of(os.getpid()),
+        "texts": [{"path": printable(str(text.path)), "sha256": text.sum} for text in journal.header.texts],
+        "slow_lines_total": hub.latency.slow_count,
+        "slow_lines": hub.latency.slow_status(),
+        "programs": [_program(shard) for shard in hub.shards],
         "teams": list(_teams(hub)),
     }
+
+
+def _program(shard: Shard) -> dict[str, Any]:
+    """A program, with its teams if it does not serve all."""
+    part = shard.part
+    own = {"teams": [shown(team) for team in sorted(part.teams)], "cells": part.cells} if part else {}
+    seconds = {f"batch_seconds_p{each}": round(percentile(shard.seconds, each / 100), 6) for each in (50, 99)}
+    pid = shard.replay.pid
+    return {"pid": pid, "bytes": memory_of(pid), "restores": shard.restores, **seconds, **own}
 
 
 def _teams(hub: Hub) -> Iterator[dict[str, Any]]:
@@ -55,7 +70,7 @@ def _teams(hub: Hub) -> Iterator[dict[str, Any]]:
         name = team.encode()
         counts = hub.metrics.teams.get(name, TeamMetrics())
         counted = {"clients": clients[name], "revision": counts.revision, "uncommitted": counts.uncommitted}
-        yield {"team": team, **counted, "sessions": sessions.get(name, [])}
+        yield {"team": team, **counted, **hub.latency.status_of(name), "sessions": sessions.get(name, [])}
 
 
 def _sessions(hub: Hub) -> dict[bytes, list[dict[str, Any]]]:

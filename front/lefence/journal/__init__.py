@@ -6,6 +6,7 @@ Modules in reading order:
 - `segments`: the files of one journal, and the saved states at which segments begin.
 - `journal`: opens, repairs, appends and syncs.
 - `texts`: copies of the design's files, which a journal needs at its next start.
+- `backup`: consistent copies of all these files.
 
 It imports `lefence.base` and must not import the client library, the hub or the tools.
 """

@@ -191,14 +191,22 @@ class Reader:
         window.
         """
         if not self._at <= offset <= offset + count <= self._at + len(self._window):
-            self._window, self._at = os.pread(self._fd, max(count, _WINDOW), offset), offset
+            self._window, self._at = os.pread(self.descriptor(), max(count, _WINDOW), offset), offset
         return offset - self._at
+
+    def descriptor(self) -> int:
+        """The open file."""
+        return self._fd
+
+    def forget(self) -> None:
+        """Frees the bytes that were read."""
+        self._window, self._at = b"", 0
 
     def header(self) -> Header:
         """Reads the header. Raises a Fault if the file is not a journal."""
-        data = header_in(os.pread(self._fd, MOST_HEADER, 0))
+        data = header_in(os.pread(self.descriptor(), MOST_HEADER, 0))
         if data is None:
-            raise Fault(REFUSED, f"{self.path}: {wrong_title_text(os.pread(self._fd, MOST_HEAD, 0))}")
+            raise Fault(REFUSED, f"{self.path}: {wrong_title_text(os.pread(self.descriptor(), MOST_HEAD, 0))}")
         return data
 
     def frame(self, offset: int) -> Frame | None:
@@ -242,9 +250,9 @@ class Reader:
 
     def next_start(self, offset: int) -> int | None:
         """Returns the start of the first intact frame after the offset, or None."""
-        size = os.fstat(self._fd).st_size
+        size = os.fstat(self.descriptor()).st_size
         while offset < size:
-            piece = os.pread(self._fd, _WINDOW + MOST_HEAD, offset)
+            piece = os.pread(self.descriptor(), _WINDOW + MOST_HEAD, offset)
             for data in _FRAME.finditer(piece):
                 if data.start() < _WINDOW and self.frame(offset + data.start()):
                     return offset + data.start()
@@ -253,10 +261,10 @@ class Reader:
 
     def trailing_bytes(self, offset: int) -> int:
         """Counts the bytes after the offset, without zeros at the end of the file."""
-        size = os.fstat(self._fd).st_size
+        size = os.fstat(self.descriptor()).st_size
         while size > offset:
             start = max(offset, size - _WINDOW)
-            if piece := os.pread(self._fd, size - start, start).rstrip(b"\0"):
+            if piece := os.pread(self.descriptor(), size - start, start).rstrip(b"\0"):
                 return start + len(piece) - offset
             size = start
         return 0

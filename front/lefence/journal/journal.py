@@ -33,7 +33,7 @@ from .frames import (
     refuse_damage,
 )
 from .owner import ENDED, Owner, OwnerHistory, this_process
-from .segments import Archive, Position, Segment, State, Tail
+from .segments import Archive, Position, Segment, State, Tail, refuse_special
 
 # Bytes reserved on the disk at a time, so that a sync need not store a new file length.
 _STEP = 1 << 18
@@ -41,6 +41,7 @@ _STEP = 1 << 18
 MOST_REPLY = 96
 _MOST_REST = 1024
 _NO_ROOM = (errno.ENOSPC, errno.EDQUOT, errno.EFBIG)
+_ACCESS_LIST = "system.posix_acl_access"
 # Errors of a file system that cannot reserve bytes.
 _NOT_OFFERED = (errno.EOPNOTSUPP, errno.EINVAL, errno.ENOSYS)
 
@@ -55,16 +56,38 @@ def lock(descriptor: int, path: Path) -> None:
         raise Fault(FAILED, f"{path}: cannot be locked: {error.strerror}") from None
 
 
+def _copy_access(source: int, target: int) -> None:
+    """Gives an open file the group, the mode and the access list of another one, as far as the system allows it."""
+    with contextlib.suppress(OSError):
+        os.fchown(target, -1, os.fstat(source).st_gid)
+    os.fchmod(target, os.fstat(source).st_mode & 0o777)
+    with contextlib.suppress(OSError):
+        os.setxattr(target, _ACCESS_LIST, os.getxattr(source, _ACCESS_LIST))
+
+
+def _reserve(descriptor: int, end: int, count: int) -> int:
+    """Reserves bytes of a file after its end, if its file system can; returns the end of the reserved bytes.
+
+    Raises OSError if the disk is full or fails.
+    """
+    try:
+        if count:
+            os.posix_fallocate(descriptor, end, count)
+    except OSError as error:
+        if error.errno not in _NOT_OFFERED:
+            raise
+    return end + count
+
+
 def texts_in(path: Path) -> list[Text] | None:
     """Reads the design's files of a journal; None if it has no change yet or does not exist.
 
     Raises a Fault if the file is not a journal.
     """
-    try:
-        file = open(path, "rb")
-    except FileNotFoundError:
+    if not path.exists():
         return None
-    with file:
+    refuse_special(path)
+    with open(path, "rb") as file:
         if is_partial_header(file.read(MOST_HEADER)):
             return None
         reader = Reader(file.fileno(), path)
@@ -218,7 +241,7 @@ class Journal:
             if slots in (None, self._header.slots):
                 return True
             if _has_changes(self._reader, self._header):
-                remedies = f"start without --sessions or with --sessions {self._header.slots}, or start a new journal"
+                remedies = f"start without --sessions, or change the number by --roll --sessions {slots}"
                 raise Fault(
                     REFUSED,
                     f"{self.path}: made for {self._header.slots} session slots per team, not {slots}: {remedies}",
@@ -294,27 +317,34 @@ class Journal:
             records = (record for frame in frames for record in frame.records())
             yield Tail(self._state, first.notes, first.header.changes, records)
 
-    def roll(self, notes: list[bytes]) -> None:
+    @property
+    def state(self) -> State | None:
+        """The last state; None for the design as it is loaded."""
+        return self._state
+
+    def roll(self, notes: list[bytes], slots: int | None = None, room: int = 0) -> None:
         """Continues in a new segment, which starts with these notes. After an OSError it continues in the old one.
 
-        At each step the file at the path is the last segment, complete.
+        `slots` is its number of session slots per team, if that changes. The new segment has `room` bytes for changes
+        for which `has_room` reserved them in the old one. At each step the file at the path is the last segment,
+        complete.
         """
         self.refuse_loss()
         path, number = Path(os.path.realpath(self.path)), self.header.number
         next_path = path.with_name(f"{path.name}.next")
-        header = header_of(self.header.texts, number + 1, self.changes, self.end, self.header.slots)
+        header = header_of(self.header.texts, number + 1, self.changes, self.end, slots or self.header.slots)
         frame = frame_of(len(header), b"".join(b"%b\n" % note for note in [*notes, self.owner.note()]))
         self.archive.make()
         descriptor = os.open(next_path, os.O_RDWR | os.O_CREAT | os.O_TRUNC | os.O_CLOEXEC, 0o600)
         try:
             lock(descriptor, next_path)
-            os.fchmod(descriptor, os.fstat(self._fd).st_mode & 0o777)
+            _copy_access(self._fd, descriptor)
             if os.pwrite(descriptor, header + frame, 0) != len(header + frame):
                 raise OSError(errno.ENOSPC, "only a part was written")
+            reserved = _reserve(descriptor, len(header + frame), room and _MOST_REST + room)
             os.fsync(descriptor)
             self._seal()
-            with contextlib.suppress(FileExistsError):
-                os.link(path, self.archive.segment(number))
+            self.archive.keep_segment(number, self._fd, path)
             sync_folder(self.archive.folder)
             os.replace(next_path, path)
         except BaseException:
@@ -324,8 +354,30 @@ class Journal:
             raise
         self._closed.append(Segment(self._fd, self.archive.segment(number), self.header, self.end, self._notes))
         self._fd, self._header, self._notes, self.end = descriptor, header_in(header), notes, len(header + frame)
-        self._reader, self._reserved = Reader(descriptor, self.path), self.end
+        self._reader, self._reserved = Reader(descriptor, self.path), reserved
         self._write_step(lambda: sync_folder(path.parent))
+
+    def roll_with_state(self, source: Path, size: int, digest: str, notes: list[bytes], slots: int) -> None:
+        """Continues in a new segment with another number of session slots per team, which starts with a written state.
+
+        The state, given with its length and SHA-256, is that of all changes before. After an OSError the journal
+        continues as before.
+        """
+        state = State(self.archive.state(self.header.number + 1), size, digest)
+        try:
+            os.replace(source, state.path)
+            sync_folder(self.archive.folder)
+            self.roll([*notes, state.note(self.owner)], slots)
+        except OSError:
+            state.path.unlink(missing_ok=True)
+            raise
+        self._start_at(state)
+
+    def _start_at(self, state: State) -> None:
+        """Makes a state the last one. The segments before it are not read any more."""
+        for segment in self._closed:
+            os.close(segment.descriptor)
+        self._state, self._closed = state, []
 
     def _seal(self) -> None:
         """Syncs the last segment to the disk, with nothing after its frames."""
@@ -365,9 +417,7 @@ class Journal:
         except OSError:
             state.path.unlink(missing_ok=True)
             raise
-        for segment in self._closed:
-            os.close(segment.descriptor)
-        self._state, self._closed = state, []
+        self._start_at(state)
 
     def refuse_loss(self) -> None:
         """Raises a Fault if the file was moved or truncated, or another process has appended to it."""
@@ -389,17 +439,20 @@ class Journal:
 
     def has_room(self, count: int) -> bool:
         """Reserves bytes for the next frame. Returns False if the disk is full."""
-        need = self.end + _MOST_REST + count
-        if need > self._reserved:
+        if self.is_reserved(count):
+            return True
+        for more in (_STEP, 0):
             try:
-                os.posix_fallocate(self._fd, self.end, need - self.end + _STEP)
+                self._reserved = _reserve(self._fd, self.end, _MOST_REST + count + more)
+                return True
             except OSError as error:
-                if error.errno not in _NOT_OFFERED:
-                    if error.errno in _NO_ROOM:
-                        return False
+                if error.errno not in _NO_ROOM:
                     raise Fault(FAILED, f"{self.path}: {error.strerror}") from error
-            self._reserved = need + _STEP
-        return True
+        return False
+
+    def is_reserved(self, count: int) -> bool:
+        """Whether bytes are reserved for a next frame with changes of this length."""
+        return self.end + _MOST_REST + count <= self._reserved
 
     def append(self, records: list[Record]) -> None:
         """Appends one frame of changes. It is on the disk when this returns.
@@ -433,6 +486,11 @@ class Journal:
             raise OSError(errno.ENOSPC, "only a part was written")
         if self.is_synced:
             os.fdatasync(self._fd)
+
+    def add_note(self, note: bytes) -> bool:
+        """Appends a note. It is on the disk when this returns. Returns False if the disk is full."""
+        self._refuse_broken()
+        return self.has_room(_MOST_REST + len(note)) and self._note(note)
 
     def _note(self, text: bytes) -> bool:
         """Appends a note. Returns False, and loses nothing else, if the disk is full."""

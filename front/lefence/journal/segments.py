@@ -16,20 +16,24 @@ A checkpoint takes these steps; each is on the disk before the next:
 from __future__ import annotations
 
 import contextlib
+import errno
 import os
 import re
+import shutil
 import time
 from collections.abc import Iterable, Iterator
 from pathlib import Path
 from typing import NamedTuple
 
-from ..base.atomic_file import sync_folder
-from ..base.faults import REFUSED, Fault
+from ..base.atomic_file import atomic_file, is_special, sync_folder
+from ..base.faults import FAILED, REFUSED, Fault
 from .frames import Header, Reader, Record, refuse_damage, sum_of
 from .owner import Owner
 
 _KEPT = re.compile(r"(\d{1,9})\.(journal|state)")
 _UNMADE = re.compile(r"\d{1,9}\.making-\d+(\.partial\d+)?")
+# Errors of a file system that has no links to this file.
+_NO_LINKS = (errno.EPERM, errno.EXDEV, errno.EOPNOTSUPP, errno.EMLINK)
 _STATE = re.compile(rb"state (\d{1,15}) ([0-9a-f]{64}) front \S+ program \S+")
 
 
@@ -154,13 +158,33 @@ class Archive:
         try:
             reader = Reader(descriptor, path)
             header, notes, end = reader.header(), reader.notes(), reader.end_of_frames()
-            if (header.number, header.texts, header.slots) != (number, following.header.texts, following.header.slots):
+            if (header.number, header.texts) != (number, following.header.texts):
                 raise Fault(REFUSED, f"{path}: not the segment before {following.path}")
+            if header.slots != following.header.slots:
+                slots = f"{path} has {header.slots} session slots per team"
+                raise Fault(REFUSED, f"segment {following.number} has no intact state, and {slots}")
             refuse_short_segment(reader, end, following.header.bytes)
             return Segment(descriptor, path, header, end, notes)
         except BaseException:
             os.close(descriptor)
             raise
+
+    def keep_segment(self, number: int, descriptor: int, path: Path) -> None:
+        """Gives the last segment, open and at this path, its name in the folder. The caller syncs the folder.
+
+        It is copied if the file system has no links or is another one. Another file of this name is moved aside.
+        """
+        target = self.segment(number)
+        if target.exists() and not os.path.samestat(target.stat(), os.fstat(descriptor)):
+            _move_aside(target)
+        try:
+            with contextlib.suppress(FileExistsError):
+                os.link(path, target)
+        except OSError as error:
+            if error.errno not in _NO_LINKS:
+                raise
+            with atomic_file(target, 0o600) as copy, open(path, "rb") as source:
+                shutil.copyfileobj(source, copy, 1 << 20)
 
     def clean_up(self, number: int, descriptor: int, unusable: list[int]) -> None:
         """Removes leftovers of a killed hub, given the last segment's number and the unusable states.
@@ -182,14 +206,17 @@ class Archive:
             elif found > number:
                 _move_aside(self.state(found))
 
-    def prune(self, keep: int) -> None:
+    def prune(self, keep: int, keeps_segments: bool = False) -> None:
         """Deletes old states, keeping the last `keep` and the segments from the first of them; keeps all if `keep` is
         0.
+
+        With `keeps_segments` it keeps all segments, and the state with which the journal begins.
         """
         states = self.numbers("state")
         if not 0 < keep < len(states):
             return
-        old = [self.segment(number) for number in self.numbers("journal")] + [self.state(number) for number in states]
+        old = [self.state(number) for number in states if number > 1 or not keeps_segments]
+        old += [] if keeps_segments else [self.segment(number) for number in self.numbers("journal")]
         # (at any moment the first remaining segment has its state)
         for path in sorted(old, key=lambda each: (int(each.stem), each.suffix)):
             if int(path.stem) < states[-keep]:
@@ -201,36 +228,81 @@ def _move_aside(path: Path) -> None:
     os.replace(path, f"{path}.aside")
 
 
+class _OpenFile:
+    """The one earlier segment that is open."""
+
+    def __init__(self) -> None:
+        self._reader: EarlierReader | None = None
+        self._fd = -1
+
+    def descriptor(self, reader: EarlierReader) -> int:
+        """Opens the file of a reader in place of the one before."""
+        if reader is not self._reader:
+            self.close()
+            self._fd, self._reader = os.open(reader.path, os.O_RDONLY | os.O_CLOEXEC), reader
+        return self._fd
+
+    def close(self) -> None:
+        """Closes the file."""
+        if self._reader:
+            self._reader.forget()
+            os.close(self._fd)
+        self._reader = None
+
+
+class EarlierReader(Reader):
+    """Reads an earlier segment. Its file is open only while no other one is read."""
+
+    def __init__(self, path: Path, file: _OpenFile) -> None:
+        super().__init__(-1, path)
+        self._file = file
+
+    def descriptor(self) -> int:
+        return self._file.descriptor(self)
+
+
 @contextlib.contextmanager
 def open_segments(path: Path) -> Iterator[list[Reader]]:
-    """Opens the segments of a journal in order; the last one is the file at the path."""
-    with contextlib.ExitStack() as stack:
-        readers = [Reader(stack.enter_context(open(path, "rb")).fileno(), path)]
+    """Yields the readers of a journal's segments in order; the last one is the file at the path.
+
+    Besides the last one, one segment is open at a time.
+    """
+    refuse_special(path)
+    with open(path, "rb") as last, contextlib.closing(_OpenFile()) as file:
+        readers = [Reader(last.fileno(), path)]
         header = readers[0].header()
         for number in range(header.number - 1, 0, -1):
-            before = Archive(path).segment(number)
+            reader = EarlierReader(Archive(path).segment(number), file)
             try:
-                file = stack.enter_context(open(before, "rb"))
+                found = reader.header()
             except FileNotFoundError:
                 break
-            readers.append(Reader(file.fileno(), before))
-            found = readers[-1].header()
-            if (found.number, found.texts, found.slots) != (number, header.texts, header.slots):
-                raise Fault(REFUSED, f"{before}: not segment {number} of {path}")
+            readers.append(reader)
+            if (found.number, found.texts) != (number, header.texts):
+                raise Fault(REFUSED, f"{reader.path}: not segment {number} of {path}")
         yield readers[::-1]
 
 
 def last_state(path: Path, readers: list[Reader], is_all: bool) -> tuple[State | None, list[Reader]]:
     """Returns the last intact state of a journal, or with `is_all` the first, and the segments after it.
 
-    None is the design as it is loaded. Raises a Fault if there is neither.
+    All these segments have the same number of session slots. None is the design as it is loaded. Raises a Fault if
+    there is neither.
     """
-    for at in [0] if is_all else reversed(range(len(readers))):
+    slots = [reader.header().slots for reader in readers]
+    first = next(at for at in range(len(readers)) if len({*slots[at:]}) == 1)
+    for at in [first] if is_all else reversed(range(first, len(readers))):
         number = readers[at].header().number
         state = Archive(path).state_named(number, readers[at].notes())
         if number == 1 or state and state.is_whole():
             return state, readers[at:]
-    raise Fault(REFUSED, f"{path}: segment {readers[0].header().number} has no intact state")
+    raise Fault(REFUSED, f"{path}: segment {readers[first].header().number} has no intact state")
+
+
+def refuse_special(path: Path) -> None:
+    """Raises a Fault if the path is a pipe, a folder or a device."""
+    if is_special(path):
+        raise Fault(FAILED, f"{path} is not a regular file")
 
 
 def refuse_short_segment(reader: Reader, end: int, size: int) -> None:
@@ -251,7 +323,7 @@ def read_records(path: Path) -> Iterator[Record]:
         first = readers[0].header()
         if first.number > 1:
             message = f"{path}: its first {first.changes} changes exist only as a state"
-            raise Fault(REFUSED, f"{message}; to push a journal, run its hub with --keep 0 from the start")
+            raise Fault(REFUSED, f"{message}; to push a journal, run its hub with --keep-segments from the start")
         if Archive(path).state_named(1, readers[0].notes()):
             raise Fault(REFUSED, f"{path}: it begins with a state, which cannot be pushed")
         yield from records_in(readers)

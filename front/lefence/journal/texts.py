@@ -40,25 +40,28 @@ def kept_text(journal: Path, text: Text) -> Path | None:
     return None
 
 
-def resolve_texts(journal: Path, given: list[Path], say: Callable[[str], None]) -> tuple[list[Text], list[Path]]:
+def resolve_texts(
+    journal: Path, given: list[Path], say: Callable[[str], None], uses_kept: bool = False
+) -> tuple[list[Text], list[Path]]:
     """Returns a journal's files and their copies; makes missing copies. The journal need not exist yet.
 
-    A journal with changes keeps its files, whatever is now at their original paths. Raises a Fault if other files are
-    given.
+    A journal with changes keeps its files. Raises a Fault if other files are given, or if one has changed at its
+    original path, unless `uses_kept`.
     """
     texts = texts_in(journal)
     if texts is None:
         texts = [Text(sum_of(path), path.absolute()) for path in given]
     if len(texts) != len(given):
         raise Fault(REFUSED, f"{journal}: a journal of another design, which has {len(texts)} files")
-    return texts, [_resolve_text(journal, text, path, say) for text, path in zip(texts, given)]
+    return texts, [_resolve_text(journal, text, path, say, uses_kept) for text, path in zip(texts, given)]
 
 
-def _resolve_text(journal: Path, text: Text, given: Path, say: Callable[[str], None]) -> Path:
+def _resolve_text(journal: Path, text: Text, given: Path, say: Callable[[str], None], uses_kept: bool) -> Path:
+    is_there = True
     try:
         is_same = sum_of(given) == text.sum
     except OSError as error:
-        is_same = False
+        is_there = is_same = False
         say(reason_of(error))
     kept = kept_text(journal, text)
     if is_same:
@@ -69,7 +72,10 @@ def _resolve_text(journal: Path, text: Text, given: Path, say: Callable[[str], N
         )
     if given.absolute() != text.path:
         raise Fault(REFUSED, f"{journal}: a journal of another design: its file was {text.path}, and {given} differs")
-    say(f"{given} has changed since the journal was made: using the copy {kept}")
+    if is_there and not uses_kept:
+        remedies = "--kept-texts goes on with the kept copy, lefence-carry and --begin with the changed design"
+        raise Fault(REFUSED, f"{given} has changed since {journal} was made: {remedies}")
+    say(f"{given} {'has changed' if is_there else 'is missing'} since the journal was made: using the copy {kept}")
     return kept
 
 

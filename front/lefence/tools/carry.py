@@ -12,13 +12,16 @@ import json
 import sys
 import tempfile
 from collections import Counter, defaultdict
-from collections.abc import Iterator
+from collections.abc import Iterable, Iterator
 from dataclasses import dataclass, field
+from itertools import groupby
+from operator import itemgetter
 from pathlib import Path
 from typing import NamedTuple
 
 from ..base.atomic_file import atomic_file, partial_file, refuse_inputs
-from ..base.description import Cell, Description
+from ..base.description import CellLine, Description
+from ..base.design import shown
 from ..base.faults import DONE, FAILED, USAGE, Fault, Parser, log, run_tool
 from ..base.input_files import use_plain_files
 from ..base.program import find_program
@@ -39,7 +42,7 @@ class Known(NamedTuple):
 
     working: bytes
     committed: bytes
-    size: tuple[int, int]
+    size: tuple[bytes, bytes]
     team: str
 
 
@@ -47,33 +50,41 @@ class Known(NamedTuple):
 class Old:
     """The old design in its state: the cells by name, the teams, and how many cells of each break a rule."""
 
-    cells: dict[str, Known] = field(default_factory=dict)
+    cells: dict[bytes, Known] = field(default_factory=dict)
     teams: dict[str, SavedTeam] = field(default_factory=dict)
-    illegal: Counter[str] = field(default_factory=Counter)
+    illegal: dict[str, int] = field(default_factory=dict)
 
 
 def read_old(program: str, texts: list[Path], state: Path) -> Old:
     """Reads the old design and its state."""
     old = Old()
-    sizes: dict[str, tuple[int, int]] = {}
+    sizes: dict[bytes, tuple[bytes, bytes]] = {}
+    illegal: dict[bytes, int] = {}
+    # (equal sizes are one object)
+    known: dict[tuple[bytes, bytes], tuple[bytes, bytes]] = {}
     with Description(program, texts[0], texts[1:], state) as description:
-        for cell in Progress(TOOL, "cells before").over(description.cells()):
-            sizes[cell.name] = cell.width, cell.height
-            old.illegal[cell.team] += cell.rule is not None
+        for cells in Progress(TOOL, "cells before").over_lists(description.cell_lines()):
+            for _, _, height, name, _, rule, team, width in cells:
+                size = width, height
+                sizes[name] = known.setdefault(size, size)
+                if rule or team not in illegal:
+                    illegal[team] = illegal.get(team, 0) + bool(rule)
+    old.illegal = {shown(team): count for team, count in illegal.items()}
     # (the program has read the state, so its cells are those of the design)
     with open(state, "rb") as file:
-        for team, cells in teams_in(file):
-            name = team.name.decode("ascii", "backslashreplace")
-            old.teams[name] = team
-            for each in cells:
-                cell_name = each.name.decode("ascii", "backslashreplace")
-                old.cells[cell_name] = Known(each.working, each.committed, sizes[cell_name], name)
+        for saved, places in teams_in(file):
+            team_name = shown(saved.name)
+            old.teams[team_name] = saved
+            for name, working, committed in places:
+                # (so is a place that is both)
+                both = working if working == committed else committed
+                old.cells[name] = Known(working, both, sizes.pop(name), team_name)
     return old
 
 
-def place_of(cell: Cell) -> bytes:
-    """The place of a cell, as a state text has it."""
-    return b"%d,%d,%b" % (cell.box.left, cell.box.bottom, (cell.orient or "").encode()) if cell.box else UNPLACED
+def place_of(corner: bytes, orient: bytes) -> bytes:
+    """The place of a cell, as a state text has it, by its lower left corner and its orientation."""
+    return b"%b,%b" % (corner, orient) if corner else UNPLACED
 
 
 class Carried:
@@ -89,28 +100,36 @@ class Carried:
     def read(self, description: Description) -> None:
         """Reads the new design, and gives each cell its places."""
         self.cells = {team: [] for team in description.frame.teams}
-        gone = {name: known.team for name, known in self._old.cells.items()}
-        for cell in Progress(TOOL, "cells after").over(description.cells()):
-            gone.pop(cell.name, None)
-            self._add(cell)
-        for team, count in self._old.illegal.items():
-            self.counts[team]["illegal_before"] = count
-        for team in gone.values():
-            self.counts[team]["gone"] += 1
+        for cells in Progress(TOOL, "cells after").over_lists(description.cell_lines()):
+            # (the cells of a team often come one after the other)
+            for team, of_team in groupby(cells, itemgetter(6)):
+                self._add(shown(team), of_team)
+        for name, counts in self.counts.items():
+            counts["cells"] = len(self.cells[name])
+            counts["kept"] = counts["cells"] - counts["resized"] - counts["new"]
+        for name, count in self._old.illegal.items():
+            self.counts[name]["illegal_before"] = count
+        for known in self._old.cells.values():
+            self.counts[known.team]["gone"] += 1
 
-    def _add(self, cell: Cell) -> None:
-        counts, text, name = self.counts[cell.team], place_of(cell), cell.name.encode()
-        counts["cells"] += 1
-        known = self._old.cells.get(cell.name)
-        if known is None:
-            counts["new"] += 1
-            self.cells[cell.team].append(SavedCell(name, text, text))
-            return
-        counts["kept" if known.size == (cell.width, cell.height) else "resized"] += 1
-        counts["from_other_team"] += known.team != cell.team
-        if known.committed != text:
-            self.texts[name] = text
-        self.cells[cell.team].append(SavedCell(name, known.working, known.committed))
+    def _add(self, team: str, cells: Iterable[CellLine]) -> None:
+        """Gives cells of a team their places, which the old design then has no more."""
+        counts, carried, old = self.counts[team], self.cells[team], self._old.cells
+        for corner, _, height, name, orient, _, _, width in cells:
+            text = place_of(corner, orient)
+            known = old.pop(name, None)
+            if known is None:
+                counts["new"] += 1
+                carried.append(SavedCell(name, text, text))
+                continue
+            working, committed, size, old_team = known
+            if size != (width, height):
+                counts["resized"] += 1
+            if old_team != team:
+                counts["from_other_team"] += 1
+            if committed != text:
+                self.texts[name] = text
+            carried.append(SavedCell(name, working, committed))
 
     def lines(self) -> Iterator[bytes]:
         """Yields the lines of the state text."""
@@ -143,7 +162,7 @@ def keep_committed_legal(carried: Carried, program: str, texts: list[Path]) -> N
             file.writelines(carried.committed_lines())
             file.flush()
             with Description(program, texts[0], texts[1:], Path(file.name)) as description:
-                broken = [cell.name.encode() for cell in description.cells() if cell.rule is not None]
+                broken = [name for cells in description.cell_lines() for _, _, _, name, _, rule, *_ in cells if rule]
         if broken:
             places = {name: UNPLACED if is_last else carried.texts.get(name, UNPLACED) for name in broken}
             carried.change_committed(places)
@@ -158,16 +177,26 @@ def confirm(carried: Carried, program: str, texts: list[Path], state: Path) -> b
     """
     with Description(program, texts[0], texts[1:], state) as description:
         due = {name: iter(cells) for name, cells in carried.cells.items()}
-        for cell in Progress(TOOL, "cells confirmed").over(description.cells()):
-            expected = next(due[cell.team], None)
-            if expected is None or (cell.name.encode(), place_of(cell)) != expected[:2]:
-                raise Fault(FAILED, f"nothing is written: the program finds cell {cell.name} at another place")
-            carried.counts[cell.team]["illegal"] += cell.rule is not None
-            carried.counts[cell.team]["unplaced"] += cell.box is None
+        for cells in Progress(TOOL, "cells confirmed").over_lists(description.cell_lines()):
+            for team, of_team in groupby(cells, itemgetter(6)):
+                name = shown(team)
+                _confirm_cells(carried.counts[name], due[name], of_team)
         total = description.total
     if any(next(cells, None) for cells in due.values()):
         raise Fault(FAILED, "nothing is written: the program finds fewer cells")
     return not total.unplaced and not total.illegal
+
+
+def _confirm_cells(counts: Counter[str], due: Iterator[SavedCell], cells: Iterable[CellLine]) -> None:
+    """Compares cells of a team with the next ones of the state, and counts those without a legal place."""
+    for corner, _, _, name, orient, rule, _, _ in cells:
+        expected = next(due, None)
+        if expected is None or name != expected[0] or place_of(corner, orient) != expected[1]:
+            raise Fault(FAILED, f"nothing is written: the program finds cell {shown(name)} at another place")
+        if rule:
+            counts["illegal"] += 1
+        if not corner:
+            counts["unplaced"] += 1
 
 
 def report_of(carried: Carried) -> list[dict[str, str | int]]:

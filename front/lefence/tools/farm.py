@@ -188,6 +188,7 @@ def plan_of(options: argparse.Namespace, command: list[str], design: Design) -> 
         design=texts[0],
         libraries=texts[1:],
         sum=sum_of(options.texts[0]),
+        library_sums=[sum_of(path) for path in options.texts[1:]],
         teams=teams,
         command=command,
         folder=os.getcwd(),

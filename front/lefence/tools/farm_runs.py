@@ -33,12 +33,12 @@ from ..base.faults import DONE, FAILED, REFUSED, USAGE, Fault, log, reason_of
 from ..base.program import Program
 from ..base.progress import Progress
 from ..base.protocol import GROUND, socket_name
+from ..base.slices import slices_of
 from ..client.blocking import connect
 from ..journal.frames import sum_of
 from ..journal.texts import texts_folder
 from .merge import merge
-from .push import Record, is_recorded_reply, records_of
-from .slice import slices_of
+from .push_records import Record, is_recorded_reply, records_of
 
 TOOL = "lefence-farm"
 # The exit status if the design lacks the work of some team.
@@ -53,7 +53,8 @@ _HUB_OPTIONS = ("--grace", "1e7", "--idle", "1e7", "--keep", "0")
 
 @dataclass
 class Plan:
-    """The plan of a farm: the design's files, the SHA-256 of the DEF file, the teams, and the command with its folder.
+    """The plan of a farm: the design's files, the SHA-256 of the DEF file and of each LEF file, the teams, and the
+    command with its folder.
 
     Without a command, each team is repaired.
     """
@@ -61,6 +62,7 @@ class Plan:
     design: str
     libraries: list[str]
     sum: str
+    library_sums: list[str]
     teams: list[str]
     command: list[str]
     folder: str
@@ -87,9 +89,15 @@ class Plan:
         return [at for at in range(1, len(self.teams) + 1) if not (work / str(at) / "done").exists()]
 
     def refuse_changed_design(self) -> None:
-        """Raises a Fault if the DEF file has changed since the slices were made."""
-        if sum_of(Path(self.design)) != self.sum:
-            raise Fault(REFUSED, f"{self.design} has changed since the slices were made")
+        """Raises a Fault if the DEF file or a LEF file has changed since the slices were made."""
+        paths, sums = [self.design, *self.libraries], [self.sum, *self.library_sums]
+        for path, its_sum in zip(paths, sums, strict=True):
+            if sum_of(Path(path)) != its_sum:
+                raise Fault(REFUSED, f"{path} has changed since the slices were made")
+
+    def is_of_design(self, other: Plan) -> bool:
+        """Whether two plans are of one DEF text and the same LEF texts."""
+        return (self.sum, self.library_sums) == (other.sum, other.library_sums)
 
 
 def teams_of(design: Design) -> list[str]:
@@ -99,11 +107,11 @@ def teams_of(design: Design) -> list[str]:
 
 def begin(work: Path, plan: Plan, design: Design) -> None:
     """Makes a folder with a slice for each team. Raises a Fault if the folder is of another design."""
-    if (work / "farm.json").exists() and Plan.load(work).sum != plan.sum:
+    if (work / "farm.json").exists() and not Plan.load(work).is_of_design(plan):
         raise Fault(REFUSED, f"{work} is of another design than {plan.design}: use another folder, or remove it")
     names = [os.fsencode(team) for team in plan.teams]
     missing = [at for at in range(1, len(names) + 1) if not (work / str(at) / "slice.def").exists()]
-    for at, text in zip(missing, slices_of(design, [names[at - 1] for at in missing]), strict=True):
+    for at, text in zip(missing, slices_of(design, [[names[at - 1]] for at in missing]), strict=True):
         (work / str(at)).mkdir(parents=True, exist_ok=True)
         with atomic_file(work / str(at) / "slice.def") as file:
             file.write(_MARK % plan.sum.encode())

@@ -9,8 +9,8 @@ from dataclasses import dataclass, field
 from pathlib import Path
 
 from ..base.atomic_file import output_file, refuse_inputs
-from ..base.description import Description, Frame
-from ..base.design import TOKENS, Design, refuse_no_design
+from ..base.description import Box, Description, Frame
+from ..base.design import TOKENS, refuse_no_design, shown
 from ..base.faults import DONE, FAILED, REFUSED, USAGE, Fault, Parser, log, run_tool, show_as
 from ..base.input_files import use_plain_files
 from ..base.lef import sizes_of
@@ -41,6 +41,13 @@ class Masters:
         # From this number on the widest one comes first.
         widest = next(iter(self.widths.values()))
         self._large = 2 * widest * widest
+        self._plans: dict[int, list[tuple[str, int]]] = {}
+
+    def plan_of(self, sites: int) -> list[tuple[str, int]]:
+        """Lists the masters that fill a gap, as `of_gap` does, each with its number of sites."""
+        if (plan := self._plans.get(sites)) is None:
+            plan = self._plans[sites] = [(name, self.widths[name]) for name in self.of_gap(sites)]
+        return plan
 
     def of_gap(self, sites: int) -> list[str]:
         """Lists the masters that fill a gap with the fewest sites left, wider ones first where that makes no
@@ -101,22 +108,23 @@ class Filling:
         self.teams: defaultdict[str, TeamFill] = defaultdict(TeamFill)
         self.entries: list[bytes] = []
         self._masters = masters
+        self._words = {name: name.encode() for name in masters.widths}
         self._prefix, self._taken = word_of(prefix).encode(), taken
         self._count = 0
         self._width = width
 
     def add(self, span: FreeSpan) -> None:
         """Fills a span."""
-        team, x = self.teams[span.team], span.left
+        team, x, width = self.teams[span.team], span.left, self._width
+        end = b"%d ) %b ;" % (span.row.box.bottom, span.row.orient.encode())
         remaining = span.sites
-        for master in self._masters.of_gap(span.sites):
+        for master, sites in self._masters.plan_of(span.sites):
             name = self._next_name()
-            place = b"( %d %d ) %b" % (x, span.row.box.bottom, span.row.orient.encode())
-            self.entries.append(b"\n- %b %b + SOURCE DIST + PLACED %b ;" % (name, master.encode(), place))
+            self.entries.append(b"\n- %b %b + SOURCE DIST + PLACED ( %d %b" % (name, self._words[master], x, end))
             team.names.append(name)
             team.masters[master] += 1
-            x += self._masters.widths[master] * self._width
-            remaining -= self._masters.widths[master]
+            x += sites * width
+            remaining -= sites
         if remaining:
             team.gaps += 1
             team.sites += remaining
@@ -141,12 +149,14 @@ def fill(options: argparse.Namespace) -> int:
         if missing := [team for team in options.team if team not in frame.teams]:
             raise Fault(REFUSED, f"no team: {', '.join(missing)}")
         free = FreeSites(frame, options.off_soft)
-        for cell in Progress(TOOL, "cells").over(description.cells()):
-            if cell.box is not None:
-                free.take(cell.box)
+        for cells in Progress(TOOL, "cells").over_lists(description.cell_lines()):
+            for left_bottom, right_top, *_ in cells:
+                if left_bottom:
+                    free.take(Box(*map(int, left_bottom.split(b",")), *map(int, right_top.split(b","))))
         illegal = description.total.illegal
     preparation = Preparation(text)
-    taken = {component.name for component in Design(text).entries(b"COMPONENTS")}
+    sections = [Section(text, statement) for statement in preparation.all_of(b"COMPONENTS")]
+    taken = {component.name for section in sections for _, component in section.entries()}
     filling = Filling(masters, options.prefix, taken, frame.facts.site_width)
     for span in free.spans():
         if not options.team or span.team in options.team:
@@ -180,10 +190,12 @@ def refuse_illegal(program: str, text: bytes, libraries: list[Path], illegal: in
         file.flush()
         show_as(file.name, "the filled DEF file")
         with Description(program, Path(file.name), libraries) as description:
-            cells = Progress(TOOL, "cells checked").over(description.cells())
-            broken = [cell for cell in cells if cell.rule is not None]
-    if len(broken) > illegal:
-        raise Fault(FAILED, f"nothing is written: {broken[-1].name} would break rule {broken[-1].rule}")
+            count, last = 0, (b"", b"")
+            for cells in Progress(TOOL, "cells checked").over_lists(description.cell_lines()):
+                if broken := [(cell[3], cell[5]) for cell in cells if cell[5]]:
+                    count, last = count + len(broken), broken[-1]
+    if count > illegal:
+        raise Fault(FAILED, f"nothing is written: {shown(last[0])} would break rule {shown(last[1])}")
 
 
 def remove(options: argparse.Namespace) -> int:

@@ -9,6 +9,7 @@ import functools
 import json
 import os
 import resource
+import select
 import shutil
 import signal
 import sys
@@ -21,19 +22,22 @@ from typing import Any
 from ..base.faults import DONE, FAILED, REFUSED, Fault, Parser, log, run_tool
 from ..base.input_files import use_plain_files
 from ..base.program import Program, find_program
-from ..base.protocol import MOST_SLOTS, socket_name
+from ..base.protocol import MOST_SLOTS, query_socket_name, socket_name
 from ..base.state_text import teams_in
-from ..hub.checkpoints import TailLimits
+from ..hub.checkpoints import TailLimits, team_notes
 from ..hub.clients import MOST_CLIENTS
 from ..hub.hub import Hub, HubLimits
 from ..hub.hub_client import Client
 from ..hub.metrics import prometheus
 from ..hub.notify import notify
-from ..hub.server import Server
-from ..hub.sockets import bind_socket, claim_folder, groups_of
+from ..hub.query_sockets import QueryClient
+from ..hub.replay_process import ReplayProcess
+from ..hub.shards import MOST_PROGRAMS
+from ..hub.session_slots import change_slots
+from ..hub.sockets import MOST_PATH, bind_socket, claim_folder, groups_of, is_too_long
 from ..hub.status import read_status, uncommitted_text
 from ..journal.frames import sum_of
-from ..journal.journal import Journal
+from ..journal.journal import Journal, texts_in
 from ..journal.owner import this_process
 from ..journal.texts import remove_partial_texts, resolve_texts
 from .pitfalls import start_warning
@@ -42,29 +46,45 @@ TOOL = "lefence-hub"
 # Connections of a socket that may wait for acceptance, and how many asyncio accepts at a time. If no descriptor is
 # left, asyncio reports that for each of these.
 _QUEUE, _AT_ONCE = 1024, 16
-# Seconds at the end for clients to read their replies.
+# Seconds at the end for clients to read their replies, and the part of --grace in which waiting lines are answered.
 _LAST = 5
+_ANSWERS = 1 / 4
 
 
 def say(text: str) -> None:
-    log(TOOL, text)
+    """Prints a line on standard error, or drops it if nobody reads that and it is full: the hub must not wait."""
+    poll = select.poll()
+    poll.register(2, select.POLLOUT)
+    if poll.poll(0):
+        log(TOOL, text)
 
 
 async def listen(hub: Hub, folder: Path, groups: dict[str, int]) -> list[asyncio.AbstractServer]:
-    """Serves the operator's socket and one for each team."""
+    """Serves the operator's socket and two of each team."""
     loop = asyncio.get_running_loop()
     create = functools.partial(loop.create_unix_server, backlog=_AT_ONCE)
     if sys.version_info >= (3, 13):
         create = functools.partial(create, cleanup_socket=False)
     listeners: list[asyncio.AbstractServer] = []
-    for team in (None, *hub.teams):
+    for team, path, client in sockets_of(hub, folder):
         mode, group = (0o600, None) if team is None else (0o660, groups.get(team))
-        bound = bind_socket(folder / socket_name(team), mode, team is not None, group)
-        client = functools.partial(Client, hub, None if team is None else team.encode())
+        if team is not None and is_too_long(path):
+            say(f"team {team} has no socket {path}: it is longer than {MOST_PATH} bytes; use a shorter --sockets")
+            continue
+        bound = bind_socket(path, mode, team is not None, group)
         listeners.append(await create(client, sock=bound))
         # (asyncio uses one number for both)
         bound.listen(_QUEUE)
     return listeners
+
+
+def sockets_of(hub: Hub, folder: Path) -> Iterator[tuple[str | None, Path, Callable[[], Client]]]:
+    """Yields the sockets of a hub: the team or None, the path, and what makes a client of it."""
+    yield None, folder / socket_name(None), functools.partial(Client, hub, None)
+    for team in hub.teams:
+        yield team, folder / socket_name(team), functools.partial(Client, hub, team.encode())
+        client = functools.partial(QueryClient, hub, team.encode(), hub.queries)
+        yield team, folder / query_socket_name(team), client
 
 
 async def serve(hub: Hub, options: argparse.Namespace, stopped: asyncio.Event) -> None:
@@ -85,7 +105,7 @@ async def serve(hub: Hub, options: argparse.Namespace, stopped: asyncio.Event) -
         files = resource.getrlimit(resource.RLIMIT_NOFILE)[0]
         if options.roll:
             return None
-        hub.pool.most_clients = max(1, min(MOST_CLIENTS, (files - 64) // (len(teams) + 1) - 1))
+        hub.pool.most_clients = max(1, min(MOST_CLIENTS, (files - 64) // (2 * len(teams) + 1) - 1))
         # (the first batch closes orphaned sessions, which are changes too)
         ready = f"ready: {len(teams)} teams, {hub.journal.changes} changes restored"
         run = asyncio.create_task(hub.run())
@@ -99,9 +119,7 @@ async def serve(hub: Hub, options: argparse.Namespace, stopped: asyncio.Event) -
             listener.close()
         if watch.done():
             watch.result()
-        hub.stop()
-        await run
-        await disconnect_all(hub)
+        await hub.stop(run, options.grace * _ANSWERS)
     finally:
         # (after a fault nothing more is acknowledged)
         for task in tasks:
@@ -111,7 +129,7 @@ async def serve(hub: Hub, options: argparse.Namespace, stopped: asyncio.Event) -
 @contextlib.contextmanager
 def warning_of(hub: Hub) -> Iterator[None]:
     """Prints what may go wrong with the design, in a process of its own, which ends with the block at the latest."""
-    program = hub.server.program
+    program = hub.replay.program
     warning = start_warning(TOOL, program.path, program.texts[0], program.texts[1:])
     try:
         yield
@@ -131,16 +149,19 @@ async def disconnect_all(hub: Hub) -> None:
 
 
 def end_by_signals(hub: Hub, stopped: asyncio.Event, grace: float) -> None:
-    """Sets the event at a signal. After `grace` seconds, or at a second signal, it ends this process at once."""
+    """Sets the event at a signal. After `grace` seconds, or at a second signal other than SIGHUP, it ends this process
+    at once.
+    """
 
     def give_up() -> None:
         say(f"killed: not ended within {grace:g} seconds, or a second signal; no acknowledged change is lost")
         hub.kill_programs()
         os._exit(FAILED)
 
-    def stop() -> None:
+    def stop(number: int) -> None:
         if stopped.is_set():
-            give_up()
+            # (a terminal that is closed sends two SIGHUPs: the shell's and the system's)
+            return None if number == signal.SIGHUP else give_up()
         notify("STOPPING=1")
         stopped.set()
         timer = threading.Timer(grace, give_up)
@@ -150,7 +171,7 @@ def end_by_signals(hub: Hub, stopped: asyncio.Event, grace: float) -> None:
     for number in (signal.SIGTERM, signal.SIGINT, signal.SIGHUP):
         # (`nohup` ignores SIGHUP)
         if number != signal.SIGHUP or signal.getsignal(number) != signal.SIG_IGN:
-            asyncio.get_running_loop().add_signal_handler(number, stop)
+            asyncio.get_running_loop().add_signal_handler(number, stop, number)
 
 
 def limit_loop_errors(hub: Hub) -> None:
@@ -168,50 +189,72 @@ def limit_loop_errors(hub: Hub) -> None:
     asyncio.get_running_loop().set_exception_handler(handle)
 
 
-async def run(options: argparse.Namespace) -> None:
-    """Runs the hub from its locks to its last export."""
-    stopped = asyncio.Event()
-    use_plain_files(options, "design", "library")
-    paths = [options.design, *options.library]
-    program = find_program(options.program)
-    claim_folder(options.sockets)
-    texts, kept = resolve_texts(options.journal, paths, say)
-    journal = Journal(options.journal, texts, say, this_process(program), options.takeover, options.sessions)
+def open_journal(options: argparse.Namespace, program: str) -> tuple[Journal, list[Path]]:
+    """Opens the journal; returns it and its copies of the design's files."""
+    changes_slots = options.roll and texts_in(options.journal) is not None
+    texts, kept = resolve_texts(options.journal, [options.design, *options.library], say, options.kept_texts)
+    slots = None if changes_slots else options.sessions
+    journal = Journal(options.journal, texts, say, this_process(program), options.takeover, slots)
     journal.is_synced = not options.no_sync
     remove_partial_texts(options.journal)
     if options.begin is not None:
         begin_with(journal, options.begin)
-    limits = HubLimits(
-        options.patience,
-        options.idle,
-        options.deadline,
-        TailLimits(options.tail_bytes, options.tail_seconds, options.keep),
-    )
-    hub = Hub(Server(Program(program, kept, journal.header.slots), [text.sum for text in texts]), journal, limits, say)
-    hub.exporter.protected = paths
     if journal.former and journal.former.program != journal.owner.program:
         which = f"{journal.former.program} of front {journal.former.front}"
         say(f"the journal was written with another program, {which}; if replies differ, run that one with --roll first")
+    return journal, kept
+
+
+def make_hub(options: argparse.Namespace, journal: Journal, program: Program) -> Hub:
+    """Makes the hub of a journal and a program over its copies."""
+    tail = TailLimits(options.tail_bytes, options.tail_seconds, options.keep, options.keep_segments)
+    # (a state is made by one program)
+    programs = 1 if options.roll else options.programs
+    limits = HubLimits(options.patience, options.idle, options.deadline, tail, options.slow, programs)
+    hub = Hub(ReplayProcess(program, [text.sum for text in journal.header.texts]), journal, limits, say)
+    hub.exporter.protected = [options.design, *options.library]
+    return hub
+
+
+async def run(options: argparse.Namespace) -> None:
+    """Runs the hub from its locks to its last export."""
+    stopped = asyncio.Event()
+    use_plain_files(options, "design", "library")
+    program = find_program(options.program)
+    claim_folder(options.sockets)
+    journal, kept = open_journal(options, program)
+    hub = make_hub(options, journal, Program(program, kept, journal.header.slots))
     end_by_signals(hub, stopped, options.grace)
     limit_loop_errors(hub)
     try:
         if options.export:
             hub.exporter.refuse(options.export)
         await serve(hub, options, stopped)
-        await hub.server.kill()
-        if hub.teams:
-            # (a start that was interrupted knows only some of the sessions)
-            if text := uncommitted_text(hub):
-                say(text)
-            await hub.checkpoints.make_last(hub.pool, hub.metrics, options.roll)
-        if options.roll and journal.tail_changes:
-            raise Fault(FAILED, "--roll could not save a state")
-        if options.export and await hub.exporter.write(options.export, journal.position) is not None:
-            raise Fault(FAILED, f"{options.export}: not exported")
+        await hub.shards.kill()
+        await finish(hub, options)
     finally:
-        await hub.server.kill()
+        await hub.shards.kill()
         journal.close()
     say("ended")
+
+
+async def finish(hub: Hub, options: argparse.Namespace) -> None:
+    """Makes the last state and the last export; then clients get their time to read."""
+    journal = hub.journal
+    if hub.teams:
+        # (a start that was interrupted knows only some of the sessions)
+        if text := uncommitted_text(hub):
+            say(text)
+        await hub.checkpoints.make_last(hub.pool, hub.metrics, options.roll)
+    if options.roll and journal.tail_changes:
+        raise Fault(FAILED, "--roll could not save a state")
+    if options.roll and options.sessions not in (None, journal.header.slots):
+        await change_slots(journal, hub.replay, options.sessions, team_notes(hub.pool, hub.metrics))
+        say(f"each team has {options.sessions} session slots")
+    reason = await hub.exporter.write(options.export, journal.position) if options.export else None
+    await disconnect_all(hub)
+    if reason is not None:
+        raise Fault(FAILED, f"{options.export}: not exported")
 
 
 def begin_with(journal: Journal, path: Path) -> None:
@@ -293,6 +336,9 @@ def _add_files(made: Parser) -> None:
         default=[],
         help="serve only this team; may be repeated (default: all teams)",
     )
+    kept = "use the journal's copies of DEF and LEF files that have changed since"
+    add("--kept-texts", action="store_true", help=kept)
+    add("--keep-segments", action="store_true", help="keep the whole journal, also before the first kept state")
     add("--group", metavar="TEAM=GROUP", action="append", default=[], help="the group of a team's socket")
 
 
@@ -305,11 +351,14 @@ def _add_limits(made: Parser) -> None:
     add("--patience", "S", second_count, 60.0, "seconds after which a client with unread replies is dropped (60)")
     add("--idle", "S", second_count, 900.0, "seconds after which an idle client without a session is dropped (900)")
     add("--deadline", "S", second_count, 600.0, "seconds of silence after which the program is restarted (600)")
+    add("--slow", "S", second_count, 1.0, "seconds above which a line is logged as slow (1; 0: never)")
     add("--grace", "S", second_count, 240.0, "seconds after SIGTERM for everything, exports included (240)")
-    add("--tail-bytes", "B", byte_count, 16 << 20, "save a state after B bytes of changes (16777216; 0: never)")
-    add("--tail-seconds", "S", second_count, 20.0, "save a state after S seconds of the program's work (20)")
+    add("--tail-seconds", "S", second_count, 2.0, "save a state when a start would replay for S seconds (2)")
+    add("--tail-bytes", "B", byte_count, None, "also after B bytes of changes (0: never save a state)")
     add("--keep", "N", state_count, 2, "keep N states, and the journal from the first of them on (2; 0: all)")
-    slots = "session slots of each team, 1 to 64 (default: as in the journal; 8 in a new one)"
+    programs = "at most N programs, 1 to 8, share the teams, each over a slice with its teams' cells (1)"
+    add("--programs", "N", program_count, 1, programs)
+    slots = "session slots of each team, 1 to 64 (as in the journal; 8 in a new one); --roll changes them"
     add("--sessions", "N", slot_count, None, slots)
 
 
@@ -318,6 +367,14 @@ def state_count(word: str) -> int:
     number = int(word)
     if number < 0 or number == 1:
         raise argparse.ArgumentTypeError(f"{word}: 0, or 2 or more")
+    return number
+
+
+def program_count(word: str) -> int:
+    """The value of --programs."""
+    number = int(word)
+    if not 1 <= number <= MOST_PROGRAMS:
+        raise argparse.ArgumentTypeError(f"{word}: 1 to {MOST_PROGRAMS}")
     return number
 
 

@@ -1,4 +1,4 @@
-"""lefence-journal: lists, checks, cuts and exports journals."""
+"""lefence-journal: lists, checks, cuts, exports, backs up and restores journals."""
 
 from __future__ import annotations
 
@@ -7,6 +7,7 @@ import asyncio
 import datetime
 import itertools
 import os
+import shlex
 import shutil
 import sys
 from collections.abc import Iterator
@@ -14,18 +15,26 @@ from dataclasses import dataclass
 from pathlib import Path
 
 from ..base.atomic_file import atomic_file, refuse_inputs, sync_folder
-from ..base.faults import DONE, FAILED, REFUSED, Fault, Parser, log, run_tool
+from ..base.faults import DONE, FAILED, REFUSED, Fault, Parser, log, printable, run_tool
 from ..base.input_files import use_plain_files
 from ..base.program import Program, find_program
 from ..base.protocol import SLOTS
-from ..hub.server import Server, ServerLost
+from ..hub.replay_process import ReplayLost, ReplayProcess
+from ..journal.backup import backup_journal, copy_journal, journal_in, remove_journal
 from ..journal.frames import Frame, Reader, Record, body_of, frame_of, header_of
 from ..journal.journal import lock
 from ..journal.owner import OwnerHistory, this_process
 from ..journal.segments import Archive, last_state, open_segments, records_in
 from ..journal.texts import kept_text
+from .journal_team import restore_team
 
 TOOL = "lefence-journal"
+_PURPOSE = """Inspects a journal of lefence-hub, and makes a damaged one usable. `check` prints what is intact (status 1
+if anything is damaged), `list` who changed what and when. `cut` truncates it, `export` writes lines for
+`lefence replay` or a journal for lefence-push, and `verify` compares each reply with the program's.
+`backup` copies it with all its files, even of a running hub, and `restore` puts such a copy in its place.
+`restore-team` writes lines that bring a team back to earlier places."""
+_EXAMPLE = f"{TOOL} check chip.journal\n{TOOL} list chip.journal --team A\n{TOOL} backup chip.journal saved"
 
 
 @dataclass
@@ -63,9 +72,9 @@ def check(path: Path, readers: list[Reader]) -> int:
     for text in first.texts:
         kept = kept_text(path, text)
         status = status if kept else REFUSED
-        print(f"text {text.sum} of {text.path}: {'kept' if kept else 'not kept'}")
-    if first.slots != SLOTS:
-        print(f"each team has {first.slots} session slots")
+        print(f"text {text.sum} of {printable(str(text.path))}: {'kept' if kept else 'not kept'}")
+    if (slots := readers[-1].header().slots) != SLOTS:
+        print(f"each team has {slots} session slots")
     if first.number > 1:
         print(f"the first {first.changes} changes exist only as a state")
     for reader, following in zip(readers, [*readers[1:], None]):
@@ -177,15 +186,15 @@ def export(path: Path, readers: list[Reader], team: str | None, start: int, outp
     if first.number > 1:
         remedy = "" if start else f"; replay its lines with --state {Archive(path).state(first.number)}"
         log(TOOL, f"{path}: the first {first.changes} changes are missing{remedy}")
-    if first.slots != SLOTS:
-        log(TOOL, f"{path}: replay its lines with --sessions {first.slots}")
+    if (slots := readers[-1].header().slots) != SLOTS:
+        log(TOOL, f"{path}: replay its lines with --sessions {slots}")
     if output is None:
         for frame in frames:
             sys.stdout.write("".join(f"{record.line.decode()}\n" for record in frame.records() if is_of(record, team)))
         return DONE
     refuse_inputs(output, [reader.path for reader in readers])
     with atomic_file(output) as file:
-        at = file.write(header_of(first.texts, first.number, first.changes, slots=first.slots))
+        at = file.write(header_of(first.texts, first.number, first.changes, slots=slots))
         for frame in frames:
             if records := [record for record in frame.records() if is_of(record, team)]:
                 at += file.write(frame_of(at, body_of(records), frame.time))
@@ -203,32 +212,56 @@ def verify(path: Path, given: list[Path], wanted: str | None, is_all: bool) -> i
             raise Fault(
                 REFUSED, f"{path}: {len(texts)} files, but {len(paths)} are {'given' if given else 'kept next to it'}"
             )
-        server = Server(Program(find_program(wanted), paths, header.slots), [text.sum for text in texts])
         state, following = last_state(path, readers, is_all)
-        before = following[0].header().changes
+        before, slots = following[0].header().changes, following[0].header().slots
+        replay = ReplayProcess(Program(find_program(wanted), paths, slots), [text.sum for text in texts])
 
-        async def replay() -> int:
+        async def replayed() -> int:
             try:
-                await server.start(state)
-                return await server.restore(records_in(following), None, before)
-            except ServerLost as lost:
+                await replay.start(state)
+                return await replay.restore(records_in(following), None, before)
+            except ReplayLost as lost:
                 raise Fault(FAILED, f"{path}: {lost}") from None
             finally:
-                await server.kill()
+                await replay.kill()
 
-        text = f"{asyncio.run(replay()) - before} changes" + (f" after a state of {before}" if state else "")
+        text = f"{asyncio.run(replayed()) - before} changes" + (f" after a state of {before}" if state else "")
         log(TOOL, f"{path}: {text} replayed with the recorded replies")
     return DONE
 
 
+def backup(path: Path, folder: Path, wanted: str | None) -> int:
+    """Copies a journal, whose hub may be running, into a new folder, and has the program verify the copy."""
+    program = find_program(wanted)
+    copied = backup_journal(path, folder)
+    _verify_copy(copied, program)
+    log(TOOL, f"{folder}: a verified backup of {path}; `{TOOL} restore {folder} JOURNAL` restores it")
+    return DONE
+
+
+def restore(folder: Path, path: Path, wanted: str | None) -> int:
+    """Copies a backup to a journal's path, where nothing may be, and has the program verify the copy."""
+    program = find_program(wanted)
+    copy_journal(journal_in(folder), path)
+    _verify_copy(path, program)
+    with open_segments(path) as readers:
+        texts = [str(kept_text(path, text)) for text in readers[-1].header().texts]
+    log(TOOL, "restored; once the hub that wrote it is certainly gone, start its successor:")
+    print(shlex.join(["lefence-hub", *texts, "--sockets", "DIR", "--journal", str(path), "--takeover"]))
+    return DONE
+
+
+def _verify_copy(path: Path, program: str) -> None:
+    """Verifies a copy of a journal, and removes it if that fails."""
+    try:
+        verify(path, [], program, is_all=False)
+    except BaseException:
+        remove_journal(path)
+        raise
+
+
 def parser() -> Parser:
-    made = Parser(
-        TOOL,
-        "Inspects a journal of lefence-hub, and makes a damaged one usable. `check` prints what is intact (status 1\n"
-        "if anything is damaged), `list` who changed what and when. `cut` truncates it, `export` writes lines for\n"
-        "`lefence replay` or a journal for lefence-push, and `verify` compares each reply with the program's.",
-        f"{TOOL} check chip.journal\n{TOOL} list chip.journal --team A\n{TOOL} verify chip.journal",
-    )
+    made = Parser(TOOL, _PURPOSE, _EXAMPLE)
     verbs = made.add_subparsers(dest="verb", metavar="VERB", required=True, parser_class=argparse.ArgumentParser)
 
     def verb(name: str, text: str) -> argparse.ArgumentParser:
@@ -256,10 +289,37 @@ def parser() -> Parser:
         "texts", metavar="TEXT", type=Path, nargs="*", help="DEF and LEF files (default: the kept copies)"
     )
     added.add_argument("--all", action="store_true", help="replay all changes after the first kept state")
-    added.add_argument(
-        "--program", metavar="PATH", help="the lefence program (default: from the search path, else of this repository)"
-    )
+    _add_program(added)
+    added = verb("backup", "copy it and its files, also while its hub runs, and verify the copy")
+    added.add_argument("folder", metavar="DIR", type=Path, help="a new folder")
+    _add_program(added)
+    _add_restore(verbs)
+    _add_restore_team(verbs)
     return made
+
+
+def _add_restore(verbs: argparse._SubParsersAction[argparse.ArgumentParser]) -> None:
+    text = "copy a backup to a journal's path, verify the copy, and print how to start its hub"
+    added = verbs.add_parser("restore", help=text, description=text)
+    added.add_argument("folder", metavar="DIR", type=Path, help="the folder of a backup")
+    added.add_argument("journal", metavar="JOURNAL", type=Path, help="the new journal")
+    _add_program(added)
+
+
+def _add_restore_team(verbs: argparse._SubParsersAction[argparse.ArgumentParser]) -> None:
+    text = "write lines that bring a team back to its places at an earlier moment, for `lefence-push --rebase`"
+    added = verbs.add_parser("restore-team", help=text, description=text)
+    added.add_argument("journal", metavar="JOURNAL", type=Path, help="a journal of lefence-hub, which may be running")
+    added.add_argument("team", metavar="TEAM", help="the team")
+    when = "a change by its number in `list`, a time as 2026-11-29T14:00, or a savepoint of the team"
+    added.add_argument("--at", metavar="WHEN", required=True, help=when)
+    added.add_argument("-o", "--output", metavar="FILE", type=Path, help="write to FILE (default: standard output)")
+    _add_program(added)
+
+
+def _add_program(added: argparse.ArgumentParser) -> None:
+    text = "the lefence program (default: from the search path, else of this repository)"
+    added.add_argument("--program", metavar="PATH", help=text)
 
 
 def main() -> int:
@@ -271,6 +331,13 @@ def main() -> int:
         if options.verb == "verify":
             use_plain_files(options, "texts")
             return verify(options.journal, options.texts, options.program, options.all)
+        if options.verb == "backup":
+            return backup(options.journal, options.folder, options.program)
+        if options.verb == "restore":
+            return restore(options.folder, options.journal, options.program)
+        if options.verb == "restore-team":
+            program = find_program(options.program)
+            return restore_team(options.journal, options.team, options.at, program, options.output)
         with open_segments(options.journal) as readers:
             if options.verb == "list":
                 return list_changes(readers, options.team)

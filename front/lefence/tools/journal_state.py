@@ -6,7 +6,7 @@ from pathlib import Path
 
 from ..base.faults import FAILED, REFUSED, Fault
 from ..base.program import Program
-from ..hub.server import Server, ServerLost
+from ..hub.replay_process import ReplayLost, ReplayProcess
 from ..journal.segments import last_state, open_segments, records_in
 from ..journal.texts import kept_text
 
@@ -23,14 +23,14 @@ async def save_state(journal: Path, program: str, target: Path) -> list[Path]:
             raise Fault(REFUSED, f"{journal}: {len(header.texts)} files, but {len(kept)} are kept next to it")
         state, following = last_state(journal, readers, is_all=False)
         sums = [text.sum for text in header.texts]
-        server = Server(Program(program, kept, header.slots), sums, save=target)
+        replay = ReplayProcess(Program(program, kept, following[0].header().slots), sums, save=target)
         try:
-            await server.start(state)
-            await server.restore(records_in(following))
-            if await server.end():
+            await replay.start(state)
+            await replay.restore(records_in(following))
+            if await replay.end():
                 raise Fault(FAILED, f"{journal}: the program could not save its state; see its message above")
-        except ServerLost as lost:
+        except ReplayLost as lost:
             raise Fault(FAILED, f"{journal}: {lost}") from None
         finally:
-            await server.kill()
+            await replay.kill()
     return kept

@@ -15,11 +15,12 @@ from collections.abc import Callable, Iterator, Mapping
 from pathlib import Path
 
 from ..base.description import Cell, Description, Facts, Frame
-from ..base.design import entries, shown, statements
+from ..base.design import shown
 from ..base.faults import Fault, as_given, log
 from ..base.lef import rails_of, sites_of
 from .library_text import LibraryText
-from .preparation_cells import FenceGround, strangers_in
+from .preparation import Preparation
+from .preparation_cells import FenceGround, halos_in, strangers_in
 from .skipped import Remark
 
 # The most rows that a cell may be high, and the names that a remark shows.
@@ -66,12 +67,13 @@ def library_pitfalls(libraries: Mapping[str, bytes]) -> Iterator[Remark]:
             yield Remark(kind, f"{where}{more} would help: {_LIBRARY_KINDS[kind]}; {_CORRECTED}")
 
 
-def design_pitfalls(text: bytes) -> Iterator[Remark]:
-    """Yields a remark on components with a HALO."""
+def design_pitfalls(text: bytes, libraries: list[bytes]) -> Iterator[Remark]:
+    """Yields a remark on components with a HALO without a placement blockage, given the LEF texts."""
     halos = _Few()
-    for component in entries(text, statements(text), b"COMPONENTS"):
-        if component.has(b"HALO") and component.has(b"FIXED"):
-            halos.add(shown(component.name))
+    # (a text without UNITS does not load)
+    with contextlib.suppress(Fault):
+        for name, _ in halos_in(Preparation(text), libraries):
+            halos.add(name)
     if halos.count:
         have = "1 FIXED component has" if halos.count == 1 else f"{halos.count} FIXED components have"
         what = f"{have} a HALO, which the program skips: {halos}"
@@ -86,16 +88,20 @@ class CellPitfalls:
         self._tallest = _MOST_ROWS * frame.facts.site_height
         self._height = frame.facts.site_height
         self._strangers: defaultdict[str, _Few] = defaultdict(_Few)
-        self._tall, self._flipped = _Few(), _Few()
+        self._tall, self._odd, self._flipped = _Few(), _Few(), _Few()
+        self._count = 0
         # Macros with an even number of rows, each with a cell.
         self._even: dict[str, str] = {}
 
     def add(self, cell: Cell) -> None:
         """Notes a cell."""
+        self._count += 1
         for name, fence in strangers_in((cell,), self._ground):
             self._strangers[fence].add(name)
         if cell.height > self._tallest:
             self._tall.add(f"{cell.name} ({cell.macro})")
+        elif cell.height % self._height:
+            self._odd.add(f"{cell.name} ({cell.macro})")
         elif cell.height % (2 * self._height) == 0:
             self._even.setdefault(cell.macro, cell.name)
         if cell.rule == 4:
@@ -106,9 +112,11 @@ class CellPitfalls:
         for fence, names in self._strangers.items():
             what = f"{_cells(names)} of team - {_are(names)} inside fence {fence}: {names}"
             yield Remark("cells inside fences", f"{what}; --adopt {fence} binds them to its team")
-        if self._tall.count:
-            what = f"{_cells(self._tall)} can move and {_are(self._tall)} higher than {_MOST_ROWS} rows: {self._tall}"
-            yield Remark("high cells", f"{what}; no place is legal for them; --fix PATTERN makes them FIXED")
+        for names, height in ((self._tall, f"higher than {_MOST_ROWS} rows"), (self._odd, "not of whole rows' height")):
+            # (if no cell fits the rows, the site is at fault)
+            if 0 < names.count < max(self._count, 2):
+                what = f"{_cells(names)} can move and {_are(names)} {height}: {names}"
+                yield Remark("high cells", f"{what}; no rows hold such a cell; --fix PATTERN makes it FIXED")
         if self._flipped.count and not _has_symmetry(facts.site, libraries):
             what = f"{_cells(self._flipped)} {_are(self._flipped)} flipped against the row: {self._flipped}"
             yield Remark("flipped cells", f"{what}; site {facts.site} has no SYMMETRY in its LEF file")
@@ -149,7 +157,7 @@ def warn(say: Callable[[str], None], program: str, design: Path, libraries: list
 
 def _remarks_of(program: str, design: Path, libraries: list[Path]) -> list[Remark]:
     texts = {as_given(str(path)): path.read_bytes() for path in libraries}
-    remarks = [*library_pitfalls(texts), *design_pitfalls(design.read_bytes())]
+    remarks = [*library_pitfalls(texts), *design_pitfalls(design.read_bytes(), list(texts.values()))]
     with Description(program, design, libraries) as description:
         pitfalls = CellPitfalls(description.frame)
         for cell in description.cells():

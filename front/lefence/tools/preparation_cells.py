@@ -11,7 +11,9 @@ from decimal import Decimal
 from ..base.description import Box, Cell, Frame
 from ..base.design import STAR, TOKENS, Design, Entry, pattern_of, section_parts, shown
 from ..base.faults import REFUSED, Fault
+from ..base.lef import sizes_of
 from ..base.protocol import GROUND
+from .drawing import number
 from .preparation import Preparation, Section, placed_in, whole, word_of
 
 # The places of a halo's distances (left, bottom, right and top of the macro) at the sides of a turned component.
@@ -46,7 +48,7 @@ def fix(preparation: Preparation, patterns: list[str]) -> None:
                 fixed += 1
             elif not (entry.has(b"FIXED") or entry.has(b"COVER")):
                 unplaced.append(shown(entry.name))
-    preparation.messages.append(f"{fixed} components fixed ({' '.join(patterns)})")
+    preparation.messages.append(f"{number(fixed, 'component')} fixed ({' '.join(patterns)})")
     if unplaced:
         preparation.messages.append(f"{len(unplaced)} of them are unplaced and stay so: {first_of(unplaced)}")
 
@@ -61,32 +63,53 @@ def _placed_word(entry: Entry) -> re.Match[bytes] | None:
     return None
 
 
-def add_halos(preparation: Preparation, sizes: Mapping[bytes, tuple[Decimal, Decimal]]) -> None:
+def add_halos(preparation: Preparation, libraries: list[bytes]) -> None:
     """Adds a placement blockage over each FIXED component with a HALO and its surroundings; a soft one for HALO SOFT.
-
-    `sizes` are those of the macros, in microns.
+    A halo that has its blockage gets no other one.
     """
-    units, entries, unknown = preparation.units, [], []
-    for entry in _components(preparation):
-        if not (entry.has(b"HALO") and entry.has(b"FIXED")):
-            continue
-        size = sizes.get(entry.words[1])
-        found = placed_in(entry, b"FIXED")
-        if size is None or found is None or found[2] not in _TURNED:
-            unknown.append(shown(entry.name))
-            continue
-        is_soft, distances = _halo_of(entry)
-        left, bottom, right, top = (distances[at] for at in _TURNED[found[2]])
-        width, height = (whole(length * units, f"macro {shown(entry.words[1])}") for length in size)
-        if found[2] in _SIDEWAYS:
-            width, height = height, width
-        corners = found[0] - left, found[1] - bottom, found[0] + width + right, found[1] + height + top
-        entries.append(b"\n- PLACEMENT %bRECT ( %d %d ) ( %d %d ) ;" % (b"+ SOFT " if is_soft else b"", *corners))
+    entries, unknown = [], []
+    for name, blockage in halos_in(preparation, libraries):
+        if blockage is None:
+            unknown.append(name)
+        else:
+            entries.append(b"\n- %b ;" % blockage)
     if entries:
         preparation.add_entries(b"BLOCKAGES", entries, _AFTER_BLOCKAGES)
-    preparation.messages.append(f"{len(entries)} placement blockages added for halos")
+    preparation.messages.append(f"{number(len(entries), 'placement blockage')} added for halos")
     if unknown:
         preparation.messages.append(f"without a size or a place, so without a halo: {first_of(unknown)}")
+
+
+def halos_in(preparation: Preparation, libraries: list[bytes]) -> Iterator[tuple[str, bytes | None]]:
+    """Yields the FIXED components with a HALO that has no placement blockage, each with the words of that blockage;
+    None if the component has no size or no place.
+    """
+    found = [entry for entry in _components(preparation) if entry.has(b"HALO") and entry.has(b"FIXED")]
+    if not found:
+        return
+    # (of two macros with one name the first counts)
+    macros = [macro for text in libraries for macro in sizes_of(text)]
+    sizes = {name: (width, height) for name, width, height in reversed(macros)}
+    blockages = [section_parts(preparation.text, statement)[2] for statement in preparation.all_of(b"BLOCKAGES")]
+    known = {b" ".join(entry.words) for entries in blockages for entry in entries}
+    for entry in found:
+        blockage = _blockage_of(entry, sizes.get(entry.words[1]), preparation.units)
+        if blockage not in known:
+            yield shown(entry.name), blockage
+
+
+def _blockage_of(entry: Entry, size: tuple[Decimal, Decimal] | None, units: int) -> bytes | None:
+    """The words of a placement blockage over a component and its halo, given its macro's size in microns."""
+    found = placed_in(entry, b"FIXED")
+    if size is None or found is None or found[2] not in _TURNED:
+        return None
+    is_soft, distances = _halo_of(entry)
+    left, bottom, right, top = (distances[at] for at in _TURNED[found[2]])
+    width, height = (whole(length * units, f"macro {shown(entry.words[1])}") for length in size)
+    if found[2] in _SIDEWAYS:
+        width, height = height, width
+    corners = found[0] - left, found[1] - bottom, found[0] + width + right, found[1] + height + top
+    return b"PLACEMENT %bRECT ( %d %d ) ( %d %d )" % (b"+ SOFT " if is_soft else b"", *corners)
 
 
 def _halo_of(entry: Entry) -> tuple[bool, list[int]]:
@@ -166,8 +189,8 @@ def split_patterns(preparation: Preparation) -> None:
         for start, group in Section(preparation.text, statement).entries():
             if design.fence_of(group) is not None:
                 _write_names(preparation, start, group, losers, names)
-    number = f"{len(losers)} {'pattern' if len(losers) == 1 else 'patterns'}"
-    preparation.messages.append(f"{number} written as names, since longer ones of other fences claim some of theirs")
+    what = "written as names, since longer ones of other fences claim some of theirs"
+    preparation.messages.append(f"{number(len(losers), 'pattern')} {what}")
 
 
 def _write_names(
@@ -255,7 +278,8 @@ def adopt(preparation: Preparation, patterns: list[str], strangers: Iterable[tup
     if adopted:
         preparation.add_groups(adopted, [])
     for fence, names in adopted.items():
-        preparation.messages.append(f"{len(names)} cells inside fence {fence} join its team: {first_of(names)}")
+        what = f"{number(len(names), 'cell')} inside fence {fence} now of its team"
+        preparation.messages.append(f"{what}: {first_of(names)}")
     if not adopted:
         preparation.messages.append(f"no cell of team {GROUND} is inside a fence ({' '.join(patterns)})")
 

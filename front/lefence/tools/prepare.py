@@ -12,7 +12,7 @@ from ..base.description import Box, Description
 from ..base.design import refuse_no_design, shown
 from ..base.faults import DONE, REFUSED, USAGE, Fault, Parser, as_given, log, run_tool, show_as
 from ..base.input_files import use_plain_files
-from ..base.lef import Site, sites_of, sizes_of
+from ..base.lef import Site, sites_of
 from ..base.program import find_program
 from ..base.progress import Progress
 from .library_text import LibraryText
@@ -50,9 +50,7 @@ def prepare(stages: Stages, wanted: PreparationOptions, libraries: list[bytes], 
     if wanted.splits_patterns:
         split_patterns(stages.next())
     if wanted.adds_halos:
-        # (of two macros with one name the first counts)
-        macros = [macro for text in libraries for macro in sizes_of(text)]
-        add_halos(stages.next(), {name: (width, height) for name, width, height in reversed(macros)})
+        add_halos(stages.next(), libraries)
 
 
 def _usable_sites(libraries: list[bytes]) -> list[Site]:

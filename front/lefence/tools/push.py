@@ -8,66 +8,20 @@ The lines of a repair imply their replies on the design as it is loaded; those a
 
 from __future__ import annotations
 
-import itertools
-from collections import Counter, defaultdict, deque
+from collections import deque
 from collections.abc import Iterable, Iterator
 from pathlib import Path
 
-from ..base.faults import DONE, FAILED, REFUSED, Fault, Parser, log, run_tool
-from ..base.protocol import CHANGES, REVISIONS
+from ..base.faults import DONE, FAILED, REFUSED, USAGE, Fault, Parser, log, run_tool
+from ..base.input_files import use_plain_files
+from ..base.program import Program, find_program
 from ..client.blocking import Connection, SentLine
 from ..client.endpoint import connect_to
-from ..journal.segments import read_records
+from .push_places import push_places
+from .push_rebased import push_rebased
+from .push_records import Difference, Record, is_recorded_reply, records_of, revision_of, shown_line
 
 TOOL = "lefence-push"
-
-# The number of a record in the journal, or of a line, from 1; its line without a line feed; and its reply. A reply with
-# a line feed is complete, else it is only the beginning.
-Record = tuple[int, bytes, bytes]
-
-
-def revision_of(line: bytes, reply: bytes) -> int | None:
-    """Returns the revision that a record made, or None."""
-    return int(reply.split()[1]) if line.split()[0] in REVISIONS else None
-
-
-def records_of(path: Path) -> Iterator[Record]:
-    """Reads the records of a journal or of a repair's lines. Raises a Fault if the file has neither."""
-    with open(path, "rb") as file:
-        if file.read(5) == b"open ":
-            file.seek(0)
-            yield from _records_of_lines(path, file)
-            return
-    for number, (line, reply, _) in enumerate(read_records(path), 1):
-        yield number, line, reply
-
-
-def _records_of_lines(path: Path, lines: Iterable[bytes]) -> Iterator[Record]:
-    """Makes records of lines that a program accepted on the design as it is loaded, which determines sessions and
-    revisions.
-    """
-    revisions: Counter[bytes] = Counter()
-    sessions: defaultdict[bytes, set[int]] = defaultdict(set)
-    for number, line in enumerate(lines, 1):
-        verb, team, *words = [*line.split(), b"", b""]
-        if verb not in CHANGES or not team:
-            raise Fault(REFUSED, f"{path}: line {number} is not a change of a team")
-        recorded = b"ok"
-        if verb == b"open":
-            session = next(free for free in itertools.count() if free not in sessions[team])
-            sessions[team].add(session)
-            recorded = b"ok %d %d" % (session, revisions[team])
-        elif verb == b"close":
-            sessions[team] = {each for each in sessions[team] if b"%d" % each != words[0]}
-        elif verb in REVISIONS:
-            revisions[team] += 1
-            recorded = b"ok %d" % revisions[team]
-        yield number, line.rstrip(b"\n"), recorded
-
-
-def is_recorded_reply(reply: bytes, recorded: bytes) -> bool:
-    """Whether a reply is the recorded one."""
-    return reply == recorded or not recorded.endswith(b"\n") and reply.startswith((recorded + b"\n", recorded + b" "))
 
 
 class Push:
@@ -92,23 +46,15 @@ class Push:
             self._compare()
 
     def _compare(self) -> None:
-        (number, line, recorded), sent = self._in_flight.popleft()
+        record, sent = self._in_flight.popleft()
+        line, recorded = record[1:]
         reply = self._connection.wait(sent)
         team = line.split()[1]
         if not is_recorded_reply(reply, recorded):
-            at = f"team {_text(team)} at revision {self.revisions.get(team, 0)}, line {number}"
-            difference = f"the recorded reply to {_text(line)!r} is {_text(recorded)!r}, but now it is {_text(reply)!r}"
-            raise Fault(
-                REFUSED,
-                f"{at}: {difference}; the {self.count} lines before it had their recorded replies, no more is sent",
-            )
+            raise Difference(record, reply, self.revisions.get(team, 0), self.count)
         self.count += 1
         if (revision := revision_of(line, recorded)) is not None:
             self.revisions[team] = revision
-
-
-def _text(reply: bytes) -> str:
-    return reply.decode("ascii", "backslashreplace").removesuffix("\n")
 
 
 def remaining_records(connection: Connection, records: list[Record], push: Push) -> Iterator[Record]:
@@ -156,7 +102,7 @@ def _open_again(connection: Connection, team: bytes, sessions: set[int], revisio
         if reply != b"ok %d %d\n" % (number, revision):
             raise Fault(
                 REFUSED,
-                f"another client has a session of team {team.decode()}: unexpected reply {_text(reply)!r} to open",
+                f"another client has a session of team {team.decode()}: unexpected reply {shown_line(reply)!r} to open",
             )
     for number in set(range(max(sessions, default=-1) + 1)) - sessions:
         connection.ask_line(b"close %b %d" % (team, number))
@@ -166,7 +112,7 @@ def push_file(path: Path, where: str, ahead: int, continues: bool) -> Push:
     """Sends the commands of a journal or a repair to a socket. Raises a Fault at the first reply that differs."""
     records = list(records_of(path))
     endpoint = connect_to(where)
-    push = Push(endpoint.connection, max(1, ahead))
+    push = Push(endpoint.connection, ahead)
     try:
         push.send_all(remaining_records(endpoint.connection, records, push) if continues else records)
     except OSError as error:
@@ -183,20 +129,23 @@ def parser() -> Parser:
         TOOL,
         "Sends the commands of a journal, for example of a hub over a slice, or the lines of `lefence repair\n"
         "--lines`, to the hub of the whole design. Each reply must be the recorded one. At the first other reply it\n"
-        "stops, with status 1.",
-        f"{TOOL} A.journal /run/lefence/A.sock",
+        "stops, with status 1. With LEF files it sends the places of a DEF text: no cell is without a place meanwhile\n"
+        "for longer than some lines.",
+        f"{TOOL} A.journal /run/lefence/A.sock\n"
+        f"{TOOL} A.journal /run/lefence/A.sock --rebase\n"
+        f"{TOOL} placed.def /run/lefence/A.sock tech.lef cells.lef",
     )
     add = found.add_argument
-    add("file", metavar="FILE", type=Path, help="a journal of lefence-hub, or the lines of a repair")
+    add("file", metavar="FILE", type=Path, help="a journal of lefence-hub, the lines of a repair, or a DEF text")
     add("socket", metavar="SOCKET", help="the team's socket, the operator's for a file of several teams, or HOST:PORT")
+    add("libraries", metavar="LEF", type=Path, nargs="*", help="the LEF files of a DEF text with a team's new places")
     add("--continue", dest="continues", action="store_true", help="skip what an earlier push of this file has sent")
-    add(
-        "--ahead",
-        metavar="N",
-        type=int,
-        default=1,
-        help="lines in flight (1); with more, some lines after a difference may be sent",
-    )
+    add("--rebase", action="store_true", help="use a session of its own, in a team that others change meanwhile")
+    add("--from", dest="start", metavar="LINE", type=int, default=1, help="with --rebase: start at this line (1)")
+    add("--team", metavar="NAME", action="append", default=[], help="the team of a DEF text, if the socket serves all")
+    text = "lines in flight (1; of a DEF text 128); with more, some lines after a difference may be sent"
+    add("--ahead", metavar="N", type=int, help=text)
+    found.add_program()
     return found
 
 
@@ -204,13 +153,24 @@ def main() -> int:
     options = parser().parse_args()
 
     def work() -> int:
-        push = push_file(options.file, options.socket, options.ahead, options.continues)
-        teams = ", ".join(f"{team.decode()} at revision {revision}" for team, revision in push.revisions.items())
-        log(
-            TOOL,
-            f"{push.count} {'line' if push.count == 1 else 'lines'} answered as recorded"
-            + (f"; team {teams}" if teams else ""),
-        )
+        if options.libraries:
+            use_plain_files(options, "file", "libraries")
+            program = Program(find_program(options.program), [options.file, *options.libraries])
+            log(TOOL, push_places(program, options.socket, options.team, options.ahead or 128))
+            return DONE
+        if options.rebase and options.continues:
+            raise Fault(USAGE, "--rebase knows no earlier push: instead of --continue, use --from LINE")
+        if options.start != 1 and not options.rebase:
+            raise Fault(USAGE, "--from needs --rebase")
+        ahead = max(1, options.ahead or 1)
+        if options.rebase:
+            count, revisions = push_rebased(options.file, options.socket, ahead, options.start)
+        else:
+            push = push_file(options.file, options.socket, ahead, options.continues)
+            count, revisions = push.count, push.revisions
+        teams = ", ".join(f"{team.decode()} at revision {revision}" for team, revision in revisions.items())
+        answered = f"{count} {'line' if count == 1 else 'lines'} answered as recorded"
+        log(TOOL, answered + (f"; team {teams}" if teams else ""))
         return DONE
 
     return run_tool(TOOL, work)

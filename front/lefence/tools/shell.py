@@ -13,7 +13,7 @@ from pathlib import Path
 
 from ..base.faults import DONE, FAILED, REFUSED, USAGE, Fault, Parser, printable, reason_of, run_tool
 from ..base.input_files import plain_file
-from ..base.protocol import OPENACCESS, ORIENTS, VERBS, ProtocolError
+from ..base.protocol import OPENACCESS, ORIENTS, VERBS, ProtocolError, is_accepted
 from ..client.blocking import Connection, Session
 from ..client.endpoint import Endpoint, connect_to, start_program
 from ..client.refusals import BadRequest, NoPlace, Refusal, violation_text
@@ -31,6 +31,7 @@ _MOST_PADDING = 16
 SHELL_COMMANDS = {
     "team": ("NAME", "opens a session of the team, or returns to its open one; the verbs then use it"),
     "teams": ("", "lists the teams that are known here"),
+    "wait": ("REV", "waits until the team's revision is greater, and prints it; only on a query socket"),
     "raw": ("LINE", "sends a line of the protocol unchanged, and prints its reply"),
     "export": ("PATH", "has the hub write the committed places of all teams to a file; only on the operator's socket"),
     "help": ("[VERB]", "shows what a verb takes and does"),
@@ -89,6 +90,8 @@ class Shell(cmd.Cmd):
         self._team: str | None = None
         # The cells of each team, after the first completion.
         self._cells: dict[str, list[str]] = {}
+        # Whether a line was refused.
+        self.has_refused = False
         self._name()
 
     def _name(self) -> None:
@@ -107,6 +110,7 @@ class Shell(cmd.Cmd):
         try:
             self._answer(verb, fields, line)
         except (Refusal, ValueError, ProtocolError) as error:
+            self.has_refused = True
             self._print([f"no: {error.words() if isinstance(error, Refusal) else error}"])
             if verb == "tidy" and isinstance(error, NoPlace):
                 self._print([_TIDY_HINT])
@@ -121,12 +125,17 @@ class Shell(cmd.Cmd):
             self._use(fields)
         elif verb == "raw":
             raw = line.split(maxsplit=1)[1:] or [""]
-            self._print(self._connection.ask_line(os.fsencode(raw[0])).decode("ascii", "backslashreplace").splitlines())
+            reply = self._connection.ask_line(os.fsencode(raw[0]))
+            self.has_refused = self.has_refused or not is_accepted(reply[: reply.find(b"\n") + 1])
+            self._print(reply.decode("ascii", "backslashreplace").splitlines())
         elif verb == "export" and len(fields) == 1:
             self._export(fields[0])
+        elif verb == "wait":
+            self._wait(fields)
         elif verb in VERBS and verb not in _HIDDEN:
             self._verb(verb, fields)
         else:
+            self.has_refused = True
             self._print([f"no such command: {verb}; `help` lists them"])
 
     def _export(self, path: str) -> None:
@@ -135,6 +144,14 @@ class Shell(cmd.Cmd):
         except BadRequest:
             raise ValueError("export is for the operator's socket") from None
         self._print(["written"])
+
+    def _wait(self, fields: list[str]) -> None:
+        if len(fields) != 1 or not fields[0].isdecimal():
+            raise ValueError("wait takes REV")
+        try:
+            self._print([f"revision {self._session().wait(int(fields[0]))}"])
+        except BadRequest:
+            raise ValueError("wait is for a team's query socket") from None
 
     def _use(self, fields: list[str]) -> None:
         if len(fields) != 1:
@@ -275,11 +292,15 @@ def _interact(shell: Shell) -> None:
             pass
 
 
-def _relay(connection: Connection) -> None:
-    """Sends each line of standard input and writes its reply, until either side ends."""
+def _relay(connection: Connection) -> bool:
+    """Sends each line of standard input and writes its reply, until either side ends. True if one was refused."""
+    has_refused = False
     for line in sys.stdin.buffer:
-        sys.stdout.buffer.write(connection.ask_line(line.removesuffix(b"\n")))
+        reply = connection.ask_line(line.removesuffix(b"\n"))
+        has_refused = has_refused or reply.startswith(b"no ")
+        sys.stdout.buffer.write(reply)
         sys.stdout.buffer.flush()
+    return has_refused
 
 
 def parser() -> Parser:
@@ -294,6 +315,7 @@ def parser() -> Parser:
         "send the lines of standard input and write the replies, both unchanged: for programs that cannot use a socket"
     )
     made.add_argument("--raw", action="store_true", help=text)
+    made.add_argument("--strict", action="store_true", help="end with status 1 if a line was refused")
     made.add_program()
     return made
 
@@ -322,18 +344,18 @@ def main() -> int:
         shell = Shell(endpoint)
         try:
             if options.raw:
-                _relay(endpoint.connection)
-                return DONE
-            if options.team and not _begin(shell, options.team):
+                shell.has_refused = _relay(endpoint.connection)
+            elif options.team and not _begin(shell, options.team):
                 return REFUSED
-            _interact(shell)
+            else:
+                _interact(shell)
         except OSError as error:
             if isinstance(error, BrokenPipeError):
                 raise
             raise Fault(FAILED, reason_of(error)) from None
         finally:
             endpoint.close()
-        return DONE
+        return REFUSED if options.strict and shell.has_refused else DONE
 
     return run_tool(TOOL, work)
 

@@ -108,10 +108,12 @@ def _of_teams(design: Design) -> Iterator[Remark]:
                 text = f"{what}, only a group binds to a fence: it is in team {shown(team)}"
                 yield Remark("+ REGION of components", text, _place_of(component))
     yield from patterns.unmatched()
+    untyped = {entry.name for entry in design.entries(b"REGIONS") if entry.value_after(b"TYPE") is None}
     for group in design.entries(b"GROUPS"):
         if (region := group.value_after(b"REGION")) is not None and region not in fences:
             what = f"group {shown(group.name)} is bound to {shown(region)}, which is not a fence"
-            text = f"{what}: its cells are in team {GROUND}"
+            option = f"; --as-fence {shown(region)} makes it one" if region in untyped else ""
+            text = f"{what}: its cells are in team {GROUND}{option}"
             yield Remark("groups without a fence", text, _place_of(group))
     for region_entry in design.entries(b"REGIONS"):
         if region_entry.name in fences and not cells[region_entry.name]:

@@ -8,24 +8,23 @@ from __future__ import annotations
 
 import os
 import tempfile
-from array import array
-from collections.abc import Iterator
 from itertools import zip_longest
 from pathlib import Path
 
 from ..base.atomic_file import refuse_inputs, write_output
 from ..base.description import Cell, Description
-from ..base.design import Design, Entry, Statement, complete_design, section_parts
-from ..base.faults import DONE, REFUSED, Fault, Parser, log, run_tool
+from ..base.design import Design, complete_design, shown
+from ..base.faults import DONE, FAILED, REFUSED, USAGE, Fault, Parser, log, run_tool
 from ..base.input_files import use_plain_files
 from ..base.program import find_program
 from ..base.protocol import GROUND
+from ..base.slices import slices_of
+from ..client.blocking import Session
+from ..client.endpoint import connect_to, one_team
+from ..client.refusals import Refusal
+from .splice import Spot, with_spots
 
 TOOL = "lefence-slice"
-# Sections whose entries a slice has only for one team.
-_SLICED = (b"COMPONENTS", b"GROUPS")
-# Sections about components or nets that a slice lacks; they do not affect legality.
-_DROPPED = frozenset(b"PINS PINPROPERTIES SLOTS FILLS SPECIALNETS NETS SCANCHAINS BEGINEXT".split())
 
 
 def slice_of(text: bytes, team: str) -> bytes:
@@ -41,70 +40,42 @@ def slice_of_design(design: Design, team: str) -> bytes:
     name = os.fsencode(team)
     if team != GROUND and name not in design.fences:
         raise Fault(REFUSED, f"no team: {team}")
-    return b"".join(next(slices_of(design, [name])))
+    return b"".join(next(slices_of(design, [[name]])))
 
 
-def slices_of(design: Design, teams: list[bytes]) -> Iterator[Iterator[bytes]]:
-    """Yields the slices for these teams of a design, each in pieces, after one pass over it."""
-    sections = {
-        statement.start: _Entries(design, statement, teams)
-        for statement in design.statements
-        if statement.keyword in _SLICED
-    }
-    for team in teams:
-        yield _pieces(design, team, sections)
+def current_slice(design: Path, session: Session) -> bytes:
+    """Returns the slice of the session's team, with the cells at their present working places.
 
-
-def _pieces(design: Design, team: bytes, sections: dict[int, _Entries]) -> Iterator[bytes]:
-    for statement in design.statements:
-        if statement.keyword in _SLICED:
-            yield from sections[statement.start].of(team)
-        elif statement.keyword not in _DROPPED:
-            yield design.text[statement.start : statement.stop]
-    yield b"\n"
-
-
-class _Entries:
-    """The places of the entries of COMPONENTS or GROUPS by team; neighbours are merged.
-
-    A component of no team is in all slices; a group of no team is in none.
+    Raises a Fault if the hub has other cells of the team than the design.
     """
-
-    def __init__(self, design: Design, section: Statement, teams: list[bytes]) -> None:
-        self._text, self._keyword = design.text, section.keyword
-        self._head, self._tail, entries = section_parts(design.text, section)
-        # Starts and ends of entries alternating, and the number of entries.
-        self._spans = {team: array("Q") for team in teams}
-        self._counts = dict.fromkeys(teams, 0)
-        is_groups = section.keyword == b"GROUPS"
-        for entry in entries:
-            team = design.fence_of(entry) if is_groups else design.team_of(entry)
-            if team in self._spans:
-                self._take(team, entry)
-            elif team is None and not is_groups:
-                for each in teams:
-                    self._take(each, entry)
-
-    def _take(self, team: bytes, entry: Entry) -> None:
-        spans, stop = self._spans[team], entry.start + len(entry.text)
-        self._counts[team] += 1
-        if spans and spans[-1] == entry.start:
-            spans[-1] = stop
-        else:
-            spans.extend((entry.start, stop))
-
-    def of(self, team: bytes) -> Iterator[bytes]:
-        """Yields the section with a team's entries and their count, in pieces."""
-        yield self._head + b"%d" % self._counts[team] + self._tail
-        spans = self._spans[team]
-        for start, stop in zip(spans[::2], spans[1::2]):
-            yield self._text[start:stop]
-        yield b"\nEND " + self._keyword
+    part = slice_of_design(complete_design(design, design.read_bytes()), session.team)
+    cells = session.cells()
+    if [cell.name for cell in cells] != [shown(name) for name in Design(part).cells_of(session.team.encode())]:
+        raise Fault(REFUSED, f"{design} has other cells of team {session.team} than the hub's design")
+    return with_spots(
+        part, {cell.name: Spot(int(at.x), int(at.y), at.orient) if (at := cell.place) else None for cell in cells}
+    )
 
 
-def refuse_difference(program: str, whole: Path, part: bytes, libraries: list[Path], team: str) -> None:
+def slice_of_hub(design: Path, socket: str, teams: list[str]) -> tuple[str, bytes]:
+    """Returns a team of a running hub over a design and its slice, with the cells at their present working places."""
+    endpoint = connect_to(socket)
+    try:
+        team = one_team(endpoint, teams)
+        with endpoint.connection.session(team) as session:
+            log(TOOL, f"team {team} is at revision {session.first_revision}")
+            return team, current_slice(design, session)
+    except (ConnectionError, Refusal) as error:
+        raise Fault(REFUSED if isinstance(error, Refusal) else FAILED, f"{socket}: {error}") from None
+    finally:
+        endpoint.close()
+
+
+def refuse_difference(
+    program: str, whole: Path, part: bytes, libraries: list[Path], team: str, is_current: bool = False
+) -> None:
     """Raises a Fault if the program reads another frame or other cells of the team in the slice than in the whole
-    design.
+    design. If the slice is current, its cells may have other places.
     """
     with tempfile.NamedTemporaryFile(suffix=".def") as file:
         file.write(part)
@@ -114,8 +85,8 @@ def refuse_difference(program: str, whole: Path, part: bytes, libraries: list[Pa
                 raise Fault(
                     REFUSED, "the program reads another frame in the slice than in the whole design; nothing is written"
                 )
-            own = [_without_rule(cell) for cell in first.cells_of(team)]
-            found = [_without_rule(cell) for cell in second.cells()]
+            own = [_comparable(cell, is_current) for cell in first.cells_of(team)]
+            found = [_comparable(cell, is_current) for cell in second.cells()]
     if own != found:
         pair = next(pair for pair in zip_longest(own, found) if pair[0] != pair[1])
         counts = f"the program reads {len(own)} cells of team {team} in the whole design, but {len(found)} in the slice"
@@ -132,9 +103,12 @@ def _described(program: str, part: Path, libraries: list[Path]) -> Description:
         raise Fault(fault.status, f"the program refuses the slice, which is not written: {fault}") from None
 
 
-def _without_rule(cell: Cell) -> Cell:
-    """The cell without the rule that it breaks, which cells of other teams may cause."""
-    return cell._replace(rule=None, other=None)
+def _comparable(cell: Cell, is_current: bool) -> Cell:
+    """The cell without the rule that it breaks, which cells of other teams may cause; of a current slice also without
+    its place.
+    """
+    plain = cell._replace(rule=None, other=None)
+    return plain._replace(box=None, orient=None) if is_current else plain
 
 
 def parser() -> Parser:
@@ -155,8 +129,9 @@ def parser() -> Parser:
         default=[],
         help="its LEF files; without them the slice is not checked",
     )
+    sliced.add_argument("--team", metavar="NAME", help="a FENCE region, or - for the ground outside all fences")
     sliced.add_argument(
-        "--team", metavar="NAME", required=True, help="a FENCE region, or - for the ground outside all fences"
+        "--socket", metavar="SOCKET", help="take the cells' present places from this socket of a hub, or from HOST:PORT"
     )
     sliced.add_argument(
         "-o", "--output", metavar="FILE", type=Path, help="write the slice to FILE (default: standard output)"
@@ -172,14 +147,22 @@ def main() -> int:
         use_plain_files(options, "design", "libraries")
         if options.output is not None:
             refuse_inputs(options.output, [options.design, *options.libraries])
-        text = options.design.read_bytes()
-        sliced = slice_of_design(complete_design(options.design, text), options.team)
+        teams = [options.team] if options.team is not None else []
+        if options.socket:
+            team, sliced = slice_of_hub(options.design, options.socket, teams)
+        elif teams:
+            team, sliced = options.team, slice_of_design(
+                complete_design(options.design, options.design.read_bytes()), options.team
+            )
+        else:
+            raise Fault(USAGE, "--team is needed, or --socket of a team")
         if options.libraries:
-            refuse_difference(find_program(options.program), options.design, sliced, options.libraries, options.team)
+            program, is_current = find_program(options.program), bool(options.socket)
+            refuse_difference(program, options.design, sliced, options.libraries, team, is_current)
         else:
             log(TOOL, "no LEF files are given: the slice is not checked with the program")
         write_output(options.output, sliced)
-        log(TOOL, f"team {options.team}: {len(sliced)} of {len(text)} bytes")
+        log(TOOL, f"team {team}: {len(sliced)} of {options.design.stat().st_size} bytes")
         return DONE
 
     return run_tool(TOOL, work)

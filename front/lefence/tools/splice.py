@@ -9,6 +9,7 @@ from itertools import islice
 from typing import NamedTuple
 
 from ..base.design import TOKENS, Entry, entries, statements
+from .drawing import number
 
 
 class Spot(NamedTuple):
@@ -70,12 +71,18 @@ def with_places_of(original: bytes, placed: bytes) -> tuple[bytes, list[str]]:
         if entry.name in spots and spots[entry.name] != _spot_of(entry):
             moved[entry.name.decode("ascii", "replace")] = spots[entry.name]
     lost, others = len(spots.keys() - known), len(known - spots.keys())
-    messages = [f"{len(moved)} components have new places"]
+    messages = [f"{number(len(moved), 'component')} with a new place"]
     if lost:
-        messages.append(f"{lost} components are not movable in the original: their places are lost")
+        messages.append(f"{number(lost, 'component')} not movable in the original: without a new place there")
     if others:
-        messages.append(f"{others} movable components of the original are not movable in the prepared file: they stay")
+        what = f"{number(others, 'movable component')} of the original not movable in the prepared file"
+        messages.append(f"{what}: at the old place")
     return with_spots(original, moved), messages
+
+
+def spots_in(text: bytes) -> dict[str, Spot | None]:
+    """The places of the movable components of a text; None for those without one."""
+    return {entry.name.decode("ascii", "replace"): _spot_of(entry) for entry in _movable(text)}
 
 
 def _movable(text: bytes) -> Iterator[Entry]:

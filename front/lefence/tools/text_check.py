@@ -12,6 +12,7 @@ from ..base.faults import DONE, REFUSED, Fault, as_given
 from ..base.progress import Progress
 from ..base.protocol import RULES
 from .pitfalls import CellPitfalls, design_pitfalls, library_pitfalls
+from .refusal_hints import hint_of
 from .skipped import Remark, remarks_of
 
 # The exit status if every cell breaks a rule, or if --look has found something.
@@ -89,18 +90,20 @@ def check(tool: str, program: str, text: bytes, libraries: list[Path], name: str
     name.
     """
     texts = {as_given(str(path)): path.read_bytes() for path in libraries if path.is_file()}
-    remarks = [*library_pitfalls(texts), *design_pitfalls(text)]
+    remarks = [*library_pitfalls(texts), *design_pitfalls(text, list(texts.values()))]
     try:
         summary = text_summary_of(tool, program, text, libraries, name)
     except Fault as fault:
-        return CheckResult(fault.status, [f"it does not load: {fault}"], [*remarks_of(text, None), *remarks], Counter())
+        hint = hint_of(str(fault), text, list(texts.values()))
+        lines = [f"it does not load: {fault}", *([hint] if hint else [])]
+        return CheckResult(fault.status, lines, [*remarks_of(text, None), *remarks], Counter())
     lines, status = [summary.in_words()], DONE
     if not summary.fits_rows:
         heights = ", ".join(f"{height / summary.facts.units:g}" for height in sorted(summary.heights)[:5])
         site = f"{summary.facts.site}, {summary.facts.site_height / summary.facts.units:g} microns high"
         lines.append(
             f"no cell fits the rows of site {site}: the cells are {heights} microns high;"
-            " use --rows --site NAME for another site"
+            " --site NAME keeps the rows of another site, --rows --site NAME makes such rows"
         )
         status = REFUSED
     elif summary.is_all_illegal:

@@ -3,7 +3,7 @@
 import pya
 
 options = pya.LoadLayoutOptions()
-options.lefdef_config.lef_files = ["day.lef"]
+options.lefdef_config.lef_files = ["lef/day.lef"]
 options.lefdef_config.read_lef_with_def = False
 options.lefdef_config.instance_property_name = "name"
 layout = pya.Layout()

@@ -22,15 +22,15 @@ _CHUNK = 1000
 Note = Callable[[list[bytes], bytes], None]
 
 
-class ServerLost(Exception):
+class ReplayLost(Exception):
     """The program is gone. What it did with the lines in flight is unknown."""
 
 
-class Server:
+class ReplayProcess:
     """A running program over a design whose files have the given SHA-256 sums."""
 
     def __init__(self, program: Program, sums: list[str], export: str | None = None, save: Path | None = None) -> None:
-        """Makes a server. At the end of its input, the program writes the files `export` and `save`, if given."""
+        """Makes it without starting it. At its end, the program writes the files `export` and `save`, if given."""
         self.program = program
         self.sums = sums
         self._export, self._save = export, save
@@ -48,21 +48,21 @@ class Server:
         return 0 if self._since is None else time.monotonic() - self._since
 
     def send_kill(self) -> None:
-        """Kills a hung program without waiting; pending calls raise ServerLost."""
+        """Kills a hung program without waiting; pending calls raise ReplayLost."""
         if self._run:
             self._run.send_kill()
 
     async def start(self, state: State | None = None) -> None:
         """Starts the program, and waits until it has loaded the design and the state.
 
-        Raises a Fault if it refuses one of them or its arguments, or if the files have other sums; ServerLost if it
+        Raises a Fault if it refuses one of them or its arguments, or if the files have other sums; ReplayLost if it
         dies.
         """
         await self.kill()
         self._run = await self.program.replay_async(self._export, state.path if state else None, self._save)
         try:
             await self.execute([b""])
-        except ServerLost:
+        except ReplayLost:
             status = await self._run.wait()
             if status in (1, 2):
                 reason = "see its message above" if status == 1 else "it does not know the options of `replay`"
@@ -76,7 +76,7 @@ class Server:
             raise Fault(REFUSED, f"{state.path} has changed")
 
     async def execute(self, lines: list[bytes]) -> list[bytes]:
-        """Returns the whole reply to each line; only the last may be a `def`. Raises ServerLost if the program dies."""
+        """Returns the whole reply to each line; only the last may be a `def`. Raises ReplayLost if the program dies."""
         if not lines:
             return []
         self._since = time.monotonic()
@@ -85,7 +85,7 @@ class Server:
             self._run.send(b"\n".join(lines) + b"\n")
             return await self._replies(lines)
         except (OSError, asyncio.IncompleteReadError) as error:
-            raise ServerLost(f"the program is lost: {error}") from None
+            raise ReplayLost(f"the program is lost: {error}") from None
         finally:
             self._since = None
 
@@ -106,21 +106,30 @@ class Server:
             replies[-1] += rest + await reader.readexactly(length - len(rest))
         return replies
 
-    async def restore(self, records: Iterator[Record], on_record: Note | None = None, count: int = 0) -> int:
+    async def restore(
+        self,
+        records: Iterator[Record],
+        on_record: Note | None = None,
+        count: int = 0,
+        is_own: Callable[[Record], bool] | None = None,
+    ) -> int:
         """Replays records, compares each reply and calls `on_record` for each. Returns their number plus `count`.
 
-        Raises a Fault at the first reply that differs; ServerLost if the program dies or is out of memory.
+        Records for which `is_own` is false are counted, but not replayed. Raises a Fault at the first reply that
+        differs; ReplayLost if the program dies or is out of memory.
         """
         while chunk := list(itertools.islice(records, _CHUNK)):
-            for record, reply in zip(chunk, await self.execute([record.line for record in chunk])):
-                count += 1
+            numbers = [at for at, record in enumerate(chunk) if is_own is None or is_own(record)]
+            for at, reply in zip(numbers, await self.execute([chunk[at].line for at in numbers])):
+                record = chunk[at]
                 if reply.startswith(b"no 12 "):
-                    raise ServerLost("the program is out of memory and cannot restore its state")
+                    raise ReplayLost("the program is out of memory and cannot restore its state")
                 if reply != record.reply:
-                    place = f"change {count}: the journal has {record.reply!r} for {record.line!r}"
+                    place = f"change {count + at + 1}: the journal has {record.reply!r} for {record.line!r}"
                     raise Fault(REFUSED, f"{place}, but the program replies {reply!r}")
                 if on_record:
                     on_record(record.line.split(), reply)
+            count += len(chunk)
         return count
 
     async def end(self) -> int:
