@@ -375,7 +375,8 @@ class HubCase(FrontCase):
 
     def words(self, *extra: str, sockets: str = "s", journal: str = "journal", design: Path | None = None) -> list[str]:
         places = ["--sockets", str(self.folder / sockets), "--journal", str(self.folder / journal)]
-        return [str(design or self.design), str(self.lef), "--program", self.program, *places, *extra]
+        options = ["--program", self.program, "--programs", "1", *places]
+        return [str(design or self.design), str(self.lef), *options, *extra]
 
     def start(self, *extra: str) -> str:
         """Starts a hub; returns its line when it is ready, or all its output if it has ended."""

@@ -30,9 +30,10 @@ from test_slice import rich_text
 from lefence.base.design import Design
 from lefence.base.slices import slices_of
 from lefence.base.state_text import part_of
-from lefence.hub.slices import divided, slices_folder
+from lefence.hub.shards import default_programs
+from lefence.hub.slices import Slice, divided, slices_folder
 from lefence.hub.status import read_status
-from lefence.journal.segments import Archive, open_segments, records_in
+from lefence.journal.segments import Archive, State, open_segments, records_in
 
 STATE = """lefence-state 1
 teams 3
@@ -89,6 +90,16 @@ class Parts(FrontCase):
         self.assertEqual(b"".join(part_of(lines, [b"A", b"B", b"-"])), STATE.encode())
         want = lines[:2] + [b"team A 3 0 2 0 0\n"] + lines[3:5] + lines[12:]
         self.assertEqual(list(part_of(lines, [b"B"])), want)
+
+    def test_a_part_of_a_state_is_in_memory(self) -> None:
+        path = self.folder / "1.state"
+        path.write_text(STATE)
+        slice_path = self.folder / "slices" / "0.def"
+        file, part = Slice(slice_path, "", frozenset({b"B"}), 1).part_of_state(State(path, len(STATE), ""))
+        with file:
+            self.assertEqual(part.path.read_bytes(), b"".join(part_of(STATE.encode().splitlines(keepends=True), [b"B"])))
+            self.assertTrue(part.is_whole())
+        self.assertFalse(part.is_whole())
 
 
 class SeveralPrograms(HubCase):
@@ -179,6 +190,14 @@ class Shards(SeveralPrograms):
             else:
                 self.assertEqual(self.hub.end(), 0)
         self.assertEqual(len(list(slices_folder(self.journal).glob("*.def"))), 8)
+
+    def test_by_default_there_is_a_program_for_each_processor(self) -> None:
+        words = self.words()
+        at = words.index("--programs")
+        self.hub = Hub(self.folder, [*words[:at], *words[at + 2 :]])
+        self.addCleanup(self.hub.kill)
+        self.assertIn("ready", self.hub.wait_ready())
+        self.assertEqual(len(self.programs()), default_programs())
 
     def test_lines_of_the_operator_are_answered_in_their_order(self) -> None:
         self.start("--programs", "4")

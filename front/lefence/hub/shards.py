@@ -8,6 +8,7 @@ from __future__ import annotations
 
 import asyncio
 import functools
+import os
 import time
 from collections import deque
 from collections.abc import Callable, Coroutine, Iterable, Iterator
@@ -17,13 +18,14 @@ from ..base.faults import FAILED, REFUSED, Fault, reason_of
 from ..journal.frames import Record
 from ..journal.segments import State
 from .hub_client import Client, Entry
-from .journal_writer import JournalWriter
+from .journal_writer import JournalWriter, complete
 from .line_queue import LineQueue
 from .replay_process import Note, ReplayLost, ReplayProcess
 from .slices import Slice
 
 # The most programs of a hub.
 MOST_PROGRAMS = 8
+
 # How often a program that dies is restarted for the same lines.
 _STARTS = 5
 # Batches for the statistics.
@@ -143,15 +145,13 @@ class Shard:
         if self.part is None or state is None:
             return await self.replay.start(state)
         try:
-            part = await asyncio.to_thread(self.part.part_of_state, state)
+            file, part = await complete(asyncio.to_thread(self.part.part_of_state, state))
         except OSError as error:
-            raise Fault(FAILED, f"cannot write the state of a program: {reason_of(error)}") from None
-        try:
+            raise Fault(FAILED, f"cannot keep the state of a program: {reason_of(error)}") from None
+        with file:
             if not await asyncio.to_thread(state.is_whole):
                 raise Fault(REFUSED, f"{state.path} has changed")
             await self.replay.start(part)
-        finally:
-            part.path.unlink(missing_ok=True)
 
 
 class ShardPool:
@@ -241,3 +241,8 @@ async def run_all(works: Iterable[Coroutine[Any, Any, None]]) -> None:
         for task in tasks:
             task.cancel()
         await asyncio.gather(*tasks, return_exceptions=True)
+
+
+def default_programs() -> int:
+    """The most programs of a hub without `--programs`: one for each processor that it may use."""
+    return min(MOST_PROGRAMS, len(os.sched_getaffinity(0)))

@@ -13,12 +13,11 @@ import hashlib
 import os
 import re
 import sys
-import time
 from collections.abc import Iterator
 from concurrent.futures import ThreadPoolExecutor
 from contextlib import ExitStack
 from pathlib import Path
-from typing import NamedTuple
+from typing import BinaryIO, NamedTuple
 from urllib.parse import quote_from_bytes, unquote_to_bytes
 
 from ..base.async_run import start_run
@@ -53,15 +52,19 @@ class Slice(NamedTuple):
                 return
         raise Fault(FAILED, f"{self.path} has changed: the next start cuts the slices again")
 
-    def part_of_state(self, state: State) -> State:
-        """Writes what a saved state has of its teams to a new file next to it. Raises OSError if there is no room."""
-        path = self.path.with_name(f"{self.path.stem[:16]}.state-{time.time_ns()}")
+    def part_of_state(self, state: State) -> tuple[BinaryIO, State]:
+        """Returns what a saved state has of its teams, and the file with it, which is in memory: a full disk refuses no
+        start. Its path is valid while the file is open. Raises OSError if there is no memory.
+        """
+        file = os.fdopen(os.memfd_create("lefence-state"), "w+b")
         try:
-            with open(state.path, "rb") as lines, open(path, "xb") as file:
+            with open(state.path, "rb") as lines:
                 file.writelines(part_of(lines, self.teams))
-            return State(path, path.stat().st_size, sum_of(path))
+            file.flush()
+            path = Path(f"/proc/{os.getpid()}/fd/{file.fileno()}")
+            return file, State(path, path.stat().st_size, sum_of(path))
         except BaseException:
-            path.unlink(missing_ok=True)
+            file.close()
             raise
 
 

@@ -32,7 +32,7 @@ from ..hub.metrics import prometheus
 from ..hub.notify import notify
 from ..hub.query_sockets import QueryClient
 from ..hub.replay_process import ReplayProcess
-from ..hub.shards import MOST_PROGRAMS
+from ..hub.shards import MOST_PROGRAMS, default_programs
 from ..hub.session_slots import change_slots
 from ..hub.sockets import MOST_PATH, bind_socket, claim_folder, groups_of, is_too_long
 from ..hub.status import read_status, uncommitted_text
@@ -209,7 +209,7 @@ def make_hub(options: argparse.Namespace, journal: Journal, program: Program) ->
     """Makes the hub of a journal and a program over its copies."""
     tail = TailLimits(options.tail_bytes, options.tail_seconds, options.keep, options.keep_segments)
     # (a state is made by one program)
-    programs = 1 if options.roll else options.programs
+    programs = 1 if options.roll else options.programs or default_programs()
     limits = HubLimits(options.patience, options.idle, options.deadline, tail, options.slow, programs)
     hub = Hub(ReplayProcess(program, [text.sum for text in journal.header.texts]), journal, limits, say)
     hub.exporter.protected = [options.design, *options.library]
@@ -356,8 +356,8 @@ def _add_limits(made: Parser) -> None:
     add("--tail-seconds", "S", second_count, 2.0, "save a state when a start would replay for S seconds (2)")
     add("--tail-bytes", "B", byte_count, None, "also after B bytes of changes (0: never save a state)")
     add("--keep", "N", state_count, 2, "keep N states, and the journal from the first of them on (2; 0: all)")
-    programs = "at most N programs, 1 to 8, share the teams, each over a slice with its teams' cells (1)"
-    add("--programs", "N", program_count, 1, programs)
+    programs = "at most N programs, 1 to 8, share the teams, each over a slice with its teams' cells"
+    add("--programs", "N", program_count, None, f"{programs} (one for each processor)")
     slots = "session slots of each team, 1 to 64 (as in the journal; 8 in a new one); --roll changes them"
     add("--sessions", "N", slot_count, None, slots)
 
