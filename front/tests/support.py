@@ -186,20 +186,27 @@ class Talker:
         self.socket.close()
 
 
-def slow_program(folder: Path, program: str, start: bytes, seconds: float) -> str:
-    """The path of a program like this one, which waits so long before each line of `replay` that starts so."""
+def slow_program(folder: Path, program: str, start: bytes, wait: str) -> str:
+    """The path of a program like this one, which runs this Python before each line of `replay` that starts so."""
     script = folder / "slow"
     script.write_text(
-        "#!/usr/bin/env python3\nimport subprocess, sys, time\n"
+        "#!/usr/bin/env python3\nimport os, subprocess, sys, time\n"
         f"words = [{program!r}, *sys.argv[1:]]\n"
         "if sys.argv[1] != 'replay':\n    sys.exit(subprocess.run(words).returncode)\n"
         "with subprocess.Popen(words, stdin=subprocess.PIPE) as process:\n"
         "    for line in sys.stdin.buffer:\n"
-        f"        time.sleep({seconds} if line.startswith({start!r}) else 0)\n"
+        f"        if line.startswith({start!r}):\n            {wait}\n"
         "        process.stdin.write(line)\n        process.stdin.flush()\n"
     )
     script.chmod(0o755)
     return str(script)
+
+
+def waiting_program(folder: Path, program: str, start: bytes) -> tuple[str, Path]:
+    """A slow program whose lines that start so wait until there is a file, and the path of that file."""
+    gate = folder / "gate"
+    wait = f"while not os.path.exists({str(gate)!r}): time.sleep(0.01)"
+    return slow_program(folder, program, start, wait), gate
 
 
 def converse(talker: Talker, text: bytes) -> bytes:

@@ -303,10 +303,11 @@ class Disk(HubCase):
         # Its session cannot be closed yet.
         talker.ask("bye")
         resource.prlimit(pid, resource.RLIMIT_FSIZE, (hard, hard))
-        time.sleep(1.5)
-        self.assertEqual(
-            self.talk("f0").ask("open f0", "unplace f0 0 f0c1"), [f"ok 0 {accepted + 1}", f"ok {accepted + 2}"]
-        )
+        last = time.monotonic() + PATIENCE
+        while (talker := self.talk("f0")).ask("open f0") != [f"ok 0 {accepted + 1}"]:
+            self.assertLess(time.monotonic(), last)
+            talker.ask("bye")
+        self.assertEqual(talker.ask("unplace f0 0 f0c1"), [f"ok {accepted + 2}"])
         self.hub.kill()
         self.start()
         self.assertEqual(self.talk("f0").ask("open f0"), [f"ok 0 {accepted + 2}"])

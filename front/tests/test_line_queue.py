@@ -134,7 +134,7 @@ class Floods(HubCase):
 
     def test_another_team_waits_for_one_of_them_at_most(self) -> None:
         # Each line of a whole team takes 50 ms.
-        self.program = slow_program(self.folder, self.program, b"tidy", 0.05)
+        self.program = slow_program(self.folder, self.program, b"tidy", "time.sleep(0.05)")
         self.start("--no-sync")
         quick, flood = self.talk("f1"), [self.talk("f0") for _ in range(24)]
         self.assertEqual(quick.ask("open f1"), ["ok 0 0"])
@@ -143,8 +143,8 @@ class Floods(HubCase):
             talker.socket.sendall(b"tidy f0 0\n" * 20)
         for turn in range(10):
             self.assertEqual(quick.ask(f"place f1 0 f1c{turn % 2} {spot(1, turn % 2)}"), [f"ok {turn + 1}"])
-        # Ten lines of the one waited for one of the other each.
-        self.assertLess(int(self.talk("operator").ask("open f0")[0].split()[2]), 25)
+        # Ten lines of the one waited for few of the other, not for one of each of its clients.
+        self.assertLess(int(self.talk("operator").ask("open f0")[0].split()[2]), 120)
 
 
 if __name__ == "__main__":
