@@ -23,7 +23,7 @@ from front import TOP, Hub
 from hub import generated
 from repair import PLACED, moved
 
-TEAM, LOOKS = "f0", 200
+TEAM, WATCHED = "f0", 200
 
 
 def fenced_cells(text: str) -> list[str]:
@@ -44,11 +44,11 @@ def disturb(text: str, cells: set[str]) -> str:
     return re.sub(r"^- (\S+) .*$", line_of, text, flags=re.M)
 
 
-def look(folder: Path, cells: list[str], push: subprocess.Popen[bytes]) -> tuple[int, int, float]:
-    """Asks where the cells are until the push ends. Returns the looks, those that saw a cell without a place, and the
-    most seconds from one look that saw a cell with a place to the next.
+def watch(folder: Path, cells: list[str], push: subprocess.Popen[bytes]) -> tuple[int, int, float]:
+    """Asks where the cells are until the push ends. Returns the queries, those whose cell had no place, and the most
+    seconds from one query of a cell with a place to the next.
     """
-    looks = unplaced = 0
+    queries = unplaced = 0
     longest, last = 0.0, dict.fromkeys(cells, time.monotonic())
     with socket.socket(socket.AF_UNIX) as end:
         end.connect(str(folder / f"s/{TEAM}.query.sock"))
@@ -60,10 +60,10 @@ def look(folder: Path, cells: list[str], push: subprocess.Popen[bytes]) -> tuple
                 end.sendall(b"where %b %b %b\n" % (TEAM.encode(), number, cell.encode()))
                 has_place = len(replies.readline().split()) == 4
                 now = time.monotonic()
-                looks, unplaced = looks + 1, unplaced + (not has_place)
+                queries, unplaced = queries + 1, unplaced + (not has_place)
                 if has_place:
                     longest, last[cell] = max(longest, now - last[cell]), now
-    return looks, unplaced, longest
+    return queries, unplaced, longest
 
 
 def main(words: list[str]) -> int:
@@ -85,9 +85,12 @@ def main(words: list[str]) -> int:
         push = subprocess.Popen(
             [TOP / "front/bin/lefence-push", wanted, folder / f"s/{TEAM}.sock", library, "--program", program]
         )
-        looks, unplaced, longest = look(folder, random.Random(1).sample(cells, LOOKS), push)
-        print(f"{len(cells):,} cells: {time.monotonic() - begin:.1f} s; {unplaced} of {looks:,} looks saw no place; "
-              f"between two that saw one {longest * 1000:.0f} ms at most", flush=True)
+        queries, unplaced, longest = watch(folder, random.Random(1).sample(cells, WATCHED), push)
+        print(
+            f"{len(cells):,} cells: {time.monotonic() - begin:.1f} s; in {unplaced} of {queries:,} queries a cell had no "
+            f"place; between two with a place {longest * 1000:.0f} ms at most",
+            flush=True,
+        )
         hub.end()
     return push.returncode
 
