@@ -87,8 +87,8 @@ def main(words: list[str]) -> int:
         )
         queries, unplaced, longest = watch(folder, random.Random(1).sample(cells, WATCHED), push)
         print(
-            f"{len(cells):,} cells: {time.monotonic() - begin:.1f} s; in {unplaced} of {queries:,} queries a cell had no "
-            f"place; between two with a place {longest * 1000:.0f} ms at most",
+            f"{len(cells):,} cells: {time.monotonic() - begin:.1f} s; in {unplaced} of {queries:,} queries a cell had "
+            f"no place; between two with a place {longest * 1000:.0f} ms at most",
             flush=True,
         )
         hub.end()

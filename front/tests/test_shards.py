@@ -98,7 +98,8 @@ class Parts(FrontCase):
         slice_path = self.folder / "slices" / "0.def"
         file, part = Slice(slice_path, "", frozenset({b"B"}), 1).part_of_state(State(path, len(STATE), ""))
         with file:
-            self.assertEqual(part.path.read_bytes(), b"".join(part_of(STATE.encode().splitlines(keepends=True), [b"B"])))
+            wanted = b"".join(part_of(STATE.encode().splitlines(keepends=True), [b"B"]))
+            self.assertEqual(part.path.read_bytes(), wanted)
             self.assertTrue(part.is_whole())
         self.assertFalse(part.is_whole())
 
