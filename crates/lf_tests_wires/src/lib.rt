@@ -1,6 +1,7 @@
-//! Tests of the wire length, and of the readers of pins and nets: what no clause says of them.
+//! Tests of the wire length, of the readers of pins and nets, and of their binding: what no clause
+//! says of them.
 //!
-//! The tests cover `lf_wire_length`, `lf_wire_pins` and `lf_wire_nets`.
+//! The tests cover `lf_wire_length`, `lf_wire_pins`, `lf_wire_nets` and `lf_wire_binding`.
 //!
 //! Modules, in reading order:
 //!
@@ -8,10 +9,13 @@
 //! - `faults`: refusals at a line, for other modules
 //! - `wire_pins`: pins of LEF texts in the forms of several tools
 //! - `wire_nets`: pins and nets of DEF texts in the forms of several tools
+//! - `wire_binding`: nets of a design, bound to its cells
 #![tactic(auto)]
 
 #[cfg(test)]
 mod faults;
+#[cfg(test)]
+mod wire_binding;
 #[cfg(test)]
 mod wire_length;
 #[cfg(test)]

@@ -11,6 +11,8 @@
 //! A `Netlist` has nets whose pins name cells by number; a contract sees for each net the list of
 //! its pins. The places of cells come from any `PlacedCells`.
 //!
+//! Used by `lf_wire_binding`.
+//!
 //! Modules, in reading order:
 //!
 //! - `points`: the middles of pins, turned and placed

@@ -6,6 +6,8 @@
 //! A contract sees of a `DesignPin` its name and its point, and of a `NetTerm` the names of its
 //! component and of its pin.
 //!
+//! Used by `lf_wire_binding`.
+//!
 //! Modules, in reading order:
 //!
 //! - `coordinates`: points and orientations

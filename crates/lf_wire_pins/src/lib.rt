@@ -8,6 +8,8 @@
 //! `MacroPins` the macro's name and its pins, and of a `MacroPin` its name and
 //! its box.
 //!
+//! Used by `lf_wire_binding`.
+//!
 //! Modules, in reading order:
 //!
 //! - `lengths`: lengths and points

@@ -1,0 +1,141 @@
+//! The nets of a design, bound to its cells.
+
+ghost use Rattle.std.specs.Prelude.{◌≡◌, ◌<◌, ◌≤◌, ◌++◌, ◌∷◌, [], IfOk, OnOk, count_by, length, map};
+ghost use Rattle.lf_wire_nets.specs.Ranges.{AreDesignNets};
+ghost use Rattle.lf_wire_binding.specs.Binding.{bound_net, bound_nets, bound_pin, is_supply};
+ghost use Rattle.lf_wire_binding.specs.Names.{AreNamesOf};
+ghost use Rattle.lf_wire_binding.specs.Rows.{AreRowsKnown, with_pins};
+ghost use Rattle.lf_wire_binding.specs.Texts.{facts_of};
+
+use crate::names::{NameTables, name_tables};
+use crate::rows::{NetRows, netlist_of, no_rows, push_pin, start_net};
+use crate::terms::bound_pin;
+use crate::texts::DesignTexts;
+use lf_wire_length::{Netlist, NetlistError};
+use lf_wire_nets::{DesignNet, NetTerm};
+use std::alloc::Global;
+
+/// The nets of a design, their pins bound to its cells.
+#[derive(Drop)]
+pub struct BoundNets {
+    pub netlist: Netlist,
+    /// The number of supplies, which the netlist does not have.
+    pub supplies: usize,
+}
+
+/// Appends the pins that these terms denote to the last net.
+fn bind_terms(
+    texts: &DesignTexts,
+    tables: &NameTables,
+    rows: &mut NetRows,
+    terms: &[NetTerm],
+) -> Result<(), NetlistError>
+    requires tables { AreNamesOf (facts_of texts.now) tables.now }
+    requires range { AreDesignNets texts.now.nets.now }
+    requires known { AreRowsKnown rows.old }
+    requires net { 0 < length rows.old.netlist.nets }
+    ensures known { OnOk result (AreRowsKnown rows.new) }
+    ensures nets { OnOk result
+        (rows.new.netlist.nets ≡ with_pins (map (bound_pin (facts_of texts.now)) terms.now) rows.old.netlist.nets) }
+{
+    for term in terms {
+        let pin = bound_pin(texts, tables, term);
+        push_pin(rows, &pin)?;
+    }
+    Ok(())
+}
+
+/// Appends the net, with the pins that its terms denote.
+fn bind_net(
+    texts: &DesignTexts,
+    tables: &NameTables,
+    rows: &mut NetRows,
+    net: &DesignNet,
+) -> Result<(), NetlistError>
+    requires tables { AreNamesOf (facts_of texts.now) tables.now }
+    requires range { AreDesignNets texts.now.nets.now }
+    requires known { AreRowsKnown rows.old }
+    ensures known { OnOk result (AreRowsKnown rows.new) }
+    ensures nets { OnOk result
+        (rows.new.netlist.nets ≡ rows.old.netlist.nets ++ bound_net (facts_of texts.now) net.now ∷ []) }
+{
+    start_net(rows)?;
+    bind_terms(texts, tables, rows, net.terms.as_slice())?;
+    Ok(())
+}
+
+/// Appends the net unless it is a supply. Returns the number of supplies: 1 or 0.
+fn bind_signal(
+    texts: &DesignTexts,
+    tables: &NameTables,
+    rows: &mut NetRows,
+    net: &DesignNet,
+) -> Result<usize, NetlistError>
+    requires tables { AreNamesOf (facts_of texts.now) tables.now }
+    requires range { AreDesignNets texts.now.nets.now }
+    requires known { AreRowsKnown rows.old }
+    ensures known { OnOk result (AreRowsKnown rows.new) }
+    ensures nets { OnOk result
+        (rows.new.netlist.nets ≡ rows.old.netlist.nets ++ bound_nets (facts_of texts.now) (net.now ∷ [])) }
+    ensures supplies { IfOk result (λ supplies. supplies ≡ count_by is_supply (net.now ∷ [])) }
+    ensures few { IfOk result (λ supplies. supplies ≤ 1) }
+{
+    if net.supply {
+        return Ok(1);
+    }
+    bind_net(texts, tables, rows, net)?;
+    Ok(0)
+}
+
+/// Appends the nets that are no supplies. Returns the number of supplies.
+fn bind_all(
+    texts: &DesignTexts,
+    tables: &NameTables,
+    rows: &mut NetRows,
+    nets: &[DesignNet],
+) -> Result<usize, NetlistError>
+    requires tables { AreNamesOf (facts_of texts.now) tables.now }
+    requires range { AreDesignNets texts.now.nets.now }
+    requires known { AreRowsKnown rows.old }
+    ensures nets { OnOk result
+        (rows.new.netlist.nets ≡ rows.old.netlist.nets ++ bound_nets (facts_of texts.now) nets.now) }
+    ensures supplies { IfOk result (λ supplies. supplies ≡ count_by is_supply nets.now) }
+{
+    let mut supplies = 0;
+    for net in nets {
+        let more = bind_signal(texts, tables, rows, net)?;
+        supplies += more;
+    }
+    Ok(supplies)
+}
+
+/// Binds the nets of a design that are no supplies to its cells.
+///
+/// A term of a net names a component or a pin of the design, and several entries may have one name.
+///
+/// - The first cell with the component's name counts. Without one, the first FIXED or COVER
+///   component counts.
+/// - Of macros and pins the first with their names count.
+/// - A pin is unknown if the texts have no such component, no such pin of its macro, no rectangle
+///   of that pin, or no such pin of the design.
+/// - A pin of the design without a placement is unplaced.
+///
+/// `Err(OutOfMemory)` if an allocation fails. `Err(TooMany)` if a netlist cannot hold all nets, pins
+/// or rows.
+pub fn bind_nets(alloc: Global, texts: &DesignTexts) -> Result<BoundNets, NetlistError>
+    requires { AreDesignNets texts.now.nets.now }
+    ensures nets { IfOk result (λ bound. bound.netlist.nets ≡ bound_nets (facts_of texts.now) texts.now.nets.now.nets) }
+    ensures supplies { IfOk result (λ bound. bound.supplies ≡ count_by is_supply texts.now.nets.now.nets) }
+{
+    let Ok(tables) = name_tables(alloc, texts) else {
+        return Err(NetlistError::OutOfMemory);
+    };
+    let Ok(mut rows) = no_rows(alloc) else {
+        return Err(NetlistError::OutOfMemory);
+    };
+    let supplies = bind_all(texts, &tables, &mut rows, texts.nets.nets.as_slice())?;
+    Ok(BoundNets {
+        netlist: netlist_of(rows),
+        supplies,
+    })
+}

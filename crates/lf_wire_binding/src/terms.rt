@@ -1,0 +1,267 @@
+//! The pins that the terms of nets denote.
+
+ghost use Rattle.std.specs.Prelude.{◌≡◌, ◌<◌, All, IfSome, Some, find, length, position, slice_get};
+ghost use Rattle.std.specs.Option.{option_copied};
+ghost use Rattle.lf_floorplan.specs.Boxes.{macro_of};
+ghost use Rattle.lf_def.specs.Ranges.{HasCoordinates, IsComponent, IsLocation};
+ghost use Rattle.lf_wire_length.specs.declared.pins.NetPin.TheVariants.{OfCell};
+ghost use Rattle.lf_wire_length.specs.Bounds.{IsOffsetPoint, IsPinInMacro};
+ghost use Rattle.lf_wire_length.specs.Stored.{pin_of_cell};
+ghost use Rattle.lf_wire_nets.specs.Ranges.{AreDesignNets, IsDesignPin};
+ghost use Rattle.lf_wire_binding.specs.Binding.{IsBoundPin, bound_pin, doubled_point, fixed_point, is_frame_macro_named, location_of, macro_of_cell};
+ghost use Rattle.lf_wire_binding.specs.Binding.{offset_in_component, offset_in_macro, pin_at_offset, pin_at_point, pin_of_component, pin_of_design, pin_of_fixed};
+ghost use Rattle.lf_wire_binding.specs.FirstNames.{FindsFirst};
+ghost use Rattle.lf_wire_binding.specs.Names.{AreNamesOf, is_cell_named, is_design_pin_named, is_fixed_named};
+ghost use Rattle.lf_wire_binding.specs.Ranges.{IsLefMacro};
+ghost use Rattle.lf_wire_binding.specs.Texts.{facts_of};
+
+use crate::first_names::FirstNames;
+use crate::names::{NameTables, entry_named};
+use crate::offsets::offset_in_macro;
+use crate::texts::DesignTexts;
+use lf_def::{Component, Location};
+use lf_floorplan::{Frame, Loaded, Macro, Place, mac_at};
+use lf_units::Point;
+use lf_wire_length::{HalfPoint, NetPin, PinOffset, point_of_cell_pin};
+use lf_wire_nets::{DesignPin, NetTerm};
+
+/// Returns the macro of the cell of this number.
+fn macro_of_cell(loaded: &Loaded, number: usize) -> &Macro
+    requires { number < length loaded.now.cells }
+    ensures is { result.now ≡ macro_of_cell loaded.now (slice_get loaded.now.cells number) }
+    ensures in_range { IsLefMacro result.now }
+{
+    let cell = loaded.cells.get(number).unwrap();
+    mac_at(&loaded.frame, cell.mac)
+}
+
+/// Returns the pin of the cell of this number.
+fn of_cell(number: u32, offset: &PinOffset) -> NetPin
+    requires number { number < 4000000 }
+    requires offset { IsPinInMacro offset.now }
+    ensures in_range { IsBoundPin result }
+    ensures is { result ≡ OfCell number offset.now }
+{
+    NetPin::OfCell(number, *offset)
+}
+
+/// Returns the number of a cell in 32 bits.
+fn narrow(loaded: &Loaded, number: usize) -> u32
+    requires { number < length loaded.now.cells }
+    ensures few { result < 4000000 }
+    ensures is { result ≡ number }
+{
+    let _ = &loaded.cells;
+    number as u32
+}
+
+/// Returns the pin of this name of the cell of this number.
+fn cell_pin(texts: &DesignTexts, tables: &NameTables, pin: &[u8], number: usize) -> NetPin
+    requires tables { AreNamesOf (facts_of texts.now) tables.now }
+    requires number { number < length texts.now.loaded.now.cells }
+    ensures in_range { IsBoundPin result }
+    ensures is { result ≡ pin_of_cell number (offset_in_macro (facts_of texts.now) pin.now
+        (macro_of_cell texts.now.loaded.now (slice_get texts.now.loaded.now.cells number))) }
+{
+    let mac = macro_of_cell(texts.loaded, number);
+    match offset_in_macro(texts, tables, pin, mac) {
+        Some(offset) => of_cell(narrow(texts.loaded, number), &offset),
+        None => NetPin::Unknown,
+    }
+}
+
+/// Returns the first macro of this name. `None` if there is no such macro.
+fn find_macro<'a>(frame: &'a Frame, name: &[u8]) -> Option<&'a Macro>
+    ensures { option_copied result ≡ find (is_frame_macro_named name.now) frame.now.macros }
+{
+    frame.macros.as_slice().iter().find(|mac| mac.name.is(name))
+}
+
+/// Returns the first macro of this name, in the range of LEF.
+fn macro_named<'a>(frame: &'a Frame, name: &[u8]) -> Option<&'a Macro>
+    ensures is { option_copied result ≡ find (is_frame_macro_named name.now) frame.now.macros }
+    ensures in_range { IfSome result (λ m. IsLefMacro m.now) }
+{
+    find_macro(frame, name)
+}
+
+/// Returns where the pin of this name is in the macro of a component. `None` if the texts have no
+/// rectangle of such a pin.
+fn offset_in_component(
+    texts: &DesignTexts,
+    tables: &NameTables,
+    pin: &[u8],
+    component: &Component,
+) -> Option<PinOffset>
+    requires { AreNamesOf (facts_of texts.now) tables.now }
+    ensures in_macro { IfSome result IsPinInMacro }
+    ensures is { result ≡ offset_in_component (facts_of texts.now) pin.now component.now }
+{
+    match macro_named(&texts.loaded.frame, component.macro_name()) {
+        Some(mac) => offset_in_macro(texts, tables, pin, mac),
+        None => None,
+    }
+}
+
+/// Returns the location of a component. `None` if it is unplaced.
+fn location_of(component: &Component) -> Option<Location>
+    requires { IsComponent component.now }
+    ensures in_range { IfSome result IsLocation }
+    ensures is { result ≡ location_of component.now }
+{
+    match component.placement() {
+        Some(placement) => placement.place,
+        None => None,
+    }
+}
+
+/// Returns the point of a pin of a component that no command moves.
+fn fixed_point(at: &Location, offset: &PinOffset) -> HalfPoint
+    requires at { IsLocation at.now }
+    requires offset { IsPinInMacro offset.now }
+    ensures in_range { IsOffsetPoint result }
+    ensures is { result ≡ fixed_point at.now offset.now }
+{
+    let place = Place::new(at.x, at.y, at.orient);
+    point_of_cell_pin(&place, offset)
+}
+
+/// Returns the pin of a component at this location.
+fn pin_at_offset(at: &Option<Location>, offset: &Option<PinOffset>) -> NetPin
+    requires at { IfSome at.now IsLocation }
+    requires offset { IfSome offset.now IsPinInMacro }
+    ensures in_range { IsBoundPin result }
+    ensures is { result ≡ pin_at_offset at.now offset.now }
+{
+    let Some(offset) = offset else {
+        return NetPin::Unknown;
+    };
+    match at {
+        Some(at) => NetPin::Fixed(fixed_point(at, offset)),
+        None => NetPin::Unplaced,
+    }
+}
+
+/// Returns the pin of this name of a FIXED or COVER component.
+fn fixed_pin(texts: &DesignTexts, tables: &NameTables, pin: &[u8], component: &Component) -> NetPin
+    requires tables { AreNamesOf (facts_of texts.now) tables.now }
+    requires component { IsComponent component.now }
+    ensures in_range { IsBoundPin result }
+    ensures is { result ≡ pin_of_fixed (facts_of texts.now) pin.now (Some component.now) }
+{
+    let at = location_of(component);
+    let offset = offset_in_component(texts, tables, pin, component);
+    pin_at_offset(&at, &offset)
+}
+
+/// Returns the first FIXED or COVER component of this name. `None` if there is no such component.
+fn fixed_component<'a, 't>(
+    components: &'a [Component<'t>],
+    names: &FirstNames,
+    name: &[u8],
+) -> Option<&'a Component<'t>>
+    requires range { All IsComponent components.now }
+    requires names { FindsFirst is_fixed_named components.now names.now }
+    ensures is { option_copied result ≡ find (is_fixed_named name.now) components.now }
+    ensures in_range { IfSome result (λ c. IsComponent c.now) }
+{
+    entry_named(components, names, name)
+}
+
+/// Returns the number of the first cell of this name. `None` if there is no such cell.
+fn cell_number(texts: &DesignTexts, tables: &NameTables, name: &[u8]) -> Option<usize>
+    requires { AreNamesOf (facts_of texts.now) tables.now }
+    ensures is { result ≡ position (is_cell_named name.now) texts.now.loaded.now.cells }
+    ensures within { IfSome result (λ number. number < length texts.now.loaded.now.cells) }
+{
+    tables.cells.find(name)
+}
+
+/// Returns the pin of the first FIXED or COVER component with these names.
+fn fixed_pin_named(texts: &DesignTexts, tables: &NameTables, name: &[u8], pin: &[u8]) -> NetPin
+    requires { AreNamesOf (facts_of texts.now) tables.now }
+    ensures in_range { IsBoundPin result }
+    ensures is { result ≡ pin_of_fixed (facts_of texts.now) pin.now
+        (find (is_fixed_named name.now) texts.now.document.now.components) }
+{
+    match fixed_component(texts.document.components.as_slice(), &tables.fixed, name) {
+        Some(component) => fixed_pin(texts, tables, pin, component),
+        None => NetPin::Unknown,
+    }
+}
+
+/// Returns the pin of a component with these names.
+fn component_pin(texts: &DesignTexts, tables: &NameTables, name: &[u8], pin: &[u8]) -> NetPin
+    requires { AreNamesOf (facts_of texts.now) tables.now }
+    ensures in_range { IsBoundPin result }
+    ensures is { result ≡ pin_of_component (facts_of texts.now) name.now pin.now
+        (position (is_cell_named name.now) texts.now.loaded.now.cells) }
+{
+    match cell_number(texts, tables, name) {
+        Some(number) => cell_pin(texts, tables, pin, number),
+        None => fixed_pin_named(texts, tables, name, pin),
+    }
+}
+
+/// Returns the point in half database units.
+fn doubled_point(point: &Point) -> HalfPoint
+    requires { HasCoordinates point.now }
+    ensures in_range { IsOffsetPoint result }
+    ensures is { result ≡ doubled_point point.now }
+{
+    let x = point.x + point.x;
+    let y = point.y + point.y;
+    HalfPoint { x, y }
+}
+
+/// Returns the pin of the design at the point of its first placement.
+fn point_pin(point: &Option<Point>) -> NetPin
+    requires { IfSome point.now (λ p. HasCoordinates p) }
+    ensures in_range { IsBoundPin result }
+    ensures is { result ≡ pin_at_point point.now }
+{
+    match point {
+        Some(point) => NetPin::Fixed(doubled_point(point)),
+        None => NetPin::Unplaced,
+    }
+}
+
+/// Returns the first pin of the design with this name. `None` if there is no such pin.
+fn design_pin_named<'a, 't>(
+    pins: &'a [DesignPin<'t>],
+    names: &FirstNames,
+    name: &[u8],
+) -> Option<&'a DesignPin<'t>>
+    requires range { All IsDesignPin pins.now }
+    requires names { FindsFirst is_design_pin_named pins.now names.now }
+    ensures is { option_copied result ≡ find (is_design_pin_named name.now) pins.now }
+    ensures in_range { IfSome result (λ p. IsDesignPin p.now) }
+{
+    entry_named(pins, names, name)
+}
+
+/// Returns the pin of the design with this name.
+fn design_pin(texts: &DesignTexts, tables: &NameTables, name: &[u8]) -> NetPin
+    requires tables { AreNamesOf (facts_of texts.now) tables.now }
+    requires range { AreDesignNets texts.now.nets.now }
+    ensures in_range { IsBoundPin result }
+    ensures is { result ≡ pin_of_design (find (is_design_pin_named name.now) texts.now.nets.now.pins) }
+{
+    match design_pin_named(texts.nets.pins.as_slice(), &tables.pins, name) {
+        Some(pin) => point_pin(&pin.point()),
+        None => NetPin::Unknown,
+    }
+}
+
+/// Returns the pin that a term of a net denotes.
+pub(crate) fn bound_pin(texts: &DesignTexts, tables: &NameTables, term: &NetTerm) -> NetPin
+    requires tables { AreNamesOf (facts_of texts.now) tables.now }
+    requires range { AreDesignNets texts.now.nets.now }
+    ensures in_range { IsBoundPin result }
+    ensures is { result ≡ bound_pin (facts_of texts.now) term.now }
+{
+    match term.component() {
+        Some(name) => component_pin(texts, tables, name, term.pin()),
+        None => design_pin(texts, tables, term.pin()),
+    }
+}
