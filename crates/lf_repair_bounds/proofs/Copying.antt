@@ -100,6 +100,19 @@ design_moved f h kept cells is = record {
 
 -- ---- frames
 
+-- a frame is a copy of its copy
+pub copies_back : (f g : Frame) → AreCopies f g → AreCopies g f
+copies_back f g twins = record {
+  site = sym twins.site;
+  pitch = sym twins.pitch;
+  rows = sym twins.rows;
+  teams = sym twins.teams;
+  obstacles = sym twins.obstacles;
+  macros = sym twins.macros;
+  header = sym twins.header;
+  limits = sym twins.limits;
+}
+
 pub sized_twin : (f g : Frame) (m : Macro) → AreCopies f g → IsSized f m → IsSized g m
 sized_twin f g m twins is = record {
   in_lef = is.in_lef;
@@ -109,7 +122,7 @@ sized_twin f g m twins is = record {
   high = rw twins.header is.high;
 }
 
-cell_twin : (f g : Frame) (c : LoadedCell) → AreCopies f g → IsCell f c → IsCell g c
+pub cell_twin : (f g : Frame) (c : LoadedCell) → AreCopies f g → IsCell f c → IsCell g c
 cell_twin f g c twins is = record {
   team_known = rw twins.teams is.team_known;
   mac_known = rw twins.macros is.mac_known;

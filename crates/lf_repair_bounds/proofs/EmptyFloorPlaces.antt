@@ -21,7 +21,7 @@ use Rattle.lf_placement.proofs.Keeping.{few_opening, sized_opening}
 use Rattle.lf_repair_bounds.specs.MinDisplacements.{query_alone}
 use Rattle.lf_repair_bounds.specs.EmptyFloors.{AreUnplaced, IsEmptyTable}
 use Rattle.lf_repair_bounds.specs.Copies.{AreCopies}
-use Rattle.lf_repair_bounds.proofs.Copying.{sized_twin}
+use Rattle.lf_repair_bounds.proofs.Copying.{copies_back, sized_twin}
 
 -- ---- the table
 
@@ -40,7 +40,7 @@ has_twin : (f g : Frame) (c : Cell) → AreCopies f g → HasSize g c → HasSiz
 has_twin f g c twins has = record {
   known = subst (λ (ms : List Macro). c.mac < length ms) twins.macros has.known;
   sized = subst (λ (m : Macro). IsSized f m) (ap (λ (ms : List Macro). macro_in ms) twins.macros)
-      (sized_twin g f (macro_of g c.mac) record { teams = sym twins.teams; limits = sym twins.limits; macros = sym twins.macros; header = sym twins.header } has.sized);
+      (sized_twin g f (macro_of g c.mac) (copies_back f g twins) has.sized);
 } where
   macro_in : List Macro → Macro
   macro_in ms = unwrap_or (slice_get ms c.mac) no_macro

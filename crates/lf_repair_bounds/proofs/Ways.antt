@@ -32,22 +32,22 @@ nearest_best c from best is = record {
   ahead a b (inl less) = omega (arith, less)
   ahead a b (inr both) = let same = both.0 in omega (arith, same)
 
-least_found : (f : Frame) (c : LoadedCell) (wanted_place : Place) (place : SpotPlace) → c.place ≡ Some wanted_place → IsChoice (query_alone f c) (corner wanted_place) (Some place)
-    → IsMinDisplacement f c (distance (corner wanted_place) place)
-least_found f c wanted_place place is best =
-    subst (λ (o : Option Place). MatchOption o ⊥ (λ h. IsNearestDisplacement (query_alone f c) (corner h) (distance (corner wanted_place) place))) (sym is)
-    (nearest_best (query_alone f c) (corner wanted_place) place best)
+least_found : (f : Frame) (c : LoadedCell) (loaded_place : Place) (place : SpotPlace) → c.place ≡ Some loaded_place → IsChoice (query_alone f c) (corner loaded_place) (Some place)
+    → IsMinDisplacement f c (distance (corner loaded_place) place)
+least_found f c loaded_place place is best =
+    subst (λ (o : Option Place). MatchOption o ⊥ (λ h. IsNearestDisplacement (query_alone f c) (corner h) (distance (corner loaded_place) place))) (sym is)
+    (nearest_best (query_alone f c) (corner loaded_place) place best)
 
-nowhere_found : (f : Frame) (c : LoadedCell) (wanted_place : Place) → c.place ≡ Some wanted_place → IsChoice (query_alone f c) (corner wanted_place) None → (way : ℕ) → IsMinDisplacement f c way → ⊥
-nowhere_found f c wanted_place placed nowhere way is =
-    let least : IsNearestDisplacement (query_alone f c) (corner wanted_place) way =
+nowhere_found : (f : Frame) (c : LoadedCell) (loaded_place : Place) → c.place ≡ Some loaded_place → IsChoice (query_alone f c) (corner loaded_place) None → (way : ℕ) → IsMinDisplacement f c way → ⊥
+nowhere_found f c loaded_place placed nowhere way is =
+    let least : IsNearestDisplacement (query_alone f c) (corner loaded_place) way =
     subst (λ (o : Option Place). MatchOption o ⊥ (λ h. IsNearestDisplacement (query_alone f c) (corner h) way)) placed is in
     nowhere least.place least.may_go
 
-pub way_found : (f : Frame) (c : LoadedCell) (wanted_place : Place) (found : Option Place) → c.place ≡ Some wanted_place → IsChoice (query_alone f c) (corner wanted_place) (option_map spot_of found)
-    → IsMinDisplacementOrNone f c (option_map (λ (place : Place). distance (corner wanted_place) (spot_of place)) found)
-way_found f c wanted_place (Some place) is choice = least_found f c wanted_place (spot_of place) is choice
-way_found f c wanted_place None is choice = nowhere_found f c wanted_place is choice
+pub way_found : (f : Frame) (c : LoadedCell) (loaded_place : Place) (found : Option Place) → c.place ≡ Some loaded_place → IsChoice (query_alone f c) (corner loaded_place) (option_map spot_of found)
+    → IsMinDisplacementOrNone f c (option_map (λ (place : Place). distance (corner loaded_place) (spot_of place)) found)
+way_found f c loaded_place (Some place) is choice = least_found f c loaded_place (spot_of place) is choice
+way_found f c loaded_place None is choice = nowhere_found f c loaded_place is choice
 
 pub unplaced_none : (f : Frame) (c : LoadedCell) → c.place ≡ None → (way : ℕ) → IsMinDisplacement f c way → ⊥
 unplaced_none f c none way is = subst (λ (o : Option Place). MatchOption o ⊥ (λ h. IsNearestDisplacement (query_alone f c) (corner h) way)) none is
@@ -57,13 +57,13 @@ none_apart z =
     let same : z -ℤ z ≡ pos 0 = omega (arith, ints) in
     ap unsigned_abs same
 
-no_way : (wanted_place : Place) → distance (corner wanted_place) (spot_of wanted_place) ≡ 0
-no_way wanted_place = omega (arith, none_apart wanted_place.x, none_apart wanted_place.y)
+no_way : (loaded_place : Place) → distance (corner loaded_place) (spot_of loaded_place) ≡ 0
+no_way loaded_place = omega (arith, none_apart loaded_place.x, none_apart loaded_place.y)
 
-pub least_stays : (f : Frame) (c : LoadedCell) (wanted_place : Place) → c.place ≡ Some wanted_place → IsAllowedPlace (query_alone f c) (spot_of wanted_place) → IsMinDisplacement f c 0
-least_stays f c wanted_place is may =
+pub least_stays : (f : Frame) (c : LoadedCell) (loaded_place : Place) → c.place ≡ Some loaded_place → IsAllowedPlace (query_alone f c) (spot_of loaded_place) → IsMinDisplacement f c 0
+least_stays f c loaded_place is may =
     subst (λ (o : Option Place). MatchOption o ⊥ (λ h. IsNearestDisplacement (query_alone f c) (corner h) 0)) (sym is)
-    record { place = spot_of wanted_place; may_go = may; is = no_way wanted_place; nearest = λ p goes. omega arith }
+    record { place = spot_of loaded_place; may_go = may; is = no_way loaded_place; nearest = λ p goes. omega arith }
 
 -- a cell has one least displacement
 no_longer : (f : Frame) (c : LoadedCell) (a b : ℕ) → IsMinDisplacement f c a → IsMinDisplacement f c b → b ≤ a
@@ -214,10 +214,10 @@ take_more {X} (y ∷ ys) (suc k) x e =
 -- ---- the place of a cell
 
 -- a cell that breaks no rule is allowed at its place, if there are no soft blockages
-pub may_stay : (f : Frame) (c : LoadedCell) (wanted_place : Place) → length f.soft ≡ 0 → IsFrameRuleVerdict (candidate_of f c.team 0 (macro_of f c.mac) wanted_place []) None
-    → IsAllowedPlace (query_alone f c) (spot_of wanted_place)
-may_stay f c wanted_place none keeps = record {
-  legal = (legal_by_parts (candidate_at (query_alone f c) (spot_of wanted_place))).1 (keeps, λ i d within. absurd (omega (arith, within)));
+pub may_stay : (f : Frame) (c : LoadedCell) (loaded_place : Place) → length f.soft ≡ 0 → IsFrameRuleVerdict (candidate_of f c.team 0 (macro_of f c.mac) loaded_place []) None
+    → IsAllowedPlace (query_alone f c) (spot_of loaded_place)
+may_stay f c loaded_place none keeps = record {
+  legal = (legal_by_parts (candidate_at (query_alone f c) (spot_of loaded_place))).1 (keeps, λ i d within. absurd (omega (arith, within)));
   off_soft = λ does_overlap. let within = does_overlap.2 in absurd (omega (arith, within, none));
 }
 

@@ -38,7 +38,7 @@ pub record IsNearestDisplacement (c : PlacementQuery) (from : Point) (way : ℕ)
 -- that is allowed for it alone
 abbrev pub IsMinDisplacement : Frame → LoadedCell → ℕ → Type 0
 IsMinDisplacement f c way =
-    MatchOption c.place ⊥ (λ wanted_place. IsNearestDisplacement (query_alone f c) (corner wanted_place) way)
+    MatchOption c.place ⊥ (λ loaded_place. IsNearestDisplacement (query_alone f c) (corner loaded_place) way)
 
 -- the cell's least displacement, or None if it is unplaced or no place is allowed for it
 abbrev pub IsMinDisplacementOrNone : Frame → LoadedCell → Option ℕ → Type 0
@@ -59,9 +59,9 @@ AreMaxMinDisplacements f cells list = (team largest : ℕ) → slice_get list te
 -- far
 abbrev pub IsDisplacedAsFar : Frame → LoadedCell → ℕ → Type 0
 IsDisplacedAsFar f c way =
-    MatchOption c.place ⊥ (λ wanted_place. (padding : ℕ) (others : List Placed) (p : SpotPlace)
+    MatchOption c.place ⊥ (λ loaded_place. (padding : ℕ) (others : List Placed) (p : SpotPlace)
     → IsAllowedPlace (query_beside f c padding others) p
-    → way ≤ distance (corner wanted_place) p)
+    → way ≤ distance (corner loaded_place) p)
 
 -- one of the team's cells moves at least as far as the largest of the least displacements, wherever
 -- all of them move

@@ -1,13 +1,13 @@
 //! A floor without cells, which can be searched for a cell of any team and macro of a design.
 
-ghost use Rattle.std.specs.Prelude.{◌≡◌, ◌≢◌, All, IfOk, IfSome, None, OnOk, Some, option_map};
+ghost use Rattle.std.specs.Prelude.{◌≡◌, ◌≢◌, All, IfOk, IfSome, None, OnOk, Some, length, option_map};
 ghost use Rattle.lf_floorplan.specs.Design.{MakeDesign};
 ghost use Rattle.lf_floorplan.specs.LoadedCells.{borrowed_cell, with_name};
 ghost use Rattle.lf_cells.specs.Cells.{cell_at};
 ghost use Rattle.lf_repair_bounds.specs.Copies.{AreCopies};
 ghost use Rattle.lf_repair_bounds.specs.EmptyFloors.{AreUnplaced, IsEmptyTable, IsKeptOr, unplaced_cell_at};
 
-use crate::frame_copy::clone_frame;
+use crate::frame_copy::{clone_frame, frame_without_soft};
 use lf_cells::{CellId, CellTable};
 use lf_floorplan::{CellRef, Frame, Loaded, LoadedCells, PackedPlace, UnnamedCell};
 use lf_frame_index::FrameIndex;
@@ -153,6 +153,18 @@ fn no_firsts(alloc: Global, teams: usize) -> Result<Firsts, AllocError> {
         firsts.push(Vec::new(alloc))?;
     }
     Ok(firsts)
+}
+
+/// A design of a copy of the frame without soft blockages, and of the first cells of all macros and
+/// teams.
+pub(crate) fn hard_design(alloc: Global, loaded: &Loaded) -> Result<Loaded, AllocError>
+    ensures copies { IfOk result (λ hard. AreCopies loaded.now.frame hard.frame) }
+    ensures none { IfOk result (λ hard. length hard.frame.soft ≡ 0) }
+{
+    let mut firsts = no_firsts(alloc, loaded.frame.teams.len() + 1)?;
+    let cells = first_cells(alloc, loaded, &mut firsts)?;
+    let frame = frame_without_soft(alloc, &loaded.frame)?;
+    Ok(Loaded { frame, cells })
 }
 
 /// The floor of the design's frame without cells.

@@ -1,6 +1,7 @@
 //! Copies of frames.
 
-ghost use Rattle.std.specs.Prelude.{◌≡◌, IfOk};
+ghost use Rattle.std.specs.Prelude.{◌≡◌, [], All, IfOk};
+ghost use Rattle.lf_floorplan.specs.Bounds.{IsDefRect};
 ghost use Rattle.lf_repair_bounds.specs.Copies.{AreCopies};
 
 use lf_floorplan::{Frame, Header, Macro, Row, Site, Team};
@@ -105,11 +106,11 @@ fn copy_header(alloc: Global, header: &Header) -> Result<Header, AllocError>
     })
 }
 
-/// A copy of the frame.
-///
-/// `Err` if an allocation fails.
-pub fn clone_frame(alloc: Global, frame: &Frame) -> Result<Frame, AllocError>
-    ensures { IfOk result (λ copy. AreCopies frame.now copy) }
+/// A copy of the frame with a copy of these soft blockages.
+fn copy_with_soft(alloc: Global, frame: &Frame, soft: &[Rect]) -> Result<Frame, AllocError>
+    requires { All IsDefRect soft.now }
+    ensures copies { IfOk result (λ copy. AreCopies frame.now copy) }
+    ensures soft { IfOk result (λ copy. copy.soft ≡ soft.now) }
 {
     Ok(Frame {
         site: copy_site(alloc, &frame.site)?,
@@ -117,9 +118,26 @@ pub fn clone_frame(alloc: Global, frame: &Frame) -> Result<Frame, AllocError>
         rows: copy_rows(alloc, frame.rows.as_slice())?,
         teams: copy_fences(alloc, frame.teams.as_slice())?,
         obstacles: copy_rects(alloc, frame.obstacles.as_slice())?,
-        soft: copy_rects(alloc, frame.soft.as_slice())?,
+        soft: copy_rects(alloc, soft)?,
         macros: copy_macros(alloc, frame.macros.as_slice())?,
         header: copy_header(alloc, &frame.header)?,
         limits: frame.limits,
     })
+}
+
+/// A copy of the frame.
+///
+/// `Err` if an allocation fails.
+pub fn clone_frame(alloc: Global, frame: &Frame) -> Result<Frame, AllocError>
+    ensures { IfOk result (λ copy. AreCopies frame.now copy) }
+{
+    copy_with_soft(alloc, frame, frame.soft.as_slice())
+}
+
+/// A copy of the frame without soft blockages. `Err` if an allocation fails.
+pub(crate) fn frame_without_soft(alloc: Global, frame: &Frame) -> Result<Frame, AllocError>
+    ensures copies { IfOk result (λ copy. AreCopies frame.now copy) }
+    ensures none { IfOk result (λ copy. copy.soft ≡ []) }
+{
+    copy_with_soft(alloc, frame, &[])
 }

@@ -6,10 +6,14 @@
 //! moves at least as far as the largest of their least displacements. So no legalizer has a smaller
 //! largest displacement.
 //!
-//! The search runs on a floor without cells (`EmptyFloor`), with the search for best places. The
+//! A macro is *impossible* in a team if no place is legal for a cell of it, even if no other cell
+//! is on the floor. A design with such a cell cannot be legal. `impossible_macros` lists them, each
+//! with the reason (`ImpossibleReason`).
+//!
+//! The searches run on a floor without cells (`EmptyFloor`), with the search for best places. The
 //! crate also copies frames (`clone_frame`).
 //!
-//! Used by `lf_task_files`.
+//! Used by `lf_repair_team`, `lf_repair_report`, `lf_task_files` and `lf_task_repair`.
 //!
 //! Modules, in reading order:
 //!
@@ -17,22 +21,28 @@
 //! - `empty_floor`: a floor without cells
 //! - `nearest_place`: the nearest place of a cell alone
 //! - `min_displacement`: least displacements, and the largest of each team
+//! - `reasons`: why no place can hold a macro
+//! - `impossible`: the macros that no place can hold
 //! - `laws`: what the numbers mean for any repair
 //!
 //! From `crates/lf_task_files/src/measured.rt`:
 //!
 //! ```
-//! let least = max_min_displacements(alloc, &loaded)?;
-//! let floor = start_floor(alloc, loaded)?;
+//! let least = max_min_displacements(alloc, loaded)?;
+//! let impossible = impossible_macros(alloc, loaded)?;
 //! ```
 #![tactic(auto)]
 
 mod empty_floor;
 mod frame_copy;
+mod impossible;
 mod laws;
 mod min_displacement;
 mod nearest_place;
+mod reasons;
 
 pub use frame_copy::clone_frame;
+pub use impossible::{impossible_macros, is_listed};
 pub use laws::no_repair_does_better;
 pub use min_displacement::max_min_displacements;
+pub use reasons::{ImpossibleMacro, ImpossibleReason};

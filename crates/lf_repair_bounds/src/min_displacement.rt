@@ -30,11 +30,11 @@ fn displacement(from: &Place, to: &Place) -> u64
 }
 
 /// The distance to the place that was found. `None` if no place was found.
-fn displacement_to(wanted_place: &Place, found: &Option<Place>) -> Option<u64>
-    ensures { result ≡ option_map (λ place. distance (corner_of wanted_place.now) (spot_of place)) found.now }
+fn displacement_to(loaded_place: &Place, found: &Option<Place>) -> Option<u64>
+    ensures { result ≡ option_map (λ place. distance (corner_of loaded_place.now) (spot_of place)) found.now }
 {
     match found {
-        Some(place) => Some(displacement(wanted_place, place)),
+        Some(place) => Some(displacement(loaded_place, place)),
         None => None,
     }
 }
@@ -43,17 +43,17 @@ fn displacement_to(wanted_place: &Place, found: &Option<Place>) -> Option<u64>
 fn min_displacement_from(
     alloc: Global,
     lone: &LoneCell<'_>,
-    wanted_place: &Place,
+    loaded_place: &Place,
 ) -> Result<Option<u64>, AllocError>
-    requires { lone.now.cell.now.place ≡ Some wanted_place.now }
+    requires { lone.now.cell.now.place ≡ Some loaded_place.now }
     ensures { IfOk result (IsMinDisplacementOrNone lone.now.frame.now (borrowed_cell lone.now.cell.now)) }
 {
-    if is_legal_alone(lone, wanted_place) {
+    if is_legal_alone(lone, loaded_place) {
         return Ok(Some(0));
     }
-    let from = corner(wanted_place);
+    let from = corner(loaded_place);
     let found = nearest(alloc, lone, &from)?;
-    Ok(displacement_to(wanted_place, &found))
+    Ok(displacement_to(loaded_place, &found))
 }
 
 /// The cell's least displacement. `None` if it is unplaced, or no place is allowed for it.
@@ -61,7 +61,7 @@ fn min_displacement(alloc: Global, lone: &LoneCell<'_>) -> Result<Option<u64>, A
     ensures { IfOk result (IsMinDisplacementOrNone lone.now.frame.now (borrowed_cell lone.now.cell.now)) }
 {
     match lone.cell.place {
-        Some(wanted_place) => min_displacement_from(alloc, lone, &wanted_place),
+        Some(loaded_place) => min_displacement_from(alloc, lone, &loaded_place),
         None => Ok(None),
     }
 }

@@ -82,14 +82,14 @@ fn has_no_soft(frame: &Frame) -> bool
 }
 
 /// Whether the cell alone breaks no rule at this place.
-fn keeps_rules(lone: &LoneCell<'_>, wanted_place: &Place) -> bool
+fn keeps_rules(lone: &LoneCell<'_>, loaded_place: &Place) -> bool
     ensures { IsTrue result → IsFrameRuleVerdict (candidate_of lone.now.frame.now lone.now.cell.now.team 0
-        (macro_of lone.now.frame.now lone.now.cell.now.mac) wanted_place.now []) None }
+        (macro_of lone.now.frame.now lone.now.cell.now.mac) loaded_place.now []) None }
 {
     let bare = lone.bare;
     let plan = IndexedFrame::new(lone.frame, bare.occupancy.index());
     let mac = mac_at(lone.frame, lone.cell.mac);
-    match broken_frame_rule(&plan, lone.cell.team, mac, wanted_place) {
+    match broken_frame_rule(&plan, lone.cell.team, mac, loaded_place) {
         Some(_) => false,
         None => true,
     }
@@ -97,12 +97,12 @@ fn keeps_rules(lone: &LoneCell<'_>, wanted_place: &Place) -> bool
 
 /// Whether the cell is allowed alone at this place, on a frame without soft blockages. Returns
 /// false without a test if there are soft blockages.
-pub(crate) fn is_legal_alone(lone: &LoneCell<'_>, wanted_place: &Place) -> bool
+pub(crate) fn is_legal_alone(lone: &LoneCell<'_>, loaded_place: &Place) -> bool
     ensures { IsTrue result
-        → IsAllowedPlace (query_alone lone.now.frame.now (borrowed_cell lone.now.cell.now)) (spot_of wanted_place.now) }
+        → IsAllowedPlace (query_alone lone.now.frame.now (borrowed_cell lone.now.cell.now)) (spot_of loaded_place.now) }
 {
     if !has_no_soft(lone.frame) {
         return false;
     }
-    keeps_rules(lone, wanted_place)
+    keeps_rules(lone, loaded_place)
 }

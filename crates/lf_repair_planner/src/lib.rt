@@ -3,8 +3,8 @@
 //! A plan has no floor. It is given the free spans of the team's rows in sites, and the cells of
 //! one row's height with their targets. It has a place or `None` for each cell, so that no two
 //! cells overlap. One cell after the other is inserted where the total displacement of all grows
-//! least, and its neighbors make room. No contract says how good a plan is: a floor tests each
-//! place that is requested of it.
+//! least, and its neighbors make room. At the end cells of equal width exchange places. No contract
+//! says how good a plan is: a floor tests each place that is requested of it.
 //!
 //! Used by `lf_repair_strategy`.
 //!
@@ -16,6 +16,7 @@
 //! - `search`: the gap that costs least
 //! - `order`: the order in which cells are placed
 //! - `passes`: the first places of all cells, and passes that improve them
+//! - `swaps`: exchanges of two cells' places
 //! - `scored_plan`: a plan by one order of the cells, and its cost
 //! - `plan`: the best of the plans tried
 //!
@@ -36,6 +37,7 @@ mod plan_state;
 mod scored_plan;
 mod search;
 mod search_limits;
+mod swaps;
 
 pub use free_rows::{FreeRows, FreeSpan, PlannerRow, RowKind, RowKinds};
 pub use plan::{PlanOptions, PlannedSite, PlannerCell, plan_cells};

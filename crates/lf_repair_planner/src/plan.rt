@@ -176,10 +176,10 @@ fn better(first: ScoredPlan, second: ScoredPlan) -> Vec<Option<PlannedSite>>
 }
 
 /// Plans a place for each cell: all in turn, then passes, then rounds over the cells with the
-/// longest displacements. That may leave a cell without a place or move one far. Then, if
-/// `two_orders` is set, it plans again with the widest cells first, and returns the better plan. A
-/// cell without a spot found no room. Each cell that has one lies within its span there, and two
-/// cells of one span lie apart. `Err` if an allocation fails.
+/// longest displacements, then exchanges of two cells. That may leave a cell without a place or
+/// move one far. Then, if `two_orders` is set, it plans again with the widest cells first, and
+/// returns the better plan. A cell without a spot found no room. Each cell that has one lies within
+/// its span there, and two cells of one span lie apart. `Err` if an allocation fails.
 pub fn plan_cells(
     alloc: Global,
     land: &FreeRows,

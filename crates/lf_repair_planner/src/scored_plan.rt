@@ -7,6 +7,7 @@ use crate::passes::{PlanCost, PlannerInput, cost_of_plan, long_displacement, pas
 use crate::plan::{PlanOptions, PlannedSite, spots_of};
 use crate::plan_state::PlanState;
 use crate::search_limits::SearchLimits;
+use crate::swaps::swap_cells;
 use lf_repair_packing::CostCurve;
 use std::alloc::{AllocError, Global};
 
@@ -27,7 +28,8 @@ pub(crate) fn initial_limits(height: u32) -> SearchLimits {
     }
 }
 
-/// Makes passes over all cells, and then rounds over those with the longest displacements.
+/// Makes passes over all cells, and rounds over those with the longest displacements. Then it lets
+/// cells exchange their places.
 fn improve(
     alloc: Global,
     given: &PlannerInput,
@@ -50,6 +52,7 @@ fn improve(
     for _ in 0..steps.rounds {
         pass(given, order, long, &last, board, &mut curve)?;
     }
+    swap_cells(given, order, &last, board);
     Ok(())
 }
 

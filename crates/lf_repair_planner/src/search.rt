@@ -40,12 +40,12 @@ struct SpanCandidate {
 
 /// The number limited to the range of 32 bits: 0 if it is less, the greatest number if it is
 /// greater.
-fn clipped(number: i64) -> u32 {
+pub(crate) fn clipped(number: i64) -> u32 {
     number.clamp(0, 4_294_967_295) as u32
 }
 
 /// The number of the site nearest to an x.
-fn site_at(sites: &FreeSpan, x: i32) -> i64 {
+pub(crate) fn site_at(sites: &FreeSpan, x: i32) -> i64 {
     let pitch = sites.pitch();
     (x as i64 - sites.first as i64 + pitch / 2).div_euclid(pitch)
 }

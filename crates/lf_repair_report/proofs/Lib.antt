@@ -1,1 +1,2 @@
 mod NoFloat
+mod ReasonLemmas

@@ -1,14 +1,17 @@
 -- The report of a repair: a line of JSON for each team, and one for all. Lengths are in database
 -- units.
-use Rattle.std.specs.Prelude.{◌≡◌, ◌==◌, ◌+◌, ◌-◌, ◌/◌, ◌^◌, ℕ, Bool, true, if◌then◌else◌, List, [], ◌∷◌, ◌++◌, All, Option, Some, None, codes, flat_map, length, map, max, min, slice_get, option_and_then}
+use Rattle.std.specs.Prelude.{◌≡◌, ◌==◌, ◌+◌, ◌-◌, ◌/◌, ◌^◌, ℕ, Bool, if◌then◌else◌, List, [], ◌∷◌, ◌++◌, Option, Some, None, codes, find, flat_map, length, map, max, min, slice_get, option_and_then, option_map}
 use Rattle.std.specs.Option.{option_map_or}
-use Rattle.serde_json.specs.Data.{Data, array, boolean, member, no_members, object}
+use Rattle.serde_json.specs.Data.{Data, Members, array, boolean, member, no_members, null, object, put, string}
 use Rattle.serde_json.specs.View.{items_of}
 use Rattle.lf_describe.specs.Description.{count_data as whole_number, line_text as text_of_line, text_data as name_data}
-use Rattle.lf_floorplan.specs.declared.frame.Frame.{Frame}
 use Rattle.lf_floor_model.specs.States.{FloorState}
 use Rattle.lf_floor_model.specs.Teams.{state_of, team_number}
 use Rattle.lf_floor_model.specs.Outcomes.{name_at}
+use Rattle.lf_repair_bounds.specs.declared.reasons.ImpossibleMacro.{ImpossibleMacro}
+use Rattle.lf_repair_bounds.specs.declared.reasons.ImpossibleReason.{ImpossibleReason}
+use Rattle.lf_repair_bounds.specs.declared.reasons.ImpossibleReason.TheVariants.{Ground, Height, Orientation, Width}
+use Rattle.lf_repair_bounds.specs.ImpossibleMacros.{is_of_macro}
 use Rattle.lf_repair_strategy.specs.declared.stats.RepairStats.{RepairStats}
 use Rattle.lf_repair_report.specs.declared.totals.Totals.{Totals}
 use Rattle.lf_repair_report.specs.declared.report.RepairReport.{RepairReport}
@@ -39,13 +42,41 @@ cell_names floor team owns = flat_map (λ own. name_of_cell floor team own) owns
 abbrev pub mean_displacement : ℕ → ℕ → ℕ
 mean_displacement total moved = if moved == 0 then 0 else total / moved
 
+-- ---- reasons
+
+-- why no place can hold a cell, in words
+abbrev pub impossible_words : ImpossibleReason → List ℕ
+impossible_words Height = codes "not 1 to 8 rows high"
+impossible_words Orientation = codes "no row allows its orientations and rail"
+impossible_words Width = codes "wider than every segment"
+impossible_words Ground = codes "no ground of its team holds it"
+
+-- the reason in words; null without one
+abbrev pub reason_data : Option ImpossibleReason → Data
+reason_data None = null
+reason_data (Some reason) = string (impossible_words reason)
+
+-- the reason of the first entry of the macro in the team, if the list has one
+abbrev pub listed_reason : List ImpossibleMacro → ℕ → ℕ → Option ImpossibleReason
+listed_reason list number mac = option_map (λ m. m.reason) (find (is_of_macro number mac) list)
+
+-- why no place can hold the team's cell at this position; none if its macro is not listed
+abbrev pub reason_of_cell : List ImpossibleMacro → FloorState → List ℕ → ℕ → Option ImpossibleReason
+reason_of_cell list floor team own = option_and_then (λ number.
+    option_and_then (λ s. option_and_then (λ c. listed_reason list number c.mac) (slice_get s.cells own))
+    (state_of floor team)) (team_number floor.frame team)
+
+-- the same of the team's cells at these positions
+abbrev pub cell_reasons : List ImpossibleMacro → FloorState → List ℕ → List ℕ → List (Option ImpossibleReason)
+cell_reasons list floor team owns = map (reason_of_cell list floor team) owns
+
 -- ---- a team
 
--- the JSON of a team: its name, the names of the unrepaired cells, the width of the widest gap near
--- each, the largest of the least displacements of its cells, and the statistics of its repair
-abbrev pub team_data : Data → Data → Data → ℕ → RepairStats → Data
-team_data name left gaps least r =
-    object (member (codes "cells") (report_number r.cells)
+-- the members of a team: its name, the names of the unrepaired cells, the width of the widest gap
+-- near each, the largest of the least displacements of its cells, and the statistics of its repair
+abbrev pub team_members : Data → Data → Data → ℕ → RepairStats → Members
+team_members name left gaps least r =
+    member (codes "cells") (report_number r.cells)
     (member (codes "gaps") gaps
     (member (codes "kept") (report_number r.kept)
     (member (codes "largest") (report_number r.max_displacement)
@@ -57,7 +88,12 @@ team_data name left gaps least r =
     (member (codes "pushed") (report_number r.displaced_legal)
     (member (codes "team") name
     (member (codes "total") (report_number r.total_displacement)
-    (member (codes "turned") (report_number r.turned) no_members)))))))))))))
+    (member (codes "turned") (report_number r.turned) no_members))))))))))))
+
+-- the JSON of a team: these members, and why no place can hold each of the unrepaired cells
+abbrev pub team_data : Data → Data → Data → Data → ℕ → RepairStats → Data
+team_data name left gaps impossible least r =
+    object (put (codes "impossible") impossible (team_members name left gaps least r))
 
 -- the names, and the numbers, in their order
 abbrev pub names_data : List (List ℕ) → Data
@@ -66,20 +102,34 @@ names_data names = array (items_of (map report_text_value names))
 abbrev pub counts_data : List ℕ → Data
 counts_data counts = array (items_of (map report_number counts))
 
--- the line of a team whose unrepaired cells have these names and gaps
-abbrev pub team_line : List ℕ → List (List ℕ) → List ℕ → ℕ → RepairStats → List ℕ
-team_line name left gaps least r =
-    report_line_text (team_data (report_text_value name) (names_data left) (counts_data gaps) least r)
+abbrev pub reasons_data : List (Option ImpossibleReason) → Data
+reasons_data reasons = array (items_of (map reason_data reasons))
+
+-- the unrepaired cells of a team: their names, the gaps near them, and why no place can hold them
+pub record UnrepairedCells : Type 0 where
+  pub names : List (List ℕ)
+  pub gaps : List ℕ
+  pub reasons : List (Option ImpossibleReason)
+
+-- the line of a team with these unrepaired cells
+abbrev pub team_line : List ℕ → UnrepairedCells → ℕ → RepairStats → List ℕ
+team_line name left least r = report_line_text (team_data (report_text_value name) (names_data left.names)
+    (counts_data left.gaps) (reasons_data left.reasons) least r)
 
 -- the number for this team; 0 if there is no number for it
 abbrev pub least_for : List ℕ → Option ℕ → ℕ
 least_for least number = option_map_or (λ n. option_map_or (λ way. way) (slice_get least n) 0) number 0
 
+-- the members of the team on this floor, without the reasons
+abbrev pub HasTeamMembers : FloorState → List ℕ → RepairStats → ℕ → Data → Type 0
+HasTeamMembers floor team r least line = (gaps : List ℕ) × (line ≡ object (team_members (report_text_value team)
+    (names_data (cell_names floor team r.unrepaired.items)) (counts_data gaps) least r))
+
 -- the JSON of the team on this floor
-abbrev pub IsTeamData : FloorState → List ℕ → RepairStats → ℕ → Data → Type 0
-IsTeamData floor team r least line =
+abbrev pub IsTeamData : FloorState → List ℕ → List ImpossibleMacro → RepairStats → ℕ → Data → Type 0
+IsTeamData floor team list r least line =
     (gaps : List ℕ) × (line ≡ team_data (report_text_value team) (names_data (cell_names floor team r.unrepaired.items))
-    (counts_data gaps) least r)
+    (counts_data gaps) (reasons_data (cell_reasons list floor team r.unrepaired.items)) least r)
 
 -- ---- all teams
 
@@ -141,10 +191,20 @@ all_line s legal = report_line_text (all_data s legal)
 
 -- ---- the lines
 
+-- these are the team's unrepaired cells on this floor, with gaps near them
+abbrev pub unrepaired_with : List ImpossibleMacro → FloorState → List ℕ → List ℕ → List ℕ → UnrepairedCells
+unrepaired_with list floor team owns gaps = record {
+  names = cell_names floor team owns;
+  gaps = gaps;
+  reasons = cell_reasons list floor team owns;
+}
+
 -- the line of one more team is appended, given the result of its repair on this floor
 pub record IsOneMore (floor : FloorState) (team : List ℕ) (r : RepairStats) (old new : RepairReport) : Type 0 where
   pub gaps : List ℕ
-  pub text : new.text.items ≡ old.text.items ++ team_line team (cell_names floor team r.unrepaired.items) gaps
+  pub text : new.text.items ≡ old.text.items
+      ++ team_line team (unrepaired_with old.impossible.items floor team r.unrepaired.items gaps)
       (least_for old.least.items (team_number floor.frame team)) r
   pub sums : new.sums ≡ totals_with_team old.sums r (least_for old.least.items (team_number floor.frame team))
   pub least : new.least ≡ old.least
+  pub impossible : new.impossible ≡ old.impossible

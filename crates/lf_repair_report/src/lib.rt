@@ -2,13 +2,15 @@
 //!
 //! Each line is compact JSON; `docs/PROTOCOL.md` has the keys. The text so far is exactly the lines
 //! of the teams that were added (`team_line`). The last line is that of their sums (`all_line`).
-//! `least_largest` of a line is the number for that team with which the report was created.
+//! `least_largest` of a line is the number for that team with which the report was created, and
+//! `impossible` has the reasons of the list with which it was created.
 //!
 //! Used by `lf_task_repair`.
 //!
 //! Modules, in reading order:
 //!
 //! - `gaps`: the widest free gap near each unrepaired cell
+//! - `reasons`: why no place can hold an unrepaired cell
 //! - `totals`: sums over the teams of a repair
 //! - `json`: the lines as JSON
 //! - `report`: the report so far
@@ -23,6 +25,7 @@
 
 mod gaps;
 mod json;
+mod reasons;
 mod report;
 mod totals;
 

@@ -3,14 +3,16 @@
 ghost use Rattle.std.specs.Prelude.{◌≡◌, ◌++◌, [], IfOk, OnOk, false};
 ghost use Rattle.serde_json.specs.View.{view};
 ghost use Rattle.serde_json.specs.Written.{has_float};
-ghost use Rattle.lf_repair_report.specs.RepairReports.{IsOneMore, IsTeamData, all_line, least_for, report_line_text, no_sums};
+ghost use Rattle.lf_repair_report.specs.RepairReports.{HasTeamMembers, IsOneMore, IsTeamData, all_line, least_for, no_sums, report_line_text};
 
 use crate::gaps::gaps_near;
-use crate::json::{all_value, array_value, count_values, name_values, team_value};
+use crate::json::{all_value, array_value, count_values, name_values, team_value, with_impossible};
+use crate::reasons::reason_values;
 use crate::totals::{Totals, none, with_one};
 use lf_describe::name_value;
 use lf_floor::Floor;
 use lf_legalize::Seeker;
+use lf_repair_bounds::ImpossibleMacro;
 use lf_repair_strategy::RepairStats;
 use serde_json::Value;
 use std::alloc::{AllocError, Global};
@@ -25,6 +27,8 @@ pub struct RepairReport {
     /// For each team of the frame, the ground team last, the largest of the least displacements of
     /// its cells. It is from the start of the repair, in database units.
     pub least: Vec<u64>,
+    /// The macros whose cells no place can hold, with the reasons.
+    pub impossible: Vec<ImpossibleMacro>,
 }
 
 /// The number for this team. 0 if there is no number for it.
@@ -51,16 +55,16 @@ fn push_line(alloc: Global, text: &mut Vec<u8>, value: &Value) -> Result<(), All
     Ok(())
 }
 
-/// The line of a team, given the result of its repair on the floor and the largest of the least
-/// displacements of its cells.
-fn line_of<S: Seeker + Drop>(
+/// The line of a team without the reasons, given the result of its repair on the floor and the
+/// largest of the least displacements of its cells.
+fn members_of<S: Seeker + Drop>(
     alloc: Global,
     floor: &Floor<S>,
     team: &[u8],
     repaired: &RepairStats,
     least: u64,
 ) -> Result<Value, AllocError>
-    ensures { IfOk result (λ v. IsTeamData floor.now team.now repaired.now least (view v)) }
+    ensures { IfOk result (λ v. HasTeamMembers floor.now team.now repaired.now least (view v)) }
 {
     let found = gaps_near(alloc, floor, team, &repaired.unrepaired)?;
     let gaps = array_value(count_values(alloc, &found)?);
@@ -69,18 +73,42 @@ fn line_of<S: Seeker + Drop>(
     team_value(alloc, name, left, gaps, least, repaired)
 }
 
+/// The line of a team, given the result of its repair on the floor and the largest of the least
+/// displacements of its cells.
+fn line_of<S: Seeker + Drop>(
+    alloc: Global,
+    floor: &Floor<S>,
+    team: &[u8],
+    list: &[ImpossibleMacro],
+    repaired: &RepairStats,
+    least: u64,
+) -> Result<Value, AllocError>
+    ensures { IfOk result (λ v. IsTeamData floor.now team.now list.now repaired.now least (view v)) }
+{
+    let members = members_of(alloc, floor, team, repaired, least)?;
+    let reasons = reason_values(alloc, floor, team, list, &repaired.unrepaired)?;
+    with_impossible(alloc, members, array_value(reasons))
+}
+
 impl RepairReport {
     /// A report without lines. `least` has the largest of the least displacements of each team's
-    /// cells. `Err` if an allocation fails.
-    pub fn new(alloc: Global, least: &[u64]) -> Result<RepairReport, AllocError>
+    /// cells, and `impossible` the macros whose cells no place can hold. `Err` if an allocation
+    /// fails.
+    pub fn new(
+        alloc: Global,
+        least: &[u64],
+        impossible: &[ImpossibleMacro],
+    ) -> Result<RepairReport, AllocError>
         ensures text { IfOk result (λ report. report.text.items ≡ []) }
         ensures sums { IfOk result (λ report. report.sums ≡ no_sums) }
         ensures least { IfOk result (λ report. report.least.items ≡ least.now) }
+        ensures impossible { IfOk result (λ report. report.impossible.items ≡ impossible.now) }
     {
         Ok(RepairReport {
             text: Vec::new(alloc),
             sums: none(),
             least: Vec::from_slice(alloc, least)?,
+            impossible: Vec::from_slice(alloc, impossible)?,
         })
     }
 
@@ -96,7 +124,8 @@ impl RepairReport {
         ensures { OnOk result (IsOneMore floor.now team.now repaired.now self.old self.new) }
     {
         let least = least_at(&self.least, floor.team_number(team));
-        let line = line_of(alloc, floor, team, repaired, least)?;
+        let list = self.impossible.as_slice();
+        let line = line_of(alloc, floor, team, list, repaired, least)?;
         push_line(alloc, &mut self.text, &line)?;
         self.sums = with_one(&self.sums, repaired, least);
         Ok(())

@@ -1,3 +1,3 @@
-mod WantedPlaces
+mod Targets
 pub mod Ids
 pub mod Lists

@@ -1,1 +1,1 @@
-pub mod WantedPlaces
+pub mod Targets

@@ -17,6 +17,7 @@
 //! - `edit`: an edit of a cell
 //! - `pass`: a team at the start of its repair
 //! - `free_space`: the free sites of a team
+//! - `ordered_moves`: moves in an order in which few cells are unplaced
 //! - `rounds`: the edits of each phase of a pass
 //! - `local_pass`: passes that also free legal cells
 //! - `gaps`: the widest free run of sites near a cell
@@ -35,6 +36,7 @@ mod edit;
 mod free_space;
 mod gaps;
 mod local_pass;
+mod ordered_moves;
 mod pass;
 mod rounds;
 mod stats;

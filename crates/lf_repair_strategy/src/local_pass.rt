@@ -3,7 +3,7 @@
 
 use crate::edit::{CellEdit, Edit};
 use crate::free_space::coordinate;
-use crate::pass::{Pass, RepairInput, is_tall, working_places};
+use crate::pass::{Pass, RepairInput, copied, is_tall, working_places};
 use crate::rounds::width_of;
 use lf_cells::CellId;
 use lf_floorplan::{Frame, Place, same_place};
@@ -147,12 +147,13 @@ fn note_cell(
     Ok(())
 }
 
-/// The problem cells of the team with this number, whose cells have these original places.
+/// The problem cells of the team with this number, given its first pass. Cells that no place can
+/// hold are none.
 fn problem_cells(
     alloc: Global,
     placement: &Placement,
     number: usize,
-    wanted_places: &[Option<Place>],
+    first: &Pass,
     bounds: &Bounds,
 ) -> Result<ProblemCells, AllocError> {
     let mut need = ProblemCells {
@@ -164,9 +165,11 @@ fn problem_cells(
         .cells()
         .cells_of(number)
         .iter()
-        .zip(wanted_places.iter())
+        .zip(first.targets.iter())
     {
-        note_cell(placement, *id, *wanted_place, bounds, &mut need)?;
+        if !first.is_impossible(id.own as usize) {
+            note_cell(placement, *id, *wanted_place, bounds, &mut need)?;
+        }
     }
     Ok(need)
 }
@@ -310,7 +313,7 @@ fn locked_cells(
         .cells()
         .cells_of(number)
         .iter()
-        .zip(start.pass.wanted_places.iter().zip(start.legal.iter()))
+        .zip(start.pass.targets.iter().zip(start.legal.iter()))
     {
         let wanted = point_of(frame, *id, *wanted_place, bounds);
         marks.push(is_locked(placement, *id, *legal, &wanted, near))?;
@@ -336,14 +339,14 @@ fn all_wanted(
     alloc: Global,
     placement: &Placement,
     number: usize,
-    wanted_places: &[Option<Place>],
+    targets: &[Option<Place>],
 ) -> Result<Vec<Option<Place>>, AllocError> {
-    let mut wanted = Vec::with_capacity(alloc, wanted_places.len())?;
+    let mut wanted = Vec::with_capacity(alloc, targets.len())?;
     for (id, wanted_place) in placement
         .cells()
         .cells_of(number)
         .iter()
-        .zip(wanted_places.iter())
+        .zip(targets.iter())
     {
         wanted.push(Some(target_place(placement, *id, *wanted_place)))?;
     }
@@ -378,13 +381,7 @@ pub fn plan_local_pass(
     reach: &Neighborhood,
 ) -> Result<Option<LocalPass>, AllocError> {
     let bounds = bounds_of(placement, number);
-    let need = problem_cells(
-        alloc,
-        placement,
-        number,
-        start.pass.wanted_places.as_slice(),
-        &bounds,
-    )?;
+    let need = problem_cells(alloc, placement, number, &start.pass, &bounds)?;
     if has_no_work(&need, reach) {
         return Ok(None);
     }
@@ -393,17 +390,13 @@ pub fn plan_local_pass(
     if !frees_legal(start.legal.as_slice(), marks.as_slice()) {
         return Ok(None);
     }
-    let wanted_places = all_wanted(
-        alloc,
-        placement,
-        number,
-        start.pass.wanted_places.as_slice(),
-    )?;
+    let targets = all_wanted(alloc, placement, number, start.pass.targets.as_slice())?;
     let before = working_places(alloc, placement, number)?;
     Ok(Some(LocalPass {
         pass: Pass {
             locked: marks,
-            wanted_places,
+            impossible: copied(alloc, start.pass.impossible.as_slice())?,
+            targets,
         },
         before,
         left: need.left,
@@ -430,13 +423,7 @@ pub fn undo_edits(
 ) -> Result<Vec<CellEdit>, AllocError> {
     let mut cell_edits = Vec::new(alloc);
     let bounds = bounds_of(placement, number);
-    let need = problem_cells(
-        alloc,
-        placement,
-        number,
-        start.pass.wanted_places.as_slice(),
-        &bounds,
-    )?;
+    let need = problem_cells(alloc, placement, number, &start.pass, &bounds)?;
     if is_better(&need, local_plan) {
         return Ok(cell_edits);
     }

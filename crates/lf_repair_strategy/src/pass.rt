@@ -2,7 +2,7 @@
 
 ghost use Rattle.std.specs.Prelude.{◌≡◌, IfOk};
 ghost use Rattle.lf_cells.specs.Cells.{cells_of};
-ghost use Rattle.lf_repair_strategy.specs.WantedPlaces.{AreWorkingPlaces};
+ghost use Rattle.lf_repair_strategy.specs.Targets.{AreWorkingPlaces};
 ghost use Rattle.lf_repair_strategy.specs.declared.pass.MovePolicy.TheVariants.{KeepLegal};
 
 use lf_cells::CellId;
@@ -22,13 +22,25 @@ pub enum MovePolicy {
     MoveAll,
 }
 
-/// One pass over a team. `locked` says whether each cell is locked, and `wanted_places` has its
-/// target place. In the first pass this is the cell's original place, or `None` if it had none.
-/// Both lists are indexed by the cell's position in loading order.
+/// One pass over a team. `locked` says whether each cell is locked, `impossible` whether no place
+/// can hold it, and `targets` has its target place. In the first pass this is the cell's original
+/// place, or `None` if it had none. The lists are indexed by the cell's position in loading order.
+/// A cell that is locked or that no place can hold does not move.
 #[derive(Drop)]
 pub struct Pass {
     pub locked: Vec<bool>,
-    pub wanted_places: Vec<Option<Place>>,
+    pub impossible: Vec<bool>,
+    pub targets: Vec<Option<Place>>,
+}
+
+impl Pass {
+    /// Whether no place can hold the cell at position `own`.
+    pub(crate) fn is_impossible(&self, own: usize) -> bool {
+        match self.impossible.get(own) {
+            Some(flag) => *flag,
+            None => false,
+        }
+    }
 }
 
 /// A team at the start of its repair: the cells that may move, whether each cell is legal, and the
@@ -52,8 +64,8 @@ pub(crate) fn is_tall(placement: &Placement, id: CellId) -> bool {
     }
 }
 
-/// A copy of the locks.
-fn copied(alloc: Global, marks: &[bool]) -> Result<Vec<bool>, AllocError>
+/// A copy of the flags.
+pub(crate) fn copied(alloc: Global, marks: &[bool]) -> Result<Vec<bool>, AllocError>
     ensures { IfOk result (λ copy. copy.items ≡ marks.now) }
 {
     let mut copy = Vec::new(alloc);
@@ -102,11 +114,11 @@ pub fn working_places(
     number: usize,
 ) -> Result<Vec<Option<Place>>, AllocError>
     ensures { IfOk result
-        (λ wanted_places. AreWorkingPlaces (cells_of placement.now.cells number) wanted_places.items) }
+        (λ targets. AreWorkingPlaces (cells_of placement.now.cells number) targets.items) }
 {
-    let mut wanted_places = Vec::new(alloc);
+    let mut targets = Vec::new(alloc);
     for id in placement.cells().cells_of(number) {
-        wanted_places.push(placement.cells().working(*id))?;
+        targets.push(placement.cells().working(*id))?;
     }
-    Ok(wanted_places)
+    Ok(targets)
 }

@@ -4,11 +4,12 @@ use crate::edit::{CellEdit, Edit};
 use crate::free_space::{
     Area, BlockedSpan, PaddedTeam, coordinate, free_rows_beside, take_area, take_soft,
 };
+use crate::ordered_moves::{Bands, Move, MoveList, with_moves};
 use crate::pass::Pass;
 use lf_cells::CellId;
 use lf_floorplan::{Frame, Macro, Place};
 use lf_legalize::anchor;
-use lf_orient::{Orient, equal_under, is_candidate};
+use lf_orient::{Orient, equal_under, is_candidate, row_rail};
 use lf_placement::Placement;
 use lf_repair_planner::{
     FreeRows, PlanOptions, PlannedSite, PlannerCell, RowKind, RowKinds, plan_cells,
@@ -29,11 +30,12 @@ fn steps_of(placement: &Placement, team: usize, loose: usize) -> PlanOptions {
 /// The phases of a pass.
 #[derive(Clone, Copy)]
 pub enum Phase {
-    /// Unplaces each cell that may move.
-    UnplaceMovable,
+    /// Unplaces each cell that may move, if one of these covers several rows.
+    UnplaceForTall,
     /// Moves those that cover several rows to their best places, the largest area first.
     PlaceTall,
-    /// Places those of one row as planned, row by row from left to right.
+    /// Moves those of one row to their planned places, row by row from left to right. A cell that
+    /// blocks another one moves first. Those without a planned place are unplaced.
     PlacePlanned,
     /// Moves those that are still unplaced to their best places, the largest area first.
     PlaceRemaining,
@@ -67,13 +69,15 @@ pub(crate) fn width_of(placement: &Placement, id: CellId) -> i64 {
     }
 }
 
-/// The cell as one that may move. `None` if it is locked, or there is no such cell.
+/// The cell as one that may move. `None` if it is locked, if no place can hold it, or if there is no
+/// such cell.
 fn movable_cell<'a>(placement: &'a Placement, pass: &Pass, id: CellId) -> Option<MovableCell<'a>> {
     let frame = placement.frame();
-    if *pass.locked.get(id.own as usize)? {
+    let own = id.own as usize;
+    if *pass.locked.get(own)? || pass.is_impossible(own) {
         return None;
     }
-    let wanted_place = *pass.wanted_places.get(id.own as usize)?;
+    let wanted_place = *pass.targets.get(own)?;
     let facts = placement.cells().cell(id)?;
     let mac = frame.macros.as_slice().get(facts.mac)?;
     Some(MovableCell {
@@ -140,13 +144,29 @@ fn best_places(alloc: Global, keys: &mut Vec<Key>) -> Result<Vec<CellEdit>, Allo
     Ok(cell_edits)
 }
 
-/// Edits that unplace all cells that may move.
-fn unplace_movable(
+/// Whether a cell that may move covers several rows.
+fn may_move_tall(placement: &Placement, number: usize, pass: &Pass) -> bool {
+    let high = placement.frame().pitch.y;
+    for id in placement.cells().cells_of(number) {
+        if let Some(cell) = movable_cell(placement, pass, *id) {
+            if high < cell.height {
+                return true;
+            }
+        }
+    }
+    false
+}
+
+/// Edits that unplace all cells that may move. No edits if none of these covers several rows.
+fn unplace_for_tall(
     alloc: Global,
     placement: &Placement,
     number: usize,
     pass: &Pass,
 ) -> Result<Vec<CellEdit>, AllocError> {
+    if !may_move_tall(placement, number, pass) {
+        return Ok(Vec::new(alloc));
+    }
     let mut cell_edits = Vec::with_capacity(alloc, movable_count(pass))?;
     for id in placement.cells().cells_of(number) {
         if let Some(cell) = movable_cell(placement, pass, *id) {
@@ -199,16 +219,29 @@ fn legalize_unplaced(
     best_places(alloc, &mut keys)
 }
 
-/// The spans of rows that the team's placed cells or soft blockages cover.
+/// Whether the entry of the cell at position `own` is true.
+fn is_loose(loose: &[bool], own: u32) -> bool {
+    match loose.get(own as usize) {
+        Some(is_loose) => *is_loose,
+        None => false,
+    }
+}
+
+/// The spans of rows that soft blockages or the team's placed cells cover. Cells whose entry in
+/// `loose` is true are skipped.
 fn blocked_spans(
     alloc: Global,
     placement: &Placement,
     owner: &PaddedTeam,
+    loose: &[bool],
 ) -> Result<Vec<BlockedSpan>, AllocError> {
     let plan = placement.indexed_frame();
     let frame = placement.frame();
     let mut taken = Vec::new(alloc);
     for id in placement.cells().cells_of(owner.team) {
+        if is_loose(loose, id.own) {
+            continue;
+        }
         let (Some(place), Some(facts)) = (
             placement.cells().working(*id),
             placement.cells().cell(*id),
@@ -230,7 +263,17 @@ pub(crate) fn free_rows(
     placement: &Placement,
     owner: &PaddedTeam,
 ) -> Result<FreeRows, AllocError> {
-    let mut taken = blocked_spans(alloc, placement, owner)?;
+    free_rows_without(alloc, placement, owner, &[])
+}
+
+/// The free sites of the team if the cells whose entry in `loose` is true were unplaced.
+fn free_rows_without(
+    alloc: Global,
+    placement: &Placement,
+    owner: &PaddedTeam,
+    loose: &[bool],
+) -> Result<FreeRows, AllocError> {
+    let mut taken = blocked_spans(alloc, placement, owner, loose)?;
     free_rows_beside(
         alloc,
         &placement.indexed_frame(),
@@ -398,36 +441,129 @@ fn all_planned_cells(
     planned_cells(alloc, owns.as_slice(), spots.as_slice())
 }
 
-/// Edits that place the cells of one row's height that may move as planned.
-fn place_by_plan(
+/// Whether each cell may move and covers one row.
+fn loose_cells(
+    alloc: Global,
+    placement: &Placement,
+    number: usize,
+    pass: &Pass,
+) -> Result<Vec<bool>, AllocError> {
+    let high = placement.frame().pitch.y;
+    let cells = placement.cells().cells_of(number);
+    let mut marks = Vec::with_capacity(alloc, cells.len())?;
+    for id in cells {
+        marks.push(match movable_cell(placement, pass, *id) {
+            Some(cell) => cell.height <= high,
+            None => false,
+        })?;
+    }
+    Ok(marks)
+}
+
+/// The working place of a cell. `None` if it has none, or lies on its side there.
+fn upright_place(placement: &Placement, id: CellId) -> Option<Place> {
+    let place = placement.cells().working(id)?;
+    row_rail(place.orient)?;
+    Some(place)
+}
+
+/// The move of a cell to its planned site. `None` if the cell breaks a rule there.
+fn planned_move(
+    placement: &Placement,
+    team: usize,
+    pass: &Pass,
+    land: &FreeRows,
+    stop: &PlannedCell,
+) -> Option<Move> {
+    let id = placement.cells().cell_of(team, stop.own as usize)?;
+    let cell = movable_cell(placement, pass, id)?;
+    let to = place_at(placement.frame(), land, stop, &cell)?;
+    if placement.broken_frame_rule(id, &to).is_some() {
+        return None;
+    }
+    Some(Move {
+        own: stop.own,
+        width: cell.width.clamp(0, 4_294_967_295) as u32,
+        from: upright_place(placement, id),
+        to,
+    })
+}
+
+/// The bands of rows in which cells of the team are moved.
+fn bands_of(frame: &Frame, owner: &PaddedTeam, land: &FreeRows) -> Bands {
+    Bands {
+        origin: match land.rows.first() {
+            Some(row) => row.y as i64,
+            None => 0,
+        },
+        height: frame.pitch.y,
+        pad: owner.pad,
+    }
+}
+
+/// Clears the entry of a cell that moves from its place.
+fn clear_moved(loose: &mut [bool], one: &Move) {
+    if let Some(is_loose) = loose.get_mut(one.own as usize) {
+        *is_loose = one.from.is_none();
+    }
+}
+
+/// The moves of the cells whose entry is true to their planned sites, row by row from left to
+/// right. Clears the entries of those that move from their places.
+fn planned_moves(
     alloc: Global,
     placement: &Placement,
     owner: &PaddedTeam,
     pass: &Pass,
-) -> Result<Vec<CellEdit>, AllocError> {
-    let frame = placement.frame();
-    let land = free_rows(alloc, placement, owner)?;
+    loose: &mut Vec<bool>,
+) -> Result<MoveList, AllocError> {
+    let land = free_rows_without(alloc, placement, owner, loose.as_slice())?;
     let stops = all_planned_cells(alloc, placement, owner, pass, &land)?;
-    let mut cell_edits = Vec::with_capacity(alloc, stops.len())?;
+    let bands = bands_of(placement.frame(), owner, &land);
+    let mut list = MoveList::with_capacity(alloc, bands, stops.len())?;
     for stop in &stops {
-        let Some(id) = placement.cells().cell_of(owner.team, stop.own as usize) else {
-            continue;
-        };
-        let Some(cell) = movable_cell(placement, pass, id) else {
-            continue;
-        };
-        if let Some(place) = place_at(frame, &land, stop, &cell) {
+        if let Some(one) = planned_move(placement, owner.team, pass, &land, stop) {
+            clear_moved(loose.as_mut_slice(), &one);
+            list.push(&one)?;
+        }
+    }
+    Ok(list)
+}
+
+/// Edits that unplace the cells whose entry is true.
+fn unplace_loose(
+    alloc: Global,
+    placement: &Placement,
+    number: usize,
+    loose: &[bool],
+) -> Result<Vec<CellEdit>, AllocError> {
+    let mut cell_edits = Vec::new(alloc);
+    for id in placement.cells().cells_of(number) {
+        if is_loose(loose, id.own) && placement.cells().working(*id).is_some() {
             cell_edits.push(CellEdit {
-                own: stop.own,
-                step: Edit::Place(place),
+                own: id.own,
+                step: Edit::Unplace,
             })?;
         }
     }
     Ok(cell_edits)
 }
 
-/// The edits of a phase for the cells of the team. Locked cells have no edits. `Err` if an
-/// allocation fails.
+/// Edits that move the cells of one row's height that may move as planned.
+fn place_by_plan(
+    alloc: Global,
+    placement: &Placement,
+    owner: &PaddedTeam,
+    pass: &Pass,
+) -> Result<Vec<CellEdit>, AllocError> {
+    let mut loose = loose_cells(alloc, placement, owner.team, pass)?;
+    let list = planned_moves(alloc, placement, owner, pass, &mut loose)?;
+    let unplaced = unplace_loose(alloc, placement, owner.team, loose.as_slice())?;
+    with_moves(alloc, unplaced.as_slice(), list)
+}
+
+/// The edits of a phase for the cells of the team. Locked cells, and those that no place can hold,
+/// have no edits. `Err` if an allocation fails.
 pub fn edits_for(
     alloc: Global,
     placement: &Placement,
@@ -436,7 +572,7 @@ pub fn edits_for(
     phase: Phase,
 ) -> Result<Vec<CellEdit>, AllocError> {
     match phase {
-        Phase::UnplaceMovable => unplace_movable(alloc, placement, owner.team, pass),
+        Phase::UnplaceForTall => unplace_for_tall(alloc, placement, owner.team, pass),
         Phase::PlaceTall => legalize_tall(alloc, placement, owner.team, pass),
         Phase::PlacePlanned => place_by_plan(alloc, placement, owner, pass),
         Phase::PlaceRemaining => legalize_unplaced(alloc, placement, owner.team, pass),

@@ -15,7 +15,7 @@ use Rattle.lf_legalize.specs.Members.{member_of}
 use Rattle.lf_floor_model.specs.States.{FloorState, TeamState}
 use Rattle.lf_floor_model.specs.Teams.{state_of, team_number}
 use Rattle.lf_floor_model.proofs.LegalPlaces.{some_one}
-use Rattle.lf_repair_strategy.specs.WantedPlaces.{AreWorkingPlaces, target_at}
+use Rattle.lf_repair_strategy.specs.Targets.{AreWorkingPlaces, target_at}
 use Rattle.lf_repair_team.specs.CellEdits.{AreAtTargetsExcept, HaveLeftTargets, IsLegalOrListed, HoldsOrIsListed, KeepsPlaces, TeamHasLeftTargets, TeamIsAtTargetsExcept}
 use Rattle.lf_repair_team.specs.TeamRepairs.{AllListedMove, AreLegalExcept, IsIllegalIn, IsLegalIn, OnlyListedMove, team_cell_names, place_of_cell_in}
 use Rattle.lf_repair_team.proofs.Legal.{legal_is_reported, state_there, reported_legal}
@@ -24,39 +24,39 @@ use Rattle.lf_repair_team.proofs.Steps.{place_of_state}
 
 -- ---- cells whose place changed
 
--- the cell at this position has its place in `wanted_places`
+-- the cell at this position has its place in `targets`
 abbrev pub IsAtTarget : List Cell → List (Option Place) → ℕ → Type 0
-IsAtTarget cells wanted_places own = working_at cells own ≡ target_at wanted_places own
+IsAtTarget cells targets own = working_at cells own ≡ target_at targets own
 
-pub changed_at : (cells : List Cell) (wanted_places : List (Option Place)) (number k : ℕ) (id : CellId) (now wanted_place : Option Place) (old new : List ℕ) → id ≡ id_of number k
-    → now ≡ working_at cells k → wanted_place ≡ target_at wanted_places id.own → AreNamedTo (IsAtTarget cells wanted_places) k old
-    → HoldsOrIsListed (now ≡ wanted_place) (now ≡ wanted_place → ⊥) id.own old new → AreNamedTo (IsAtTarget cells wanted_places) (k + 1) new
-changed_at cells wanted_places number k id now wanted_place old new is now_k wanted_place_is so_far named =
-    one_more_named (IsAtTarget cells wanted_places) (now ≡ wanted_place → ⊥) k old new so_far (at_k (subst (λ (i : CellId). HoldsOrIsListed (now ≡ wanted_place) (now ≡ wanted_place → ⊥) i.own old new) is named)) where
-      wanted_place_k : wanted_place ≡ target_at wanted_places k
-      wanted_place_k = wanted_place_is ∙ ap (λ (i : CellId). target_at wanted_places i.own) is
+pub changed_at : (cells : List Cell) (targets : List (Option Place)) (number k : ℕ) (id : CellId) (now wanted_place : Option Place) (old new : List ℕ) → id ≡ id_of number k
+    → now ≡ working_at cells k → wanted_place ≡ target_at targets id.own → AreNamedTo (IsAtTarget cells targets) k old
+    → HoldsOrIsListed (now ≡ wanted_place) (now ≡ wanted_place → ⊥) id.own old new → AreNamedTo (IsAtTarget cells targets) (k + 1) new
+changed_at cells targets number k id now wanted_place old new is now_k wanted_place_is so_far named =
+    one_more_named (IsAtTarget cells targets) (now ≡ wanted_place → ⊥) k old new so_far (at_k (subst (λ (i : CellId). HoldsOrIsListed (now ≡ wanted_place) (now ≡ wanted_place → ⊥) i.own old new) is named)) where
+      wanted_place_k : wanted_place ≡ target_at targets k
+      wanted_place_k = wanted_place_is ∙ ap (λ (i : CellId). target_at targets i.own) is
 
-      at_k : HoldsOrIsListed (now ≡ wanted_place) (now ≡ wanted_place → ⊥) k old new → HoldsOrIsListed (IsAtTarget cells wanted_places k) (now ≡ wanted_place → ⊥) k old new
+      at_k : HoldsOrIsListed (now ≡ wanted_place) (now ≡ wanted_place → ⊥) k old new → HoldsOrIsListed (IsAtTarget cells targets k) (now ≡ wanted_place → ⊥) k old new
       at_k (inl (same, alike)) = inl (same, sym now_k ∙ alike ∙ wanted_place_k)
       at_k (inr more) = inr more
 
-pub moved_at : (cells : List Cell) (wanted_places : List (Option Place)) (number k : ℕ) (id : CellId) (now wanted_place : Option Place) (old new : List ℕ) → id ≡ id_of number k
-    → now ≡ working_at cells k → wanted_place ≡ target_at wanted_places id.own → HaveLeftTargets cells wanted_places old
-    → HoldsOrIsListed (now ≡ wanted_place) (now ≡ wanted_place → ⊥) id.own old new → HaveLeftTargets cells wanted_places new
-moved_at cells wanted_places number k id now wanted_place old new is now_k wanted_place_is so_far named =
-    one_more_not (λ own. working_at cells own ≢ target_at wanted_places own) (now ≡ wanted_place) (now ≡ wanted_place → ⊥) k old new
-    (λ apart e. apart (now_k ∙ e ∙ sym (wanted_place_is ∙ ap (λ (i : CellId). target_at wanted_places i.own) is))) so_far
+pub moved_at : (cells : List Cell) (targets : List (Option Place)) (number k : ℕ) (id : CellId) (now wanted_place : Option Place) (old new : List ℕ) → id ≡ id_of number k
+    → now ≡ working_at cells k → wanted_place ≡ target_at targets id.own → HaveLeftTargets cells targets old
+    → HoldsOrIsListed (now ≡ wanted_place) (now ≡ wanted_place → ⊥) id.own old new → HaveLeftTargets cells targets new
+moved_at cells targets number k id now wanted_place old new is now_k wanted_place_is so_far named =
+    one_more_not (λ own. working_at cells own ≢ target_at targets own) (now ≡ wanted_place) (now ≡ wanted_place → ⊥) k old new
+    (λ apart e. apart (now_k ∙ e ∙ sym (wanted_place_is ∙ ap (λ (i : CellId). target_at targets i.own) is))) so_far
     (subst (λ (i : CellId). HoldsOrIsListed (now ≡ wanted_place) (now ≡ wanted_place → ⊥) i.own old new) is named)
 
-pub all_changed : (cells : List Cell) (wanted_places : List (Option Place)) (count : ℕ) (changed : List ℕ) → length cells ≤ count
-    → AreNamedTo (IsAtTarget cells wanted_places) count changed → AreAtTargetsExcept cells wanted_places changed
-all_changed cells wanted_places count changed many to own within = to own (omega (arith, within, many))
+pub all_changed : (cells : List Cell) (targets : List (Option Place)) (count : ℕ) (changed : List ℕ) → length cells ≤ count
+    → AreNamedTo (IsAtTarget cells targets) count changed → AreAtTargetsExcept cells targets changed
+all_changed cells targets count changed many to own within = to own (omega (arith, within, many))
 
 -- the same for a team
-pub wanted_place_but : (team : List ℕ) (floor : FloorState) (number : ℕ) (wanted_places : List (Option Place)) (changed : List ℕ) → team_number floor.frame team ≡ Some number
-    → ((s : TeamState) → slice_get floor.teams number ≡ Some s → AreAtTargetsExcept s.cells wanted_places changed) → TeamIsAtTargetsExcept team wanted_places floor changed
-wanted_place_but team floor number wanted_places changed named but names are own within = go (state_of floor team) refl where
-  go : (o : Option TeamState) → state_of floor team ≡ o → (place_of_cell_in floor team own ≡ target_at wanted_places own) ⊎ Contains changed own
+pub wanted_place_but : (team : List ℕ) (floor : FloorState) (number : ℕ) (targets : List (Option Place)) (changed : List ℕ) → team_number floor.frame team ≡ Some number
+    → ((s : TeamState) → slice_get floor.teams number ≡ Some s → AreAtTargetsExcept s.cells targets changed) → TeamIsAtTargetsExcept team targets floor changed
+wanted_place_but team floor number targets changed named but names are own within = go (state_of floor team) refl where
+  go : (o : Option TeamState) → state_of floor team ≡ o → (place_of_cell_in floor team own ≡ target_at targets own) ⊎ Contains changed own
   go None none = absurd (none_names (sym (ap (λ (o : Option TeamState). option_map (λ (s : TeamState). map (λ (c : Cell). c.name) s.cells) o) none) ∙ are)) where
     none_names : None ≡ Some names → ⊥
     none_names e = cc
@@ -67,22 +67,22 @@ wanted_place_but team floor number wanted_places changed named but names are own
     many : own < length s.cells
     many = omega (arith, within, sym (length-map s.cells (λ (c : Cell). c.name)) ∙ ap (λ (ns : List (List ℕ)). length ns) same)
 
-    placed : (working_at s.cells own ≡ target_at wanted_places own) ⊎ Contains changed own → (place_of_cell_in floor team own ≡ target_at wanted_places own) ⊎ Contains changed own
+    placed : (working_at s.cells own ≡ target_at targets own) ⊎ Contains changed own → (place_of_cell_in floor team own ≡ target_at targets own) ⊎ Contains changed own
     placed (inl wanted_place) = inl (place_of_state floor team own s there ∙ wanted_place)
     placed (inr in_list) = inr in_list
 
-pub wanted_place_through : (team : List ℕ) (wanted_places : List (Option Place)) (old new : FloorState) (changed : List ℕ) → team_cell_names new team ≡ team_cell_names old team → KeepsPlaces team old new
-    → TeamIsAtTargetsExcept team wanted_places old changed → TeamIsAtTargetsExcept team wanted_places new changed
-wanted_place_through team wanted_places old new changed same stay but names are own within = go (but names (sym same ∙ are) own within) where
-  go : (place_of_cell_in old team own ≡ target_at wanted_places own) ⊎ Contains changed own → (place_of_cell_in new team own ≡ target_at wanted_places own) ⊎ Contains changed own
+pub wanted_place_through : (team : List ℕ) (targets : List (Option Place)) (old new : FloorState) (changed : List ℕ) → team_cell_names new team ≡ team_cell_names old team → KeepsPlaces team old new
+    → TeamIsAtTargetsExcept team targets old changed → TeamIsAtTargetsExcept team targets new changed
+wanted_place_through team targets old new changed same stay but names are own within = go (but names (sym same ∙ are) own within) where
+  go : (place_of_cell_in old team own ≡ target_at targets own) ⊎ Contains changed own → (place_of_cell_in new team own ≡ target_at targets own) ⊎ Contains changed own
   go (inl wanted_place) = inl (stay own ∙ wanted_place)
   go (inr in_list) = inr in_list
 
 -- the listed cells are at other places
-pub elsewhere : (team : List ℕ) (floor : FloorState) (number : ℕ) (wanted_places : List (Option Place)) (changed : List ℕ) → team_number floor.frame team ≡ Some number
-    → ((s : TeamState) → slice_get floor.teams number ≡ Some s → HaveLeftTargets s.cells wanted_places changed) → TeamHasLeftTargets team wanted_places floor changed
-elsewhere team floor number wanted_places changed named all s there =
-    All-weaker (λ own. working_at s.cells own ≢ target_at wanted_places own) (λ own. place_of_cell_in floor team own ≢ target_at wanted_places own)
+pub elsewhere : (team : List ℕ) (floor : FloorState) (number : ℕ) (targets : List (Option Place)) (changed : List ℕ) → team_number floor.frame team ≡ Some number
+    → ((s : TeamState) → slice_get floor.teams number ≡ Some s → HaveLeftTargets s.cells targets changed) → TeamHasLeftTargets team targets floor changed
+elsewhere team floor number targets changed named all s there =
+    All-weaker (λ own. working_at s.cells own ≢ target_at targets own) (λ own. place_of_cell_in floor team own ≢ target_at targets own)
     (λ own apart e. apart (sym (place_of_state floor team own s there) ∙ e)) changed (all s (state_there floor team number s named there))
 
 -- a team with the same cells exists on both floors
@@ -98,26 +98,26 @@ team_was team old new t same there = go (state_of old team) refl where
     none_names : None ≡ Some (map (λ (c : Cell). c.name) t.cells) → ⊥
     none_names e = cc
 
-pub elsewhere_through : (team : List ℕ) (wanted_places : List (Option Place)) (old new : FloorState) (changed : List ℕ) → team_cell_names new team ≡ team_cell_names old team → KeepsPlaces team old new
-    → TeamHasLeftTargets team wanted_places old changed → TeamHasLeftTargets team wanted_places new changed
-elsewhere_through team wanted_places old new changed same stay all t there =
+pub elsewhere_through : (team : List ℕ) (targets : List (Option Place)) (old new : FloorState) (changed : List ℕ) → team_cell_names new team ≡ team_cell_names old team → KeepsPlaces team old new
+    → TeamHasLeftTargets team targets old changed → TeamHasLeftTargets team targets new changed
+elsewhere_through team targets old new changed same stay all t there =
     let was = team_was team old new t same there in
-    All-weaker (λ own. place_of_cell_in old team own ≢ target_at wanted_places own) (λ own. place_of_cell_in new team own ≢ target_at wanted_places own)
+    All-weaker (λ own. place_of_cell_in old team own ≢ target_at targets own) (λ own. place_of_cell_in new team own ≢ target_at targets own)
     (λ own apart e. apart (sym (stay own) ∙ e)) changed (all was.0 was.1)
 
-pub all_move : (team : List ℕ) (old new : FloorState) (number : ℕ) (wanted_places : List (Option Place)) (changed : List ℕ) → team_number old.frame team ≡ Some number
-    → ((s : TeamState) → slice_get old.teams number ≡ Some s → AreWorkingPlaces s.cells wanted_places) → team_cell_names new team ≡ team_cell_names old team
-    → TeamHasLeftTargets team wanted_places new changed → AllListedMove team old new changed
-all_move team old new number wanted_places changed named wanted_places_are same all s there =
+pub all_move : (team : List ℕ) (old new : FloorState) (number : ℕ) (targets : List (Option Place)) (changed : List ℕ) → team_number old.frame team ≡ Some number
+    → ((s : TeamState) → slice_get old.teams number ≡ Some s → AreWorkingPlaces s.cells targets) → team_cell_names new team ≡ team_cell_names old team
+    → TeamHasLeftTargets team targets new changed → AllListedMove team old new changed
+all_move team old new number targets changed named wanted_places_are same all s there =
     let is = team_was team new old s (sym same) there in
-    All-weaker (λ own. place_of_cell_in new team own ≢ target_at wanted_places own) (λ own. place_of_cell_in new team own ≢ place_of_cell_in old team own)
+    All-weaker (λ own. place_of_cell_in new team own ≢ target_at targets own) (λ own. place_of_cell_in new team own ≢ place_of_cell_in old team own)
     (λ own apart e. apart (e ∙ place_of_state old team own s there ∙ sym (wanted_places_are s (state_there old team number s named there) own))) changed (all is.0 is.1)
 
 -- if each cell that is not listed is at its original place, no other cell has moved
-pub only_move : (team : List ℕ) (old new : FloorState) (number : ℕ) (wanted_places : List (Option Place)) (changed : List ℕ) → team_number old.frame team ≡ Some number
-    → ((s : TeamState) → slice_get old.teams number ≡ Some s → AreWorkingPlaces s.cells wanted_places) → team_cell_names new team ≡ team_cell_names old team
-    → TeamIsAtTargetsExcept team wanted_places new changed → OnlyListedMove team old new changed
-only_move team old new number wanted_places changed named wanted_places_are same but own = go (state_of old team) refl (state_of new team) refl where
+pub only_move : (team : List ℕ) (old new : FloorState) (number : ℕ) (targets : List (Option Place)) (changed : List ℕ) → team_number old.frame team ≡ Some number
+    → ((s : TeamState) → slice_get old.teams number ≡ Some s → AreWorkingPlaces s.cells targets) → team_cell_names new team ≡ team_cell_names old team
+    → TeamIsAtTargetsExcept team targets new changed → OnlyListedMove team old new changed
+only_move team old new number targets changed named wanted_places_are same but own = go (state_of old team) refl (state_of new team) refl where
   by_names : Option TeamState → Option (List (List ℕ))
   by_names o = option_map (λ (s : TeamState). map (λ (c : Cell). c.name) s.cells) o
 
@@ -137,7 +137,7 @@ only_move team old new number wanted_places changed named wanted_places_are same
     by_names_of : TeamState → List (List ℕ)
     by_names_of s = map (λ (c : Cell). c.name) s.cells
   go (Some s) was (Some t) is = by_cases (slice_get_cases t.cells own).1 where
-    wanted_place_was : target_at wanted_places own ≡ place_of_cell_in old team own
+    wanted_place_was : target_at targets own ≡ place_of_cell_in old team own
     wanted_place_was = wanted_places_are s (state_there old team number s named was) own ∙ sym (place_of_state old team own s was)
 
     many : length t.cells ≡ length s.cells
@@ -145,7 +145,7 @@ only_move team old new number wanted_places changed named wanted_places_are same
         let names : map (λ (c : Cell). c.name) t.cells ≡ map (λ (c : Cell). c.name) s.cells = some_one (sym (ap by_names is) ∙ same ∙ ap by_names was) in
         sym (length-map t.cells (λ (c : Cell). c.name)) ∙ ap (λ (ns : List (List ℕ)). length ns) names ∙ length-map s.cells (λ (c : Cell). c.name)
 
-    placed : (place_of_cell_in new team own ≡ target_at wanted_places own) ⊎ Contains changed own → (place_of_cell_in new team own ≡ place_of_cell_in old team own) ⊎ Contains changed own
+    placed : (place_of_cell_in new team own ≡ target_at targets own) ⊎ Contains changed own → (place_of_cell_in new team own ≡ place_of_cell_in old team own) ⊎ Contains changed own
     placed (inl wanted_place) = inl (wanted_place ∙ wanted_place_was)
     placed (inr in_list) = inr in_list
 

@@ -1,12 +1,12 @@
 -- The last pass, cell by cell.
-use Rattle.std.proofs.Common.{◌≡◌, ◌≢◌, ◌⊎◌, inl, inr, ℕ, ◌+◌, ◌<◌, ◌==◌, List, [], ◌∷◌, Bool, true, false, length, map, get_or, take, Option, Some, None, refl, ap, sym, ◌∙◌, subst, arith}
+use Rattle.std.proofs.Common.{◌≡◌, ◌≢◌, ◌⊎◌, inl, inr, ℕ, ◌+◌, ◌<◌, ◌≤◌, ◌==◌, List, [], ◌∷◌, ◌++◌, Bool, true, false, length, map, get_or, take, Option, Some, None, refl, ap, sym, ◌∙◌, subst, arith}
 use Rattle.std.specs.Prelude.{All, AllPairs, Contains, MatchOption, option_and_then, slice_get}
 use Rattle.std.specs.Option.{option_map}
 use Rattle.std.proofs.lemmas.Bool.{cases_eq}
 use Rattle.std.proofs.lemmas.Bool.Decides.{nat_tests}
-use Rattle.std.proofs.lemmas.List.{length-map}
+use Rattle.std.proofs.lemmas.List.{length-map, take_all}
 use Rattle.std.proofs.lemmas.Option.{slice_get_within}
-use Rattle.std.proofs.lemmas.List.Elements.{All-contains, All-head, All-more, All-nil, All-same, All-weaker}
+use Rattle.std.proofs.lemmas.List.Elements.{All-contains, All-head, All-more, All-nil, All-push, All-same, All-weaker, Contains-append_left, Contains-get_or, Contains-push}
 use Rattle.lf_floorplan.specs.declared.frame.Frame.{Frame}
 use Rattle.lf_floorplan.specs.declared.place.Place.{Place}
 use Rattle.lf_rules.specs.Choice.{IsLegalAt, spot_of}
@@ -20,7 +20,7 @@ use Rattle.lf_floor_model.specs.Outcomes.{name_at}
 use Rattle.lf_floor_model.specs.Teams.{IsTeamOf, state_of, team_number}
 use Rattle.lf_floor_model.specs.Steps.{AllCommittedIn}
 use Rattle.lf_floor_model.proofs.LegalPlaces.{member_is, none_some, some_one, there_within}
-use Rattle.lf_repair_team.specs.CellEdits.{AreUnrepaired, IsAnotherCell, IsLegalOrUnplaced, IsLegalOrWithoutPlace, KeepsLegalCells, KeepsLockedLegal, RemainsLegal, SameCells}
+use Rattle.lf_repair_team.specs.CellEdits.{AreMovable, AreUnrepaired, HasNoPlaceOrIsFlagged, HoldsOrIsListed, IsAnotherCell, IsFlagged, IsLegalOrUnplaced, IsLegalOrWithoutPlace, KeepsLegalCells, KeepsLockedLegal, KeepsLockedPlaces, RemainsLegal, SameCells}
 use Rattle.lf_repair_team.specs.TeamRepairs.{AreLegalExcept, HasNoPlace, IsIllegalIn, IsLegalIn, KeepsLegalPlaces, team_cell_names, place_of_cell_in}
 use Rattle.lf_repair_team.proofs.Cells.{named_is}
 use Rattle.lf_repair_team.proofs.Results.{each_state}
@@ -58,6 +58,11 @@ pub legal_unless : (team : List ℕ) (old new : FloorState) (own : ℕ) → (IsL
 legal_unless team old new own illegal places remains k legal =
     let differ : k ≢ own = λ e. illegal (subst (λ (j : ℕ). IsLegalIn old team j) e legal) in
     (remains k differ legal, places k differ)
+
+-- a change of a cell that is not flagged
+pub flagged_beside : (team : List ℕ) (flags : List Bool) (old new : FloorState) (own : ℕ) → (IsFlagged flags own → ⊥)
+    → ((other : ℕ) → other ≢ own → place_of_cell_in new team other ≡ place_of_cell_in old team other) → KeepsLockedPlaces team flags old new
+flagged_beside team flags old new own free places k flag = places k (λ (same : k ≡ own). free (subst (λ (j : ℕ). IsFlagged flags j) same flag))
 
 -- ---- each cell is unplaced
 
@@ -191,38 +196,98 @@ state_of_legal : (team : List ℕ) (floor : FloorState) (own : ℕ) → IsLegalO
 state_of_legal team floor own (inl legal) = (legal.state, legal.there)
 state_of_legal team floor own (inr has) = (has.state, has.there)
 
--- if each of the cells that were illegal is legal or has no place, those that are illegal have none
-pub illegal_have_none : (team : List ℕ) (a b : FloorState) (before left : List ℕ) → (before ≡ [] → ⊥) → team_cell_names b team ≡ team_cell_names a team
-    → AreLegalExcept team a before → KeepsLegalCells team a b → All (λ own. IsLegalOrWithoutPlace b team own) before
-    → All (λ own. IsIllegalIn b team own) left → All (λ own. HasNoPlace b team own) left
-illegal_have_none team a b before left some names legal kept done illegal =
-    All-weaker (λ own. IsIllegalIn b team own) (λ own. HasNoPlace b team own) one left illegal
+-- if each of the cells that were illegal is flagged, legal or without a place, those that are illegal
+-- have none, or are flagged
+pub illegal_have_none : (team : List ℕ) (flags : List Bool) (a b : FloorState) (before movable left : List ℕ) → (movable ≡ [] → ⊥)
+    → team_cell_names b team ≡ team_cell_names a team → AreLegalExcept team a before → AreMovable flags before movable → KeepsLegalCells team a b
+    → All (λ own. IsLegalOrWithoutPlace b team own) movable → All (λ own. IsIllegalIn b team own) left → All (λ own. HasNoPlaceOrIsFlagged flags b team own) left
+illegal_have_none team flags a b before movable left some names legal movables kept done illegal =
+    All-weaker (λ own. IsIllegalIn b team own) (λ own. HasNoPlaceOrIsFlagged flags b team own) one left illegal
   where
-    there : (xs : List ℕ) → before ≡ xs → (s : TeamState) × (state_of b team ≡ Some s)
+    there : (xs : List ℕ) → movable ≡ xs → (s : TeamState) × (state_of b team ≡ Some s)
     there [] none = absurd (some none)
     there (x ∷ xs) is =
         state_of_legal team b x (All-head (λ own. IsLegalOrWithoutPlace b team own) x xs (subst (λ (ys : List ℕ). All (λ own. IsLegalOrWithoutPlace b team own) ys) is done))
 
-    one : (own : ℕ) → IsIllegalIn b team own → HasNoPlace b team own
+    one : (own : ℕ) → IsIllegalIn b team own → HasNoPlaceOrIsFlagged flags b team own
     one own is =
-        let s = there before refl in
+        let s = there movable refl in
         let u = state_before team a b s.0 names s.1 in
         let within : own < length s.0.cells = is.within s.0 s.1 in
         at (legal u.0 u.1 own (subst (λ (n : ℕ). own < n) (sym u.2) within))
       where
-        settled : IsLegalOrWithoutPlace b team own → HasNoPlace b team own
+        settled : IsLegalOrWithoutPlace b team own → HasNoPlaceOrIsFlagged flags b team own
         settled (inl legal) = absurd (is.illegal legal)
-        settled (inr has) = has
+        settled (inr has) = inl has
 
-        at : IsLegalIn a team own ⊎ Contains before own → HasNoPlace b team own
+        moved : IsFlagged flags own ⊎ Contains movable own → HasNoPlaceOrIsFlagged flags b team own
+        moved (inl flag) = inr flag
+        moved (inr listed) = settled (All-contains (λ own. IsLegalOrWithoutPlace b team own) movable own done listed)
+
+        at : IsLegalIn a team own ⊎ Contains before own → HasNoPlaceOrIsFlagged flags b team own
         at (inl legal) = absurd (is.illegal (kept own legal).0)
-        at (inr listed) = settled (All-contains (λ own. IsLegalOrWithoutPlace b team own) before own done listed)
+        at (inr listed) = moved (All-contains (λ own. IsFlagged flags own ⊎ Contains movable own) before own movables.others listed)
 
 -- ---- locked cells
 
 pub then_locked_legal : (team : List ℕ) (marks : List Bool) (a b c : FloorState) → KeepsLockedLegal team marks a b → KeepsLockedLegal team marks b c
     → KeepsLockedLegal team marks a c
 then_locked_legal team marks a b c first second own mark legal = second own mark (first own mark legal)
+
+-- ---- the movable cells
+
+-- what is known of the first `count` cells
+pub record AreMovableTo (flags : List Bool) (cells : List ℕ) (count : ℕ) (movable : List ℕ) : Type 0 where
+  pub among : All (λ own. Contains cells own) movable
+  pub free : All (λ own. IsFlagged flags own → ⊥) movable
+  pub others : All (λ own. IsFlagged flags own ⊎ Contains movable own) (take count cells)
+
+none_taken : {X : Type 0} (xs : List X) → take 0 xs ≡ []
+none_taken [] = refl
+none_taken (x ∷ xs) = refl
+
+pub none_movable : (flags : List Bool) (cells movable : List ℕ) → movable ≡ [] → AreMovableTo flags cells 0 movable
+none_movable flags cells movable none = record {
+  among = All-same (λ own. Contains cells own) movable [] none (All-nil (λ own. Contains cells own));
+  free = All-same (λ own. IsFlagged flags own → ⊥) movable [] none (All-nil (λ own. IsFlagged flags own → ⊥));
+  others = All-same (λ own. IsFlagged flags own ⊎ Contains movable own) (take 0 cells) [] (none_taken cells) (All-nil (λ own. IsFlagged flags own ⊎ Contains movable own));
+}
+
+pub one_more_movable : (flags : List Bool) (cells : List ℕ) (i d : ℕ) (old new : List ℕ) → i < length cells
+    → HoldsOrIsListed (IsFlagged flags (get_or cells i d)) (IsFlagged flags (get_or cells i d) → ⊥) (get_or cells i d) old new
+    → AreMovableTo flags cells i old → AreMovableTo flags cells (i + 1) new
+one_more_movable flags cells i d old new within (inl (same, flag)) so_far = record {
+  among = All-same (λ own. Contains cells own) new old same so_far.among;
+  free = All-same (λ own. IsFlagged flags own → ⊥) new old same so_far.free;
+  others = subst (λ (xs : List ℕ). All (λ own. IsFlagged flags own ⊎ Contains xs own) (take (i + 1) cells)) (sym same)
+      (All-more (λ own. IsFlagged flags own ⊎ Contains old own) cells i d within so_far.others (inl flag));
+}
+one_more_movable flags cells i d old new within (inr (more, free)) so_far = record {
+  among = All-same (λ own. Contains cells own) new (old ++ get_or cells i d ∷ []) more
+      (All-push (λ own. Contains cells own) old (get_or cells i d) so_far.among (Contains-get_or cells i d within));
+  free = All-same (λ own. IsFlagged flags own → ⊥) new (old ++ get_or cells i d ∷ []) more
+      (All-push (λ own. IsFlagged flags own → ⊥) old (get_or cells i d) so_far.free free);
+  others = subst (λ (xs : List ℕ). All (λ own. IsFlagged flags own ⊎ Contains xs own) (take (i + 1) cells)) (sym more)
+      (All-more (λ own. IsFlagged flags own ⊎ Contains (old ++ get_or cells i d ∷ []) own) cells i d within
+      (All-weaker (λ own. IsFlagged flags own ⊎ Contains old own) (λ own. IsFlagged flags own ⊎ Contains (old ++ get_or cells i d ∷ []) own) grown (take i cells) so_far.others)
+      (inr (Contains-push old (get_or cells i d))));
+} where
+  grown : (own : ℕ) → IsFlagged flags own ⊎ Contains old own → IsFlagged flags own ⊎ Contains (old ++ get_or cells i d ∷ []) own
+  grown own (inl flag) = inl flag
+  grown own (inr listed) = inr (Contains-append_left old (get_or cells i d ∷ []) own listed)
+
+pub all_movable : (flags : List Bool) (cells : List ℕ) (count : ℕ) (movable : List ℕ) → length cells ≤ count → AreMovableTo flags cells count movable → AreMovable flags cells movable
+all_movable flags cells count movable past so_far = record {
+  among = so_far.among;
+  free = so_far.free;
+  others = subst (λ (xs : List ℕ). All (λ own. IsFlagged flags own ⊎ Contains movable own) xs) (take_all count cells past) so_far.others;
+}
+
+-- the movable ones of illegal cells are illegal
+pub movable_illegal : (team : List ℕ) (flags : List Bool) (floor : FloorState) (cells movable : List ℕ) → AreMovable flags cells movable → All (λ own. IsIllegalIn floor team own) cells
+    → All (λ own. IsIllegalIn floor team own) movable
+movable_illegal team flags floor cells movable movables illegal =
+    All-weaker (λ own. Contains cells own) (λ own. IsIllegalIn floor team own) (λ own there. All-contains (λ own. IsIllegalIn floor team own) cells own illegal there) movable movables.among
 
 -- ---- the unrepaired cells
 
@@ -234,31 +299,45 @@ pub some_there : (xs : List ℕ) (empty : Bool) → empty ≡ (length xs == 0) �
 some_there [] empty is e none = absurd (grind (arith, nat_tests))
 some_there (x ∷ xs) empty is e none = cc
 
-pub none_unrepaired : (team : List ℕ) (floor : FloorState) (left : List ℕ) → left ≡ [] → AreLegalExcept team floor left → All (IsIllegalIn floor team) left
-    → AllPairs (λ own later. own < later) left → AreUnrepaired team floor left
-none_unrepaired team floor left none named illegal rise =
-    record { named = named; illegal = illegal; without = All-same (HasNoPlace floor team) left [] none (All-nil (HasNoPlace floor team)); rise = rise }
+-- no cell is movable: the illegal cells are flagged
+pub none_unrepaired : (team : List ℕ) (flags : List Bool) (floor : FloorState) (left movable : List ℕ) → movable ≡ [] → AreMovable flags left movable → AreLegalExcept team floor left
+    → All (IsIllegalIn floor team) left → AllPairs (λ own later. own < later) left → AreUnrepaired team flags floor left
+none_unrepaired team flags floor left movable none movables named illegal rise = record {
+  named = named;
+  illegal = illegal;
+  without = All-weaker (λ own. IsFlagged flags own ⊎ Contains movable own) (λ own. HasNoPlaceOrIsFlagged flags floor team own) one left movables.others;
+  rise = rise;
+} where
+  nowhere : (own : ℕ) → Contains [] own → ⊥
+  nowhere own contains = let within = contains.1 in absurd (omega (arith, within))
 
-pub unrepaired_through : (team : List ℕ) (old new : FloorState) (left : List ℕ) → new.frame ≡ old.frame → SameCells team old new → AreUnrepaired team old left
-    → AreUnrepaired team new left
-unrepaired_through team old new left frame same are = record {
+  one : (own : ℕ) → IsFlagged flags own ⊎ Contains movable own → HasNoPlaceOrIsFlagged flags floor team own
+  one own (inl flag) = inr flag
+  one own (inr listed) = absurd (nowhere own (subst (λ (xs : List ℕ). Contains xs own) none listed))
+
+pub unrepaired_through : (team : List ℕ) (flags : List Bool) (old new : FloorState) (left : List ℕ) → new.frame ≡ old.frame → SameCells team old new
+    → AreUnrepaired team flags old left → AreUnrepaired team flags new left
+unrepaired_through team flags old new left frame same are = record {
   named = but_through team old new left frame same are.named;
   illegal = all_left_through team old new left frame same are.illegal;
-  without = All-weaker (λ own. HasNoPlace old team own) (λ own. HasNoPlace new team own) (λ own has. none_through team old new own frame same has) left are.without;
+  without = All-weaker (λ own. HasNoPlaceOrIsFlagged flags old team own) (λ own. HasNoPlaceOrIsFlagged flags new team own) through left are.without;
   rise = are.rise;
-}
+} where
+  through : (own : ℕ) → HasNoPlaceOrIsFlagged flags old team own → HasNoPlaceOrIsFlagged flags new team own
+  through own (inl has) = inl (none_through team old new own frame same has)
+  through own (inr flag) = inr flag
 
 -- a commit if no cell is unrepaired, and otherwise no command
-pub unrepaired_committed : (team : List ℕ) (a b : FloorState) (given left : List ℕ) → given ≡ left → (given ≢ [] → b ≡ a) → (l : Legalizer)
-    → (given ≡ [] → AllCommittedIn l b team) → AreUnrepaired team a left → AreUnrepaired team b left
-unrepaired_committed team a b given left same kept l committed are = record {
+pub unrepaired_committed : (team : List ℕ) (flags : List Bool) (a b : FloorState) (given left : List ℕ) → given ≡ left → (given ≢ [] → b ≡ a) → (l : Legalizer)
+    → (given ≡ [] → AllCommittedIn l b team) → AreUnrepaired team flags a left → AreUnrepaired team flags b left
+unrepaired_committed team flags a b given left same kept l committed are = record {
   named = but_committed team a b given left same kept l committed are.named;
   illegal = left_committed team a b given left same kept are.illegal;
   without = go left refl;
   rise = are.rise;
 } where
-  go : (xs : List ℕ) → left ≡ xs → All (λ own. HasNoPlace b team own) left
-  go [] none = All-same (λ own. HasNoPlace b team own) left [] none (All-nil (λ own. HasNoPlace b team own))
-  go (x ∷ xs) some = subst (λ (f : FloorState). All (λ own. HasNoPlace f team own) left) (sym (kept (λ none. nil_cons (sym none ∙ same ∙ some)))) are.without where
+  go : (xs : List ℕ) → left ≡ xs → All (λ own. HasNoPlaceOrIsFlagged flags b team own) left
+  go [] none = All-same (λ own. HasNoPlaceOrIsFlagged flags b team own) left [] none (All-nil (λ own. HasNoPlaceOrIsFlagged flags b team own))
+  go (x ∷ xs) some = subst (λ (f : FloorState). All (λ own. HasNoPlaceOrIsFlagged flags f team own) left) (sym (kept (λ none. nil_cons (sym none ∙ same ∙ some)))) are.without where
     nil_cons : [] ≡ x ∷ xs → ⊥
     nil_cons e = cc

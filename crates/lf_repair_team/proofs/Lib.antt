@@ -14,3 +14,4 @@ mod OthersLegal
 pub mod WithoutPlace
 mod LastPass
 pub mod OffSoft
+pub mod Listing

@@ -4,6 +4,7 @@ use Rattle.std.specs.Prelude.{All, slice_get, option_and_then}
 use Rattle.std.specs.Option.{option_map}
 use Rattle.std.proofs.lemmas.Bool.{cases_eq}
 use Rattle.std.proofs.lemmas.List.{length-map}
+use Rattle.std.proofs.lemmas.List.Elements.{All-weaker}
 use Rattle.std.proofs.lemmas.Option.{slice_get-map, slice_get_past}
 use Rattle.lf_units.specs.declared.geometry.Point.{Point}
 use Rattle.lf_floorplan.specs.declared.frame.Frame.{Frame}
@@ -27,9 +28,11 @@ use Rattle.lf_floor_model.specs.Steps.{outcome_by_rules}
 use Rattle.lf_floor_model.specs.VerbLaws.{BestIsFound}
 use Rattle.lf_floor_model.proofs.Forms.{legalized_at, legalized_own}
 use Rattle.lf_floor_model.proofs.LegalPlaces.{moved_here, none_some, some_one}
-use Rattle.lf_repair_strategy.specs.WantedPlaces.{AreWorkingPlaces, target_at}
-use Rattle.lf_repair_team.specs.CellEdits.{AreAtTargetsOrOffSoft, AreLockedInPlace, IsAtTargetOrOffSoft, IsUnchangedOrStepped, IsUnplacedOrOffSoft, KeepsCellsAtTargets, KeepsLockedLegal, KeepsLockedPlaces, KeepsPlaces, MovesOffSoft, RemainsLegal, SameCells}
-use Rattle.lf_repair_team.specs.TeamRepairs.{AreMovedOffSoft, ChangesOnly, IsLegalIn, IsOffSoft, KeepsLegalPlaces, place_of_cell_in, team_cell_macros, team_cell_names}
+use Rattle.lf_repair_bounds.specs.declared.reasons.ImpossibleMacro.{ImpossibleMacro}
+use Rattle.lf_repair_bounds.specs.ImpossibleMacros.{is_listed}
+use Rattle.lf_repair_strategy.specs.Targets.{AreWorkingPlaces, target_at}
+use Rattle.lf_repair_team.specs.CellEdits.{AreAtTargetsOrOffSoft, AreFlaggedAtTargets, AreListedFlags, AreLockedInPlace, HasNoPlaceOrIsFlagged, IsAtTargetOrOffSoft, IsUnchangedOrStepped, IsUnplacedOrOffSoft, KeepsCellsAtTargets, KeepsLockedLegal, KeepsLockedPlaces, KeepsPlaces, MovesOffSoft, RemainsLegal, SameCells}
+use Rattle.lf_repair_team.specs.TeamRepairs.{AreMovedOffSoft, ChangesOnly, HasNoPlaceOrIsListed, IsLegalIn, IsListedIn, IsOffSoft, KeepsLegalPlaces, place_of_cell_in, team_cell_macros, team_cell_names}
 use Rattle.lf_repair_team.proofs.Cells.{named_is}
 use Rattle.lf_repair_team.proofs.Finding.{team_was}
 use Rattle.lf_repair_team.proofs.Legal.{legal_through, same_places, state_there}
@@ -129,36 +132,36 @@ module _ (team : List ℕ) (b c : FloorState) (only : ChangesOnly team b c) wher
     after (inl same) = before same (first own)
     after (inr off) = inr off
 
-  module _ (wanted_places : List (Option Place)) where
-    target_or_through : (own : ℕ) → place_of_cell_in c team own ≡ place_of_cell_in b team own → IsAtTargetOrOffSoft team wanted_places b own
-        → IsAtTargetOrOffSoft team wanted_places c own
+  module _ (targets : List (Option Place)) where
+    target_or_through : (own : ℕ) → place_of_cell_in c team own ≡ place_of_cell_in b team own → IsAtTargetOrOffSoft team targets b own
+        → IsAtTargetOrOffSoft team targets c own
     target_or_through own same (inl at) = inl (same ∙ at)
     target_or_through own same (inr off) = inr (unplaced_or_through own same off)
 
     -- moves of cells that are at their targets, or off soft blockages
-    pub targets_then_off_soft : AreAtTargetsOrOffSoft team wanted_places b → MovesOffSoft team b c → AreAtTargetsOrOffSoft team wanted_places c
+    pub targets_then_off_soft : AreAtTargetsOrOffSoft team targets b → MovesOffSoft team b c → AreAtTargetsOrOffSoft team targets c
     targets_then_off_soft are moves own = after (moves own) where
-      after : (place_of_cell_in c team own ≡ place_of_cell_in b team own) ⊎ IsUnplacedOrOffSoft c team own → IsAtTargetOrOffSoft team wanted_places c own
+      after : (place_of_cell_in c team own ≡ place_of_cell_in b team own) ⊎ IsUnplacedOrOffSoft c team own → IsAtTargetOrOffSoft team targets c own
       after (inl same) = target_or_through own same (are own)
       after (inr off) = inr off
 
-    pub targets_stay : KeepsPlaces team b c → AreAtTargetsOrOffSoft team wanted_places b → AreAtTargetsOrOffSoft team wanted_places c
+    pub targets_stay : KeepsPlaces team b c → AreAtTargetsOrOffSoft team targets b → AreAtTargetsOrOffSoft team targets c
     targets_stay places are own = target_or_through own (places own) (are own)
 
     -- one cell more of the first ones
-    pub one_more_settled : (count : ℕ) → ((own : ℕ) → own < count → IsAtTargetOrOffSoft team wanted_places b own)
-        → ((other : ℕ) → other ≢ count → place_of_cell_in c team other ≡ place_of_cell_in b team other) → IsAtTargetOrOffSoft team wanted_places c count
-        → (own : ℕ) → own < count + 1 → IsAtTargetOrOffSoft team wanted_places c own
+    pub one_more_settled : (count : ℕ) → ((own : ℕ) → own < count → IsAtTargetOrOffSoft team targets b own)
+        → ((other : ℕ) → other ≢ count → place_of_cell_in c team other ≡ place_of_cell_in b team other) → IsAtTargetOrOffSoft team targets c count
+        → (own : ℕ) → own < count + 1 → IsAtTargetOrOffSoft team targets c own
     one_more_settled count before others here own within = elim (cases_eq own count) [
-      | inl same ↦ subst (λ (j : ℕ). IsAtTargetOrOffSoft team wanted_places c j) (sym same) here
+      | inl same ↦ subst (λ (j : ℕ). IsAtTargetOrOffSoft team targets c j) (sym same) here
       | inr differ ↦ target_or_through own (others own differ) (before own (omega (arith, within, differ)))
     ]
 
 -- a position past the team's cells has no place
-pub all_settled : (team : List ℕ) (old new : FloorState) (count : ℕ) (wanted_places : List (Option Place)) → team_cell_macros new team ≡ team_cell_macros old team
-    → ((s : TeamState) → state_of old team ≡ Some s → length s.cells ≤ count) → ((own : ℕ) → own < count → IsAtTargetOrOffSoft team wanted_places new own)
-    → AreAtTargetsOrOffSoft team wanted_places new
-all_settled team old new count wanted_places macros many are own = within_or_past (cases_lt own count) where
+pub all_settled : (team : List ℕ) (old new : FloorState) (count : ℕ) (targets : List (Option Place)) → team_cell_macros new team ≡ team_cell_macros old team
+    → ((s : TeamState) → state_of old team ≡ Some s → length s.cells ≤ count) → ((own : ℕ) → own < count → IsAtTargetOrOffSoft team targets new own)
+    → AreAtTargetsOrOffSoft team targets new
+all_settled team old new count targets macros many are own = within_or_past (cases_lt own count) where
   cases_lt : (a b : ℕ) → (a < b) ⊎ (b ≤ a)
   cases_lt a zero = inr (omega arith)
   cases_lt zero (suc b) = inl (omega arith)
@@ -173,33 +176,33 @@ all_settled team old new count wanted_places macros many are own = within_or_pas
       place_of_state new team own s there
       ∙ ap (λ (o : Option Cell). option_and_then (λ (c : Cell). c.working) o) (slice_get_past s.cells own (omega (arith, more, few, long)))
 
-  within_or_past : (own < count) ⊎ (count ≤ own) → IsAtTargetOrOffSoft team wanted_places new own
+  within_or_past : (own < count) ⊎ (count ≤ own) → IsAtTargetOrOffSoft team targets new own
   within_or_past (inl within) = are own within
   within_or_past (inr more) = inr (inl (past more (state_of new team) refl))
 
 -- ---- a cell is tested
 
-module _ (floor : FloorState) (team : List ℕ) (number own : ℕ) (cells : List Cell) (wanted_places : List (Option Place))
+module _ (floor : FloorState) (team : List ℕ) (number own : ℕ) (cells : List Cell) (targets : List (Option Place))
     (named : team_number floor.frame team ≡ Some number) (same : (s : TeamState) → slice_get floor.teams number ≡ Some s → cells ≡ s.cells) where
   -- the team may be missing
-  by_state : ((s : TeamState) → state_of floor team ≡ Some s → cells ≡ s.cells → IsAtTargetOrOffSoft team wanted_places floor own)
-      → IsAtTargetOrOffSoft team wanted_places floor own
+  by_state : ((s : TeamState) → state_of floor team ≡ Some s → cells ≡ s.cells → IsAtTargetOrOffSoft team targets floor own)
+      → IsAtTargetOrOffSoft team targets floor own
   by_state have = go (state_of floor team) refl where
-    go : (o : Option TeamState) → state_of floor team ≡ o → IsAtTargetOrOffSoft team wanted_places floor own
+    go : (o : Option TeamState) → state_of floor team ≡ o → IsAtTargetOrOffSoft team targets floor own
     go None there = inr (inl (ap (λ (o : Option TeamState). option_and_then (λ (s : TeamState). working_at s.cells own) o) there))
     go (Some s) there = have s there (same s (state_there floor team number s named there))
 
   place_read : (s : TeamState) → state_of floor team ≡ Some s → cells ≡ s.cells → place_of_cell_in floor team own ≡ working_at cells own
   place_read s there is = place_of_state floor team own s there ∙ ap (λ (cs : List Cell). working_at cs own) (sym is)
 
-  pub at_target : (now : Option Place) → now ≡ working_at cells own → now ≡ target_at wanted_places own → IsAtTargetOrOffSoft team wanted_places floor own
+  pub at_target : (now : Option Place) → now ≡ working_at cells own → now ≡ target_at targets own → IsAtTargetOrOffSoft team targets floor own
   at_target now is target = by_state (λ s there are. inl (place_read s there are ∙ sym is ∙ target))
 
-  pub unplaced_here : working_at cells own ≡ None → IsAtTargetOrOffSoft team wanted_places floor own
+  pub unplaced_here : working_at cells own ≡ None → IsAtTargetOrOffSoft team targets floor own
   unplaced_here none = by_state (λ s there are. inr (inl (place_read s there are ∙ none)))
 
   pub off_soft_here : (f : Frame) (place : Place) → f ≡ floor.frame → working_at cells own ≡ Some place
-      → ((c : Cell) → slice_get cells own ≡ Some c → OverlapsSoft f (box_in f c.mac (spot_of place)) → ⊥) → IsAtTargetOrOffSoft team wanted_places floor own
+      → ((c : Cell) → slice_get cells own ≡ Some c → OverlapsSoft f (box_in f c.mac (spot_of place)) → ⊥) → IsAtTargetOrOffSoft team targets floor own
   off_soft_here f place frame placed off = by_state (λ s there are.
       let is = placed_cell floor team own place (place_read s there are ∙ placed) in
       let state : is.state ≡ s = some_one (sym is.there ∙ there) in
@@ -214,28 +217,28 @@ module _ (floor : FloorState) (team : List ℕ) (number own : ℕ) (cells : List
         off_soft = subst (λ (g : Frame). OverlapsSoft g (box_in g is.cell.mac (spot_of place)) → ⊥) frame (off is.cell cell);
       })))
 
-  pub has_moved : (now : Option Place) (s : TeamState) → now ≡ working_at cells own → (now ≡ target_at wanted_places own → ⊥) → state_of floor team ≡ Some s
-      → place_of_cell_in floor team own ≢ target_at wanted_places own
+  pub has_moved : (now : Option Place) (s : TeamState) → now ≡ working_at cells own → (now ≡ target_at targets own → ⊥) → state_of floor team ≡ Some s
+      → place_of_cell_in floor team own ≢ target_at targets own
   has_moved now s is differ there at = differ (is ∙ sym (place_read s there (same s (state_there floor team number s named there))) ∙ at)
 
 -- ---- cells at their targets stay
 
-pub none_leaves_target : (team : List ℕ) (wanted_places : List (Option Place)) (floor : FloorState) → KeepsCellsAtTargets team wanted_places floor floor
-none_leaves_target team wanted_places floor own at = (refl, λ legal. legal)
+pub none_leaves_target : (team : List ℕ) (targets : List (Option Place)) (floor : FloorState) → KeepsCellsAtTargets team targets floor floor
+none_leaves_target team targets floor own at = (refl, λ legal. legal)
 
-pub then_targets : (team : List ℕ) (wanted_places : List (Option Place)) (a b c : FloorState) → KeepsCellsAtTargets team wanted_places a b
-    → KeepsCellsAtTargets team wanted_places b c → KeepsCellsAtTargets team wanted_places a c
-then_targets team wanted_places a b c first second own at =
+pub then_targets : (team : List ℕ) (targets : List (Option Place)) (a b c : FloorState) → KeepsCellsAtTargets team targets a b
+    → KeepsCellsAtTargets team targets b c → KeepsCellsAtTargets team targets a c
+then_targets team targets a b c first second own at =
     let one = first own at in
     let two = second own (one.0 ∙ at) in
     (two.0 ∙ one.0, λ legal. two.1 (one.1 legal))
 
 -- a change of a cell that is not at its target
-pub targets_beside : (team : List ℕ) (wanted_places : List (Option Place)) (old new : FloorState) (own : ℕ) → team_cell_macros new team ≡ team_cell_macros old team
-    → ((s : TeamState) → state_of old team ≡ Some s → place_of_cell_in old team own ≢ target_at wanted_places own)
+pub targets_beside : (team : List ℕ) (targets : List (Option Place)) (old new : FloorState) (own : ℕ) → team_cell_macros new team ≡ team_cell_macros old team
+    → ((s : TeamState) → state_of old team ≡ Some s → place_of_cell_in old team own ≢ target_at targets own)
     → ((other : ℕ) → other ≢ own → place_of_cell_in new team other ≡ place_of_cell_in old team other)
-    → ((other : ℕ) → other ≢ own → RemainsLegal team old new other) → KeepsCellsAtTargets team wanted_places old new
-targets_beside team wanted_places old new own macros moved places legal k at = elim (cases_eq k own) [
+    → ((other : ℕ) → other ≢ own → RemainsLegal team old new other) → KeepsCellsAtTargets team targets old new
+targets_beside team targets old new own macros moved places legal k at = elim (cases_eq k own) [
   | inl same ↦ here same (state_of old team) refl
   | inr differ ↦ (places k differ, legal k differ)
 ] where
@@ -247,7 +250,7 @@ targets_beside team wanted_places old new own macros moved places legal k at = e
   none_after none (Some u) is = absurd (none_some (sym (ap macros_of none) ∙ sym macros ∙ ap macros_of is))
 
   here : k ≡ own → (o : Option TeamState) → state_of old team ≡ o → (place_of_cell_in new team k ≡ place_of_cell_in old team k) × RemainsLegal team old new k
-  here same (Some s) there = absurd (moved s there (subst (λ (j : ℕ). place_of_cell_in old team j ≡ target_at wanted_places j) same at))
+  here same (Some s) there = absurd (moved s there (subst (λ (j : ℕ). place_of_cell_in old team j ≡ target_at targets j) same at))
   here same None there = (no_place new (none_after there (state_of new team) refl) ∙ sym (no_place old there), λ legal. absurd (none_some (sym there ∙ legal.there)))
 
 -- ---- a legalize
@@ -321,35 +324,35 @@ legalize_off_soft l old new team name session own target s found teams frame the
 -- ---- a whole repair
 
 -- a pass, the soft pass, and then the last pass
-pub locked_stay : (team : List ℕ) (marks : List Bool) (wanted_places : List (Option Place)) (a b c d e : FloorState) → KeepsLockedPlaces team marks a b
-    → KeepsLockedLegal team marks a b → c ≡ b → KeepsCellsAtTargets team wanted_places c d → KeepsLegalPlaces team d e → AreLockedInPlace team marks wanted_places a
+pub locked_stay : (team : List ℕ) (marks : List Bool) (targets : List (Option Place)) (a b c d e : FloorState) → KeepsLockedPlaces team marks a b
+    → KeepsLockedLegal team marks a b → c ≡ b → KeepsCellsAtTargets team targets c d → KeepsLegalPlaces team d e → AreLockedInPlace team marks targets a
     → KeepsLockedPlaces team marks a e
-locked_stay team marks wanted_places a b c d e first legal same soft last locked own mark =
+locked_stay team marks targets a b c d e first legal same soft last locked own mark =
     let here = locked own mark in
-    let stays = subst (λ (f : FloorState). KeepsCellsAtTargets team wanted_places f d) same soft own (first own mark ∙ here.1) in
+    let stays = subst (λ (f : FloorState). KeepsCellsAtTargets team targets f d) same soft own (first own mark ∙ here.1) in
     last own (stays.1 (legal own mark here.0)) ∙ stays.0 ∙ first own mark
 
 -- a session is opened, and then all passes are run
-pub locked_in_session : (team : List ℕ) (marks : List Bool) (wanted_places : List (Option Place)) (a b c : FloorState) → b.frame ≡ a.frame → SameCells team a b
-    → (AreLockedInPlace team marks wanted_places b → KeepsLockedPlaces team marks b c) → AreLockedInPlace team marks wanted_places a → KeepsLockedPlaces team marks a c
-locked_in_session team marks wanted_places a b c frame same passes locked own mark =
+pub locked_in_session : (team : List ℕ) (marks : List Bool) (targets : List (Option Place)) (a b c : FloorState) → b.frame ≡ a.frame → SameCells team a b
+    → (AreLockedInPlace team marks targets b → KeepsLockedPlaces team marks b c) → AreLockedInPlace team marks targets a → KeepsLockedPlaces team marks a c
+locked_in_session team marks targets a b c frame same passes locked own mark =
     passes (λ k at. let here = locked k at in (legal_through team a b k frame same here.0, same_places team a b same k ∙ here.1)) own mark
     ∙ same_places team a b same own
 
 -- the legal cells are in place at the start
-pub locked_at_start : (team : List ℕ) (floor : FloorState) (number : ℕ) (marks : List Bool) (wanted_places : List (Option Place)) → team_number floor.frame team ≡ Some number
-    → ((s : TeamState) → slice_get floor.teams number ≡ Some s → AreWorkingPlaces s.cells wanted_places)
-    → ((own : ℕ) → slice_get marks own ≡ Some true → IsLegalIn floor team own) → AreLockedInPlace team marks wanted_places floor
-locked_at_start team floor number marks wanted_places named are legal own mark =
+pub locked_at_start : (team : List ℕ) (floor : FloorState) (number : ℕ) (marks : List Bool) (targets : List (Option Place)) → team_number floor.frame team ≡ Some number
+    → ((s : TeamState) → slice_get floor.teams number ≡ Some s → AreWorkingPlaces s.cells targets)
+    → ((own : ℕ) → slice_get marks own ≡ Some true → IsLegalIn floor team own) → AreLockedInPlace team marks targets floor
+locked_at_start team floor number marks targets named are legal own mark =
     let is = legal own mark in
     (is, place_of_state floor team own is.state is.there ∙ sym (are is.state (state_there floor team number is.state named is.there) own))
 
 -- a cell that is not at its target has moved, if the targets are the places at the start
-pub moved_off_soft : (team : List ℕ) (old new : FloorState) (number : ℕ) (wanted_places : List (Option Place)) → team_number old.frame team ≡ Some number
-    → ((s : TeamState) → slice_get old.teams number ≡ Some s → AreWorkingPlaces s.cells wanted_places) → team_cell_names new team ≡ team_cell_names old team
-    → AreAtTargetsOrOffSoft team wanted_places new → AreMovedOffSoft team old new
-moved_off_soft team old new number wanted_places named are names settled own placed moved = go (state_of new team) refl where
-  at : (s : TeamState) → state_of old team ≡ Some s → IsAtTargetOrOffSoft team wanted_places new own → IsOffSoft new team own
+pub moved_off_soft : (team : List ℕ) (old new : FloorState) (number : ℕ) (targets : List (Option Place)) → team_number old.frame team ≡ Some number
+    → ((s : TeamState) → slice_get old.teams number ≡ Some s → AreWorkingPlaces s.cells targets) → team_cell_names new team ≡ team_cell_names old team
+    → AreAtTargetsOrOffSoft team targets new → AreMovedOffSoft team old new
+moved_off_soft team old new number targets named are names settled own placed moved = go (state_of new team) refl where
+  at : (s : TeamState) → state_of old team ≡ Some s → IsAtTargetOrOffSoft team targets new own → IsOffSoft new team own
   at s there (inl target) =
       absurd (moved (target ∙ are s (state_there old team number s named there) own ∙ sym (place_of_state old team own s there)))
   at s there (inr (inl none)) = absurd (placed none)
@@ -358,3 +361,53 @@ moved_off_soft team old new number wanted_places named are names settled own pla
   go : (o : Option TeamState) → state_of new team ≡ o → IsOffSoft new team own
   go None none = absurd (placed (ap (λ (o : Option TeamState). option_and_then (λ (s : TeamState). working_at s.cells own) o) none))
   go (Some u) is = let was = team_was team old new u names is in at was.0 was.1 (settled own)
+
+-- ---- flagged cells
+
+-- a pass and local passes, the soft pass, and then the last pass
+pub flagged_stay : (team : List ℕ) (flags : List Bool) (targets : List (Option Place)) (a c d e : FloorState) → KeepsLockedPlaces team flags a c
+    → KeepsCellsAtTargets team targets c d → KeepsLockedPlaces team flags d e → AreFlaggedAtTargets team flags targets a → KeepsLockedPlaces team flags a e
+flagged_stay team flags targets a c d e first soft last at own flag =
+    last own flag ∙ (soft own (first own flag ∙ at own flag)).0 ∙ first own flag
+
+-- a session is opened, and then all passes are run
+pub flagged_in_session : (team : List ℕ) (flags : List Bool) (targets : List (Option Place)) (a b c : FloorState) → SameCells team a b
+    → (AreFlaggedAtTargets team flags targets b → KeepsLockedPlaces team flags b c) → AreFlaggedAtTargets team flags targets a → KeepsLockedPlaces team flags a c
+flagged_in_session team flags targets a b c same passes at own flag =
+    passes (λ k mark. same_places team a b same k ∙ at k mark) own flag ∙ same_places team a b same own
+
+-- the cells are at their targets at the start
+pub flagged_at_start : (team : List ℕ) (floor : FloorState) (number : ℕ) (flags : List Bool) (targets : List (Option Place)) (s : TeamState)
+    → team_number floor.frame team ≡ Some number → state_of floor team ≡ Some s
+    → ((s : TeamState) → slice_get floor.teams number ≡ Some s → AreWorkingPlaces s.cells targets) → AreFlaggedAtTargets team flags targets floor
+flagged_at_start team floor number flags targets s named there are own flag =
+    place_of_state floor team own s there ∙ sym (are s (state_there floor team number s named there) own)
+
+-- a cell of a listed macro, also on a later floor
+pub listed_through : (list : List ImpossibleMacro) (old new : FloorState) (team : List ℕ) (own : ℕ) → ChangesOnly team old new → IsListedIn list old team own
+    → IsListedIn list new team own
+listed_through list old new team own only is =
+    let u = state_with_macros old new team is.state only.macros is.there in
+    let mac : option_map (λ (c : Cell). c.mac) (slice_get u.0.cells own) ≡ Some is.cell.mac =
+    sym (slice_get-map (λ (c : Cell). c.mac) u.0.cells own) ∙ ap (λ (ms : List ℕ). slice_get ms own) u.2 ∙ slice_get-map (λ (c : Cell). c.mac) is.state.cells own
+    ∙ ap (λ (o : Option Cell). option_map (λ (c : Cell). c.mac) o) is.cell_is in
+    let d = cell_of_part (λ (c : Cell). c.mac) u.0.cells own is.cell.mac mac in
+    record {
+      number = is.number;
+      state = u.0;
+      cell = d.0;
+      named = ap (λ (f : Frame). team_number f team) only.frame ∙ is.named;
+      there = u.1;
+      cell_is = d.1;
+      listed = subst (λ (m : ℕ). is_listed list is.number m ≡ true) (sym d.2) is.listed;
+    }
+
+-- the unrepaired cells have no place, or are of listed macros
+pub none_or_listed : (list : List ImpossibleMacro) (old new : FloorState) (team : List ℕ) (flags : List Bool) (left : List ℕ) → ChangesOnly team old new
+    → AreListedFlags list team old flags → All (λ own. HasNoPlaceOrIsFlagged flags new team own) left → All (HasNoPlaceOrIsListed list new team) left
+none_or_listed list old new team flags left only are without =
+    All-weaker (λ own. HasNoPlaceOrIsFlagged flags new team own) (HasNoPlaceOrIsListed list new team) one left without
+  where
+    one : (own : ℕ) → HasNoPlaceOrIsFlagged flags new team own → HasNoPlaceOrIsListed list new team own
+    one own (inl has) = inl has
+    one own (inr flag) = inr (listed_through list old new team own only ((are own).0 flag))

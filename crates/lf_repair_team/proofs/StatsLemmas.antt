@@ -18,7 +18,7 @@ use Rattle.lf_floor_model.specs.States.{FloorState, TeamState}
 use Rattle.lf_floor_model.specs.Teams.{state_of, team_number}
 use Rattle.lf_floor_model.proofs.LegalPlaces.{some_one}
 use Rattle.lf_repair_strategy.specs.declared.stats.RepairStats.{RepairStats}
-use Rattle.lf_repair_strategy.specs.WantedPlaces.{AreWorkingPlaces, target_at}
+use Rattle.lf_repair_strategy.specs.Targets.{AreWorkingPlaces, target_at}
 use Rattle.lf_repair_team.specs.CellEdits.{AreLegalFlags, CountsIf, CountsOneCell, AreStatsOfFirst}
 use Rattle.lf_repair_team.specs.TeamRepairs.{ChangesOnly, IsLegalIn, place_of_cell_in}
 use Rattle.lf_repair_team.specs.Stats.{AreTurned, HowMany, AreStatsOf, AreTeamStats, displacement, all_displacements}
@@ -137,27 +137,27 @@ pub record IsShortTo (all : ℕ) (reported : RepairStats) : Type 0 where
   pub turned : reported.turned ≤ all
   pub total_displacement : reported.total_displacement ≤ all * 8589934590
 
-pub short_more : (wanted_place now : Option Place) (WasAtPlace : Type 0) (k : ℕ) (old new : RepairStats) → IsShortTo k old → CountsOneCell wanted_place now WasAtPlace old new → IsShortTo (k + 1) new
-short_more wanted_place now WasAtPlace k old new short one = record {
-  cells = count_few (WasAtPlace → ⊥) k old.cells new.cells short.cells one.cells;
-  kept = count_few (WasAtPlace × (now ≡ wanted_place)) k old.kept new.kept short.kept one.kept;
-  displaced_legal = count_few (WasAtPlace × (now ≢ wanted_place)) k old.displaced_legal new.displaced_legal short.displaced_legal one.displaced_legal;
+pub short_more : (wanted_place now : Option Place) (WasLegal : Type 0) (k : ℕ) (old new : RepairStats) → IsShortTo k old → CountsOneCell wanted_place now WasLegal old new → IsShortTo (k + 1) new
+short_more wanted_place now WasLegal k old new short one = record {
+  cells = count_few (WasLegal → ⊥) k old.cells new.cells short.cells one.cells;
+  kept = count_few (WasLegal × (now ≡ wanted_place)) k old.kept new.kept short.kept one.kept;
+  displaced_legal = count_few (WasLegal × (now ≢ wanted_place)) k old.displaced_legal new.displaced_legal short.displaced_legal one.displaced_legal;
   moved = count_few (0 < displacement wanted_place now) k old.moved new.moved short.moved one.moved;
   placed = count_few ((wanted_place ≡ None) × IsSome now) k old.placed new.placed short.placed one.placed;
   turned = count_few (AreTurned wanted_place now) k old.turned new.turned short.turned one.turned;
   total_displacement = omega (arith, short.total_displacement, one.total_displacement, one.short);
 }
 
-module _ (wanted_place now : ℕ → Option Place) (WasAtPlace : ℕ → Type 0) where
+module _ (wanted_place now : ℕ → Option Place) (WasLegal : ℕ → Type 0) where
   abbrev far : ℕ → ℕ
   far own = displacement (wanted_place own) (now own)
 
   pub nothing_reported : (reported : RepairStats) → reported.cells ≡ 0 → reported.kept ≡ 0 → reported.displaced_legal ≡ 0 → reported.moved ≡ 0 → reported.placed ≡ 0 → reported.turned ≡ 0 → reported.total_displacement ≡ 0
-      → reported.max_displacement ≡ 0 → AreStatsOf wanted_place now WasAtPlace 0 reported
+      → reported.max_displacement ≡ 0 → AreStatsOf wanted_place now WasLegal 0 reported
   nothing_reported reported cells kept pushed moved placed turned total largest = record {
-    cells = none_so (λ own. WasAtPlace own → ⊥) reported.cells cells;
-    kept = none_so (λ own. WasAtPlace own × (now own ≡ wanted_place own)) reported.kept kept;
-    displaced_legal = none_so (λ own. WasAtPlace own × (now own ≢ wanted_place own)) reported.displaced_legal pushed;
+    cells = none_so (λ own. WasLegal own → ⊥) reported.cells cells;
+    kept = none_so (λ own. WasLegal own × (now own ≡ wanted_place own)) reported.kept kept;
+    displaced_legal = none_so (λ own. WasLegal own × (now own ≢ wanted_place own)) reported.displaced_legal pushed;
     moved = none_so (λ own. 0 < far own) reported.moved moved;
     placed = none_so (λ own. (wanted_place own ≡ None) × IsSome (now own)) reported.placed placed;
     turned = none_so (λ own. AreTurned (wanted_place own) (now own)) reported.turned turned;
@@ -165,15 +165,15 @@ module _ (wanted_place now : ℕ → Option Place) (WasAtPlace : ℕ → Type 0)
     max_displacement = largest;
   }
 
-  total_more : (k : ℕ) (old new : RepairStats) → k < 4000000 → IsShortTo k old → CountsOneCell (wanted_place k) (now k) (WasAtPlace k) old new → new.total_displacement ≡ old.total_displacement + far k
+  total_more : (k : ℕ) (old new : RepairStats) → k < 4000000 → IsShortTo k old → CountsOneCell (wanted_place k) (now k) (WasLegal k) old new → new.total_displacement ≡ old.total_displacement + far k
   total_more k old new few short one = omega (arith, few, short.total_displacement, one.total_displacement, one.short)
 
-  pub tally_more : (k : ℕ) (old new : RepairStats) → k < 4000000 → IsShortTo k old → AreStatsOf wanted_place now WasAtPlace k old → CountsOneCell (wanted_place k) (now k) (WasAtPlace k) old new
-      → AreStatsOf wanted_place now WasAtPlace (k + 1) new
+  pub tally_more : (k : ℕ) (old new : RepairStats) → k < 4000000 → IsShortTo k old → AreStatsOf wanted_place now WasLegal k old → CountsOneCell (wanted_place k) (now k) (WasLegal k) old new
+      → AreStatsOf wanted_place now WasLegal (k + 1) new
   tally_more k old new few short so_far one = record {
-    cells = count_more (λ own. WasAtPlace own → ⊥) k old.cells new.cells (omega (arith, few, short.cells)) so_far.cells one.cells;
-    kept = count_more (λ own. WasAtPlace own × (now own ≡ wanted_place own)) k old.kept new.kept (omega (arith, few, short.kept)) so_far.kept one.kept;
-    displaced_legal = count_more (λ own. WasAtPlace own × (now own ≢ wanted_place own)) k old.displaced_legal new.displaced_legal (omega (arith, few, short.displaced_legal)) so_far.displaced_legal one.displaced_legal;
+    cells = count_more (λ own. WasLegal own → ⊥) k old.cells new.cells (omega (arith, few, short.cells)) so_far.cells one.cells;
+    kept = count_more (λ own. WasLegal own × (now own ≡ wanted_place own)) k old.kept new.kept (omega (arith, few, short.kept)) so_far.kept one.kept;
+    displaced_legal = count_more (λ own. WasLegal own × (now own ≢ wanted_place own)) k old.displaced_legal new.displaced_legal (omega (arith, few, short.displaced_legal)) so_far.displaced_legal one.displaced_legal;
     moved = count_more (λ own. 0 < far own) k old.moved new.moved (omega (arith, few, short.moved)) so_far.moved one.moved;
     placed = count_more (λ own. (wanted_place own ≡ None) × IsSome (now own)) k old.placed new.placed (omega (arith, few, short.placed)) so_far.placed one.placed;
     turned = count_more (λ own. AreTurned (wanted_place own) (now own)) k old.turned new.turned (omega (arith, few, short.turned)) so_far.turned one.turned;
@@ -183,12 +183,12 @@ module _ (wanted_place now : ℕ → Option Place) (WasAtPlace : ℕ → Type 0)
   }
 
 -- the same with an equivalent condition
-one_reported_as : (wanted_place now : Option Place) (WasAtPlace Too : Type 0) (old new : RepairStats) → (WasAtPlace → Too) → (Too → WasAtPlace) → CountsOneCell wanted_place now WasAtPlace old new
+one_reported_as : (wanted_place now : Option Place) (WasLegal Too : Type 0) (old new : RepairStats) → (WasLegal → Too) → (Too → WasLegal) → CountsOneCell wanted_place now WasLegal old new
     → CountsOneCell wanted_place now Too old new
-one_reported_as wanted_place now WasAtPlace Too old new to from one = record {
-  cells = counted_as (WasAtPlace → ⊥) (Too → ⊥) old.cells new.cells (λ never too. never (from too)) (λ never original_place. never (to original_place)) one.cells;
-  kept = counted_as (WasAtPlace × (now ≡ wanted_place)) (Too × (now ≡ wanted_place)) old.kept new.kept (λ both. (to both.0, both.1)) (λ both. (from both.0, both.1)) one.kept;
-  displaced_legal = counted_as (WasAtPlace × (now ≢ wanted_place)) (Too × (now ≢ wanted_place)) old.displaced_legal new.displaced_legal (λ both. (to both.0, both.1)) (λ both. (from both.0, both.1)) one.displaced_legal;
+one_reported_as wanted_place now WasLegal Too old new to from one = record {
+  cells = counted_as (WasLegal → ⊥) (Too → ⊥) old.cells new.cells (λ never too. never (from too)) (λ never was_legal. never (to was_legal)) one.cells;
+  kept = counted_as (WasLegal × (now ≡ wanted_place)) (Too × (now ≡ wanted_place)) old.kept new.kept (λ both. (to both.0, both.1)) (λ both. (from both.0, both.1)) one.kept;
+  displaced_legal = counted_as (WasLegal × (now ≢ wanted_place)) (Too × (now ≢ wanted_place)) old.displaced_legal new.displaced_legal (λ both. (to both.0, both.1)) (λ both. (from both.0, both.1)) one.displaced_legal;
   moved = one.moved;
   placed = one.placed;
   turned = one.turned;
@@ -198,21 +198,21 @@ one_reported_as wanted_place now WasAtPlace Too old new to from one = record {
 }
 
 -- the team's cell with this id is counted
-module _ (wanted_places : List (Option Place)) (marks : List Bool) (cells : List Cell) (number k : ℕ) (id : CellId) (wanted_place now : Option Place) (original_place : Bool) (old new : RepairStats) where
-  one_reported_at : id ≡ id_of number k → now ≡ working_at cells k → wanted_place ≡ target_at wanted_places id.own → ((original_place ≡ true) ↔ (slice_get marks id.own ≡ Some true))
-      → CountsOneCell wanted_place now (original_place ≡ true) old new → CountsOneCell (target_at wanted_places k) (working_at cells k) (slice_get marks k ≡ Some true) old new
+module _ (targets : List (Option Place)) (marks : List Bool) (cells : List Cell) (number k : ℕ) (id : CellId) (wanted_place now : Option Place) (was_legal : Bool) (old new : RepairStats) where
+  one_reported_at : id ≡ id_of number k → now ≡ working_at cells k → wanted_place ≡ target_at targets id.own → ((was_legal ≡ true) ↔ (slice_get marks id.own ≡ Some true))
+      → CountsOneCell wanted_place now (was_legal ≡ true) old new → CountsOneCell (target_at targets k) (working_at cells k) (slice_get marks k ≡ Some true) old new
   one_reported_at is now_is wanted_place_is marked one =
       let own : id.own ≡ k = ap (λ (i : CellId). i.own) is in
-      let there : wanted_place ≡ target_at wanted_places k = wanted_place_is ∙ ap (λ (j : ℕ). target_at wanted_places j) own in
+      let there : wanted_place ≡ target_at targets k = wanted_place_is ∙ ap (λ (j : ℕ). target_at targets j) own in
       subst (λ (h : Option Place). CountsOneCell h (working_at cells k) (slice_get marks k ≡ Some true) old new) there
       (subst (λ (n : Option Place). CountsOneCell wanted_place n (slice_get marks k ≡ Some true) old new) now_is
       (subst (λ (j : ℕ). CountsOneCell wanted_place now (slice_get marks j ≡ Some true) old new) own
-      (one_reported_as wanted_place now (original_place ≡ true) (slice_get marks id.own ≡ Some true) old new marked.0 marked.1 one)))
+      (one_reported_as wanted_place now (was_legal ≡ true) (slice_get marks id.own ≡ Some true) old new marked.0 marked.1 one)))
 
-  pub reported_at : id ≡ id_of number k → now ≡ working_at cells k → wanted_place ≡ target_at wanted_places id.own → ((original_place ≡ true) ↔ (slice_get marks id.own ≡ Some true)) → k < 4000000
-      → IsShortTo k old → AreStatsOfFirst wanted_places marks cells k old → CountsOneCell wanted_place now (original_place ≡ true) old new → AreStatsOfFirst wanted_places marks cells (k + 1) new
+  pub reported_at : id ≡ id_of number k → now ≡ working_at cells k → wanted_place ≡ target_at targets id.own → ((was_legal ≡ true) ↔ (slice_get marks id.own ≡ Some true)) → k < 4000000
+      → IsShortTo k old → AreStatsOfFirst targets marks cells k old → CountsOneCell wanted_place now (was_legal ≡ true) old new → AreStatsOfFirst targets marks cells (k + 1) new
   reported_at is now_is wanted_place_is marked few short so_far one =
-      tally_more (target_at wanted_places) (working_at cells) (λ own. slice_get marks own ≡ Some true) k old new few short so_far (one_reported_at is now_is wanted_place_is marked one)
+      tally_more (target_at targets) (working_at cells) (λ own. slice_get marks own ≡ Some true) k old new few short so_far (one_reported_at is now_is wanted_place_is marked one)
 
 -- ---- the team between two floors
 
@@ -220,30 +220,30 @@ map_same : (f g : ℕ → ℕ) → ((own : ℕ) → f own ≡ g own) → (owns :
 map_same f g same [] = refl
 map_same f g same (own ∷ owns) = ap (λ (n : ℕ). n ∷ map f owns) (same own) ∙ ap (λ (ns : List ℕ). g own ∷ ns) (map_same f g same owns)
 
-module _ (wanted_place there now here : ℕ → Option Place) (WasAtPlace Too : ℕ → Type 0) (all : ℕ) (reported : RepairStats)
-    (wanted_places : (own : ℕ) → wanted_place own ≡ there own) (nows : (own : ℕ) → now own ≡ here own)
-    (to : (own : ℕ) → WasAtPlace own → Too own) (from : (own : ℕ) → Too own → WasAtPlace own) where
+module _ (wanted_place there now here : ℕ → Option Place) (WasLegal Too : ℕ → Type 0) (all : ℕ) (reported : RepairStats)
+    (targets : (own : ℕ) → wanted_place own ≡ there own) (nows : (own : ℕ) → now own ≡ here own)
+    (to : (own : ℕ) → WasLegal own → Too own) (from : (own : ℕ) → Too own → WasLegal own) where
   same_ways : all_displacements wanted_place now all ≡ all_displacements there here all
   same_ways = map_same (λ own. displacement (wanted_place own) (now own)) (λ own. displacement (there own) (here own))
-      (λ own. ap (λ (h : Option Place). displacement h (now own)) (wanted_places own) ∙ ap (λ (n : Option Place). displacement (there own) n) (nows own)) (range_with_len 0 all)
+      (λ own. ap (λ (h : Option Place). displacement h (now own)) (targets own) ∙ ap (λ (n : Option Place). displacement (there own) n) (nows own)) (range_with_len 0 all)
 
-  tally_as : AreStatsOf wanted_place now WasAtPlace all reported → AreStatsOf there here Too all reported
+  tally_as : AreStatsOf wanted_place now WasLegal all reported → AreStatsOf there here Too all reported
   tally_as tally = record {
-    cells = many_as all reported.cells (λ own. WasAtPlace own → ⊥) (λ own. Too own → ⊥) (λ own never too. never (from own too)) (λ own never original_place. never (to own original_place)) tally.cells;
-    kept = many_as all reported.kept (λ own. WasAtPlace own × (now own ≡ wanted_place own)) (λ own. Too own × (here own ≡ there own))
-        (λ own both. (to own both.0, sym (nows own) ∙ both.1 ∙ wanted_places own)) (λ own both. (from own both.0, nows own ∙ both.1 ∙ sym (wanted_places own))) tally.kept;
-    displaced_legal = many_as all reported.displaced_legal (λ own. WasAtPlace own × (now own ≢ wanted_place own)) (λ own. Too own × (here own ≢ there own))
-        (λ own both. (to own both.0, λ same. both.1 (nows own ∙ same ∙ sym (wanted_places own))))
-        (λ own both. (from own both.0, λ same. both.1 (sym (nows own) ∙ same ∙ wanted_places own))) tally.displaced_legal;
+    cells = many_as all reported.cells (λ own. WasLegal own → ⊥) (λ own. Too own → ⊥) (λ own never too. never (from own too)) (λ own never was_legal. never (to own was_legal)) tally.cells;
+    kept = many_as all reported.kept (λ own. WasLegal own × (now own ≡ wanted_place own)) (λ own. Too own × (here own ≡ there own))
+        (λ own both. (to own both.0, sym (nows own) ∙ both.1 ∙ targets own)) (λ own both. (from own both.0, nows own ∙ both.1 ∙ sym (targets own))) tally.kept;
+    displaced_legal = many_as all reported.displaced_legal (λ own. WasLegal own × (now own ≢ wanted_place own)) (λ own. Too own × (here own ≢ there own))
+        (λ own both. (to own both.0, λ same. both.1 (nows own ∙ same ∙ sym (targets own))))
+        (λ own both. (from own both.0, λ same. both.1 (sym (nows own) ∙ same ∙ targets own))) tally.displaced_legal;
     moved = many_as all reported.moved (λ own. 0 < displacement (wanted_place own) (now own)) (λ own. 0 < displacement (there own) (here own))
-        (λ own far. moves (wanted_place own) (there own) (now own) (here own) (wanted_places own) (nows own) far)
-        (λ own far. moves (there own) (wanted_place own) (here own) (now own) (sym (wanted_places own)) (sym (nows own)) far) tally.moved;
+        (λ own far. moves (wanted_place own) (there own) (now own) (here own) (targets own) (nows own) far)
+        (λ own far. moves (there own) (wanted_place own) (here own) (now own) (sym (targets own)) (sym (nows own)) far) tally.moved;
     placed = many_as all reported.placed (λ own. (wanted_place own ≡ None) × IsSome (now own)) (λ own. (there own ≡ None) × IsSome (here own))
-        (λ own both. (sym (wanted_places own) ∙ both.0, subst (λ (o : Option Place). IsSome o) (nows own) both.1))
-        (λ own both. (wanted_places own ∙ both.0, subst (λ (o : Option Place). IsSome o) (sym (nows own)) both.1)) tally.placed;
+        (λ own both. (sym (targets own) ∙ both.0, subst (λ (o : Option Place). IsSome o) (nows own) both.1))
+        (λ own both. (targets own ∙ both.0, subst (λ (o : Option Place). IsSome o) (sym (nows own)) both.1)) tally.placed;
     turned = many_as all reported.turned (λ own. AreTurned (wanted_place own) (now own)) (λ own. AreTurned (there own) (here own))
-        (λ own apart. turns (wanted_place own) (there own) (now own) (here own) (wanted_places own) (nows own) apart)
-        (λ own apart. turns (there own) (wanted_place own) (here own) (now own) (sym (wanted_places own)) (sym (nows own)) apart) tally.turned;
+        (λ own apart. turns (wanted_place own) (there own) (now own) (here own) (targets own) (nows own) apart)
+        (λ own apart. turns (there own) (wanted_place own) (here own) (now own) (sym (targets own)) (sym (nows own)) apart) tally.turned;
     total_displacement = tally.total_displacement ∙ ap (λ (ns : List ℕ). sum ns) same_ways;
     max_displacement = tally.max_displacement ∙ ap (λ (ns : List ℕ). fold max 0 ns) same_ways;
   } where
@@ -253,17 +253,17 @@ module _ (wanted_place there now here : ℕ → Option Place) (WasAtPlace Too : 
     turns : (h i n m : Option Place) → h ≡ i → n ≡ m → AreTurned h n → AreTurned i m
     turns h i n m e f apart = subst (λ (p : Option Place). AreTurned p m) e (subst (λ (p : Option Place). AreTurned h p) f apart)
 
-pub team_stats_of : (team : List ℕ) (old new : FloorState) (number : ℕ) (wanted_places : List (Option Place)) (marks : List Bool) (reported : RepairStats)
+pub team_stats_of : (team : List ℕ) (old new : FloorState) (number : ℕ) (targets : List (Option Place)) (marks : List Bool) (reported : RepairStats)
     → team_number old.frame team ≡ Some number → ChangesOnly team old new
-    → ((s : TeamState) → slice_get old.teams number ≡ Some s → AreWorkingPlaces s.cells wanted_places) → AreLegalFlags team old marks
-    → ((s : TeamState) → slice_get new.teams number ≡ Some s → AreStatsOfFirst wanted_places marks s.cells (length s.cells) reported) → AreTeamStats team old new reported
-team_stats_of team old new number wanted_places marks reported named only are marked tally s was =
+    → ((s : TeamState) → slice_get old.teams number ≡ Some s → AreWorkingPlaces s.cells targets) → AreLegalFlags team old marks
+    → ((s : TeamState) → slice_get new.teams number ≡ Some s → AreStatsOfFirst targets marks s.cells (length s.cells) reported) → AreTeamStats team old new reported
+team_stats_of team old new number targets marks reported named only are marked tally s was =
     let is = team_was team new old s (sym only.names) was in
     let t : TeamState = is.0 in
     let at : state_of new team ≡ Some t = is.1 in
     let still : team_number new.frame team ≡ Some number = ap (λ (f : Frame). team_number f team) only.frame ∙ named in
     subst (λ (all : ℕ). AreStatsOf (place_of_cell_in old team) (place_of_cell_in new team) (IsLegalIn old team) all reported) (many t at)
-    (tally_as (target_at wanted_places) (place_of_cell_in old team) (working_at t.cells) (place_of_cell_in new team) (λ own. slice_get marks own ≡ Some true) (IsLegalIn old team) (length t.cells) reported
+    (tally_as (target_at targets) (place_of_cell_in old team) (working_at t.cells) (place_of_cell_in new team) (λ own. slice_get marks own ≡ Some true) (IsLegalIn old team) (length t.cells) reported
     (λ own. are s (state_there old team number s named was) own ∙ sym (place_of_state old team own s was))
     (λ own. sym (place_of_state new team own t at))
     (λ own is_marked. marked.only s was own is_marked) (λ own legal. marked.legal own legal)

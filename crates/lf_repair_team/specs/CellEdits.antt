@@ -1,6 +1,6 @@
 -- Changes of one cell, and what is read at the start and at the end of a repair. No public clause
 -- cites this module.
-use Rattle.std.specs.Prelude.{◌≡◌, ◌≢◌, ◌⊎◌, ℕ, ◌<◌, ◌≤◌, ◌+◌, ◌++◌, ◌∷◌, [], List, Bool, true, All, AllPairs, Contains, IsSome, None, Option, Some, length, map, max, min, option_map, slice_get, slice_set}
+use Rattle.std.specs.Prelude.{◌≡◌, ◌≢◌, ◌⊎◌, ◌↔◌, ℕ, ◌<◌, ◌≤◌, ◌+◌, ◌++◌, ◌∷◌, [], List, Bool, true, All, AllPairs, Contains, IsSome, None, Option, Some, length, map, max, min, option_map, slice_get, slice_set}
 use Rattle.lf_floorplan.specs.declared.place.Place.{Place}
 use Rattle.lf_rules.specs.Legalizer.{Legalizer}
 use Rattle.lf_rules.specs.Team.{IsLegalCell}
@@ -17,9 +17,10 @@ use Rattle.lf_floor_model.specs.States.{FloorState, TeamState}
 use Rattle.lf_floor_model.specs.Steps.{Step}
 use Rattle.lf_floor_model.specs.Teams.{state_of}
 use Rattle.lf_floor_model.specs.VerbLaws.{KeepsCells, committed_places}
-use Rattle.lf_repair_strategy.specs.WantedPlaces.{target_at}
+use Rattle.lf_repair_bounds.specs.declared.reasons.ImpossibleMacro.{ImpossibleMacro}
+use Rattle.lf_repair_strategy.specs.Targets.{target_at}
 use Rattle.lf_repair_strategy.specs.declared.stats.RepairStats.{RepairStats}
-use Rattle.lf_repair_team.specs.TeamRepairs.{AreLegalExcept, HasNoPlace, IsIllegalIn, IsLegalIn, IsOffSoft, committed_in, team_cell_names, place_of_cell_in}
+use Rattle.lf_repair_team.specs.TeamRepairs.{AreLegalExcept, HasNoPlace, IsIllegalIn, IsLegalIn, IsListedIn, IsOffSoft, committed_in, team_cell_names, place_of_cell_in}
 use Rattle.lf_repair_team.specs.Stats.{AreTurned, AreStatsOf, displacement}
 
 -- the floor is unchanged, or has executed the command
@@ -47,6 +48,10 @@ SameCells team old new = (state_of new team ≡ state_of old team) ⊎ HasSameCe
 
 -- ---- what is unchanged
 
+-- the cell at this position is flagged
+abbrev pub IsFlagged : List Bool → ℕ → Type 0
+IsFlagged flags own = slice_get flags own ≡ Some true
+
 -- all cells are at the same places
 abbrev pub KeepsPlaces : List ℕ → FloorState → FloorState → Type 0
 KeepsPlaces team old new = (own : ℕ) → place_of_cell_in new team own ≡ place_of_cell_in old team own
@@ -64,10 +69,15 @@ RemainsLegal team old new own = IsLegalIn old team own → IsLegalIn new team ow
 abbrev pub KeepsLockedLegal : List ℕ → List Bool → FloorState → FloorState → Type 0
 KeepsLockedLegal team marks old new = (own : ℕ) → slice_get marks own ≡ Some true → RemainsLegal team old new own
 
--- the locked cells are legal and have their places in `wanted_places`
+-- the locked cells are legal and have their places in `targets`
 abbrev pub AreLockedInPlace : List ℕ → List Bool → List (Option Place) → FloorState → Type 0
-AreLockedInPlace team marks wanted_places floor = (own : ℕ) → slice_get marks own ≡ Some true
-    → IsLegalIn floor team own × (place_of_cell_in floor team own ≡ target_at wanted_places own)
+AreLockedInPlace team marks targets floor = (own : ℕ) → slice_get marks own ≡ Some true
+    → IsLegalIn floor team own × (place_of_cell_in floor team own ≡ target_at targets own)
+
+-- the flagged cells have their places in `targets`
+abbrev pub AreFlaggedAtTargets : List ℕ → List Bool → List (Option Place) → FloorState → Type 0
+AreFlaggedAtTargets team flags targets floor = (own : ℕ) → IsFlagged flags own
+    → place_of_cell_in floor team own ≡ target_at targets own
 
 -- the legal cells remain legal and at the same places
 abbrev pub KeepsLegalCells : List ℕ → FloorState → FloorState → Type 0
@@ -121,6 +131,10 @@ pub record AddsLegalFlag (floor : FloorState) (number own : ℕ) (old new : List
   pub legal : (s : TeamState) → slice_get floor.teams number ≡ Some s → mark ≡ true
       → IsLegalCell floor.frame number s.padding (map member_of s.cells) own
 
+-- the flags are true exactly at the cells of listed macros
+abbrev pub AreListedFlags : List ImpossibleMacro → List ℕ → FloorState → List Bool → Type 0
+AreListedFlags list team floor flags = (own : ℕ) → IsFlagged flags own ↔ IsListedIn list floor team own
+
 -- ---- at the end of a repair
 
 -- it is so and the list is unchanged, or it is not so and the position is appended to the list
@@ -133,26 +147,26 @@ IsLegalOrListed team floor own old new =
     HoldsOrIsListed ((s : TeamState) → state_of floor team ≡ Some s → own < length s.cells → IsLegalIn floor team own)
     (IsLegalIn floor team own → ⊥) own old new
 
--- each of the cells has its place in `wanted_places`, or is listed
+-- each of the cells has its place in `targets`, or is listed
 abbrev pub AreAtTargetsExcept : List Cell → List (Option Place) → List ℕ → Type 0
-AreAtTargetsExcept cells wanted_places changed = (own : ℕ) → own < length cells
-    → (working_at cells own ≡ target_at wanted_places own) ⊎ Contains changed own
+AreAtTargetsExcept cells targets changed = (own : ℕ) → own < length cells
+    → (working_at cells own ≡ target_at targets own) ⊎ Contains changed own
 
 -- the same for the team's cells
 abbrev pub TeamIsAtTargetsExcept : List ℕ → List (Option Place) → FloorState → List ℕ → Type 0
-TeamIsAtTargetsExcept team wanted_places floor changed =
+TeamIsAtTargetsExcept team targets floor changed =
     (names : List (List ℕ)) → team_cell_names floor team ≡ Some names → (own : ℕ) → own < length names
-    → (place_of_cell_in floor team own ≡ target_at wanted_places own) ⊎ Contains changed own
+    → (place_of_cell_in floor team own ≡ target_at targets own) ⊎ Contains changed own
 
--- each of the listed cells has another place than in `wanted_places`
+-- each of the listed cells has another place than in `targets`
 abbrev pub HaveLeftTargets : List Cell → List (Option Place) → List ℕ → Type 0
-HaveLeftTargets cells wanted_places changed = All (λ own. working_at cells own ≢ target_at wanted_places own) changed
+HaveLeftTargets cells targets changed = All (λ own. working_at cells own ≢ target_at targets own) changed
 
 -- the same for the team's cells
 abbrev pub TeamHasLeftTargets : List ℕ → List (Option Place) → FloorState → List ℕ → Type 0
-TeamHasLeftTargets team wanted_places floor changed =
+TeamHasLeftTargets team targets floor changed =
     (s : TeamState) → state_of floor team ≡ Some s
-    → All (λ own. place_of_cell_in floor team own ≢ target_at wanted_places own) changed
+    → All (λ own. place_of_cell_in floor team own ≢ target_at targets own) changed
 
 -- ---- the last pass
 
@@ -168,12 +182,22 @@ IsLegalOrUnplaced floor team own = IsLegalIn floor team own ⊎ (place_of_cell_i
 abbrev pub IsLegalOrWithoutPlace : FloorState → List ℕ → ℕ → Type 0
 IsLegalOrWithoutPlace floor team own = IsLegalIn floor team own ⊎ HasNoPlace floor team own
 
--- these are the unrepaired cells, in loading order: they are illegal and have no place, and all
--- others are legal
-pub record AreUnrepaired (team : List ℕ) (floor : FloorState) (left : List ℕ) : Type 0 where
+-- the cell at this position has no place, or is flagged
+abbrev pub HasNoPlaceOrIsFlagged : List Bool → FloorState → List ℕ → ℕ → Type 0
+HasNoPlaceOrIsFlagged flags floor team own = HasNoPlace floor team own ⊎ IsFlagged flags own
+
+-- the cells of the list that are not flagged
+pub record AreMovable (flags : List Bool) (cells movable : List ℕ) : Type 0 where
+  pub among : All (λ own. Contains cells own) movable
+  pub free : All (λ own. IsFlagged flags own → ⊥) movable
+  pub others : All (λ own. IsFlagged flags own ⊎ Contains movable own) cells
+
+-- these are the unrepaired cells, in loading order: they are illegal, each has no place or is
+-- flagged, and all others are legal
+pub record AreUnrepaired (team : List ℕ) (flags : List Bool) (floor : FloorState) (left : List ℕ) : Type 0 where
   pub named : AreLegalExcept team floor left
   pub illegal : All (λ own. IsIllegalIn floor team own) left
-  pub without : All (λ own. HasNoPlace floor team own) left
+  pub without : All (λ own. HasNoPlaceOrIsFlagged flags floor team own) left
   pub rise : AllPairs (λ own later. own < later) left
 
 -- the team's cell of this name is not the one at this position
@@ -192,19 +216,19 @@ abbrev pub MovesOffSoft : List ℕ → FloorState → FloorState → Type 0
 MovesOffSoft team old new = (own : ℕ) → (place_of_cell_in new team own ≡ place_of_cell_in old team own)
     ⊎ IsUnplacedOrOffSoft new team own
 
--- the cell at this position has its place in `wanted_places`, or is unplaced or off soft blockages
+-- the cell at this position has its place in `targets`, or is unplaced or off soft blockages
 abbrev pub IsAtTargetOrOffSoft : List ℕ → List (Option Place) → FloorState → ℕ → Type 0
-IsAtTargetOrOffSoft team wanted_places floor own =
-    (place_of_cell_in floor team own ≡ target_at wanted_places own) ⊎ IsUnplacedOrOffSoft floor team own
+IsAtTargetOrOffSoft team targets floor own =
+    (place_of_cell_in floor team own ≡ target_at targets own) ⊎ IsUnplacedOrOffSoft floor team own
 
--- each cell has its place in `wanted_places`, or is unplaced or off soft blockages
+-- each cell has its place in `targets`, or is unplaced or off soft blockages
 abbrev pub AreAtTargetsOrOffSoft : List ℕ → List (Option Place) → FloorState → Type 0
-AreAtTargetsOrOffSoft team wanted_places floor = (own : ℕ) → IsAtTargetOrOffSoft team wanted_places floor own
+AreAtTargetsOrOffSoft team targets floor = (own : ℕ) → IsAtTargetOrOffSoft team targets floor own
 
--- the cells that have their places in `wanted_places` keep them, and remain legal
+-- the cells that have their places in `targets` keep them, and remain legal
 abbrev pub KeepsCellsAtTargets : List ℕ → List (Option Place) → FloorState → FloorState → Type 0
-KeepsCellsAtTargets team wanted_places old new =
-    (own : ℕ) → place_of_cell_in old team own ≡ target_at wanted_places own
+KeepsCellsAtTargets team targets old new =
+    (own : ℕ) → place_of_cell_in old team own ≡ target_at targets own
     → (place_of_cell_in new team own ≡ place_of_cell_in old team own) × RemainsLegal team old new own
 
 -- ---- the statistics
@@ -214,10 +238,10 @@ abbrev pub CountsIf : Type 0 → ℕ → ℕ → Type 0
 CountsIf So old new = (So × (new ≡ min (old + 1) 4294967295)) ⊎ ((So → ⊥) × (new ≡ old))
 
 -- one more cell is counted, given its original and its present place, and whether it was legal
-pub record CountsOneCell (wanted_place now : Option Place) (WasAtPlace : Type 0) (old new : RepairStats) : Type 0 where
-  pub cells : CountsIf (WasAtPlace → ⊥) old.cells new.cells
-  pub kept : CountsIf (WasAtPlace × (now ≡ wanted_place)) old.kept new.kept
-  pub displaced_legal : CountsIf (WasAtPlace × (now ≢ wanted_place)) old.displaced_legal new.displaced_legal
+pub record CountsOneCell (wanted_place now : Option Place) (WasLegal : Type 0) (old new : RepairStats) : Type 0 where
+  pub cells : CountsIf (WasLegal → ⊥) old.cells new.cells
+  pub kept : CountsIf (WasLegal × (now ≡ wanted_place)) old.kept new.kept
+  pub displaced_legal : CountsIf (WasLegal × (now ≢ wanted_place)) old.displaced_legal new.displaced_legal
   pub moved : CountsIf (0 < displacement wanted_place now) old.moved new.moved
   pub placed : CountsIf ((wanted_place ≡ None) × IsSome now) old.placed new.placed
   pub turned : CountsIf (AreTurned wanted_place now) old.turned new.turned
@@ -228,5 +252,5 @@ pub record CountsOneCell (wanted_place now : Option Place) (WasAtPlace : Type 0)
 
 -- the statistics of the first `all` cells, given these lists of original places and of legal cells
 abbrev pub AreStatsOfFirst : List (Option Place) → List Bool → List Cell → ℕ → RepairStats → Type 0
-AreStatsOfFirst wanted_places marks cells all reported =
-    AreStatsOf (target_at wanted_places) (working_at cells) (λ own. slice_get marks own ≡ Some true) all reported
+AreStatsOfFirst targets marks cells all reported =
+    AreStatsOf (target_at targets) (working_at cells) (λ own. slice_get marks own ≡ Some true) all reported

@@ -34,11 +34,11 @@ all_displacements wanted_place now all = map (λ own. displacement (wanted_place
 -- the statistics of `all` cells, given the original and the present place of each and which of them
 -- were legal: how many were not legal, are at the same place, were legal and moved, have another
 -- corner, have a place now, and have another orientation; the total displacement, and the longest
-pub record AreStatsOf (wanted_place now : ℕ → Option Place) (WasAtPlace : ℕ → Type 0) (all : ℕ)
+pub record AreStatsOf (wanted_place now : ℕ → Option Place) (WasLegal : ℕ → Type 0) (all : ℕ)
     (reported : RepairStats) : Type 0 where
-  pub cells : HowMany all (λ own. WasAtPlace own → ⊥) reported.cells
-  pub kept : HowMany all (λ own. WasAtPlace own × (now own ≡ wanted_place own)) reported.kept
-  pub displaced_legal : HowMany all (λ own. WasAtPlace own × (now own ≢ wanted_place own)) reported.displaced_legal
+  pub cells : HowMany all (λ own. WasLegal own → ⊥) reported.cells
+  pub kept : HowMany all (λ own. WasLegal own × (now own ≡ wanted_place own)) reported.kept
+  pub displaced_legal : HowMany all (λ own. WasLegal own × (now own ≢ wanted_place own)) reported.displaced_legal
   pub moved : HowMany all (λ own. 0 < displacement (wanted_place own) (now own)) reported.moved
   pub placed : HowMany all (λ own. (wanted_place own ≡ None) × IsSome (now own)) reported.placed
   pub turned : HowMany all (λ own. AreTurned (wanted_place own) (now own)) reported.turned

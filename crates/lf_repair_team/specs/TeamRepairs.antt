@@ -1,5 +1,5 @@
 -- The result of repairing a team.
-use Rattle.std.specs.Prelude.{◌≡◌, ◌≢◌, ◌⊎◌, ℕ, ◌<◌, List, Option, None, Some, All, Contains, length, map, slice_get, option_and_then, option_map}
+use Rattle.std.specs.Prelude.{◌≡◌, ◌≢◌, ◌⊎◌, ℕ, ◌<◌, IsTrue, List, Option, None, Some, All, Contains, length, map, slice_get, option_and_then, option_map}
 use Rattle.lf_floorplan.specs.declared.place.Place.{Place}
 use Rattle.lf_floorplan.specs.Ground.{OverlapsSoft}
 use Rattle.lf_rules.specs.Choice.{SpotPlace, IsAllowedPlace, spot_of}
@@ -11,6 +11,8 @@ use Rattle.lf_floor_model.specs.States.{FloorState, TeamState}
 use Rattle.lf_floor_model.specs.Teams.{state_of, team_number}
 use Rattle.lf_floor_model.specs.VerbLaws.{committed_places}
 use Rattle.lf_floor_model.specs.Committed.{IsCommittedLegal}
+use Rattle.lf_repair_bounds.specs.declared.reasons.ImpossibleMacro.{ImpossibleMacro}
+use Rattle.lf_repair_bounds.specs.ImpossibleMacros.{is_listed}
 
 -- the place of the team's cell at this position; None also if there is no such cell
 abbrev pub place_of_cell_in : FloorState → List ℕ → ℕ → Option Place
@@ -56,6 +58,21 @@ abbrev pub KeepsLegalPlaces : List ℕ → FloorState → FloorState → Type 0
 KeepsLegalPlaces team old new = (own : ℕ) → IsLegalIn old team own
     → place_of_cell_in new team own ≡ place_of_cell_in old team own
 
+-- the team's cell at this position is of a macro that is listed for the team
+pub record IsListedIn (list : List ImpossibleMacro) (floor : FloorState) (team : List ℕ) (own : ℕ) : Type 0 where
+  pub number : ℕ
+  pub state : TeamState
+  pub cell : Cell
+  pub named : team_number floor.frame team ≡ Some number
+  pub there : state_of floor team ≡ Some state
+  pub cell_is : slice_get state.cells own ≡ Some cell
+  pub listed : IsTrue (is_listed list number cell.mac)
+
+-- the team's cells of listed macros are at the same places
+abbrev pub KeepsListedPlaces : List ImpossibleMacro → List ℕ → FloorState → FloorState → Type 0
+KeepsListedPlaces list team old new = (own : ℕ) → IsListedIn list old team own
+    → place_of_cell_in new team own ≡ place_of_cell_in old team own
+
 -- each cell of the team is at the same place, or its position is listed
 abbrev pub OnlyListedMove : List ℕ → FloorState → FloorState → List ℕ → Type 0
 OnlyListedMove team old new changed = (own : ℕ) → (place_of_cell_in new team own ≡ place_of_cell_in old team own)
@@ -88,6 +105,10 @@ pub record HasNoPlace (floor : FloorState) (team : List ℕ) (own : ℕ) : Type 
   pub unplaced : cell.working ≡ None
   pub none : (p : SpotPlace)
       → IsAllowedPlace (query_from floor.frame number state.padding (map member_of state.cells) own cell.mac) p → ⊥
+
+-- the team's cell at this position has no place, or is of a macro that is listed for the team
+abbrev pub HasNoPlaceOrIsListed : List ImpossibleMacro → FloorState → List ℕ → ℕ → Type 0
+HasNoPlaceOrIsListed list floor team own = HasNoPlace floor team own ⊎ IsListedIn list floor team own
 
 -- the team's cell at this position is placed, and its box shares no point with a soft blockage
 pub record IsOffSoft (floor : FloorState) (team : List ℕ) (own : ℕ) : Type 0 where

@@ -8,13 +8,15 @@ ghost use Rattle.lf_cells.specs.Cells.{cell_named, working_at};
 ghost use Rattle.lf_floor_model.specs.States.{TeamState};
 ghost use Rattle.lf_floor_model.specs.Outcomes.{name_at};
 ghost use Rattle.lf_floor_model.specs.Teams.{state_of, team_number};
-ghost use Rattle.lf_repair_team.specs.CellEdits.{AreUnrepaired, IsAnotherCell, IsLegalOrUnplaced, IsLegalOrWithoutPlace, IsUnplacedOrOffSoft, KeepsCommittedAndSlots, KeepsLegalCells, MovesOffSoft, RemainsLegal, SaysNoPlace};
+ghost use Rattle.lf_repair_team.specs.CellEdits.{AreMovable, AreUnrepaired, HoldsOrIsListed, IsAnotherCell, IsFlagged, IsLegalOrUnplaced, IsLegalOrWithoutPlace, IsUnplacedOrOffSoft, KeepsCommittedAndSlots, KeepsLegalCells, KeepsLockedPlaces, MovesOffSoft, RemainsLegal, SaysNoPlace};
 ghost use Rattle.lf_repair_team.specs.TeamRepairs.{ChangesOnly, HasNoPlace, IsIllegalIn, KeepsLegalPlaces, place_of_cell_in};
 ghost use Rattle.lf_repair_team.specs.Runs.{IsRunWithCutLine, IsWrittenRun};
 
 use crate::outcome::{illegal_cells, target_place};
 use crate::run_command::RepairFault;
-use crate::run_edits::{Buffers, TeamSession, copy_name, run_action, run_edit, target_in_range};
+use crate::run_edits::{
+    Buffers, TeamSession, copy_name, is_locked, run_action, run_edit, target_in_range,
+};
 use lf_floor::{Floor, best_is_found, refusal_keeps_state};
 use lf_floorplan::Place;
 use lf_io::Sink;
@@ -23,7 +25,7 @@ use lf_proto::{Action, Change, Refusal, Reply};
 use lf_repair_strategy::Edit;
 use lf_rules::{legal_in_range, legalizer_exists};
 use lf_units::Point;
-use std::alloc::Global;
+use std::alloc::{AllocError, Global};
 
 /// Unplaces the cell at position `own`. `Err` also if it cannot be unplaced: no line can contain its
 /// name.
@@ -63,13 +65,15 @@ fn unplace_cells<S: Seeker + Drop, K: Sink>(
     texts: &mut Buffers,
     lines: &mut K,
 ) -> Result<(), RepairFault>
-    requires { All (λ own. IsIllegalIn floor.old seat.now.team.now own) cells.now }
+    requires illegal { All (λ own. IsIllegalIn floor.old seat.now.team.now own) cells.now }
+    requires free { All (λ own. IsFlagged seat.now.impossible.now own → ⊥) cells.now }
     ensures run { (l : Legalizer) → IfOk result (λ _.
         IsWrittenRun l seat.now.team.now floor.old (K.contents lines.old) (K.contents lines.new) floor.new) }
     ensures err { (l : Legalizer) → OnErr result (
         IsRunWithCutLine l seat.now.team.now floor.old (K.contents lines.old) (K.contents lines.new) floor.new) }
     ensures only { ChangesOnly seat.now.team.now floor.old floor.new }
     ensures legal { KeepsLegalCells seat.now.team.now floor.old floor.new }
+    ensures flagged { KeepsLockedPlaces seat.now.team.now seat.now.impossible.now floor.old floor.new }
     ensures committed { KeepsCommittedAndSlots seat.now.team.now seat.now.session floor.old floor.new }
     ensures unplaced { OnOk result (All (λ own. place_of_cell_in floor.new seat.now.team.now own ≡ None) cells.now) }
     ensures off_soft { OnOk result (MovesOffSoft seat.now.team.now floor.old floor.new) }
@@ -137,14 +141,14 @@ fn stop_unless_no_place(reply: &Reply) -> Result<(), RepairFault>
     }
 }
 
-/// The target of a cell: its place in `wanted_places`, or the team's anchor if it has none there.
+/// The target of a cell: its place in `targets`, or the team's anchor if it has none there.
 fn target_in_last_pass<S: Seeker + Drop>(
     floor: &Floor<S>,
     number: usize,
     own: usize,
-    wanted_places: &[Option<Place>],
+    targets: &[Option<Place>],
 ) -> Point {
-    match target_place(wanted_places, own) {
+    match target_place(targets, own) {
         Some(place) => Point {
             x: place.x as i64,
             y: place.y as i64,
@@ -159,7 +163,7 @@ fn legalize_cell<S: Seeker + Drop, K: Sink>(
     floor: &mut Floor<S>,
     seat: &TeamSession<'_>,
     own: usize,
-    wanted_places: &[Option<Place>],
+    targets: &[Option<Place>],
     texts: &mut Buffers,
     lines: &mut K,
 ) -> Result<(), RepairFault>
@@ -185,7 +189,7 @@ fn legalize_cell<S: Seeker + Drop, K: Sink>(
         Some(_) => return Ok(()),
         None => {}
     }
-    let target = target_in_last_pass(floor, seat.number, own, wanted_places);
+    let target = target_in_last_pass(floor, seat.number, own, targets);
     let Buffers { name, line } = texts;
     match copy_name(floor, seat.team, own, name) {
         Ok(true) => {}
@@ -207,24 +211,26 @@ fn legalize_cells<S: Seeker + Drop, K: Sink>(
     floor: &mut Floor<S>,
     seat: &TeamSession<'_>,
     cells: &[u32],
-    wanted_places: &[Option<Place>],
+    targets: &[Option<Place>],
     texts: &mut Buffers,
     lines: &mut K,
 ) -> Result<(), RepairFault>
     requires number { team_number floor.old.frame seat.now.team.now ≡ Some seat.now.number }
     requires unplaced { All (λ own. place_of_cell_in floor.old seat.now.team.now own ≡ None) cells.now }
+    requires free { All (λ own. IsFlagged seat.now.impossible.now own → ⊥) cells.now }
     ensures run { (l : Legalizer) → IfOk result (λ _.
         IsWrittenRun l seat.now.team.now floor.old (K.contents lines.old) (K.contents lines.new) floor.new) }
     ensures err { (l : Legalizer) → OnErr result (
         IsRunWithCutLine l seat.now.team.now floor.old (K.contents lines.old) (K.contents lines.new) floor.new) }
     ensures only { ChangesOnly seat.now.team.now floor.old floor.new }
     ensures legal { KeepsLegalCells seat.now.team.now floor.old floor.new }
+    ensures flagged { KeepsLockedPlaces seat.now.team.now seat.now.impossible.now floor.old floor.new }
     ensures committed { KeepsCommittedAndSlots seat.now.team.now seat.now.session floor.old floor.new }
     ensures done { OnOk result (All (λ own. IsLegalOrWithoutPlace floor.new seat.now.team.now own) cells.now) }
     ensures off_soft { OnOk result (MovesOffSoft seat.now.team.now floor.old floor.new) }
 {
     for own in cells {
-        match legalize_cell(floor, seat, *own as usize, wanted_places, texts, lines) {
+        match legalize_cell(floor, seat, *own as usize, targets, texts, lines) {
             Ok(()) => {}
             Err(fault) => return Err(fault),
         }
@@ -232,14 +238,38 @@ fn legalize_cells<S: Seeker + Drop, K: Sink>(
     Ok(())
 }
 
-/// Runs the last pass: unplaces the cells that are not legal, and then moves each to its best place,
-/// if there is one. Returns the positions of those without a place, in loading order. The other
-/// cells are legal. Legal cells do not move, and the cells that move are then off soft blockages.
+/// Lists the cell at position `own`, unless no place can hold it.
+fn note_movable(flags: &[bool], own: u32, movable: &mut Vec<u32>) -> Result<(), AllocError>
+    ensures { OnOk result (HoldsOrIsListed (IsFlagged flags.now own) (IsFlagged flags.now own → ⊥) own
+        movable.old.items movable.new.items) }
+{
+    if is_locked(flags, own as usize) {
+        return Ok(());
+    }
+    movable.push(own)?;
+    Ok(())
+}
+
+/// The cells of the list, except those that no place can hold.
+fn movable_of(alloc: Global, cells: &[u32], flags: &[bool]) -> Result<Vec<u32>, AllocError>
+    ensures { IfOk result (λ movable. AreMovable flags.now cells.now movable.items) }
+{
+    let mut movable = Vec::new(alloc);
+    for own in cells {
+        note_movable(flags, *own, &mut movable)?;
+    }
+    Ok(movable)
+}
+
+/// Runs the last pass: unplaces the cells that are not legal, except those that no place can hold,
+/// and then moves each to its best place, if there is one. Returns the positions of those without a
+/// place and of those that no place can hold, in loading order. The other cells are legal. Legal
+/// cells do not move, and the cells that move are then off soft blockages.
 pub(crate) fn run_last_pass<S: Seeker + Drop, K: Sink>(
     alloc: Global,
     floor: &mut Floor<S>,
     seat: &TeamSession<'_>,
-    wanted_places: &[Option<Place>],
+    targets: &[Option<Place>],
     texts: &mut Buffers,
     lines: &mut K,
 ) -> Result<Vec<u32>, RepairFault>
@@ -250,21 +280,26 @@ pub(crate) fn run_last_pass<S: Seeker + Drop, K: Sink>(
         IsRunWithCutLine l seat.now.team.now floor.old (K.contents lines.old) (K.contents lines.new) floor.new) }
     ensures only { ChangesOnly seat.now.team.now floor.old floor.new }
     ensures legal { KeepsLegalPlaces seat.now.team.now floor.old floor.new }
+    ensures flagged { KeepsLockedPlaces seat.now.team.now seat.now.impossible.now floor.old floor.new }
     ensures committed { KeepsCommittedAndSlots seat.now.team.now seat.now.session floor.old floor.new }
-    ensures unrepaired { IfOk result (λ left. AreUnrepaired seat.now.team.now floor.new left.items) }
+    ensures unrepaired { IfOk result (λ left.
+        AreUnrepaired seat.now.team.now seat.now.impossible.now floor.new left.items) }
     ensures off_soft { OnOk result (MovesOffSoft seat.now.team.now floor.old floor.new) }
 {
     let Ok(left) = illegal_cells(alloc, floor, seat) else {
         return Err(RepairFault::OutOfMemory);
     };
-    if left.as_slice().is_empty() {
+    let Ok(movable) = movable_of(alloc, left.as_slice(), seat.impossible) else {
+        return Err(RepairFault::OutOfMemory);
+    };
+    if movable.as_slice().is_empty() {
         return Ok(left);
     }
-    match unplace_cells(floor, seat, left.as_slice(), texts, lines) {
+    match unplace_cells(floor, seat, movable.as_slice(), texts, lines) {
         Ok(()) => {}
         Err(fault) => return Err(fault),
     }
-    match legalize_cells(floor, seat, left.as_slice(), wanted_places, texts, lines) {
+    match legalize_cells(floor, seat, movable.as_slice(), targets, texts, lines) {
         Ok(()) => {}
         Err(fault) => return Err(fault),
     }

@@ -1,7 +1,8 @@
 //! Repairs a team: moves cells that break a rule or have no place to legal places by the floor's
 //! commands.
 //!
-//! A team is repaired in one session of its own. Each command is sent to the floor, and its line is
+//! A team is repaired in one session of its own. Cells of macros that no place can hold
+//! (`lf_repair_bounds`) do not move. Each command is sent to the floor, and its line is
 //! written exactly if the floor accepts it. So the lines are a run of the floor, all laws on runs
 //! hold for it, and they are a journal that `replay` reads. A plan of `lf_repair_planner` places
 //! the cells of one row's height. Other cells, and those whose place is refused or on a soft
@@ -24,7 +25,7 @@
 //!
 //! ```
 //! let mut lines = ToWrite::new(writer);
-//! repair_team(alloc, floor, b"A", how, &mut lines)
+//! repair_team(alloc, floor, b"A", how, &[], &mut lines)
 //! ```
 #![tactic(auto)]
 

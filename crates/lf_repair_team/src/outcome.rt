@@ -4,7 +4,7 @@
 ghost use Rattle.std.specs.Prelude.{◌≡◌, ◌<◌, All, AllPairs, IfOk, OnOk, Some};
 ghost use Rattle.lf_cells.specs.Cells.{cells_of};
 ghost use Rattle.lf_floor_model.specs.Teams.{team_number};
-ghost use Rattle.lf_repair_strategy.specs.WantedPlaces.{target_at};
+ghost use Rattle.lf_repair_strategy.specs.Targets.{target_at};
 ghost use Rattle.lf_repair_team.specs.CellEdits.{AreAtTargetsExcept, HaveLeftTargets, IsLegalOrListed, HoldsOrIsListed, TeamHasLeftTargets, TeamIsAtTargetsExcept};
 ghost use Rattle.lf_repair_team.specs.TeamRepairs.{AreLegalExcept, IsIllegalIn};
 
@@ -25,10 +25,10 @@ pub(crate) struct RepairOutcome {
 }
 
 /// The place at this position in the list, if there is one.
-pub(crate) fn target_place(wanted_places: &[Option<Place>], own: usize) -> Option<Place>
-    ensures { result ≡ target_at wanted_places.now own }
+pub(crate) fn target_place(targets: &[Option<Place>], own: usize) -> Option<Place>
+    ensures { result ≡ target_at targets.now own }
 {
-    *wanted_places.get(own)?
+    *targets.get(own)?
 }
 
 /// Lists the cell at position `own`, unless its place is unchanged.
@@ -53,17 +53,17 @@ fn changed_cells(
     alloc: Global,
     placement: &Placement,
     number: usize,
-    wanted_places: &[Option<Place>],
+    targets: &[Option<Place>],
 ) -> Result<Vec<u32>, AllocError>
     ensures changed { IfOk result (λ changed.
-        AreAtTargetsExcept (cells_of placement.now.cells number) wanted_places.now changed.items) }
+        AreAtTargetsExcept (cells_of placement.now.cells number) targets.now changed.items) }
     ensures moved { IfOk result (λ changed.
-        HaveLeftTargets (cells_of placement.now.cells number) wanted_places.now changed.items) }
+        HaveLeftTargets (cells_of placement.now.cells number) targets.now changed.items) }
 {
     let mut changed = Vec::new(alloc);
     for id in placement.cells().cells_of(number) {
         let now = placement.cells().working(*id);
-        let wanted_place = target_place(wanted_places, id.own as usize);
+        let wanted_place = target_place(targets, id.own as usize);
         name_changed(now, wanted_place, id.own, &mut changed)?;
     }
     Ok(changed)
@@ -110,16 +110,16 @@ pub(crate) fn found_of<S: Seeker + Drop>(
     alloc: Global,
     floor: &Floor<S>,
     seat: &TeamSession<'_>,
-    wanted_places: &[Option<Place>],
+    targets: &[Option<Place>],
     left: Vec<u32>,
 ) -> Result<RepairOutcome, AllocError>
     requires { team_number floor.now.frame seat.now.team.now ≡ Some seat.now.number }
     ensures changed { IfOk result (λ found.
-        TeamIsAtTargetsExcept seat.now.team.now wanted_places.now floor.now found.changed.items) }
+        TeamIsAtTargetsExcept seat.now.team.now targets.now floor.now found.changed.items) }
     ensures moved { IfOk result (λ found.
-        TeamHasLeftTargets seat.now.team.now wanted_places.now floor.now found.changed.items) }
+        TeamHasLeftTargets seat.now.team.now targets.now floor.now found.changed.items) }
     ensures left { IfOk result (λ found. found.left.items ≡ left.items) }
 {
-    let changed = changed_cells(alloc, floor.placement(), seat.number, wanted_places)?;
+    let changed = changed_cells(alloc, floor.placement(), seat.number, targets)?;
     Ok(RepairOutcome { changed, left })
 }

@@ -1,16 +1,19 @@
 //! A team at the start of its repair: which of its cells are legal.
 
-ghost use Rattle.std.specs.Prelude.{◌≡◌, [], List, ℕ, IfOk, IsTrue, OnOk, Some, slice_get};
+ghost use Rattle.std.specs.Prelude.{◌≡◌, ◌↔◌, [], List, ℕ, IfOk, IsTrue, OnOk, Some, option_map, slice_get};
+ghost use Rattle.lf_cells.specs.Cells.{cells_of};
 ghost use Rattle.lf_floor_model.specs.States.{TeamState};
 ghost use Rattle.lf_floor_model.specs.Teams.{state_of, team_number};
-ghost use Rattle.lf_repair_strategy.specs.WantedPlaces.{AreWorkingPlaces};
+ghost use Rattle.lf_repair_strategy.specs.Targets.{AreWorkingPlaces};
 ghost use Rattle.lf_repair_strategy.specs.declared.pass.MovePolicy.TheVariants.{KeepLegal};
-ghost use Rattle.lf_repair_team.specs.CellEdits.{AreLegalFlags, AddsLegalFlag};
-ghost use Rattle.lf_repair_team.specs.TeamRepairs.{AreLegalExcept};
+ghost use Rattle.lf_repair_team.specs.CellEdits.{AreLegalFlags, AddsLegalFlag, AreListedFlags};
+ghost use Rattle.lf_repair_team.specs.TeamRepairs.{AreLegalExcept, IsListedIn};
 
 use lf_cells::CellId;
 use lf_floor::Floor;
 use lf_legalize::Seeker;
+use lf_placement::Placement;
+use lf_repair_bounds::{ImpossibleMacro, is_listed};
 use lf_repair_strategy::{MovePolicy, Pass, RepairInput, initial_locks, working_places};
 use std::alloc::{AllocError, Global};
 
@@ -61,30 +64,86 @@ fn legal_of<S: Seeker + Drop>(
     Ok(legal)
 }
 
-/// The input of a repair of the team with this number. `Err` if an allocation fails.
+/// The number of the macro of the cell at position `own` of the team with this number. `None` if
+/// there is no such cell.
+fn mac_number(placement: &Placement, number: usize, own: usize) -> Option<usize>
+    ensures { result ≡ option_map (λ c. c.mac) (slice_get (cells_of placement.now.cells number) own) }
+{
+    let id = placement.cells().cell_of(number, own)?;
+    Some(placement.cells().placement_of(id)?.mac)
+}
+
+/// Whether the team's cell at position `own` is of a macro that is listed for the team.
+fn is_cell_listed<S: Seeker + Drop>(
+    floor: &Floor<S>,
+    team: &[u8],
+    number: usize,
+    own: usize,
+    impossible: &[ImpossibleMacro],
+) -> bool
+    requires { team_number floor.now.frame team.now ≡ Some number }
+    ensures { IsTrue result ↔ IsListedIn impossible.now floor.now team.now own }
+{
+    let Some(mac) = mac_number(floor.placement(), number, own) else {
+        return false;
+    };
+    if !is_listed(impossible, number, mac) {
+        return false;
+    }
+    floor.name_of(team, own).is_some()
+}
+
+/// Whether each of the team's cells is of a macro that is listed for the team.
+fn listed_of<S: Seeker + Drop>(
+    alloc: Global,
+    floor: &Floor<S>,
+    team: &[u8],
+    number: usize,
+    impossible: &[ImpossibleMacro],
+) -> Result<Vec<bool>, AllocError>
+    requires { team_number floor.now.frame team.now ≡ Some number }
+    ensures { IfOk result (λ flags. AreListedFlags impossible.now team.now floor.now flags.items) }
+{
+    let mut flags = Vec::new(alloc);
+    let count = floor.placement().cells().cells_of(number).len();
+    for own in 0..count {
+        flags.push(is_cell_listed(floor, team, number, own, impossible))?;
+    }
+    Ok(flags)
+}
+
+/// The input of a repair of the team with this name and number. No place can hold the cells of the macros
+/// that are listed for the team. `Err` if an allocation fails.
 pub(crate) fn repair_input<S: Seeker + Drop>(
     alloc: Global,
     floor: &Floor<S>,
+    team: &[u8],
     number: usize,
     how: MovePolicy,
+    impossible: &[ImpossibleMacro],
 ) -> Result<RepairInput, AllocError>
+    requires { team_number floor.now.frame team.now ≡ Some number }
     ensures marked { (team : List ℕ) → how ≡ KeepLegal → team_number floor.now.frame team ≡ Some number
         → IfOk result (λ start. AreLegalFlags team floor.now start.pass.locked.items) }
     ensures legal { (team : List ℕ) → team_number floor.now.frame team ≡ Some number → IfOk result (λ start.
         AreLegalFlags team floor.now start.legal.items) }
-    ensures wanted_places { (s : TeamState) → slice_get floor.now.teams number ≡ Some s → IfOk result (λ start.
-        AreWorkingPlaces s.cells start.pass.wanted_places.items) }
+    ensures targets { (s : TeamState) → slice_get floor.now.teams number ≡ Some s → IfOk result (λ start.
+        AreWorkingPlaces s.cells start.pass.targets.items) }
+    ensures flagged { IfOk result (λ start.
+        AreListedFlags impossible.now team.now floor.now start.pass.impossible.items) }
     ensures how { IfOk result (λ start. start.how ≡ how) }
 {
     let legal = legal_of(alloc, floor, number)?;
     let marks = initial_locks(alloc, floor.placement(), number, legal.as_slice(), how)?;
-    let wanted_places = working_places(alloc, floor.placement(), number)?;
+    let flags = listed_of(alloc, floor, team, number, impossible)?;
+    let targets = working_places(alloc, floor.placement(), number)?;
     Ok(RepairInput {
         how,
         legal,
         pass: Pass {
             locked: marks,
-            wanted_places,
+            impossible: flags,
+            targets,
         },
     })
 }

@@ -27,12 +27,14 @@ use lf_rules::{legal_in_range, legalizer_exists};
 use lf_units::Point;
 use std::alloc::{AllocError, Global};
 
-/// A session of a team.
+/// A session of a team. `impossible` says of each cell whether no place can hold it. Such cells do
+/// not move.
 #[derive(Clone, Copy)]
 pub(crate) struct TeamSession<'a> {
     pub(crate) team: &'a [u8],
     pub(crate) number: usize,
     pub(crate) session: u32,
+    pub(crate) impossible: &'a [bool],
 }
 
 /// Buffers for the name of a cell and the line of a command.
@@ -213,7 +215,7 @@ pub(crate) fn run_edit<S: Seeker + Drop, K: Sink>(
     }
 }
 
-/// Whether the cell at position `own` is locked.
+/// Whether the cell at position `own` is marked.
 pub(crate) fn is_locked(marks: &[bool], own: usize) -> bool
     ensures { IsTrue result ↔ slice_get marks.now own ≡ Some true }
 {
@@ -223,7 +225,7 @@ pub(crate) fn is_locked(marks: &[bool], own: usize) -> bool
     }
 }
 
-/// Sends the edit, unless its cell is locked.
+/// Sends the edit, unless its cell is locked or no place can hold it.
 fn run_edit_unless_locked<S: Seeker + Drop, K: Sink>(
     floor: &mut Floor<S>,
     seat: &TeamSession<'_>,
@@ -238,6 +240,7 @@ fn run_edit_unless_locked<S: Seeker + Drop, K: Sink>(
         IsRunWithCutLine l seat.now.team.now floor.old (K.contents lines.old) (K.contents lines.new) floor.new) }
     ensures only { ChangesOnly seat.now.team.now floor.old floor.new }
     ensures marked { KeepsLockedPlaces seat.now.team.now marks.now floor.old floor.new }
+    ensures flagged { KeepsLockedPlaces seat.now.team.now seat.now.impossible.now floor.old floor.new }
     ensures legal { KeepsLockedLegal seat.now.team.now marks.now floor.old floor.new }
     ensures committed { KeepsCommittedAndSlots seat.now.team.now seat.now.session floor.old floor.new }
 {
@@ -245,10 +248,13 @@ fn run_edit_unless_locked<S: Seeker + Drop, K: Sink>(
     if is_locked(marks, own) {
         return Ok(());
     }
+    if is_locked(seat.impossible, own) {
+        return Ok(());
+    }
     run_edit(floor, seat, own, &cell_edit.step, texts, lines)
 }
 
-/// Sends all edits in their order, except those of locked cells.
+/// Sends all edits in their order, except those of cells that are locked or that no place can hold.
 pub(crate) fn run_edits<S: Seeker + Drop, K: Sink>(
     floor: &mut Floor<S>,
     seat: &TeamSession<'_>,
@@ -263,6 +269,7 @@ pub(crate) fn run_edits<S: Seeker + Drop, K: Sink>(
         IsRunWithCutLine l seat.now.team.now floor.old (K.contents lines.old) (K.contents lines.new) floor.new) }
     ensures only { ChangesOnly seat.now.team.now floor.old floor.new }
     ensures marked { KeepsLockedPlaces seat.now.team.now marks.now floor.old floor.new }
+    ensures flagged { KeepsLockedPlaces seat.now.team.now seat.now.impossible.now floor.old floor.new }
     ensures legal { KeepsLockedLegal seat.now.team.now marks.now floor.old floor.new }
     ensures committed { KeepsCommittedAndSlots seat.now.team.now seat.now.session floor.old floor.new }
 {

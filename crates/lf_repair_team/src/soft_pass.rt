@@ -11,7 +11,7 @@ ghost use Rattle.lf_cells.specs.declared.cell.Cell.{Cell};
 ghost use Rattle.lf_cells.specs.Cells.{cells_of, working_at};
 ghost use Rattle.lf_floor_model.specs.States.{TeamState};
 ghost use Rattle.lf_floor_model.specs.Teams.{state_of, team_number};
-ghost use Rattle.lf_repair_strategy.specs.WantedPlaces.{target_at};
+ghost use Rattle.lf_repair_strategy.specs.Targets.{target_at};
 ghost use Rattle.lf_repair_team.specs.CellEdits.{AreAtTargetsOrOffSoft, IsAtTargetOrOffSoft, KeepsCellsAtTargets, KeepsCommittedAndSlots};
 ghost use Rattle.lf_repair_team.specs.TeamRepairs.{ChangesOnly, place_of_cell_in};
 ghost use Rattle.lf_repair_team.specs.Runs.{IsRunWithCutLine, IsWrittenRun};
@@ -63,21 +63,21 @@ fn is_on_soft(placement: &Placement, number: usize, own: usize, place: &Place) -
 }
 
 /// Whether the cell at position `own` is on a soft blockage, and not at its place in
-/// `wanted_places`.
+/// `targets`.
 fn has_moved_onto_soft<S: Seeker + Drop>(
     floor: &Floor<S>,
     seat: &TeamSession<'_>,
     own: usize,
-    wanted_places: &[Option<Place>],
+    targets: &[Option<Place>],
 ) -> bool
     requires { team_number floor.now.frame seat.now.team.now ≡ Some seat.now.number }
     ensures moved { (s : TeamState) → state_of floor.now seat.now.team.now ≡ Some s → IsTrue result
-        → place_of_cell_in floor.now seat.now.team.now own ≢ target_at wanted_places.now own }
-    ensures settled { result ≡ false → IsAtTargetOrOffSoft seat.now.team.now wanted_places.now floor.now own }
+        → place_of_cell_in floor.now seat.now.team.now own ≢ target_at targets.now own }
+    ensures settled { result ≡ false → IsAtTargetOrOffSoft seat.now.team.now targets.now floor.now own }
 {
     let placement = floor.placement();
     let now = place_at(placement, seat.number, own);
-    if same_place(now, target_place(wanted_places, own)) {
+    if same_place(now, target_place(targets, own)) {
         return false;
     }
     match now {
@@ -92,7 +92,7 @@ fn unplace_if_on_soft<S: Seeker + Drop, K: Sink>(
     floor: &mut Floor<S>,
     seat: &TeamSession<'_>,
     own: usize,
-    wanted_places: &[Option<Place>],
+    targets: &[Option<Place>],
     texts: &mut Buffers,
     lines: &mut K,
 ) -> Result<(), RepairFault>
@@ -105,21 +105,21 @@ fn unplace_if_on_soft<S: Seeker + Drop, K: Sink>(
     ensures committed { KeepsCommittedAndSlots seat.now.team.now seat.now.session floor.old floor.new }
     ensures others { (other : ℕ) → other ≢ own
         → place_of_cell_in floor.new seat.now.team.now other ≡ place_of_cell_in floor.old seat.now.team.now other }
-    ensures targets { KeepsCellsAtTargets seat.now.team.now wanted_places.now floor.old floor.new }
-    ensures settled { OnOk result (IsAtTargetOrOffSoft seat.now.team.now wanted_places.now floor.new own) }
+    ensures targets { KeepsCellsAtTargets seat.now.team.now targets.now floor.old floor.new }
+    ensures settled { OnOk result (IsAtTargetOrOffSoft seat.now.team.now targets.now floor.new own) }
 {
-    if !has_moved_onto_soft(floor, seat, own, wanted_places) {
+    if !has_moved_onto_soft(floor, seat, own, targets) {
         return Ok(());
     }
     unplace_cell(floor, seat, own, texts, lines)
 }
 
 /// Runs the soft pass: unplaces the cells that are on a soft blockage and not at their places in
-/// `wanted_places`. Other cells do not move.
+/// `targets`. Other cells do not move.
 pub(crate) fn run_soft_pass<S: Seeker + Drop, K: Sink>(
     floor: &mut Floor<S>,
     seat: &TeamSession<'_>,
-    wanted_places: &[Option<Place>],
+    targets: &[Option<Place>],
     texts: &mut Buffers,
     lines: &mut K,
 ) -> Result<(), RepairFault>
@@ -130,12 +130,12 @@ pub(crate) fn run_soft_pass<S: Seeker + Drop, K: Sink>(
         IsRunWithCutLine l seat.now.team.now floor.old (K.contents lines.old) (K.contents lines.new) floor.new) }
     ensures only { ChangesOnly seat.now.team.now floor.old floor.new }
     ensures committed { KeepsCommittedAndSlots seat.now.team.now seat.now.session floor.old floor.new }
-    ensures targets { KeepsCellsAtTargets seat.now.team.now wanted_places.now floor.old floor.new }
-    ensures settled { OnOk result (AreAtTargetsOrOffSoft seat.now.team.now wanted_places.now floor.new) }
+    ensures targets { KeepsCellsAtTargets seat.now.team.now targets.now floor.old floor.new }
+    ensures settled { OnOk result (AreAtTargetsOrOffSoft seat.now.team.now targets.now floor.new) }
 {
     let count = floor.placement().cells().cells_of(seat.number).len();
     for own in 0..count {
-        match unplace_if_on_soft(floor, seat, own, wanted_places, texts, lines) {
+        match unplace_if_on_soft(floor, seat, own, targets, texts, lines) {
             Ok(()) => {}
             Err(fault) => return Err(fault),
         }

@@ -48,17 +48,17 @@ fn is_placed(wanted_place: Option<Place>, now: Option<Place>) -> bool
 }
 
 /// Whether a cell was legal, and its place is unchanged.
-fn is_kept(wanted_place: Option<Place>, now: Option<Place>, original_place: bool) -> bool
-    ensures { IsTrue result ↔ (IsTrue original_place × (now ≡ wanted_place)) }
+fn is_kept(wanted_place: Option<Place>, now: Option<Place>, was_legal: bool) -> bool
+    ensures { IsTrue result ↔ (IsTrue was_legal × (now ≡ wanted_place)) }
 {
-    original_place && same_place(now, wanted_place)
+    was_legal && same_place(now, wanted_place)
 }
 
 /// Whether a cell was legal, and its place changed.
-fn is_pushed(wanted_place: Option<Place>, now: Option<Place>, original_place: bool) -> bool
-    ensures { IsTrue result ↔ (IsTrue original_place × (now ≢ wanted_place)) }
+fn is_displaced(wanted_place: Option<Place>, now: Option<Place>, was_legal: bool) -> bool
+    ensures { IsTrue result ↔ (IsTrue was_legal × (now ≢ wanted_place)) }
 {
-    original_place && !same_place(now, wanted_place)
+    was_legal && !same_place(now, wanted_place)
 }
 
 /// The count, increased by one if `so` is true.
@@ -72,19 +72,19 @@ fn counted(count: u32, so: bool) -> u32
 fn count_cell(
     wanted_place: Option<Place>,
     now: Option<Place>,
-    original_place: bool,
+    was_legal: bool,
     reported: &mut RepairStats,
 )
     ensures changed { reported.new.changed ≡ reported.old.changed }
     ensures left { reported.new.unrepaired ≡ reported.old.unrepaired }
-    ensures reported { CountsOneCell wanted_place now (IsTrue original_place) reported.old reported.new }
+    ensures reported { CountsOneCell wanted_place now (IsTrue was_legal) reported.old reported.new }
 {
     let far = displacement(wanted_place, now);
-    reported.cells = counted(reported.cells, !original_place);
-    reported.kept = counted(reported.kept, is_kept(wanted_place, now, original_place));
+    reported.cells = counted(reported.cells, !was_legal);
+    reported.kept = counted(reported.kept, is_kept(wanted_place, now, was_legal));
     reported.displaced_legal = counted(
         reported.displaced_legal,
-        is_pushed(wanted_place, now, original_place),
+        is_displaced(wanted_place, now, was_legal),
     );
     reported.moved = counted(reported.moved, 0 < far);
     reported.placed = counted(reported.placed, is_placed(wanted_place, now));
@@ -97,13 +97,13 @@ fn count_cell(
 fn count_cells(
     placement: &Placement,
     number: usize,
-    wanted_places: &[Option<Place>],
+    targets: &[Option<Place>],
     marks: &[bool],
     found: RepairOutcome,
 ) -> RepairStats
     ensures changed { result.changed ≡ found.changed }
     ensures left { result.unrepaired ≡ found.left }
-    ensures tally { AreStatsOfFirst wanted_places.now marks.now (cells_of placement.now.cells number)
+    ensures tally { AreStatsOfFirst targets.now marks.now (cells_of placement.now.cells number)
         (length (cells_of placement.now.cells number)) result }
 {
     placement.cells_are_sized();
@@ -122,9 +122,9 @@ fn count_cells(
     };
     for id in placement.cells().cells_of(number) {
         let now = placement.cells().working(*id);
-        let wanted_place = target_place(wanted_places, id.own as usize);
-        let original_place = is_locked(marks, id.own as usize);
-        count_cell(wanted_place, now, original_place, &mut reported);
+        let wanted_place = target_place(targets, id.own as usize);
+        let was_legal = is_locked(marks, id.own as usize);
+        count_cell(wanted_place, now, was_legal, &mut reported);
     }
     reported
 }
@@ -139,12 +139,12 @@ pub(crate) fn stats_of<S: Seeker + Drop>(
     ensures changed { result.changed ≡ found.changed }
     ensures left { result.unrepaired ≡ found.left }
     ensures tally { (s : TeamState) → slice_get floor.now.teams number ≡ Some s
-        → AreStatsOfFirst start.now.pass.wanted_places.items start.now.legal.items s.cells (length s.cells) result }
+        → AreStatsOfFirst start.now.pass.targets.items start.now.legal.items s.cells (length s.cells) result }
 {
     count_cells(
         floor.placement(),
         number,
-        start.pass.wanted_places.as_slice(),
+        start.pass.targets.as_slice(),
         start.legal.as_slice(),
         found,
     )

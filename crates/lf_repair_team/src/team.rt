@@ -6,8 +6,8 @@ ghost use Rattle.lf_floor_model.specs.Steps.{AllCommittedIn};
 ghost use Rattle.lf_floor_model.specs.Teams.{team_number};
 ghost use Rattle.lf_floor_model.specs.VerbLaws.{is_ok};
 ghost use Rattle.lf_repair_strategy.specs.declared.pass.MovePolicy.TheVariants.{KeepLegal};
-ghost use Rattle.lf_repair_team.specs.CellEdits.{AreAtTargetsOrOffSoft, AreLockedInPlace, AreUnrepaired, KeepsCommittedAndSlots, KeepsCommittedPlaces, KeepsLockedLegal, KeepsLockedPlaces, KeepsOtherSlots, KeepsPlaces, SameCells, SaysOpened, TeamHasLeftTargets, TeamIsAtTargetsExcept, session_slots_without};
-ghost use Rattle.lf_repair_team.specs.TeamRepairs.{AllListedMove, AreLegalExcept, AreMovedOffSoft, ChangesOnly, HasNoPlace, IsIllegalIn, KeepsLegalPlaces, OnlyListedMove, committed_in, session_slots_in};
+ghost use Rattle.lf_repair_team.specs.CellEdits.{AreAtTargetsOrOffSoft, AreFlaggedAtTargets, AreLockedInPlace, AreUnrepaired, KeepsCommittedAndSlots, KeepsCommittedPlaces, KeepsLockedLegal, KeepsLockedPlaces, KeepsOtherSlots, KeepsPlaces, SameCells, SaysOpened, TeamHasLeftTargets, TeamIsAtTargetsExcept, session_slots_without};
+ghost use Rattle.lf_repair_team.specs.TeamRepairs.{AllListedMove, AreLegalExcept, AreMovedOffSoft, ChangesOnly, HasNoPlaceOrIsListed, IsIllegalIn, KeepsLegalPlaces, KeepsListedPlaces, OnlyListedMove, committed_in, session_slots_in};
 ghost use Rattle.lf_repair_team.specs.Runs.{IsRunWithCutLine, IsWrittenRun};
 ghost use Rattle.lf_repair_team.specs.Stats.{AreTeamStats};
 
@@ -25,6 +25,7 @@ use lf_floorplan::Place;
 use lf_io::Sink;
 use lf_legalize::Seeker;
 use lf_proto::{Action, Change, Command, Refusal, Reply, TeamCommand};
+use lf_repair_bounds::ImpossibleMacro;
 use lf_repair_strategy::{
     CellEdit, MovePolicy, Neighborhood, PaddedTeam, Pass, Phase, RepairInput, RepairStats,
     edits_for, plan_local_pass, undo_edits,
@@ -161,12 +162,12 @@ fn finish<S: Seeker + Drop, K: Sink>(
     alloc: Global,
     floor: &mut Floor<S>,
     seat: &TeamSession<'_>,
-    wanted_places: &[Option<Place>],
+    targets: &[Option<Place>],
     left: Vec<u32>,
     lines: &mut K,
 ) -> Result<RepairOutcome, RepairFault>
     requires number { team_number floor.old.frame seat.now.team.now ≡ Some seat.now.number }
-    requires unrepaired { AreUnrepaired seat.now.team.now floor.old left.items }
+    requires unrepaired { AreUnrepaired seat.now.team.now seat.now.impossible.now floor.old left.items }
     ensures run { (l : Legalizer) → IfOk result (λ _.
         IsWrittenRun l seat.now.team.now floor.old (K.contents lines.old) (K.contents lines.new) floor.new) }
     ensures err { (l : Legalizer) → OnErr result (
@@ -174,10 +175,11 @@ fn finish<S: Seeker + Drop, K: Sink>(
     ensures only { ChangesOnly seat.now.team.now floor.old floor.new }
     ensures places { KeepsPlaces seat.now.team.now floor.old floor.new }
     ensures changed { IfOk result (λ found.
-        TeamIsAtTargetsExcept seat.now.team.now wanted_places.now floor.new found.changed.items) }
+        TeamIsAtTargetsExcept seat.now.team.now targets.now floor.new found.changed.items) }
     ensures moved { IfOk result (λ found.
-        TeamHasLeftTargets seat.now.team.now wanted_places.now floor.new found.changed.items) }
-    ensures unrepaired { IfOk result (λ found. AreUnrepaired seat.now.team.now floor.new found.left.items) }
+        TeamHasLeftTargets seat.now.team.now targets.now floor.new found.changed.items) }
+    ensures unrepaired { IfOk result (λ found.
+        AreUnrepaired seat.now.team.now seat.now.impossible.now floor.new found.left.items) }
     ensures committed { (l : Legalizer) → IfOk result (λ found.
         found.left.items ≡ [] → AllCommittedIn l floor.new seat.now.team.now) }
     ensures uncommitted { IfOk result (λ found.
@@ -186,7 +188,7 @@ fn finish<S: Seeker + Drop, K: Sink>(
         ≡ session_slots_without seat.now.session floor.old seat.now.team.now) }
 {
     legalizer_exists();
-    let Ok(found) = found_of(alloc, floor, seat, wanted_places, left) else {
+    let Ok(found) = found_of(alloc, floor, seat, targets, left) else {
         return Err(RepairFault::OutOfMemory);
     };
     let mut texts = Buffers::new(alloc);
@@ -202,7 +204,7 @@ fn finish<S: Seeker + Drop, K: Sink>(
 
 /// The phases of a pass.
 const PHASES: [Phase; 4] = [
-    Phase::UnplaceMovable,
+    Phase::UnplaceForTall,
     Phase::PlaceTall,
     Phase::PlacePlanned,
     Phase::PlaceRemaining,
@@ -237,6 +239,7 @@ fn run_pass<S: Seeker + Drop, K: Sink>(
         IsRunWithCutLine l seat.now.team.now floor.old (K.contents lines.old) (K.contents lines.new) floor.new) }
     ensures only { ChangesOnly seat.now.team.now floor.old floor.new }
     ensures marked { KeepsLockedPlaces seat.now.team.now pass.now.locked.items floor.old floor.new }
+    ensures flagged { KeepsLockedPlaces seat.now.team.now seat.now.impossible.now floor.old floor.new }
     ensures legal { KeepsLockedLegal seat.now.team.now pass.now.locked.items floor.old floor.new }
     ensures committed { KeepsCommittedAndSlots seat.now.team.now seat.now.session floor.old floor.new }
 {
@@ -284,6 +287,7 @@ fn run_local_pass<S: Seeker + Drop, K: Sink>(
         IsWrittenRun l seat.now.team.now floor.old (K.contents lines.old) (K.contents lines.new) floor.new) }
     ensures err { (l : Legalizer) → OnErr result (
         IsRunWithCutLine l seat.now.team.now floor.old (K.contents lines.old) (K.contents lines.new) floor.new) }
+    ensures flagged { KeepsLockedPlaces seat.now.team.now seat.now.impossible.now floor.old floor.new }
     ensures only { ChangesOnly seat.now.team.now floor.old floor.new }
     ensures committed { KeepsCommittedAndSlots seat.now.team.now seat.now.session floor.old floor.new }
 {
@@ -332,6 +336,7 @@ fn run_local_passes<S: Seeker + Drop, K: Sink>(
         IsWrittenRun l seat.now.team.now floor.old (K.contents lines.old) (K.contents lines.new) floor.new) }
     ensures err { (l : Legalizer) → OnErr result (
         IsRunWithCutLine l seat.now.team.now floor.old (K.contents lines.old) (K.contents lines.new) floor.new) }
+    ensures flagged { KeepsLockedPlaces seat.now.team.now seat.now.impossible.now floor.old floor.new }
     ensures only { ChangesOnly seat.now.team.now floor.old floor.new }
     ensures kept { start.now.how ≡ KeepLegal → floor.new ≡ floor.old }
     ensures committed { KeepsCommittedAndSlots seat.now.team.now seat.now.session floor.old floor.new }
@@ -363,12 +368,16 @@ fn run_passes<S: Seeker + Drop, K: Sink>(
         IsRunWithCutLine l seat.now.team.now floor.old (K.contents lines.old) (K.contents lines.new) floor.new) }
     ensures only { ChangesOnly seat.now.team.now floor.old floor.new }
     ensures marked { start.now.how ≡ KeepLegal
-        → AreLockedInPlace seat.now.team.now start.now.pass.locked.items start.now.pass.wanted_places.items floor.old
+        → AreLockedInPlace seat.now.team.now start.now.pass.locked.items start.now.pass.targets.items floor.old
         → KeepsLockedPlaces seat.now.team.now start.now.pass.locked.items floor.old floor.new }
+    ensures unmoved { AreFlaggedAtTargets seat.now.team.now seat.now.impossible.now start.now.pass.targets.items
+        floor.old
+        → KeepsLockedPlaces seat.now.team.now seat.now.impossible.now floor.old floor.new }
     ensures committed { KeepsCommittedAndSlots seat.now.team.now seat.now.session floor.old floor.new }
-    ensures unrepaired { IfOk result (λ left. AreUnrepaired seat.now.team.now floor.new left.items) }
+    ensures unrepaired { IfOk result (λ left.
+        AreUnrepaired seat.now.team.now seat.now.impossible.now floor.new left.items) }
     ensures off_soft { OnOk result (
-        AreAtTargetsOrOffSoft seat.now.team.now start.now.pass.wanted_places.items floor.new) }
+        AreAtTargetsOrOffSoft seat.now.team.now start.now.pass.targets.items floor.new) }
 {
     let mut texts = Buffers::new(alloc);
     match run_pass(alloc, floor, seat, &start.pass, &mut texts, lines) {
@@ -379,21 +388,21 @@ fn run_passes<S: Seeker + Drop, K: Sink>(
         Ok(()) => {}
         Err(fault) => return Err(fault),
     }
-    let wanted_places = start.pass.wanted_places.as_slice();
-    match run_soft_pass(floor, seat, wanted_places, &mut texts, lines) {
+    let targets = start.pass.targets.as_slice();
+    match run_soft_pass(floor, seat, targets, &mut texts, lines) {
         Ok(()) => {}
         Err(fault) => return Err(fault),
     }
-    run_last_pass(alloc, floor, seat, wanted_places, &mut texts, lines)
+    run_last_pass(alloc, floor, seat, targets, &mut texts, lines)
 }
 
 /// Opens a session, runs all passes, and finishes.
-fn repair_in_session<S: Seeker + Drop, K: Sink>(
+fn repair_in_session<'a, S: Seeker + Drop, K: Sink>(
     alloc: Global,
     floor: &mut Floor<S>,
-    team: &[u8],
+    team: &'a [u8],
     number: usize,
-    start: &RepairInput,
+    start: &'a RepairInput,
     lines: &mut K,
 ) -> Result<RepairOutcome, RepairFault>
     requires { team_number floor.old.frame team.now ≡ Some number }
@@ -403,20 +412,24 @@ fn repair_in_session<S: Seeker + Drop, K: Sink>(
         IsRunWithCutLine l team.now floor.old (K.contents lines.old) (K.contents lines.new) floor.new) }
     ensures only { ChangesOnly team.now floor.old floor.new }
     ensures marked { start.now.how ≡ KeepLegal
-        → AreLockedInPlace team.now start.now.pass.locked.items start.now.pass.wanted_places.items floor.old
+        → AreLockedInPlace team.now start.now.pass.locked.items start.now.pass.targets.items floor.old
         → KeepsLockedPlaces team.now start.now.pass.locked.items floor.old floor.new }
+    ensures unmoved { AreFlaggedAtTargets team.now start.now.pass.impossible.items start.now.pass.targets.items
+        floor.old
+        → KeepsLockedPlaces team.now start.now.pass.impossible.items floor.old floor.new }
     ensures changed { IfOk result (λ found.
-        TeamIsAtTargetsExcept team.now start.now.pass.wanted_places.items floor.new found.changed.items) }
+        TeamIsAtTargetsExcept team.now start.now.pass.targets.items floor.new found.changed.items) }
     ensures moved { IfOk result (λ found.
-        TeamHasLeftTargets team.now start.now.pass.wanted_places.items floor.new found.changed.items) }
-    ensures unrepaired { IfOk result (λ found. AreUnrepaired team.now floor.new found.left.items) }
+        TeamHasLeftTargets team.now start.now.pass.targets.items floor.new found.changed.items) }
+    ensures unrepaired { IfOk result (λ found.
+        AreUnrepaired team.now start.now.pass.impossible.items floor.new found.left.items) }
     ensures committed { (l : Legalizer) → IfOk result (λ found.
         found.left.items ≡ [] → AllCommittedIn l floor.new team.now) }
     ensures uncommitted { IfOk result (λ found.
         found.left.items ≢ [] → KeepsCommittedPlaces team.now floor.old floor.new) }
     ensures slots { OnOk result (session_slots_in floor.new team.now ≡ session_slots_in floor.old team.now) }
     ensures off_soft { OnOk result (
-        AreAtTargetsOrOffSoft team.now start.now.pass.wanted_places.items floor.new) }
+        AreAtTargetsOrOffSoft team.now start.now.pass.targets.items floor.new) }
 {
     let mut texts = Buffers::new(alloc);
     let session = match open(floor, team, &mut texts, lines) {
@@ -427,27 +440,30 @@ fn repair_in_session<S: Seeker + Drop, K: Sink>(
         team,
         number,
         session,
+        impossible: start.pass.impossible.as_slice(),
     };
     let left = match run_passes(alloc, floor, &seat, start, lines) {
         Ok(left) => left,
         Err(fault) => return Err(fault),
     };
-    let wanted_places = start.pass.wanted_places.as_slice();
-    finish(alloc, floor, &seat, wanted_places, left, lines)
+    let targets = start.pass.targets.as_slice();
+    finish(alloc, floor, &seat, targets, left, lines)
 }
 
 /// Repairs a team: moves its cells that break a rule or have no place to legal places.
 ///
 /// With `MoveAll` other cells may move too, with `MoveAsNeeded` only if a cell would otherwise have
 /// no place or a long displacement. With `KeepLegal` legal cells never move, whether or not the
-/// repair succeeds. All cells whose place changed are listed.
+/// repair succeeds. The cells of the macros that are listed for the team never move either. All
+/// cells whose place changed are listed.
 ///
 /// Each command is sent to the floor, and its line is written exactly if the floor accepts it. If a
 /// line can contain the team's name, each line reads as its command.
 ///
-/// A cell is unrepaired only if it has no place: it is unplaced, and next to the team's other cells
-/// no place off soft blockages is legal for it. All other cells are legal. The unrepaired cells are
-/// listed in loading order. Each placed cell that is elsewhere than before is off soft blockages.
+/// A cell is unrepaired only if it has no place, or is of a listed macro. It has no place if it is
+/// unplaced, and next to the team's other cells no place off soft blockages is legal for it. All
+/// other cells are legal. The unrepaired cells are listed in loading order. Each placed cell that is
+/// elsewhere than before is off soft blockages.
 ///
 /// The team is committed if and only if no cell is unrepaired. Otherwise its cells stay at their
 /// working places, and the committed places are unchanged. No other team changes, and a fully legal
@@ -461,6 +477,7 @@ pub fn repair_team<S: Seeker + Drop, K: Sink>(
     floor: &mut Floor<S>,
     team: &[u8],
     how: MovePolicy,
+    impossible: &[ImpossibleMacro],
     lines: &mut K,
 ) -> Result<RepairStats, RepairFault>
     ensures run { (l : Legalizer) → IfOk result (λ _.
@@ -470,13 +487,14 @@ pub fn repair_team<S: Seeker + Drop, K: Sink>(
     ensures only { ChangesOnly team.now floor.old floor.new }
     ensures unknown { team_number floor.old.frame team.now ≡ None → result ≡ Err RepairFault.NoTeam }
     ensures kept { how ≡ KeepLegal → KeepsLegalPlaces team.now floor.old floor.new }
+    ensures unmoved { KeepsListedPlaces impossible.now team.now floor.old floor.new }
     ensures changed { IfOk result (λ repaired. OnlyListedMove team.now floor.old floor.new repaired.changed.items) }
     ensures moved { IfOk result (λ repaired. AllListedMove team.now floor.old floor.new repaired.changed.items) }
     ensures named { IfOk result (λ repaired. AreLegalExcept team.now floor.new repaired.unrepaired.items) }
     ensures illegal { IfOk result
         (λ repaired. All (λ own. IsIllegalIn floor.new team.now own) repaired.unrepaired.items) }
     ensures complete { IfOk result
-        (λ repaired. All (λ own. HasNoPlace floor.new team.now own) repaired.unrepaired.items) }
+        (λ repaired. All (HasNoPlaceOrIsListed impossible.now floor.new team.now) repaired.unrepaired.items) }
     ensures rise { IfOk result (λ repaired. AllPairs (λ own later. own < later) repaired.unrepaired.items) }
     ensures committed { (l : Legalizer) → IfOk result (λ repaired.
         repaired.unrepaired.items ≡ [] ↔ AllCommittedIn l floor.new team.now) }
@@ -489,7 +507,7 @@ pub fn repair_team<S: Seeker + Drop, K: Sink>(
     let Some(number) = floor.team_number(team) else {
         return Err(RepairFault::NoTeam);
     };
-    let Ok(start) = repair_input(alloc, floor, number, how) else {
+    let Ok(start) = repair_input(alloc, floor, team, number, how, impossible) else {
         return Err(RepairFault::OutOfMemory);
     };
     match repair_in_session(alloc, floor, team, number, &start, lines) {

@@ -1,5 +1,5 @@
 -- A text that is held in memory and read in place of its file.
-use Rattle.std.specs.Prelude.{◌≡◌, ℕ, List, Option, Some}
+use Rattle.std.specs.Prelude.{◌≡◌, ℕ, List, Some}
 use Rattle.lf_task_designs.specs.Designs.{ReadsFile}
 
 -- Whatever the path, reading gives this text.

@@ -60,7 +60,7 @@ pub use describe_task::describe_files;
 pub use exit_status::{ILLEGAL_STATUS, LEGAL_STATUS};
 pub use export::save_export;
 pub use inputs::{DesignInput, open_floor, start_floor};
-pub use measured::{MeasuredFloor, open_measured};
+pub use measured::{MeasuredFloor, RepairLimits, open_measured};
 pub use output_file::{check_output_path, put_file};
 pub use outputs::{OutputPaths, check_outputs, write_outputs};
 pub use save::save_to;

@@ -1,4 +1,5 @@
-//! The floor with which a repair begins, and how far its cells must move at least.
+//! The floor with which a repair begins, how far its cells must move at least, and which macros no
+//! place can hold.
 //!
 //! A state is read once. Its text then serves twice: for the places from which cells move, and for
 //! the floor.
@@ -9,7 +10,7 @@ ghost use Rattle.lf_task_faults.specs.declared.faults.Fault.TheVariants.{SetupOu
 ghost use Rattle.lf_task_faults.specs.declared.faults.TextKind.TheVariants.{State};
 ghost use Rattle.lf_task_files.specs.HeldTexts.{gives_text};
 ghost use Rattle.lf_task_files.specs.Inputs.{path_of};
-ghost use Rattle.lf_task_files.specs.Measured.{IsMeasuredAsLoaded, IsMeasuredFloor};
+ghost use Rattle.lf_task_files.specs.Measured.{AreRepairLimits, IsMeasuredAsLoaded, IsMeasuredFloor};
 ghost use Rattle.lf_task_files.specs.States.{IsNotOpened};
 
 use crate::inputs::{open_floor, start_floor};
@@ -18,10 +19,10 @@ use crate::viewed::viewed_design;
 use lf_floor::Floor;
 use lf_frame::Loaded;
 use lf_legalize::IndexSeeker;
-use lf_repair_bounds::max_min_displacements;
+use lf_repair_bounds::{ImpossibleMacro, impossible_macros, max_min_displacements};
 use lf_task_designs::{InputFiles, read_text, single_chunk};
 use lf_task_faults::{Fault, ReadFailure};
-use std::alloc::Global;
+use std::alloc::{AllocError, Global};
 use std::collections::VecDeque;
 
 /// The text of a file that was read, given for each path.
@@ -54,26 +55,43 @@ impl InputFiles for HeldText {
     }
 }
 
+/// What is known of a design before it is repaired.
+#[derive(Drop)]
+pub struct RepairLimits {
+    /// For each team the largest of the least displacements of its cells.
+    pub least: Vec<u64>,
+    /// The macros whose cells no place can hold, with the reasons.
+    pub impossible: Vec<ImpossibleMacro>,
+}
+
 /// The floor with which a repair begins.
 #[derive(Drop)]
 pub struct MeasuredFloor {
     pub floor: Floor<IndexSeeker>,
-    /// For each team the largest of the least displacements of its cells.
-    pub least: Vec<u64>,
+    pub limits: RepairLimits,
 }
 
-/// Makes the floor of the design as loaded, with the least displacements of its cells.
+/// What is known of the design before it is repaired.
+fn limits_of(alloc: Global, loaded: &Loaded) -> Result<RepairLimits, AllocError>
+    ensures { IfOk result (AreRepairLimits loaded.now) }
+{
+    let least = max_min_displacements(alloc, loaded)?;
+    let impossible = impossible_macros(alloc, loaded)?;
+    Ok(RepairLimits { least, impossible })
+}
+
+/// Makes the floor of the design as loaded, with the limits of its repair.
 fn measured_as_loaded<'f>(alloc: Global, loaded: Loaded) -> Result<MeasuredFloor, Fault<'f>>
-    ensures ok { IfOk result (λ made. IsMeasuredAsLoaded loaded made.floor made.least.items) }
+    ensures ok { IfOk result (λ made. IsMeasuredAsLoaded loaded made.floor made.limits) }
     ensures err { IfErr result (λ fault. fault ≡ SetupOutOfMemory) }
 {
-    let least = max_min_displacements(alloc, &loaded)?;
+    let limits = limits_of(alloc, &loaded)?;
     let floor = start_floor(alloc, loaded)?;
-    Ok(MeasuredFloor { floor, least })
+    Ok(MeasuredFloor { floor, limits })
 }
 
-/// Makes the floor of the design in the state of this text, with the least displacements of its
-/// cells from their working places there.
+/// Makes the floor of the design in the state of this text, with the limits of its repair from the
+/// working places there.
 fn measured_in_text<'a>(
     alloc: Global,
     held: &HeldText,
@@ -81,17 +99,17 @@ fn measured_in_text<'a>(
     path: &'a str,
 ) -> Result<MeasuredFloor, Fault<'a>>
     ensures ok { IfOk result (λ made.
-        IsMeasuredFloor (gives_text held.now.text.items) (Some path.now) loaded made.floor made.least.items) }
+        IsMeasuredFloor (gives_text held.now.text.items) (Some path.now) loaded made.floor made.limits) }
     ensures err { IfErr result (IsNotOpened (gives_text held.now.text.items) (Some path.now) loaded) }
 {
     let seen = viewed_design(alloc, held, loaded, false, Some(path))?;
-    let least = max_min_displacements(alloc, &seen)?;
+    let limits = limits_of(alloc, &seen)?;
     let floor = open_floor(alloc, held, seen, Some(path))?;
-    Ok(MeasuredFloor { floor, least })
+    Ok(MeasuredFloor { floor, limits })
 }
 
-/// Makes the floor of the design in the state of the file of this path, with the least displacements
-/// of its cells from their working places there.
+/// Makes the floor of the design in the state of the file of this path, with the limits of its repair
+/// from the working places there.
 fn measured_in_state<'a, T: InputFiles>(
     alloc: Global,
     texts: &T,
@@ -99,7 +117,7 @@ fn measured_in_state<'a, T: InputFiles>(
     path: &'a str,
 ) -> Result<MeasuredFloor, Fault<'a>>
     ensures ok { IfOk result (λ made.
-        IsMeasuredFloor (T.gives texts.now) (Some path.now) loaded made.floor made.least.items) }
+        IsMeasuredFloor (T.gives texts.now) (Some path.now) loaded made.floor made.limits) }
     ensures err { IfErr result (IsNotOpened (T.gives texts.now) (Some path.now) loaded) }
 {
     let text = read_text(texts, state_file(path))?;
@@ -108,7 +126,8 @@ fn measured_in_state<'a, T: InputFiles>(
 }
 
 /// Makes the floor with which a repair of the design begins: in the state of the file of this path,
-/// if one is given. Computes for each team the largest of the least displacements of its cells.
+/// if one is given. Computes for each team the largest of the least displacements of its cells, and
+/// which macros no place can hold.
 ///
 /// `Err` if an allocation fails, or the file has no state of the design.
 pub fn open_measured<'a, T: InputFiles>(
@@ -118,7 +137,7 @@ pub fn open_measured<'a, T: InputFiles>(
     state: Option<&'a str>,
 ) -> Result<MeasuredFloor, Fault<'a>>
     ensures ok { IfOk result (λ made.
-        IsMeasuredFloor (T.gives texts.now) (path_of state.entry) loaded made.floor made.least.items) }
+        IsMeasuredFloor (T.gives texts.now) (path_of state.entry) loaded made.floor made.limits) }
     ensures err { IfErr result (IsNotOpened (T.gives texts.now) (path_of state.entry) loaded) }
 {
     match state {

@@ -13,19 +13,22 @@ use Rattle.lf_floorplan.specs.Ground.{OverlapsSoft}
 use Rattle.lf_rules.specs.Choice.{spot_of}
 use Rattle.lf_rules.specs.Team.{box_in}
 use Rattle.lf_cells.specs.Cells.{working_at}
+use Rattle.lf_cells.specs.declared.cell.Cell.{Cell}
 use Rattle.lf_floor_model.specs.States.{FloorState, TeamState}
 use Rattle.lf_floor_model.specs.Outcomes.{name_at}
 use Rattle.lf_floor_model.specs.Steps.{AllCommittedIn}
 use Rattle.lf_floor_model.specs.VerbLaws.{committed_places}
 use Rattle.lf_floor_model.specs.Teams.{state_of, team_names, team_number}
 use Rattle.lf_repair_team.specs.Stats.{AreStatsOf, AreTeamStats, HowMany}
-use Rattle.lf_repair_team.specs.TeamRepairs.{AreMovedOffSoft, HasNoPlace, IsIllegalIn, IsLegalIn}
+use Rattle.lf_repair_team.specs.TeamRepairs.{AreMovedOffSoft, HasNoPlaceOrIsListed, IsIllegalIn, IsLegalIn, IsListedIn}
 use Rattle.lf_repair_team.proofs.Legal.{committed_through}
 use Rattle.lf_repair_team.proofs.WithoutPlace.{none_through}
 use Rattle.lf_repair_strategy.specs.declared.stats.RepairStats.{RepairStats}
 use Rattle.lf_repair_report.specs.declared.report.RepairReport.{RepairReport}
+use Rattle.lf_repair_bounds.specs.declared.reasons.ImpossibleMacro.{ImpossibleMacro}
+use Rattle.lf_task_files.specs.declared.measured.RepairLimits.{RepairLimits}
 use Rattle.lf_repair_report.specs.declared.totals.Totals.{Totals}
-use Rattle.lf_repair_report.specs.RepairReports.{IsOneMore, all_line, cell_names, least_for, no_sums, totals_with_team}
+use Rattle.lf_repair_report.specs.RepairReports.{IsOneMore, all_line, least_for, listed_reason, no_sums, totals_with_team, unrepaired_with}
 use Rattle.lf_floor.proofs.Saving.{names_many}
 use Rattle.lf_task_repair.specs.Repairs.{is_selected}
 use Rattle.lf_task_repair.specs.Reports.{AddsTeamLines, IsRepairOf, IsReport, AddsTotalLine, IsTeamReport, TeamReport, selected_at, selected_names, line_of_team, sums_with}
@@ -96,12 +99,30 @@ moved_off_soft_same a b c d team frame first last are own placed moved =
       off_soft = subst (λ (f : Frame). OverlapsSoft f (box_in f is.cell.mac (spot_of is.place)) → ⊥) (sym frame) is.off_soft;
     }
 
-repair_same : (a b c d : FloorState) (team : List ℕ) (r : RepairStats) → c.frame ≡ a.frame → d.frame ≡ b.frame → state_of c team ≡ state_of a team
-    → state_of d team ≡ state_of b team → IsRepairOf team a b r → IsRepairOf team c d r
-repair_same a b c d team r frame frame' first last is = record {
+-- a cell of a listed macro stays one if the team is unchanged
+listed_same : (list : List ImpossibleMacro) (old new : FloorState) (team : List ℕ) (own : ℕ) → new.frame ≡ old.frame → state_of new team ≡ state_of old team
+    → IsListedIn list old team own → IsListedIn list new team own
+listed_same list old new team own frame same is = record {
+  number = is.number;
+  state = is.state;
+  cell = is.cell;
+  named = ap (λ (f : Frame). team_number f team) frame ∙ is.named;
+  there = same ∙ is.there;
+  cell_is = is.cell_is;
+  listed = is.listed;
+}
+
+repair_same : (list : List ImpossibleMacro) (a b c d : FloorState) (team : List ℕ) (r : RepairStats) → c.frame ≡ a.frame → d.frame ≡ b.frame → state_of c team ≡ state_of a team
+    → state_of d team ≡ state_of b team → IsRepairOf list team a b r → IsRepairOf list team c d r
+repair_same list a b c d team r frame frame' first last is = record {
   legal = λ s there own within. ⊎_elim (λ legal. inl (legal_same b d team own frame' last legal)) (λ named. inr named) (is.legal s (sym last ∙ there) own within);
   illegal = All-weaker (IsIllegalIn b team) (IsIllegalIn d team) (λ own. left_same b d team own frame' last) r.unrepaired.items is.illegal;
-  complete = All-weaker (HasNoPlace b team) (HasNoPlace d team) (λ own. none_through team b d own frame' (inl last)) r.unrepaired.items is.complete;
+  complete = All-weaker (HasNoPlaceOrIsListed list b team) (HasNoPlaceOrIsListed list d team)
+      (λ own either. ⊎_elim (λ none. inl (none_through team b d own frame' (inl last) none)) (λ listed. inr (listed_same list b d team own frame' last listed)) either)
+      r.unrepaired.items is.complete;
+  unmoved = λ own listed. ap (λ (o : Option TeamState). places_in o own) last
+      ∙ is.unmoved own (listed_same list c a team own (sym frame) (sym first) listed)
+      ∙ sym (ap (λ (o : Option TeamState). places_in o own) first);
   rise = is.rise;
   stats = stats_same a b c d team r frame first last is.stats;
   committed = λ l. (
@@ -115,46 +136,57 @@ repair_same a b c d team r frame frame' first last is = record {
       ∙ sym (ap (λ (o : Option TeamState). option_map (λ (s : TeamState). s.slots) o) first);
 }
 
-reported_same : (bounds : List ℕ) (begin old new : FloorState) (t : TeamReport) → new.frame ≡ old.frame → state_of new t.name ≡ state_of old t.name
-    → IsTeamReport bounds begin old t → IsTeamReport bounds begin new t
-reported_same bounds begin old new t frame same is = record {
+-- the unrepaired cells are the same if the team is unchanged
+unrepaired_same : (list : List ImpossibleMacro) (old new : FloorState) (name owns gaps : List ℕ) → new.frame ≡ old.frame → state_of new name ≡ state_of old name
+    → unrepaired_with list old name owns gaps ≡ unrepaired_with list new name owns gaps
+unrepaired_same list old new name owns gaps frame same =
+    ap₂ (λ (f : Frame) (o : Option TeamState). record {
+      names = flat_map (λ own. option_map_or (λ name. name ∷ []) (option_and_then (λ (s : TeamState). name_at s.cells own) o) []) owns;
+      gaps = gaps;
+      reasons = map (λ own. option_and_then (λ number. option_and_then (λ (s : TeamState). option_and_then (λ (c : Cell). listed_reason list number c.mac) (slice_get s.cells own)) o) (team_number f name)) owns;
+    }) (sym frame) (sym same)
+
+reported_same : (bounds : List ℕ) (list : List ImpossibleMacro) (begin old new : FloorState) (t : TeamReport) → new.frame ≡ old.frame → state_of new t.name ≡ state_of old t.name
+    → IsTeamReport bounds list begin old t → IsTeamReport bounds list begin new t
+reported_same bounds list begin old new t frame same is = record {
   least = is.least ∙ ap (λ (f : Frame). least_for bounds (team_number f t.name)) (sym frame);
-  left = is.left ∙ ap (λ (o : Option TeamState). flat_map (λ own. option_map_or (λ name. name ∷ []) (option_and_then (λ (s : TeamState). name_at s.cells own) o) []) t.became.unrepaired.items) (sym same);
-  repaired = repair_same begin old begin new t.name t.became refl frame refl same is.repaired;
+  left = is.left ∙ unrepaired_same list old new t.name t.became.unrepaired.items t.left.gaps frame same;
+  repaired = repair_same list begin old begin new t.name t.became refl frame refl same is.repaired;
 }
 
-reported_still : (bounds : List ℕ) (begin old new : FloorState) (ts : List TeamReport) → new.frame ≡ old.frame
-    → All (λ name. state_of new name ≡ state_of old name) (map (λ t. t.name) ts) → All (IsTeamReport bounds begin old) ts → All (IsTeamReport bounds begin new) ts
-reported_still bounds begin old new [] frame same each = All-nil (IsTeamReport bounds begin new)
-reported_still bounds begin old new (t ∷ ts) frame same each =
+reported_still : (bounds : List ℕ) (list : List ImpossibleMacro) (begin old new : FloorState) (ts : List TeamReport) → new.frame ≡ old.frame
+    → All (λ name. state_of new name ≡ state_of old name) (map (λ t. t.name) ts) → All (IsTeamReport bounds list begin old) ts → All (IsTeamReport bounds list begin new) ts
+reported_still bounds list begin old new [] frame same each = All-nil (IsTeamReport bounds list begin new)
+reported_still bounds list begin old new (t ∷ ts) frame same each =
     let Stays : List ℕ → Type 0 = λ name. state_of new name ≡ state_of old name in
     let names : List (List ℕ) = map (λ (u : TeamReport). u.name) ts in
-    All-cons (IsTeamReport bounds begin new) t ts
-    (reported_same bounds begin old new t frame (All-head Stays t.name names same) (All-head (IsTeamReport bounds begin old) t ts each))
-    (reported_still bounds begin old new ts frame (All-tail Stays t.name names same) (All-tail (IsTeamReport bounds begin old) t ts each))
+    All-cons (IsTeamReport bounds list begin new) t ts
+    (reported_same bounds list begin old new t frame (All-head Stays t.name names same) (All-head (IsTeamReport bounds list begin old) t ts each))
+    (reported_still bounds list begin old new ts frame (All-tail Stays t.name names same) (All-tail (IsTeamReport bounds list begin old) t ts each))
 
 -- teams that are as on the first floor when their repair begins are reported from the first floor on
-reported_from : (bounds : List ℕ) (begin old new : FloorState) (ts : List TeamReport) → begin.frame ≡ old.frame
-    → All (λ name. state_of begin name ≡ state_of old name) (map (λ t. t.name) ts) → All (IsTeamReport bounds old new) ts → All (IsTeamReport bounds begin new) ts
-reported_from bounds begin old new [] frame same each = All-nil (IsTeamReport bounds begin new)
-reported_from bounds begin old new (t ∷ ts) frame same each =
+reported_from : (bounds : List ℕ) (list : List ImpossibleMacro) (begin old new : FloorState) (ts : List TeamReport) → begin.frame ≡ old.frame
+    → All (λ name. state_of begin name ≡ state_of old name) (map (λ t. t.name) ts) → All (IsTeamReport bounds list old new) ts → All (IsTeamReport bounds list begin new) ts
+reported_from bounds list begin old new [] frame same each = All-nil (IsTeamReport bounds list begin new)
+reported_from bounds list begin old new (t ∷ ts) frame same each =
     let Stays : List ℕ → Type 0 = λ name. state_of begin name ≡ state_of old name in
     let names : List (List ℕ) = map (λ (u : TeamReport). u.name) ts in
-    let is : IsTeamReport bounds old new t = All-head (IsTeamReport bounds old new) t ts each in
-    All-cons (IsTeamReport bounds begin new) t ts
-    (record { least = is.least; left = is.left; repaired = repair_same old new begin new t.name t.became frame refl (All-head Stays t.name names same) refl is.repaired })
-    (reported_from bounds begin old new ts frame (All-tail Stays t.name names same) (All-tail (IsTeamReport bounds old new) t ts each))
+    let is : IsTeamReport bounds list old new t = All-head (IsTeamReport bounds list old new) t ts each in
+    All-cons (IsTeamReport bounds list begin new) t ts
+    (record { least = is.least; left = is.left; repaired = repair_same list old new begin new t.name t.became frame refl (All-head Stays t.name names same) refl is.repaired })
+    (reported_from bounds list begin old new ts frame (All-tail Stays t.name names same) (All-tail (IsTeamReport bounds list old new) t ts each))
 
 lines_from : (names : List (List ℕ)) (begin old new : FloorState) (a b : RepairReport) → begin.frame ≡ old.frame
     → All (λ name. state_of begin name ≡ state_of old name) names → AddsTeamLines names old new a b → AddsTeamLines names begin new a b
 lines_from names begin old new a b frame same more = record {
   reported = more.reported;
   named = more.named;
-  each = reported_from a.least.items begin old new more.reported frame
+  each = reported_from a.least.items a.impossible.items begin old new more.reported frame
       (subst (λ (list : List (List ℕ)). All (λ name. state_of begin name ≡ state_of old name) list) (sym more.named) same) more.each;
   text = more.text;
   sums = more.sums;
   least = more.least;
+  impossible = more.impossible;
 }
 
 -- what holds for the names with this number holds for the selected one
@@ -172,30 +204,31 @@ pub none_reported : (begin floor : FloorState) (r : RepairReport) → AddsTeamLi
 none_reported begin floor r = record {
   reported = [];
   named = refl;
-  each = All-nil (IsTeamReport r.least.items begin floor);
+  each = All-nil (IsTeamReport r.least.items r.impossible.items begin floor);
   text = sym (append-nil r.text.items);
   sums = refl;
   least = refl;
+  impossible = refl;
 }
 
 -- one team is reported
 pub one_reported : (f : Frame) (teams : List (List ℕ)) (number : ℕ) (name : List ℕ) (begin floor : FloorState) (repaired : RepairStats) (old new : RepairReport)
     → slice_get (team_names f) number ≡ Some name → is_selected teams name ≡ true → IsOneMore floor name repaired old new
-    → IsRepairOf name begin floor repaired → AddsTeamLines (selected_at f teams number) begin floor old new
+    → IsRepairOf old.impossible.items name begin floor repaired → AddsTeamLines (selected_at f teams number) begin floor old new
 one_reported f teams number name begin floor repaired old new there requested is result = record {
   reported = t ∷ [];
   named = sym (ap (λ (o : Option (List ℕ)). filter (is_selected teams) (option_map_or (λ name. name ∷ []) o [])) there ∙ ap (λ (b : Bool). cond b (name ∷ []) []) requested);
-  each = All-cons (IsTeamReport old.least.items begin floor) t [] record { least = refl; left = refl; repaired = result }
-      (All-nil (IsTeamReport old.least.items begin floor));
+  each = All-cons (IsTeamReport old.least.items old.impossible.items begin floor) t [] record { least = refl; left = refl; repaired = result }
+      (All-nil (IsTeamReport old.least.items old.impossible.items begin floor));
   text = is.text ∙ ap (λ (line : List ℕ). old.text.items ++ line) (sym (append-nil (line_of_team t)));
   sums = is.sums;
   least = is.least;
+  impossible = is.impossible;
 } where
   t : TeamReport
   t = record {
     name = name;
-    left = cell_names floor name repaired.unrepaired.items;
-    gaps = is.gaps;
+    left = unrepaired_with old.impossible.items floor name repaired.unrepaired.items is.gaps;
     least = least_for old.least.items (team_number floor.frame name);
     became = repaired;
   }
@@ -211,15 +244,17 @@ then_reported : (names more : List (List ℕ)) (begin mid floor : FloorState) (a
 then_reported names more begin mid floor a b c frame same first second = record {
   reported = first.reported ++ second.reported;
   named = map-append (λ (t : TeamReport). t.name) first.reported second.reported ∙ ap₂ (λ (x y : List (List ℕ)). x ++ y) first.named second.named;
-  each = All-append (IsTeamReport a.least.items begin floor) first.reported second.reported
-      (reported_still a.least.items begin mid floor first.reported frame
+  each = All-append (IsTeamReport a.least.items a.impossible.items begin floor) first.reported second.reported
+      (reported_still a.least.items a.impossible.items begin mid floor first.reported frame
       (subst (λ (list : List (List ℕ)). All (λ name. state_of floor name ≡ state_of mid name) list) (sym first.named) same) first.each)
-      (subst (λ (bounds : List ℕ). All (IsTeamReport bounds begin floor) second.reported) (ap (λ v. v.items) first.least) second.each);
+      (subst (λ (bounds : List ℕ). All (IsTeamReport bounds a.impossible.items begin floor) second.reported) (ap (λ v. v.items) first.least)
+      (subst (λ (list : List ImpossibleMacro). All (IsTeamReport b.least.items list begin floor) second.reported) (ap (λ v. v.items) first.impossible) second.each));
   text = second.text ∙ ap (λ (text : List ℕ). text ++ flat_map line_of_team second.reported) first.text
       ∙ append_assoc a.text.items (flat_map line_of_team first.reported) (flat_map line_of_team second.reported)
       ∙ ap (λ (text : List ℕ). a.text.items ++ text) (sym (flat_map-append line_of_team first.reported second.reported));
   sums = second.sums ∙ ap (λ (s : Totals). sums_with s second.reported) first.sums ∙ sym (sums_append a.sums first.reported second.reported);
   least = second.least ∙ first.least;
+  impossible = second.impossible ∙ first.impossible;
 }
 
 -- ---- team after team
@@ -263,13 +298,14 @@ every_reported f teams count begin floor a b all =
     (take_all count (team_names f) (subst (λ (n : ℕ). n ≤ count) (sym (names_many f)) all))
 
 -- the line of all teams is the last one
-pub all_reported : (f : Frame) (teams : List (List ℕ)) (bounds : List ℕ) (begin floor : FloorState) (a b c : RepairReport)
-    → floor.frame ≡ f → a.text.items ≡ [] → a.sums ≡ no_sums → a.least.items ≡ bounds → AddsTeamLines (selected_names f teams) begin floor a b → AddsTotalLine floor b c
-    → IsReport teams bounds begin floor c.text.items
-all_reported f teams bounds begin floor a b c frame empty zero least more last = record {
+pub all_reported : (f : Frame) (teams : List (List ℕ)) (limits : RepairLimits) (begin floor : FloorState) (a b c : RepairReport)
+    → floor.frame ≡ f → a.text.items ≡ [] → a.sums ≡ no_sums → a.least.items ≡ limits.least.items → a.impossible.items ≡ limits.impossible.items → AddsTeamLines (selected_names f teams) begin floor a b → AddsTotalLine floor b c
+    → IsReport teams limits begin floor c.text.items
+all_reported f teams limits begin floor a b c frame empty zero least impossible more last = record {
   reported = more.reported;
   named = more.named ∙ ap (λ (g : Frame). selected_names g teams) (sym frame);
-  each = subst (λ (list : List ℕ). All (IsTeamReport list begin floor) more.reported) least more.each;
+  each = subst (λ (bounds : List ℕ). All (IsTeamReport bounds limits.impossible.items begin floor) more.reported) least
+      (subst (λ (list : List ImpossibleMacro). All (IsTeamReport a.least.items list begin floor) more.reported) impossible more.each);
   legal = last.legal;
   right = last.right;
   is = last.text ∙ ap (λ (text : List ℕ). text ++ all_line b.sums last.legal) (more.text ∙ ap (λ (text : List ℕ). text ++ flat_map line_of_team more.reported) empty)

@@ -22,6 +22,7 @@ use Rattle.lf_task_files.specs.Measured.{IsMeasuredFloor}
 use Rattle.lf_task_repair.specs.declared.repair_task.ReadyRepair.{ReadyRepair}
 use Rattle.lf_task_files.specs.States.{IsFloorFault, IsSaved}
 use Rattle.lf_task_repair.specs.Repairs.{KeepsAllLegalPlaces, AreKnown, IsStatusOf, IsKeptRun, WritesLines, IsRepairFault, OnlySelectedChange, first_file, initial_lines, three_files, two_files}
+use Rattle.lf_task_files.specs.declared.measured.RepairLimits.{RepairLimits}
 use Rattle.lf_task_repair.specs.Reports.{IsReport}
 
 -- the requested files are written: the text with the committed places, the text with the working
@@ -48,30 +49,29 @@ pub record IsPut (files : RepairPaths) (text : List ℕ) (document : Document) (
 -- selected teams change, and no legal cell moves if legal cells are to stay; the report has each
 -- selected team with its bound and the result of its repair, and says whether the committed design
 -- is then fully legal
-pub record IsRepair (teams : List (List ℕ)) (legal : LegalCells) (lines : Option (List ℕ)) (bounds : List ℕ)
+pub record IsRepair (teams : List (List ℕ)) (legal : LegalCells) (lines : Option (List ℕ)) (limits : RepairLimits)
     (begin floor : FloorState)
     (kept : Option (List ℕ)) (report : List ℕ) : Type 0 where
   pub known : AreKnown begin.frame teams
   pub run : (l : Legalizer) → IsKeptRun l begin (initial_lines lines) kept floor
   pub only : OnlySelectedChange teams begin floor
   pub stay : legal ≡ KeepLegal → KeepsAllLegalPlaces begin floor
-  pub decides : IsReport teams bounds begin floor report
+  pub decides : IsReport teams limits begin floor report
 
 -- the first floor is repaired; the report is written, and then the requested files; the status says
 -- whether the committed design is fully legal
 pub record IsRepaired (teams : List (List ℕ)) (legal : LegalCells) (files : RepairPaths) (text : List ℕ)
-    (document : Document)
-    (bounds : List ℕ) (begin : FloorState) (before after : Option (List ℕ)) (old_puts new_puts : Option (List Put))
-    (status : ℕ) : Type 0 where
+    (document : Document) (limits : RepairLimits) (begin : FloorState) (before after : Option (List ℕ))
+    (old_puts new_puts : Option (List Put)) (status : ℕ) : Type 0 where
   pub floor : FloorState
   pub kept : Option (List ℕ)
   pub report : List ℕ
-  pub repair : IsRepair teams legal files.lines bounds begin floor kept report
+  pub repair : IsRepair teams legal files.lines limits begin floor kept report
   pub put : IsPut files text document floor kept report before after old_puts new_puts
   pub committed_checked : IsStatusOf floor status
 
 -- the design is opened, its floor is brought into the given state, and its teams are repaired and
--- reported with the largest of the least displacements of their cells from their first places
+-- reported with the limits of their repair from their first places
 pub record IsOpenRepaired (limits : Limits) (gives : ReadsFile) (def : List ℕ) (lefs : List (List ℕ))
     (state : Option (List ℕ)) (teams : List (List ℕ)) (legal : LegalCells) (files : RepairPaths)
     (before after : Option (List ℕ)) (old_puts new_puts : Option (List Put)) (status : ℕ) : Type 0 where
@@ -80,9 +80,9 @@ pub record IsOpenRepaired (limits : Limits) (gives : ReadsFile) (def : List ℕ)
   pub loaded : Loaded
   pub opened : IsOpened limits gives def lefs text document loaded
   pub begin : FloorState
-  pub bounds : List ℕ
-  pub measured : IsMeasuredFloor gives state loaded begin bounds
-  pub repaired : IsRepaired teams legal files text document bounds begin before after old_puts new_puts status
+  pub known : RepairLimits
+  pub measured : IsMeasuredFloor gives state loaded begin known
+  pub repaired : IsRepaired teams legal files text document known begin before after old_puts new_puts status
 
 -- the design is opened, and its floor is in the given state
 pub record IsReadyRepair (limits : Limits) (gives : ReadsFile) (def : List ℕ) (lefs : List (List ℕ))
@@ -91,7 +91,7 @@ pub record IsReadyRepair (limits : Limits) (gives : ReadsFile) (def : List ℕ) 
   pub loaded : Loaded
   pub opened : IsOpened limits gives def lefs ready.original.text.items document loaded
   pub clauses : ready.original.clauses ≡ map (clause_of ready.original.text.items) document.components
-  pub measured : IsMeasuredFloor gives state loaded ready.measured.floor ready.measured.least.items
+  pub measured : IsMeasuredFloor gives state loaded ready.measured.floor ready.measured.limits
 
 -- ---- faults
 
@@ -115,12 +115,12 @@ IsNotPut files text document floor kept report before after old new fault =
 
 -- the first floor is not repaired, and nothing is written; or it is, and the report or the
 -- requested files are not written
-abbrev pub IsUnrepaired : List (List ℕ) → LegalCells → RepairPaths → List ℕ → Document → List ℕ → FloorState
+abbrev pub IsUnrepaired : List (List ℕ) → LegalCells → RepairPaths → List ℕ → Document → RepairLimits → FloorState
     → Option (List ℕ) → Option (List ℕ) → Option (List Put) → Option (List Put) → Fault → Type 0
-IsUnrepaired teams legal files text document bounds begin before after old new fault =
+IsUnrepaired teams legal files text document limits begin before after old new fault =
     (IsRepairFault begin.frame teams files fault × (after ≡ before) × (new ≡ old))
     ⊎ ((floor : FloorState) × (kept : Option (List ℕ)) × (report : List ℕ)
-    × IsRepair teams legal files.lines bounds begin floor kept report
+    × IsRepair teams legal files.lines limits begin floor kept report
     × IsNotPut files text document floor kept report before after old new fault)
 
 -- the design is opened and its floor is in the given state, and it is not repaired or its results
@@ -133,9 +133,9 @@ pub record IsOpenUnrepaired (limits : Limits) (gives : ReadsFile) (def : List �
   pub loaded : Loaded
   pub opened : IsOpened limits gives def lefs text document loaded
   pub begin : FloorState
-  pub bounds : List ℕ
-  pub measured : IsMeasuredFloor gives state loaded begin bounds
-  pub unrepaired : IsUnrepaired teams legal files text document bounds begin before after old_puts new_puts fault
+  pub known : RepairLimits
+  pub measured : IsMeasuredFloor gives state loaded begin known
+  pub unrepaired : IsUnrepaired teams legal files text document known begin before after old_puts new_puts fault
 
 -- the design has no floor in the given state, and nothing is written; or it has one, and is not
 -- repaired or its results are not written

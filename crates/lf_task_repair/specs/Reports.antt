@@ -1,5 +1,5 @@
 -- The report of a repair: the lines of its teams, and the line of all teams.
-use Rattle.std.specs.Prelude.{◌≡◌, ◌≢◌, ◌↔◌, ◌<◌, ◌+◌, ◌++◌, ℕ, Bool, IsTrue, List, [], ◌∷◌, All, AllPairs, filter, flat_map, length, map, slice_get}
+use Rattle.std.specs.Prelude.{◌≡◌, ◌≢◌, ◌↔◌, ◌<◌, ◌++◌, ℕ, Bool, IsTrue, List, [], ◌∷◌, All, AllPairs, filter, flat_map, map, slice_get}
 use Rattle.std.specs.Option.{option_map_or}
 use Rattle.lf_floorplan.specs.declared.frame.Frame.{Frame}
 use Rattle.lf_rules.specs.Legalizer.{Legalizer}
@@ -8,24 +8,25 @@ use Rattle.lf_floor_model.specs.Steps.{AllCommittedIn}
 use Rattle.lf_floor_model.specs.Teams.{team_names, team_number}
 use Rattle.lf_floor_model.specs.Committed.{IsCommittedLegal}
 use Rattle.lf_repair_team.specs.Stats.{AreTeamStats}
-use Rattle.lf_repair_team.specs.TeamRepairs.{AreLegalExcept, AreMovedOffSoft, HasNoPlace, IsIllegalIn, committed_in, session_slots_in}
+use Rattle.lf_repair_team.specs.TeamRepairs.{AreLegalExcept, AreMovedOffSoft, HasNoPlaceOrIsListed, IsIllegalIn, KeepsListedPlaces, committed_in, session_slots_in}
 use Rattle.lf_repair_strategy.specs.declared.stats.RepairStats.{RepairStats}
 use Rattle.lf_repair_report.specs.declared.report.RepairReport.{RepairReport}
 use Rattle.lf_repair_report.specs.declared.totals.Totals.{Totals}
-use Rattle.lf_repair_report.specs.RepairReports.{all_line, cell_names, least_for, no_sums, team_line, totals_with_team}
+use Rattle.lf_repair_report.specs.RepairReports.{UnrepairedCells, all_line, least_for, no_sums, team_line, totals_with_team, unrepaired_with}
+use Rattle.lf_repair_bounds.specs.declared.reasons.ImpossibleMacro.{ImpossibleMacro}
+use Rattle.lf_task_files.specs.declared.measured.RepairLimits.{RepairLimits}
 use Rattle.lf_task_repair.specs.Repairs.{is_selected}
 
--- the report of a team: its name, the names of its unrepaired cells and the gaps near them, the
--- largest of the least displacements of its cells, and the statistics of its repair
+-- the report of a team: its name, its unrepaired cells, the largest of the least displacements of
+-- its cells, and the statistics of its repair
 pub record TeamReport : Type 0 where
   pub name : List ℕ
-  pub left : List (List ℕ)
-  pub gaps : List ℕ
+  pub left : UnrepairedCells
   pub least : ℕ
   pub became : RepairStats
 
 abbrev pub line_of_team : TeamReport → List ℕ
-line_of_team t = team_line t.name t.left t.gaps t.least t.became
+line_of_team t = team_line t.name t.left t.least t.became
 
 -- the sums with those of the teams
 abbrev pub sums_with : Totals → List TeamReport → Totals
@@ -41,15 +42,18 @@ abbrev pub selected_at : Frame → List (List ℕ) → ℕ → List (List ℕ)
 selected_at f teams number =
     filter (is_selected teams) (option_map_or (λ name. name ∷ []) (slice_get (team_names f) number) [])
 
--- the result of a team's repair that began on one floor, on the other: the unrepaired cells are
--- listed in loading order, are exactly those that are not legal, and have no place; the statistics
--- are those of the team's cells from one floor to the other; the team is committed if and only if
--- no cell is unrepaired, and otherwise its committed places are as they were; its session slots are
--- as they were; each placed cell that is elsewhere is off soft blockages
-pub record IsRepairOf (team : List ℕ) (begin floor : FloorState) (became : RepairStats) : Type 0 where
+-- the result of a team's repair that began on one floor, on the other, if no place can hold the
+-- listed macros: the unrepaired cells are listed in loading order, are exactly those that are not
+-- legal, and have no place or are of a listed macro; the cells of listed macros are where they were;
+-- the statistics are those of the team's cells from one floor to the other; the team is committed if
+-- and only if no cell is unrepaired, and otherwise its committed places are as they were; its session
+-- slots are as they were; each placed cell that is elsewhere is off soft blockages
+pub record IsRepairOf (list : List ImpossibleMacro) (team : List ℕ) (begin floor : FloorState) (became : RepairStats)
+    : Type 0 where
   pub legal : AreLegalExcept team floor became.unrepaired.items
   pub illegal : All (IsIllegalIn floor team) became.unrepaired.items
-  pub complete : All (HasNoPlace floor team) became.unrepaired.items
+  pub complete : All (HasNoPlaceOrIsListed list floor team) became.unrepaired.items
+  pub unmoved : KeepsListedPlaces list team begin floor
   pub rise : AllPairs (λ own later. own < later) became.unrepaired.items
   pub stats : AreTeamStats team begin floor became
   pub committed : (l : Legalizer) → became.unrepaired.items ≡ [] ↔ AllCommittedIn l floor team
@@ -57,22 +61,24 @@ pub record IsRepairOf (team : List ℕ) (begin floor : FloorState) (became : Rep
   pub slots : session_slots_in floor team ≡ session_slots_in begin team
   pub off_soft : AreMovedOffSoft team begin floor
 
--- the team is reported with its own bound, the names of its unrepaired cells, and the result of its
--- repair from the first floor to the last one
-pub record IsTeamReport (bounds : List ℕ) (begin floor : FloorState) (t : TeamReport) : Type 0 where
+-- the team is reported with its own bound, its unrepaired cells, and the result of its repair from
+-- the first floor to the last one
+pub record IsTeamReport (bounds : List ℕ) (list : List ImpossibleMacro) (begin floor : FloorState) (t : TeamReport)
+    : Type 0 where
   pub least : t.least ≡ least_for bounds (team_number floor.frame t.name)
-  pub left : t.left ≡ cell_names floor t.name t.became.unrepaired.items
-  pub repaired : IsRepairOf t.name begin floor t.became
+  pub left : t.left ≡ unrepaired_with list floor t.name t.became.unrepaired.items t.left.gaps
+  pub repaired : IsRepairOf list t.name begin floor t.became
 
 -- the lines of the teams with these names are appended, each with the result of its repair from one
 -- floor to the other
 pub record AddsTeamLines (names : List (List ℕ)) (begin floor : FloorState) (old new : RepairReport) : Type 0 where
   pub reported : List TeamReport
   pub named : map (λ t. t.name) reported ≡ names
-  pub each : All (IsTeamReport old.least.items begin floor) reported
+  pub each : All (IsTeamReport old.least.items old.impossible.items begin floor) reported
   pub text : new.text.items ≡ old.text.items ++ flat_map line_of_team reported
   pub sums : new.sums ≡ sums_with old.sums reported
   pub least : new.least ≡ old.least
+  pub impossible : new.impossible ≡ old.impossible
 
 -- the line of all teams is appended last, and says whether the committed design is fully legal
 pub record AddsTotalLine (floor : FloorState) (old new : RepairReport) : Type 0 where
@@ -83,10 +89,11 @@ pub record AddsTotalLine (floor : FloorState) (old new : RepairReport) : Type 0 
 -- the text has the line of each selected team, with its own bound and the result of its repair from
 -- the first floor to the last one, and then the line of all teams, which says whether the committed
 -- design is fully legal
-pub record IsReport (teams : List (List ℕ)) (bounds : List ℕ) (begin floor : FloorState) (text : List ℕ) : Type 0 where
+pub record IsReport (teams : List (List ℕ)) (limits : RepairLimits) (begin floor : FloorState) (text : List ℕ)
+    : Type 0 where
   pub reported : List TeamReport
   pub named : map (λ t. t.name) reported ≡ selected_names floor.frame teams
-  pub each : All (IsTeamReport bounds begin floor) reported
+  pub each : All (IsTeamReport limits.least.items limits.impossible.items begin floor) reported
   pub legal : Bool
   pub right : IsTrue legal ↔ IsCommittedLegal floor
   pub is : text ≡ flat_map line_of_team reported ++ all_line (sums_with no_sums reported) legal

@@ -41,8 +41,8 @@ use lf_rules::legalizer_exists;
 use lf_task_designs::{InputFiles, OpenedDesign, SourceText, open_design};
 use lf_task_faults::{Fault, OutputKind};
 use lf_task_files::{
-    ILLEGAL_STATUS, LEGAL_STATUS, MeasuredFloor, check_output_path, is_committed_legal,
-    open_measured, save_export, save_to, save_working,
+    ILLEGAL_STATUS, LEGAL_STATUS, MeasuredFloor, RepairLimits, check_output_path,
+    is_committed_legal, open_measured, save_export, save_to, save_working,
 };
 use lf_write::kept_clauses_suffice;
 use std::alloc::Global;
@@ -129,10 +129,10 @@ fn repair_named<'f, P: Progress>(
     ensures kept { how ≡ Keep → KeepsLegalPlaces name.now floor.old floor.new }
     ensures reported { OnOk result
         ((repaired : RepairStats) × IsOneMore floor.new name.now repaired report.old report.new
-        × IsRepairOf name.now floor.old floor.new repaired) }
+        × IsRepairOf report.old.impossible.items name.now floor.old floor.new repaired) }
     ensures err { IfErr result (λ fault. fault ≡ SetupOutOfMemory) }
 {
-    match repair_team(alloc, floor, name, how, lines) {
+    match repair_team(alloc, floor, name, how, report.impossible.as_slice(), lines) {
         Ok(repaired) => {
             report.add(alloc, floor, name, &repaired)?;
             Ok(())
@@ -238,13 +238,12 @@ struct FinishedRepair {
     status: u8,
 }
 
-/// Repairs the selected teams, and reports the results. `least` has for each team the largest of
-/// the least displacements of its cells.
+/// Repairs the selected teams, and reports the results with these limits.
 fn repair_selected<'a, P: Progress>(
     alloc: Global,
     floor: &mut Floor<IndexSeeker>,
     requested: &RepairJob<'a>,
-    least: &[u64],
+    limits: &RepairLimits,
     progress: &mut P,
 ) -> Result<FinishedRepair, Fault<'a>>
     requires { length floor.old.teams ≡ length floor.old.frame.teams + 1 }
@@ -255,14 +254,16 @@ fn repair_selected<'a, P: Progress>(
         (OnlySelectedChange (map (λ team. team.now) requested.now.teams.now) floor.old floor.new) }
     ensures kept { requested.now.legal ≡ KeepLegal → OnOk result (KeepsAllLegalPlaces floor.old floor.new) }
     ensures committed_checked { IfOk result (λ done. IsStatusOf floor.new done.status) }
-    ensures reported { IfOk result (λ done. IsReport (map (λ team. team.now) requested.now.teams.now) least.now
+    ensures reported { IfOk result (λ done. IsReport (map (λ team. team.now) requested.now.teams.now) limits.now
         floor.old floor.new done.report.text.items) }
     ensures err { IfErr result (λ fault. fault ≡ SetupOutOfMemory) }
 {
     legalizer_exists();
     let lines = CommandLog::new(alloc, requested.files.lines);
     let mut lines = ProgressSink { lines, progress };
-    let mut report = RepairReport::new(alloc, least)?;
+    let least = limits.least.as_slice();
+    let impossible = limits.impossible.as_slice();
+    let mut report = RepairReport::new(alloc, least, impossible)?;
     repair_teams(alloc, floor, requested, &mut lines, &mut report)?;
     let status = close_report(alloc, floor, &mut report)?;
     let ProgressSink { lines, .. } = lines;
@@ -409,8 +410,7 @@ fn note_uncommitted<P: Progress>(
 #[derive(Drop)]
 struct RepairContext<'p, P> {
     original: SourceText,
-    /// For each team the largest of the least displacements of its cells.
-    least: Vec<u64>,
+    limits: RepairLimits,
     /// The receiver of progress reports.
     progress: &'p mut P,
 }
@@ -433,13 +433,13 @@ fn repair_on_floor<'a, E: OutputFiles, W: Sink, P: Progress>(
         → before.old.original.clauses ≡ map (clause_of before.old.original.text.items) document.components
         → IfOk result (IsRepaired (map (λ team. team.now) requested.now.teams.now) requested.now.legal
         (repair_paths requested.now.files)
-        before.old.original.text.items document before.old.least.items floor.old
+        before.old.original.text.items document before.old.limits floor.old
         (W.contents writer.old) (W.contents writer.new) (E.puts exports.old) (E.puts exports.new)) }
     ensures err { (document : Document)
         → before.old.original.clauses ≡ map (clause_of before.old.original.text.items) document.components
         → IfErr result (IsUnrepaired (map (λ team. team.now) requested.now.teams.now) requested.now.legal
         (repair_paths requested.now.files)
-        before.old.original.text.items document before.old.least.items floor.old
+        before.old.original.text.items document before.old.limits floor.old
         (W.contents writer.old) (W.contents writer.new) (E.puts exports.old) (E.puts exports.new)) }
     ensures blames { IfErr result
         (λ fault. BlamesOutputs fault (writer.new ≡ writer.old) (W.has_failed writer.old) (W.has_failed writer.new)
@@ -451,7 +451,7 @@ fn repair_on_floor<'a, E: OutputFiles, W: Sink, P: Progress>(
 {
     all_known(floor, requested.teams)?;
     try_files(requested, exports)?;
-    let done = repair_selected(alloc, floor, requested, &before.least, before.progress)?;
+    let done = repair_selected(alloc, floor, requested, &before.limits, before.progress)?;
     let status = put_all(floor, &before.original, &done, requested, exports, writer)?;
     note_uncommitted(floor, &requested.files, before.progress);
     Ok(status)
@@ -505,13 +505,13 @@ fn repair_opened<'a, E: OutputFiles, W: Sink, P: Progress>(
         → ready.original.clauses ≡ map (clause_of ready.original.text.items) document.components
         → IfOk result (IsRepaired (map (λ team. team.now) requested.now.teams.now) requested.now.legal
         (repair_paths requested.now.files)
-        ready.original.text.items document ready.measured.least.items ready.measured.floor
+        ready.original.text.items document ready.measured.limits ready.measured.floor
         (W.contents writer.old) (W.contents writer.new) (E.puts exports.old) (E.puts exports.new)) }
     ensures err { (document : Document)
         → ready.original.clauses ≡ map (clause_of ready.original.text.items) document.components
         → IfErr result (IsUnrepaired (map (λ team. team.now) requested.now.teams.now) requested.now.legal
         (repair_paths requested.now.files)
-        ready.original.text.items document ready.measured.least.items ready.measured.floor
+        ready.original.text.items document ready.measured.limits ready.measured.floor
         (W.contents writer.old) (W.contents writer.new) (E.puts exports.old) (E.puts exports.new)) }
     ensures blames { IfErr result
         (λ fault. BlamesOutputs fault (writer.new ≡ writer.old) (W.has_failed writer.old) (W.has_failed writer.new)
@@ -522,10 +522,10 @@ fn repair_opened<'a, E: OutputFiles, W: Sink, P: Progress>(
     ensures held { W.holds writer.new ≡ W.holds writer.old }
 {
     let ReadyRepair { measured, original } = ready;
-    let MeasuredFloor { mut floor, least } = measured;
+    let MeasuredFloor { mut floor, limits } = measured;
     let mut before = RepairContext {
         original,
-        least,
+        limits,
         progress,
     };
     repair_on_floor(alloc, &mut floor, &mut before, requested, exports, writer)

@@ -103,7 +103,7 @@ fn repair_to(
     writer: &mut Room,
 ) -> Result<RepairStats, RepairFault> {
     let mut lines = ToWrite::new(writer);
-    repair_team(alloc, floor, b"A", how, &mut lines)
+    repair_team(alloc, floor, b"A", how, &[], &mut lines)
 }
 
 /// Repairs A with a writer that takes at most `left` bytes of its lines.
@@ -343,16 +343,13 @@ fn a_team_with_cells_left_is_not_committed(rt: HostRuntime) -> Result<(), Fail> 
 
 /// The lines of a repair of cells that overlap.
 const LINES: &[u8] = b"open A
-unplace A 0 a1
-unplace A 0 a2
-place A 0 a1 0 0 N
 place A 0 a2 400 0 N
 commit A 0
 close A 0
 ";
 
 /// The position of the line that commits the team.
-const COMMIT: usize = 77;
+const COMMIT: usize = 28;
 
 /// The committed place of a2.
 fn committed(floor: &Floor<PlainSeeker>) -> Option<Place> {

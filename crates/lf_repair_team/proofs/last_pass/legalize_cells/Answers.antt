@@ -4,11 +4,11 @@ use Rattle.std.proofs.lemmas.List.{take_all}
 use Rattle.std.proofs.lemmas.List.Elements.{All-get_or, All-nil, All-weaker}
 use Rattle.lf_floorplan.specs.declared.frame.Frame.{Frame}
 use Rattle.lf_floor_model.specs.Teams.{team_number}
-use Rattle.lf_repair_team.specs.CellEdits.{IsLegalOrUnplaced, IsLegalOrWithoutPlace}
+use Rattle.lf_repair_team.specs.CellEdits.{IsFlagged, IsLegalOrUnplaced, IsLegalOrWithoutPlace}
 use Rattle.lf_repair_team.specs.TeamRepairs.{place_of_cell_in}
-use Rattle.lf_repair_team.proofs.LastPass.{done_more, none_affected, still_unplaced, then_legal}
+use Rattle.lf_repair_team.proofs.LastPass.{done_more, flagged_beside, none_affected, still_unplaced, then_legal}
 use Rattle.lf_repair_team.proofs.OffSoft.{none_moves_onto_soft, then_off_soft}
-use Rattle.lf_repair_team.proofs.Runs.{nothing, then_cut, then_only, then_written, unchanged}
+use Rattle.lf_repair_team.proofs.Runs.{none_moves, nothing, then_cut, then_only, then_stay, then_written, unchanged}
 use Rattle.lf_repair_team.proofs.last_pass.legalize_cells.Goals as goal
 
 pub loop-own-init : goal.loop-own-init
@@ -16,6 +16,7 @@ loop-own-init g c = record {
   run = λ l. nothing l c.args.seat.now.team.now c.args.floor.now (g.K.Sink.contents c.args.lines.now);
   only = unchanged c.args.seat.now.team.now c.args.floor.now;
   legal = none_affected c.args.seat.now.team.now c.args.floor.now;
+  flagged = none_moves c.args.seat.now.team.now c.args.seat.now.impossible.now c.args.floor.now;
   committed = refl;
   all = All-weaker (λ own. place_of_cell_in c.args.floor.now c.args.seat.now.team.now own ≡ None) (λ own. IsLegalOrUnplaced c.args.floor.now c.args.seat.now.team.now own) (λ own none. inr none)
       c.args.cells.now c.requires.unplaced;
@@ -35,6 +36,12 @@ pub returns-in-Err-clause-legal : goal.returns-in-Err-clause-legal
 returns-in-Err-clause-legal g c =
     then_legal c.args.seat.now.team.now c.args.floor.now c.loop-own.floor c.legalize_cell.new.floor c.loop-own.invariant.legal c.in-Err.ensures.legal
 
+pub returns-in-Err-clause-flagged : goal.returns-in-Err-clause-flagged
+returns-in-Err-clause-flagged g c =
+    then_stay c.args.seat.now.team.now c.args.seat.now.impossible.now c.args.floor.now c.loop-own.floor c.legalize_cell.new.floor c.loop-own.invariant.flagged
+    (flagged_beside c.args.seat.now.team.now c.args.seat.now.impossible.now c.loop-own.floor c.legalize_cell.new.floor (get_or c.args.cells.now c.loop-own.own-index 0)
+    (All-get_or (λ own. IsFlagged c.args.seat.now.impossible.now own → ⊥) c.args.cells.now c.loop-own.own-index 0 c.loop-own-test.true c.requires.free) c.in-Err.ensures.others)
+
 pub returns-in-Err-clause-committed : goal.returns-in-Err-clause-committed
 returns-in-Err-clause-committed g c = c.in-Err.ensures.committed ∙ c.loop-own.invariant.committed
 
@@ -45,6 +52,9 @@ loop-own-preserved g c = record {
   only = then_only c.args.seat.now.team.now c.args.floor.now c.loop-own.floor c.legalize_cell.new.floor c.loop-own.invariant.only c.in-Ok.ensures.only;
   legal =
       then_legal c.args.seat.now.team.now c.args.floor.now c.loop-own.floor c.legalize_cell.new.floor c.loop-own.invariant.legal c.in-Ok.ensures.legal;
+  flagged = then_stay c.args.seat.now.team.now c.args.seat.now.impossible.now c.args.floor.now c.loop-own.floor c.legalize_cell.new.floor c.loop-own.invariant.flagged
+      (flagged_beside c.args.seat.now.team.now c.args.seat.now.impossible.now c.loop-own.floor c.legalize_cell.new.floor (get_or c.args.cells.now c.loop-own.own-index 0)
+      (All-get_or (λ own. IsFlagged c.args.seat.now.impossible.now own → ⊥) c.args.cells.now c.loop-own.own-index 0 c.loop-own-test.true c.requires.free) c.in-Ok.ensures.others);
   committed = c.in-Ok.ensures.committed ∙ c.loop-own.invariant.committed;
   all = still_unplaced c.args.seat.now.team.now c.loop-own.floor c.legalize_cell.new.floor c.args.cells.now (get_or c.args.cells.now c.loop-own.own-index 0)
       (record {

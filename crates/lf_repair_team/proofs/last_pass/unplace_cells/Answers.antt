@@ -2,10 +2,11 @@ use Rattle.std.proofs.Common.{◌≡◌, ◌∙◌, ℕ, List, None, arith, get_
 use Rattle.std.specs.Prelude.{All}
 use Rattle.std.proofs.lemmas.List.{take_all}
 use Rattle.std.proofs.lemmas.List.Elements.{All-get_or, All-nil}
+use Rattle.lf_repair_team.specs.CellEdits.{IsFlagged}
 use Rattle.lf_repair_team.specs.TeamRepairs.{IsIllegalIn, place_of_cell_in}
-use Rattle.lf_repair_team.proofs.LastPass.{legal_beside_illegal, none_affected, unplaced_more}
+use Rattle.lf_repair_team.proofs.LastPass.{flagged_beside, legal_beside_illegal, none_affected, unplaced_more}
 use Rattle.lf_repair_team.proofs.OffSoft.{none_moves_onto_soft, one_moves_off_soft, then_off_soft}
-use Rattle.lf_repair_team.proofs.Runs.{nothing, then_cut, then_only, then_written, unchanged}
+use Rattle.lf_repair_team.proofs.Runs.{none_moves, nothing, then_cut, then_only, then_stay, then_written, unchanged}
 use Rattle.lf_repair_team.proofs.last_pass.unplace_cells.Goals as goal
 
 pub loop-own-init : goal.loop-own-init
@@ -13,6 +14,7 @@ loop-own-init g c = record {
   run = λ l. nothing l c.args.seat.now.team.now c.args.floor.now (g.K.Sink.contents c.args.lines.now);
   only = unchanged c.args.seat.now.team.now c.args.floor.now;
   legal = none_affected c.args.seat.now.team.now c.args.floor.now;
+  flagged = none_moves c.args.seat.now.team.now c.args.seat.now.impossible.now c.args.floor.now;
   committed = refl;
   unplaced = All-nil (λ own. place_of_cell_in c.args.floor.now c.args.seat.now.team.now own ≡ None);
   off_soft = none_moves_onto_soft c.args.seat.now.team.now c.args.floor.now;
@@ -29,8 +31,14 @@ returns-in-Err-clause-only g c = then_only c.args.seat.now.team.now c.args.floor
 pub returns-in-Err-clause-legal : goal.returns-in-Err-clause-legal
 returns-in-Err-clause-legal g c =
     legal_beside_illegal c.args.seat.now.team.now c.args.floor.now c.loop-own.floor c.unplace_cell.new.floor (get_or c.args.cells.now c.loop-own.own-index 0)
-    (All-get_or (λ own. IsIllegalIn c.args.floor.now c.args.seat.now.team.now own) c.args.cells.now c.loop-own.own-index 0 c.loop-own-test.true c.requires)
+    (All-get_or (λ own. IsIllegalIn c.args.floor.now c.args.seat.now.team.now own) c.args.cells.now c.loop-own.own-index 0 c.loop-own-test.true c.requires.illegal)
     c.loop-own.invariant.legal c.in-Err.ensures.cells c.in-Err.ensures.legal
+
+pub returns-in-Err-clause-flagged : goal.returns-in-Err-clause-flagged
+returns-in-Err-clause-flagged g c =
+    then_stay c.args.seat.now.team.now c.args.seat.now.impossible.now c.args.floor.now c.loop-own.floor c.unplace_cell.new.floor c.loop-own.invariant.flagged
+    (flagged_beside c.args.seat.now.team.now c.args.seat.now.impossible.now c.loop-own.floor c.unplace_cell.new.floor (get_or c.args.cells.now c.loop-own.own-index 0)
+    (All-get_or (λ own. IsFlagged c.args.seat.now.impossible.now own → ⊥) c.args.cells.now c.loop-own.own-index 0 c.loop-own-test.true c.requires.free) c.in-Err.ensures.cells)
 
 pub returns-in-Err-clause-committed : goal.returns-in-Err-clause-committed
 returns-in-Err-clause-committed g c = c.in-Err.ensures.committed ∙ c.loop-own.invariant.committed
@@ -42,8 +50,11 @@ loop-own-preserved g c = record {
   only = then_only c.args.seat.now.team.now c.args.floor.now c.loop-own.floor c.unplace_cell.new.floor c.loop-own.invariant.only c.in-Ok.ensures.only;
   legal =
       legal_beside_illegal c.args.seat.now.team.now c.args.floor.now c.loop-own.floor c.unplace_cell.new.floor (get_or c.args.cells.now c.loop-own.own-index 0)
-      (All-get_or (λ own. IsIllegalIn c.args.floor.now c.args.seat.now.team.now own) c.args.cells.now c.loop-own.own-index 0 c.loop-own-test.true c.requires)
+      (All-get_or (λ own. IsIllegalIn c.args.floor.now c.args.seat.now.team.now own) c.args.cells.now c.loop-own.own-index 0 c.loop-own-test.true c.requires.illegal)
       c.loop-own.invariant.legal c.in-Ok.ensures.cells c.in-Ok.ensures.legal;
+  flagged = then_stay c.args.seat.now.team.now c.args.seat.now.impossible.now c.args.floor.now c.loop-own.floor c.unplace_cell.new.floor c.loop-own.invariant.flagged
+      (flagged_beside c.args.seat.now.team.now c.args.seat.now.impossible.now c.loop-own.floor c.unplace_cell.new.floor (get_or c.args.cells.now c.loop-own.own-index 0)
+      (All-get_or (λ own. IsFlagged c.args.seat.now.impossible.now own → ⊥) c.args.cells.now c.loop-own.own-index 0 c.loop-own-test.true c.requires.free) c.in-Ok.ensures.cells);
   committed = c.in-Ok.ensures.committed ∙ c.loop-own.invariant.committed;
   unplaced = unplaced_more c.args.seat.now.team.now c.loop-own.floor c.unplace_cell.new.floor c.args.cells.now c.loop-own.own-index 0 c.loop-own-test.true
       c.loop-own.invariant.unplaced c.in-Ok.ensures.cells c.in-Ok.ensures.unplaced;

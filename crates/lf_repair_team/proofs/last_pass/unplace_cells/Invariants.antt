@@ -1,7 +1,7 @@
 use Rattle.std.proofs.Common.{◌≡◌, None, take}
 use Rattle.std.specs.Prelude.{All}
 use Rattle.lf_rules.specs.Legalizer.{Legalizer}
-use Rattle.lf_repair_team.specs.CellEdits.{KeepsCommittedAndSlots, KeepsLegalCells, MovesOffSoft}
+use Rattle.lf_repair_team.specs.CellEdits.{KeepsCommittedAndSlots, KeepsLegalCells, KeepsLockedPlaces, MovesOffSoft}
 use Rattle.lf_repair_team.specs.TeamRepairs.{ChangesOnly, place_of_cell_in}
 use Rattle.lf_repair_team.specs.Runs.{IsWrittenRun}
 use Rattle.lf_repair_team.proofs.last_pass.unplace_cells.Given as goal
@@ -11,6 +11,7 @@ invariant-loop-own g l = record {
   run : (lz : Legalizer) → IsWrittenRun lz l.seat.team.now l.fn.floor (g.K.Sink.contents l.fn.lines) (g.K.Sink.contents l.lines) l.floor;
   only : ChangesOnly l.seat.team.now l.fn.floor l.floor;
   legal : KeepsLegalCells l.seat.team.now l.fn.floor l.floor;
+  flagged : KeepsLockedPlaces l.seat.team.now l.seat.impossible.now l.fn.floor l.floor;
   committed : KeepsCommittedAndSlots l.seat.team.now l.seat.session l.fn.floor l.floor;
   unplaced : All (λ own. place_of_cell_in l.floor l.seat.team.now own ≡ None) (take l.own-index l.cells);
   off_soft : MovesOffSoft l.seat.team.now l.fn.floor l.floor;

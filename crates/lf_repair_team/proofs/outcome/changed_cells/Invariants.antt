@@ -6,6 +6,6 @@ use Rattle.lf_repair_team.proofs.outcome.changed_cells.Given as goal
 
 abbrev pub invariant-loop-id : goal.invariant-loop-id
 invariant-loop-id l = record {
-  changed : AreNamedTo (IsAtTarget (cells_of l.placement.cells l.number) l.wanted_places) l.id-index l.changed.items;
-  moved : HaveLeftTargets (cells_of l.placement.cells l.number) l.wanted_places l.changed.items;
+  changed : AreNamedTo (IsAtTarget (cells_of l.placement.cells l.number) l.targets) l.id-index l.changed.items;
+  moved : HaveLeftTargets (cells_of l.placement.cells l.number) l.targets l.changed.items;
 }

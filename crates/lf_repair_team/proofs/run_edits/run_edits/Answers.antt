@@ -8,6 +8,7 @@ loop-cell_edit-init g c = record {
   run = λ l. nothing l c.args.seat.now.team.now c.args.floor.now (g.K.Sink.contents c.args.lines.now);
   only = unchanged c.args.seat.now.team.now c.args.floor.now;
   marked = none_moves c.args.seat.now.team.now c.args.marks.now c.args.floor.now;
+  flagged = none_moves c.args.seat.now.team.now c.args.seat.now.impossible.now c.args.floor.now;
   legal = λ own mark legal. legal;
   committed = refl;
 }
@@ -28,6 +29,10 @@ pub returns-in-Err-clause-legal : goal.returns-in-Err-clause-legal
 returns-in-Err-clause-legal g c =
     then_locked_legal c.args.seat.now.team.now c.args.marks.now c.args.floor.now c.loop-cell_edit.floor c.run_edit_unless_locked.new.floor c.loop-cell_edit.invariant.legal c.in-Err.ensures.legal
 
+pub returns-in-Err-clause-flagged : goal.returns-in-Err-clause-flagged
+returns-in-Err-clause-flagged g c =
+    then_stay c.args.seat.now.team.now c.args.seat.now.impossible.now c.args.floor.now c.loop-cell_edit.floor c.run_edit_unless_locked.new.floor c.loop-cell_edit.invariant.flagged c.in-Err.ensures.flagged
+
 pub returns-in-Err-clause-committed : goal.returns-in-Err-clause-committed
 returns-in-Err-clause-committed g c = c.in-Err.ensures.committed ∙ c.loop-cell_edit.invariant.committed
 
@@ -37,6 +42,7 @@ loop-cell_edit-preserved g c = record {
       (g.K.Sink.contents c.loop-cell_edit.lines) (g.K.Sink.contents c.run_edit_unless_locked.new.lines) (c.loop-cell_edit.invariant.run l) (c.in-Ok.ensures.run l);
   only = then_only c.args.seat.now.team.now c.args.floor.now c.loop-cell_edit.floor c.run_edit_unless_locked.new.floor c.loop-cell_edit.invariant.only c.in-Ok.ensures.only;
   marked = then_stay c.args.seat.now.team.now c.args.marks.now c.args.floor.now c.loop-cell_edit.floor c.run_edit_unless_locked.new.floor c.loop-cell_edit.invariant.marked c.in-Ok.ensures.marked;
+  flagged = then_stay c.args.seat.now.team.now c.args.seat.now.impossible.now c.args.floor.now c.loop-cell_edit.floor c.run_edit_unless_locked.new.floor c.loop-cell_edit.invariant.flagged c.in-Ok.ensures.flagged;
   legal = then_locked_legal c.args.seat.now.team.now c.args.marks.now c.args.floor.now c.loop-cell_edit.floor c.run_edit_unless_locked.new.floor c.loop-cell_edit.invariant.legal
       c.in-Ok.ensures.legal;
   committed = c.in-Ok.ensures.committed ∙ c.loop-cell_edit.invariant.committed;

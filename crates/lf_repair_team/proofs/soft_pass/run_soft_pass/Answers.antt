@@ -14,7 +14,7 @@ loop-own-init g c = record {
   run = λ l. nothing l c.args.seat.now.team.now c.args.floor.now (g.K.Sink.contents c.args.lines.now);
   only = unchanged c.args.seat.now.team.now c.args.floor.now;
   committed = refl;
-  targets = none_leaves_target c.args.seat.now.team.now c.args.wanted_places.now c.args.floor.now;
+  targets = none_leaves_target c.args.seat.now.team.now c.args.targets.now c.args.floor.now;
   settled = λ own within. absurd (omega (arith, within));
 }
 
@@ -34,7 +34,7 @@ returns-in-Err-clause-committed g c = c.in-Err.ensures.committed ∙ c.loop-own.
 
 pub returns-in-Err-clause-targets : goal.returns-in-Err-clause-targets
 returns-in-Err-clause-targets g c =
-    then_targets c.args.seat.now.team.now c.args.wanted_places.now c.args.floor.now c.loop-own.floor c.unplace_if_on_soft.new.floor c.loop-own.invariant.targets c.in-Err.ensures.targets
+    then_targets c.args.seat.now.team.now c.args.targets.now c.args.floor.now c.loop-own.floor c.unplace_if_on_soft.new.floor c.loop-own.invariant.targets c.in-Err.ensures.targets
 
 pub loop-own-preserved : goal.loop-own-preserved
 loop-own-preserved g c = record {
@@ -42,8 +42,8 @@ loop-own-preserved g c = record {
       (g.K.Sink.contents c.loop-own.lines) (g.K.Sink.contents c.unplace_if_on_soft.new.lines) (c.loop-own.invariant.run l) (c.in-Ok.ensures.run l);
   only = then_only c.args.seat.now.team.now c.args.floor.now c.loop-own.floor c.unplace_if_on_soft.new.floor c.loop-own.invariant.only c.in-Ok.ensures.only;
   committed = c.in-Ok.ensures.committed ∙ c.loop-own.invariant.committed;
-  targets = then_targets c.args.seat.now.team.now c.args.wanted_places.now c.args.floor.now c.loop-own.floor c.unplace_if_on_soft.new.floor c.loop-own.invariant.targets c.in-Ok.ensures.targets;
-  settled = one_more_settled c.args.seat.now.team.now c.loop-own.floor c.unplace_if_on_soft.new.floor c.in-Ok.ensures.only c.args.wanted_places.now c.loop-own.own c.loop-own.invariant.settled
+  targets = then_targets c.args.seat.now.team.now c.args.targets.now c.args.floor.now c.loop-own.floor c.unplace_if_on_soft.new.floor c.loop-own.invariant.targets c.in-Ok.ensures.targets;
+  settled = one_more_settled c.args.seat.now.team.now c.loop-own.floor c.unplace_if_on_soft.new.floor c.in-Ok.ensures.only c.args.targets.now c.loop-own.own c.loop-own.invariant.settled
       c.in-Ok.ensures.others c.in-Ok.ensures.settled;
 }
 
@@ -53,6 +53,6 @@ returns-clause-settled g c =
     let cells = cells_of c.placement.result.now.cells number in
     let ids = c.cells_of-count.result.now in
     let are = ids_are c.placement.result.now.cells c.cells.result.now number ids c.cells.ensures c.cells_of-count.ensures in
-    all_settled c.args.seat.now.team.now c.args.floor.now c.loop-own.floor c.loop-own.own c.args.wanted_places.now c.loop-own.invariant.only.macros
+    all_settled c.args.seat.now.team.now c.args.floor.now c.loop-own.floor c.loop-own.own c.args.targets.now c.loop-own.invariant.only.macros
     (λ s there. all_looked c.args.floor.now number c.loop-own.own cells ids are (omega (arith, c.loop-own-test.false)) (λ s at. c.placement.ensures.cells number s at) s
     (state_there c.args.floor.now c.args.seat.now.team.now number s c.requires there)) c.loop-own.invariant.settled

@@ -10,6 +10,6 @@ invariant-loop-own g l = record {
   run : (lz : Legalizer) → IsWrittenRun lz l.seat.team.now l.fn.floor (g.K.Sink.contents l.fn.lines) (g.K.Sink.contents l.lines) l.floor;
   only : ChangesOnly l.seat.team.now l.fn.floor l.floor;
   committed : KeepsCommittedAndSlots l.seat.team.now l.seat.session l.fn.floor l.floor;
-  targets : KeepsCellsAtTargets l.seat.team.now l.wanted_places l.fn.floor l.floor;
-  settled : (own : ℕ) → own < l.own → IsAtTargetOrOffSoft l.seat.team.now l.wanted_places l.floor own;
+  targets : KeepsCellsAtTargets l.seat.team.now l.targets l.fn.floor l.floor;
+  settled : (own : ℕ) → own < l.own → IsAtTargetOrOffSoft l.seat.team.now l.targets l.floor own;
 }

@@ -11,11 +11,11 @@ pub returns-then-not-has_moved_onto_soft-clause-only : goal.returns-then-not-has
 returns-then-not-has_moved_onto_soft-clause-only g c = unchanged c.args.seat.now.team.now c.args.floor.now
 
 pub returns-then-not-has_moved_onto_soft-clause-targets : goal.returns-then-not-has_moved_onto_soft-clause-targets
-returns-then-not-has_moved_onto_soft-clause-targets g c = none_leaves_target c.args.seat.now.team.now c.args.wanted_places.now c.args.floor.now
+returns-then-not-has_moved_onto_soft-clause-targets g c = none_leaves_target c.args.seat.now.team.now c.args.targets.now c.args.floor.now
 
 pub returns-clause-targets : goal.returns-clause-targets
 returns-clause-targets g c =
-    targets_beside c.args.seat.now.team.now c.args.wanted_places.now c.args.floor.now c.unplace_cell.new.floor c.args.own c.unplace_cell.ensures.only.macros
+    targets_beside c.args.seat.now.team.now c.args.targets.now c.args.floor.now c.unplace_cell.new.floor c.args.own c.unplace_cell.ensures.only.macros
     (λ s there. c.has_moved_onto_soft.ensures.moved s there c.if-not-has_moved_onto_soft.false) c.unplace_cell.ensures.cells c.unplace_cell.ensures.legal
 
 pub returns-clause-settled : goal.returns-clause-settled

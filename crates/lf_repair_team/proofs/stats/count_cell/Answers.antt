@@ -11,9 +11,9 @@ returns-clause-reported c =
     let now = c.args.now in
     let old = c.args.reported.now in
     record {
-      cells = counted_by (c.args.original_place ≡ true → ⊥) (not c.args.original_place) old.cells c.counted-reported.result (not_so c.args.original_place) c.counted-reported.ensures;
-      kept = counted_by ((c.args.original_place ≡ true) × (now ≡ wanted_place)) c.is_kept.result old.kept c.counted-reported-2.result c.is_kept.ensures c.counted-reported-2.ensures;
-      displaced_legal = counted_by ((c.args.original_place ≡ true) × (now ≢ wanted_place)) c.is_pushed.result old.displaced_legal c.counted-reported-3.result c.is_pushed.ensures c.counted-reported-3.ensures;
+      cells = counted_by (c.args.was_legal ≡ true → ⊥) (not c.args.was_legal) old.cells c.counted-reported.result (not_so c.args.was_legal) c.counted-reported.ensures;
+      kept = counted_by ((c.args.was_legal ≡ true) × (now ≡ wanted_place)) c.is_kept.result old.kept c.counted-reported-2.result c.is_kept.ensures c.counted-reported-2.ensures;
+      displaced_legal = counted_by ((c.args.was_legal ≡ true) × (now ≢ wanted_place)) c.is_displaced.result old.displaced_legal c.counted-reported-3.result c.is_displaced.ensures c.counted-reported-3.ensures;
       moved = subst (λ (far : ℕ). CountsIf (0 < far) old.moved c.counted-reported-4.result) c.displacement-far.ensures.way
           (counted_by (0 < c.displacement-far.result) (nat_lt 0 c.displacement-far.result) old.moved c.counted-reported-4.result (is_more c.displacement-far.result) c.counted-reported-4.ensures);
       placed = counted_by ((wanted_place ≡ None) × IsSome now) c.is_placed.result old.placed c.counted-reported-5.result c.is_placed.ensures c.counted-reported-5.ensures;

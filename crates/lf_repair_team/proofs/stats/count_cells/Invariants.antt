@@ -8,6 +8,6 @@ abbrev pub invariant-loop-id : goal.invariant-loop-id
 invariant-loop-id l = record {
   changed : l.reported.changed ≡ l.fn.found.changed;
   left : l.reported.unrepaired ≡ l.fn.found.left;
-  tally : AreStatsOfFirst l.wanted_places l.marks (cells_of l.placement.cells l.number) l.id-index l.reported;
+  tally : AreStatsOfFirst l.targets l.marks (cells_of l.placement.cells l.number) l.id-index l.reported;
   short : IsShortTo l.id-index l.reported;
 }

@@ -10,6 +10,6 @@ returns-clause-tally g c = λ s at.
     let reported = c.count_cells.result in
     let marks = c.args.start.now.legal.items in
     let cells = cells_of c.placement.result.now.cells c.args.number in
-    subst (λ (cs : List Cell). AreStatsOfFirst c.args.start.now.pass.wanted_places.items marks cs (length cs) reported) (c.placement.ensures.cells c.args.number s at)
-    (subst (λ (wanted_places : List (Option Place)). AreStatsOfFirst wanted_places marks cells (length cells) reported) c.as_slice.ensures.value
+    subst (λ (cs : List Cell). AreStatsOfFirst c.args.start.now.pass.targets.items marks cs (length cs) reported) (c.placement.ensures.cells c.args.number s at)
+    (subst (λ (targets : List (Option Place)). AreStatsOfFirst targets marks cells (length cells) reported) c.as_slice.ensures.value
     (subst (λ (ms : List Bool). AreStatsOfFirst c.as_slice.result.now ms cells (length cells) reported) c.as_slice-2.ensures.value c.count_cells.ensures.tally))

@@ -18,14 +18,14 @@ returns-in-Err-close-clause-err g c = λ l.
 
 pub returns-in-Ok-close-clause-changed : goal.returns-in-Ok-close-clause-changed
 returns-in-Ok-close-clause-changed g c =
-    wanted_place_through c.args.seat.now.team.now c.args.wanted_places.now c.args.floor.now c.close.new.floor c.in-Ok.found.changed.items
+    wanted_place_through c.args.seat.now.team.now c.args.targets.now c.args.floor.now c.close.new.floor c.in-Ok.found.changed.items
     (c.in-Ok-close.ensures.only.names ∙ c.in-Ok-commit_if_clean.ensures.only.names)
     (λ own. same_places c.args.seat.now.team.now c.commit_if_clean.new.floor c.close.new.floor c.in-Ok-close.ensures.cells own ∙ c.in-Ok-commit_if_clean.ensures.places own)
     c.in-Ok.ensures.changed
 
 pub returns-in-Ok-close-clause-moved : goal.returns-in-Ok-close-clause-moved
 returns-in-Ok-close-clause-moved g c =
-    elsewhere_through c.args.seat.now.team.now c.args.wanted_places.now c.args.floor.now c.close.new.floor c.in-Ok.found.changed.items
+    elsewhere_through c.args.seat.now.team.now c.args.targets.now c.args.floor.now c.close.new.floor c.in-Ok.found.changed.items
     (c.in-Ok-close.ensures.only.names ∙ c.in-Ok-commit_if_clean.ensures.only.names)
     (λ own. same_places c.args.seat.now.team.now c.commit_if_clean.new.floor c.close.new.floor c.in-Ok-close.ensures.cells own ∙ c.in-Ok-commit_if_clean.ensures.places own)
     c.in-Ok.ensures.moved
@@ -35,9 +35,9 @@ returns-in-Ok-close-clause-unrepaired g c =
     let team = c.args.seat.now.team.now in
     let left = c.in-Ok.found.left.items in
     let l = c.legalizer_exists.ensures in
-    unrepaired_through team c.commit_if_clean.new.floor c.close.new.floor left c.in-Ok-close.ensures.only.frame c.in-Ok-close.ensures.cells
-    (unrepaired_committed team c.args.floor.now c.commit_if_clean.new.floor c.as_slice.result.now left c.as_slice.ensures.value c.in-Ok-commit_if_clean.ensures.kept l
-    (c.in-Ok-commit_if_clean.ensures.committed l) (subst (λ (xs : List ℕ). AreUnrepaired team c.args.floor.now xs) (sym c.in-Ok.ensures.left) c.requires.unrepaired))
+    unrepaired_through team c.args.seat.now.impossible.now c.commit_if_clean.new.floor c.close.new.floor left c.in-Ok-close.ensures.only.frame c.in-Ok-close.ensures.cells
+    (unrepaired_committed team c.args.seat.now.impossible.now c.args.floor.now c.commit_if_clean.new.floor c.as_slice.result.now left c.as_slice.ensures.value c.in-Ok-commit_if_clean.ensures.kept l
+    (c.in-Ok-commit_if_clean.ensures.committed l) (subst (λ (xs : List ℕ). AreUnrepaired team c.args.seat.now.impossible.now c.args.floor.now xs) (sym c.in-Ok.ensures.left) c.requires.unrepaired))
 
 pub returns-in-Ok-close-clause-committed : goal.returns-in-Ok-close-clause-committed
 returns-in-Ok-close-clause-committed g c = λ l none.

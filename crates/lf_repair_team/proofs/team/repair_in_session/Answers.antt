@@ -1,12 +1,12 @@
-use Rattle.std.proofs.Common.{◌≡◌, ◌≢◌, ◌∙◌, [], List, Option, subst}
+use Rattle.std.proofs.Common.{◌≡◌, ◌≢◌, ◌∙◌, [], Bool, List, Option, subst}
 use Rattle.std.specs.Prelude.{IfOk}
 use Rattle.std.proofs.lemmas.Result.{on_ok_weaker}
 use Rattle.lf_floorplan.specs.declared.place.Place.{Place}
-use Rattle.lf_repair_team.specs.CellEdits.{AreAtTargetsOrOffSoft, KeepsCommittedPlaces, TeamHasLeftTargets, TeamIsAtTargetsExcept, session_slots_without}
+use Rattle.lf_repair_team.specs.CellEdits.{AreAtTargetsOrOffSoft, AreFlaggedAtTargets, AreUnrepaired, KeepsCommittedPlaces, KeepsLockedPlaces, TeamHasLeftTargets, TeamIsAtTargetsExcept, session_slots_without}
 use Rattle.lf_repair_team.specs.TeamRepairs.{session_slots_in}
 use Rattle.lf_repair_team.specs.Runs.{IsRunWithCutLine, IsWrittenRun}
-use Rattle.lf_repair_team.proofs.Legal.{same_committed}
-use Rattle.lf_repair_team.proofs.OffSoft.{locked_in_session, targets_stay}
+use Rattle.lf_repair_team.proofs.Legal.{same_committed, same_places}
+use Rattle.lf_repair_team.proofs.OffSoft.{flagged_in_session, locked_in_session, targets_stay}
 use Rattle.lf_repair_team.proofs.Results.{err_then, ok_then, ok_weaker, on_ok_from}
 use Rattle.lf_repair_team.proofs.Runs.{then_cut, then_written}
 use Rattle.lf_repair_team.proofs.Slots.{committed_kept, other_slots_kept}
@@ -39,24 +39,24 @@ returns-clause-err g c = λ l.
 
 pub returns-in-Err-run_passes-clause-marked : goal.returns-in-Err-run_passes-clause-marked
 returns-in-Err-run_passes-clause-marked g c = λ keep.
-    locked_in_session c.args.team.now c.args.start.now.pass.locked.items c.args.start.now.pass.wanted_places.items c.args.floor.now c.open.new.floor c.run_passes.new.floor c.in-Ok.ensures.only.frame c.in-Ok.ensures.cells
+    locked_in_session c.args.team.now c.args.start.now.pass.locked.items c.args.start.now.pass.targets.items c.args.floor.now c.open.new.floor c.run_passes.new.floor c.in-Ok.ensures.only.frame c.in-Ok.ensures.cells
     (c.in-Err-run_passes.ensures.marked keep)
 
 pub returns-clause-marked : goal.returns-clause-marked
 returns-clause-marked g c = λ keep locked own mark.
     c.finish.ensures.places own
-    ∙ locked_in_session c.args.team.now c.args.start.now.pass.locked.items c.args.start.now.pass.wanted_places.items c.args.floor.now c.open.new.floor c.run_passes.new.floor c.in-Ok.ensures.only.frame c.in-Ok.ensures.cells
+    ∙ locked_in_session c.args.team.now c.args.start.now.pass.locked.items c.args.start.now.pass.targets.items c.args.floor.now c.open.new.floor c.run_passes.new.floor c.in-Ok.ensures.only.frame c.in-Ok.ensures.cells
     (c.in-Ok-run_passes.ensures.marked keep) locked own mark
 
 pub returns-clause-changed : goal.returns-clause-changed
 returns-clause-changed g c =
-    subst (λ (wanted_places : List (Option Place)). IfOk c.finish.result (λ found. TeamIsAtTargetsExcept c.args.team.now wanted_places c.finish.new.floor found.changed.items))
-    c.as_slice-wanted_places.ensures.value c.finish.ensures.changed
+    subst (λ (targets : List (Option Place)). IfOk c.finish.result (λ found. TeamIsAtTargetsExcept c.args.team.now targets c.finish.new.floor found.changed.items))
+    c.as_slice-targets.ensures.value c.finish.ensures.changed
 
 pub returns-clause-moved : goal.returns-clause-moved
 returns-clause-moved g c =
-    subst (λ (wanted_places : List (Option Place)). IfOk c.finish.result (λ found. TeamHasLeftTargets c.args.team.now wanted_places c.finish.new.floor found.changed.items))
-    c.as_slice-wanted_places.ensures.value c.finish.ensures.moved
+    subst (λ (targets : List (Option Place)). IfOk c.finish.result (λ found. TeamHasLeftTargets c.args.team.now targets c.finish.new.floor found.changed.items))
+    c.as_slice-targets.ensures.value c.finish.ensures.moved
 
 pub returns-clause-uncommitted : goal.returns-clause-uncommitted
 returns-clause-uncommitted g c =
@@ -76,6 +76,26 @@ returns-clause-slots g c =
 
 pub returns-clause-off_soft : goal.returns-clause-off_soft
 returns-clause-off_soft g c =
-    on_ok_from c.finish.result (AreAtTargetsOrOffSoft c.args.team.now c.args.start.now.pass.wanted_places.items c.finish.new.floor)
-    (targets_stay c.args.team.now c.run_passes.new.floor c.finish.new.floor c.finish.ensures.only c.args.start.now.pass.wanted_places.items
+    on_ok_from c.finish.result (AreAtTargetsOrOffSoft c.args.team.now c.args.start.now.pass.targets.items c.finish.new.floor)
+    (targets_stay c.args.team.now c.run_passes.new.floor c.finish.new.floor c.finish.ensures.only c.args.start.now.pass.targets.items
     c.finish.ensures.places c.in-Ok-run_passes.ensures.off_soft)
+
+pub returns-in-Err-run_passes-clause-unmoved : goal.returns-in-Err-run_passes-clause-unmoved
+returns-in-Err-run_passes-clause-unmoved g c =
+    flagged_in_session c.args.team.now c.args.start.now.pass.impossible.items c.args.start.now.pass.targets.items c.args.floor.now c.open.new.floor c.run_passes.new.floor c.in-Ok.ensures.cells
+    (subst (λ (flags : List Bool). AreFlaggedAtTargets c.args.team.now flags c.args.start.now.pass.targets.items c.open.new.floor → KeepsLockedPlaces c.args.team.now flags c.open.new.floor c.run_passes.new.floor)
+    c.as_slice.ensures.value c.in-Err-run_passes.ensures.unmoved)
+
+pub returns-clause-unmoved : goal.returns-clause-unmoved
+returns-clause-unmoved g c = λ at own flag.
+    c.finish.ensures.places own
+    ∙ flagged_in_session c.args.team.now c.args.start.now.pass.impossible.items c.args.start.now.pass.targets.items c.args.floor.now c.open.new.floor c.run_passes.new.floor c.in-Ok.ensures.cells
+    (subst (λ (flags : List Bool). AreFlaggedAtTargets c.args.team.now flags c.args.start.now.pass.targets.items c.open.new.floor → KeepsLockedPlaces c.args.team.now flags c.open.new.floor c.run_passes.new.floor)
+    c.as_slice.ensures.value c.in-Ok-run_passes.ensures.unmoved) at own flag
+
+pub returns-in-Err-clause-unmoved : goal.returns-in-Err-clause-unmoved
+returns-in-Err-clause-unmoved g c = λ at own flag. same_places c.args.team.now c.args.floor.now c.open.new.floor c.in-Err.ensures.cells own
+
+pub returns-clause-unrepaired : goal.returns-clause-unrepaired
+returns-clause-unrepaired g c =
+    subst (λ (flags : List Bool). IfOk c.finish.result (λ found. AreUnrepaired c.args.team.now flags c.finish.new.floor found.left.items)) c.as_slice.ensures.value c.finish.ensures.unrepaired

@@ -1,10 +1,10 @@
 use Rattle.std.proofs.Common.{◌≡◌, ◌∙◌, ℕ, ◌<◌, List, Vec, Global, Some, ap, subst, sym}
 use Rattle.std.specs.Prelude.{All, AllPairs}
 use Rattle.lf_floor_model.specs.Teams.{team_number}
-use Rattle.lf_repair_team.specs.TeamRepairs.{AllListedMove, AreLegalExcept, HasNoPlace, IsIllegalIn, OnlyListedMove}
+use Rattle.lf_repair_team.specs.TeamRepairs.{AllListedMove, AreLegalExcept, HasNoPlaceOrIsListed, IsIllegalIn, OnlyListedMove}
 use Rattle.lf_repair_team.proofs.Finding.{all_move, only_move}
 use Rattle.lf_repair_team.proofs.Legal.{none_left}
-use Rattle.lf_repair_team.proofs.OffSoft.{locked_at_start, moved_off_soft}
+use Rattle.lf_repair_team.proofs.OffSoft.{flagged_at_start, locked_at_start, moved_off_soft, none_or_listed}
 use Rattle.lf_repair_team.proofs.Runs.{none_cut}
 use Rattle.lf_repair_team.proofs.StatsLemmas.{team_stats_of}
 use Rattle.lf_repair_team.proofs.team.repair_team.Goals as goal
@@ -16,15 +16,15 @@ pub returns-in-Ok-repair_in_session-clause-kept : goal.returns-in-Ok-repair_in_s
 returns-in-Ok-repair_in_session-clause-kept g c = λ keep own legal.
     let flags = c.in-Ok.ensures.marked c.args.team.now keep (sym c.team_number.ensures ∙ c.in-Some.is) in
     c.in-Ok-repair_in_session.ensures.marked (c.in-Ok.ensures.how ∙ keep)
-    (locked_at_start c.args.team.now c.args.floor.now c.in-Some.number c.in-Ok.start.pass.locked.items c.in-Ok.start.pass.wanted_places.items (sym c.team_number.ensures ∙ c.in-Some.is)
-    c.in-Ok.ensures.wanted_places (λ k mark. flags.only legal.state legal.there k mark)) own (flags.legal own legal)
+    (locked_at_start c.args.team.now c.args.floor.now c.in-Some.number c.in-Ok.start.pass.locked.items c.in-Ok.start.pass.targets.items (sym c.team_number.ensures ∙ c.in-Some.is)
+    c.in-Ok.ensures.targets (λ k mark. flags.only legal.state legal.there k mark)) own (flags.legal own legal)
 
 pub returns-clause-kept : goal.returns-clause-kept
 returns-clause-kept g c = λ keep own legal.
     let flags = c.in-Ok.ensures.marked c.args.team.now keep (sym c.team_number.ensures ∙ c.in-Some.is) in
     c.in-Err.ensures.marked (c.in-Ok.ensures.how ∙ keep)
-    (locked_at_start c.args.team.now c.args.floor.now c.in-Some.number c.in-Ok.start.pass.locked.items c.in-Ok.start.pass.wanted_places.items (sym c.team_number.ensures ∙ c.in-Some.is)
-    c.in-Ok.ensures.wanted_places (λ k mark. flags.only legal.state legal.there k mark)) own (flags.legal own legal)
+    (locked_at_start c.args.team.now c.args.floor.now c.in-Some.number c.in-Ok.start.pass.locked.items c.in-Ok.start.pass.targets.items (sym c.team_number.ensures ∙ c.in-Some.is)
+    c.in-Ok.ensures.targets (λ k mark. flags.only legal.state legal.there k mark)) own (flags.legal own legal)
 
 pub returns-in-Ok-repair_in_session-clause-changed : goal.returns-in-Ok-repair_in_session-clause-changed
 returns-in-Ok-repair_in_session-clause-changed g c =
@@ -32,7 +32,7 @@ returns-in-Ok-repair_in_session-clause-changed g c =
     let old = c.args.floor.now in
     let new = c.repair_in_session.new.floor in
     subst (λ (xs : List ℕ). OnlyListedMove team old new xs) (sym (items_same c.stats_of.result.changed c.in-Ok-repair_in_session.found.changed c.stats_of.ensures.changed))
-    (only_move team old new c.in-Some.number c.in-Ok.start.pass.wanted_places.items c.in-Ok-repair_in_session.found.changed.items (sym c.team_number.ensures ∙ c.in-Some.is) c.in-Ok.ensures.wanted_places
+    (only_move team old new c.in-Some.number c.in-Ok.start.pass.targets.items c.in-Ok-repair_in_session.found.changed.items (sym c.team_number.ensures ∙ c.in-Some.is) c.in-Ok.ensures.targets
     c.in-Ok-repair_in_session.ensures.only.names c.in-Ok-repair_in_session.ensures.changed)
 
 pub returns-in-Ok-repair_in_session-clause-moved : goal.returns-in-Ok-repair_in_session-clause-moved
@@ -41,7 +41,7 @@ returns-in-Ok-repair_in_session-clause-moved g c =
     let old = c.args.floor.now in
     let new = c.repair_in_session.new.floor in
     subst (λ (xs : List ℕ). AllListedMove team old new xs) (sym (items_same c.stats_of.result.changed c.in-Ok-repair_in_session.found.changed c.stats_of.ensures.changed))
-    (all_move team old new c.in-Some.number c.in-Ok.start.pass.wanted_places.items c.in-Ok-repair_in_session.found.changed.items (sym c.team_number.ensures ∙ c.in-Some.is) c.in-Ok.ensures.wanted_places
+    (all_move team old new c.in-Some.number c.in-Ok.start.pass.targets.items c.in-Ok-repair_in_session.found.changed.items (sym c.team_number.ensures ∙ c.in-Some.is) c.in-Ok.ensures.targets
     c.in-Ok-repair_in_session.ensures.only.names c.in-Ok-repair_in_session.ensures.moved)
 
 pub returns-in-Ok-repair_in_session-clause-named : goal.returns-in-Ok-repair_in_session-clause-named
@@ -51,8 +51,10 @@ returns-in-Ok-repair_in_session-clause-named g c =
 
 pub returns-in-Ok-repair_in_session-clause-complete : goal.returns-in-Ok-repair_in_session-clause-complete
 returns-in-Ok-repair_in_session-clause-complete g c =
-    subst (λ (xs : List ℕ). All (λ own. HasNoPlace c.repair_in_session.new.floor c.args.team.now own) xs) (sym (items_same c.stats_of.result.unrepaired c.in-Ok-repair_in_session.found.left c.stats_of.ensures.left))
-    c.in-Ok-repair_in_session.ensures.unrepaired.without
+    subst (λ (xs : List ℕ). All (HasNoPlaceOrIsListed c.args.impossible.now c.repair_in_session.new.floor c.args.team.now) xs)
+    (sym (items_same c.stats_of.result.unrepaired c.in-Ok-repair_in_session.found.left c.stats_of.ensures.left))
+    (none_or_listed c.args.impossible.now c.args.floor.now c.repair_in_session.new.floor c.args.team.now c.in-Ok.start.pass.impossible.items
+    c.in-Ok-repair_in_session.found.left.items c.in-Ok-repair_in_session.ensures.only c.in-Ok.ensures.flagged c.in-Ok-repair_in_session.ensures.unrepaired.without)
 
 pub returns-in-Ok-repair_in_session-clause-illegal : goal.returns-in-Ok-repair_in_session-clause-illegal
 returns-in-Ok-repair_in_session-clause-illegal g c =
@@ -81,10 +83,27 @@ pub returns-in-Ok-repair_in_session-clause-reported : goal.returns-in-Ok-repair_
 returns-in-Ok-repair_in_session-clause-reported g c =
     let team = c.args.team.now in
     let named : team_number c.args.floor.now.frame team ≡ Some c.in-Some.number = sym c.team_number.ensures ∙ c.in-Some.is in
-    team_stats_of team c.args.floor.now c.repair_in_session.new.floor c.in-Some.number c.in-Ok.start.pass.wanted_places.items c.in-Ok.start.legal.items c.stats_of.result named
-    c.in-Ok-repair_in_session.ensures.only c.in-Ok.ensures.wanted_places (c.in-Ok.ensures.legal team named) c.stats_of.ensures.tally
+    team_stats_of team c.args.floor.now c.repair_in_session.new.floor c.in-Some.number c.in-Ok.start.pass.targets.items c.in-Ok.start.legal.items c.stats_of.result named
+    c.in-Ok-repair_in_session.ensures.only c.in-Ok.ensures.targets (c.in-Ok.ensures.legal team named) c.stats_of.ensures.tally
 
 pub returns-in-Ok-repair_in_session-clause-off_soft : goal.returns-in-Ok-repair_in_session-clause-off_soft
 returns-in-Ok-repair_in_session-clause-off_soft g c =
-    moved_off_soft c.args.team.now c.args.floor.now c.repair_in_session.new.floor c.in-Some.number c.in-Ok.start.pass.wanted_places.items (sym c.team_number.ensures ∙ c.in-Some.is)
-    c.in-Ok.ensures.wanted_places c.in-Ok-repair_in_session.ensures.only.names c.in-Ok-repair_in_session.ensures.off_soft
+    moved_off_soft c.args.team.now c.args.floor.now c.repair_in_session.new.floor c.in-Some.number c.in-Ok.start.pass.targets.items (sym c.team_number.ensures ∙ c.in-Some.is)
+    c.in-Ok.ensures.targets c.in-Ok-repair_in_session.ensures.only.names c.in-Ok-repair_in_session.ensures.off_soft
+
+pub returns-in-Ok-repair_in_session-clause-unmoved : goal.returns-in-Ok-repair_in_session-clause-unmoved
+returns-in-Ok-repair_in_session-clause-unmoved g c = λ own is.
+    let named : team_number c.args.floor.now.frame c.args.team.now ≡ Some c.in-Some.number = sym c.team_number.ensures ∙ c.in-Some.is in
+    c.in-Ok-repair_in_session.ensures.unmoved
+    (flagged_at_start c.args.team.now c.args.floor.now c.in-Some.number c.in-Ok.start.pass.impossible.items c.in-Ok.start.pass.targets.items is.state named is.there c.in-Ok.ensures.targets)
+    own ((c.in-Ok.ensures.flagged own).1 is)
+
+pub returns-clause-unmoved : goal.returns-clause-unmoved
+returns-clause-unmoved g c = λ own is.
+    let named : team_number c.args.floor.now.frame c.args.team.now ≡ Some c.in-Some.number = sym c.team_number.ensures ∙ c.in-Some.is in
+    c.in-Err.ensures.unmoved
+    (flagged_at_start c.args.team.now c.args.floor.now c.in-Some.number c.in-Ok.start.pass.impossible.items c.in-Ok.start.pass.targets.items is.state named is.there c.in-Ok.ensures.targets)
+    own ((c.in-Ok.ensures.flagged own).1 is)
+
+pub repair_input-requires : goal.repair_input-requires
+repair_input-requires g c = sym c.team_number.ensures ∙ c.in-Some.is

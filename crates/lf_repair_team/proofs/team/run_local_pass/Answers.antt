@@ -1,7 +1,7 @@
 use Rattle.std.proofs.Common.{◌∙◌}
 use Rattle.lf_repair_team.specs.Runs.{IsRunWithCutLine, IsWrittenRun}
 use Rattle.lf_repair_team.proofs.Results.{err_then, ok_then}
-use Rattle.lf_repair_team.proofs.Runs.{none_cut, then_cut, then_only, then_written, uncut}
+use Rattle.lf_repair_team.proofs.Runs.{none_cut, then_cut, then_only, then_stay, then_written, uncut}
 use Rattle.lf_repair_team.proofs.team.run_local_pass.Goals as goal
 
 pub returns-clause-run : goal.returns-clause-run
@@ -23,6 +23,10 @@ returns-clause-err g c = λ l.
 pub returns-clause-only : goal.returns-clause-only
 returns-clause-only g c =
     then_only c.args.seat.now.team.now c.args.floor.now c.run_pass.new.floor c.run_edits.new.floor c.in-Ok.ensures.only c.run_edits.ensures.only
+
+pub returns-clause-flagged : goal.returns-clause-flagged
+returns-clause-flagged g c =
+    then_stay c.args.seat.now.team.now c.args.seat.now.impossible.now c.args.floor.now c.run_pass.new.floor c.run_edits.new.floor c.in-Ok.ensures.flagged c.run_edits.ensures.flagged
 
 pub returns-clause-committed : goal.returns-clause-committed
 returns-clause-committed g c = c.run_edits.ensures.committed ∙ c.in-Ok.ensures.committed

@@ -9,6 +9,7 @@ loop-phase-init g c = record {
   run = λ l. nothing l c.args.seat.now.team.now c.args.floor.now (g.K.Sink.contents c.args.lines.now);
   only = unchanged c.args.seat.now.team.now c.args.floor.now;
   marked = none_moves c.args.seat.now.team.now c.args.pass.now.locked.items c.args.floor.now;
+  flagged = none_moves c.args.seat.now.team.now c.args.seat.now.impossible.now c.args.floor.now;
   legal = λ own mark legal. legal;
   committed = refl;
 }
@@ -31,6 +32,10 @@ returns-in-Err-clause-legal g c =
     then_locked_legal c.args.seat.now.team.now c.args.pass.now.locked.items c.args.floor.now c.loop-phase.floor c.run_edits.new.floor c.loop-phase.invariant.legal
     (subst (λ (marks : List Bool). KeepsLockedLegal c.args.seat.now.team.now marks c.loop-phase.floor c.run_edits.new.floor) c.as_slice.ensures.value c.in-Err.ensures.legal)
 
+pub returns-in-Err-clause-flagged : goal.returns-in-Err-clause-flagged
+returns-in-Err-clause-flagged g c =
+    then_stay c.args.seat.now.team.now c.args.seat.now.impossible.now c.args.floor.now c.loop-phase.floor c.run_edits.new.floor c.loop-phase.invariant.flagged c.in-Err.ensures.flagged
+
 pub returns-in-Err-clause-committed : goal.returns-in-Err-clause-committed
 returns-in-Err-clause-committed g c = c.in-Err.ensures.committed ∙ c.loop-phase.invariant.committed
 
@@ -45,6 +50,7 @@ loop-phase-preserved g c = record {
   only = then_only c.args.seat.now.team.now c.args.floor.now c.loop-phase.floor c.run_edits.new.floor c.loop-phase.invariant.only c.in-Ok-run_edits.ensures.only;
   marked = then_stay c.args.seat.now.team.now c.args.pass.now.locked.items c.args.floor.now c.loop-phase.floor c.run_edits.new.floor c.loop-phase.invariant.marked
       (subst (λ (marks : List Bool). KeepsLockedPlaces c.args.seat.now.team.now marks c.loop-phase.floor c.run_edits.new.floor) c.as_slice.ensures.value c.in-Ok-run_edits.ensures.marked);
+  flagged = then_stay c.args.seat.now.team.now c.args.seat.now.impossible.now c.args.floor.now c.loop-phase.floor c.run_edits.new.floor c.loop-phase.invariant.flagged c.in-Ok-run_edits.ensures.flagged;
   legal = then_locked_legal c.args.seat.now.team.now c.args.pass.now.locked.items c.args.floor.now c.loop-phase.floor c.run_edits.new.floor c.loop-phase.invariant.legal
       (subst (λ (marks : List Bool). KeepsLockedLegal c.args.seat.now.team.now marks c.loop-phase.floor c.run_edits.new.floor) c.as_slice.ensures.value c.in-Ok-run_edits.ensures.legal);
   committed = c.in-Ok-run_edits.ensures.committed ∙ c.loop-phase.invariant.committed;

@@ -9,6 +9,7 @@ invariant-loop-phase g l = record {
   run : (lz : Legalizer) → IsWrittenRun lz l.seat.team.now l.fn.floor (g.K.Sink.contents l.fn.lines) (g.K.Sink.contents l.lines) l.floor;
   only : ChangesOnly l.seat.team.now l.fn.floor l.floor;
   marked : KeepsLockedPlaces l.seat.team.now l.pass.locked.items l.fn.floor l.floor;
+  flagged : KeepsLockedPlaces l.seat.team.now l.seat.impossible.now l.fn.floor l.floor;
   legal : KeepsLockedLegal l.seat.team.now l.pass.locked.items l.fn.floor l.floor;
   committed : KeepsCommittedAndSlots l.seat.team.now l.seat.session l.fn.floor l.floor;
 }

@@ -3,9 +3,9 @@ use Rattle.std.proofs.lemmas.Result.{on_ok_weaker}
 use Rattle.lf_floorplan.specs.declared.place.Place.{Place}
 use Rattle.lf_repair_team.specs.CellEdits.{AreAtTargetsOrOffSoft, KeepsCellsAtTargets}
 use Rattle.lf_repair_team.specs.Runs.{IsRunWithCutLine, IsWrittenRun}
-use Rattle.lf_repair_team.proofs.OffSoft.{locked_stay, targets_then_off_soft}
+use Rattle.lf_repair_team.proofs.OffSoft.{flagged_stay, locked_stay, targets_then_off_soft}
 use Rattle.lf_repair_team.proofs.Results.{err_then, ok_then}
-use Rattle.lf_repair_team.proofs.Runs.{then_cut, then_only, then_written}
+use Rattle.lf_repair_team.proofs.Runs.{then_cut, then_only, then_stay, then_written}
 use Rattle.lf_repair_team.proofs.team.run_passes.Goals as goal
 
 pub returns-in-Err-run_local_passes-clause-err : goal.returns-in-Err-run_local_passes-clause-err
@@ -59,16 +59,16 @@ returns-clause-only g c =
 
 pub returns-in-Err-run_soft_pass-clause-marked : goal.returns-in-Err-run_soft_pass-clause-marked
 returns-in-Err-run_soft_pass-clause-marked g c = λ keep.
-    locked_stay c.args.seat.now.team.now c.args.start.now.pass.locked.items c.args.start.now.pass.wanted_places.items c.args.floor.now c.run_pass.new.floor c.run_local_passes.new.floor
+    locked_stay c.args.seat.now.team.now c.args.start.now.pass.locked.items c.args.start.now.pass.targets.items c.args.floor.now c.run_pass.new.floor c.run_local_passes.new.floor
     c.run_soft_pass.new.floor c.run_soft_pass.new.floor c.in-Ok.ensures.marked c.in-Ok.ensures.legal (c.in-Ok-run_local_passes.ensures.kept keep)
-    (subst (λ (places : List (Option Place)). KeepsCellsAtTargets c.args.seat.now.team.now places c.run_local_passes.new.floor c.run_soft_pass.new.floor) c.as_slice-wanted_places.ensures.value
+    (subst (λ (places : List (Option Place)). KeepsCellsAtTargets c.args.seat.now.team.now places c.run_local_passes.new.floor c.run_soft_pass.new.floor) c.as_slice-targets.ensures.value
     c.in-Err-run_soft_pass.ensures.targets) (λ own legal. refl)
 
 pub returns-clause-marked : goal.returns-clause-marked
 returns-clause-marked g c = λ keep.
-    locked_stay c.args.seat.now.team.now c.args.start.now.pass.locked.items c.args.start.now.pass.wanted_places.items c.args.floor.now c.run_pass.new.floor c.run_local_passes.new.floor
+    locked_stay c.args.seat.now.team.now c.args.start.now.pass.locked.items c.args.start.now.pass.targets.items c.args.floor.now c.run_pass.new.floor c.run_local_passes.new.floor
     c.run_soft_pass.new.floor c.run_last_pass.new.floor c.in-Ok.ensures.marked c.in-Ok.ensures.legal (c.in-Ok-run_local_passes.ensures.kept keep)
-    (subst (λ (places : List (Option Place)). KeepsCellsAtTargets c.args.seat.now.team.now places c.run_local_passes.new.floor c.run_soft_pass.new.floor) c.as_slice-wanted_places.ensures.value
+    (subst (λ (places : List (Option Place)). KeepsCellsAtTargets c.args.seat.now.team.now places c.run_local_passes.new.floor c.run_soft_pass.new.floor) c.as_slice-targets.ensures.value
     c.in-Ok-run_soft_pass.ensures.targets) c.run_last_pass.ensures.legal
 
 pub returns-in-Err-run_soft_pass-clause-committed : goal.returns-in-Err-run_soft_pass-clause-committed
@@ -82,6 +82,28 @@ returns-clause-committed g c =
 pub returns-clause-off_soft : goal.returns-clause-off_soft
 returns-clause-off_soft g c =
     on_ok_weaker c.run_last_pass.result
-    (λ moves. targets_then_off_soft c.args.seat.now.team.now c.run_soft_pass.new.floor c.run_last_pass.new.floor c.run_last_pass.ensures.only c.args.start.now.pass.wanted_places.items
-    (subst (λ (places : List (Option Place)). AreAtTargetsOrOffSoft c.args.seat.now.team.now places c.run_soft_pass.new.floor) c.as_slice-wanted_places.ensures.value
+    (λ moves. targets_then_off_soft c.args.seat.now.team.now c.run_soft_pass.new.floor c.run_last_pass.new.floor c.run_last_pass.ensures.only c.args.start.now.pass.targets.items
+    (subst (λ (places : List (Option Place)). AreAtTargetsOrOffSoft c.args.seat.now.team.now places c.run_soft_pass.new.floor) c.as_slice-targets.ensures.value
     c.in-Ok-run_soft_pass.ensures.settled) moves) c.run_last_pass.ensures.off_soft
+
+pub returns-in-Err-clause-unmoved : goal.returns-in-Err-clause-unmoved
+returns-in-Err-clause-unmoved g c = λ at. c.in-Err.ensures.flagged
+
+pub returns-in-Err-run_local_passes-clause-unmoved : goal.returns-in-Err-run_local_passes-clause-unmoved
+returns-in-Err-run_local_passes-clause-unmoved g c = λ at.
+    then_stay c.args.seat.now.team.now c.args.seat.now.impossible.now c.args.floor.now c.run_pass.new.floor c.run_local_passes.new.floor c.in-Ok.ensures.flagged
+    c.in-Err-run_local_passes.ensures.flagged
+
+pub returns-in-Err-run_soft_pass-clause-unmoved : goal.returns-in-Err-run_soft_pass-clause-unmoved
+returns-in-Err-run_soft_pass-clause-unmoved g c =
+    flagged_stay c.args.seat.now.team.now c.args.seat.now.impossible.now c.args.start.now.pass.targets.items c.args.floor.now c.run_local_passes.new.floor c.run_soft_pass.new.floor
+    c.run_soft_pass.new.floor (then_stay c.args.seat.now.team.now c.args.seat.now.impossible.now c.args.floor.now c.run_pass.new.floor c.run_local_passes.new.floor c.in-Ok.ensures.flagged c.in-Ok-run_local_passes.ensures.flagged)
+    (subst (λ (places : List (Option Place)). KeepsCellsAtTargets c.args.seat.now.team.now places c.run_local_passes.new.floor c.run_soft_pass.new.floor) c.as_slice-targets.ensures.value
+    c.in-Err-run_soft_pass.ensures.targets) (λ own flag. refl)
+
+pub returns-clause-unmoved : goal.returns-clause-unmoved
+returns-clause-unmoved g c =
+    flagged_stay c.args.seat.now.team.now c.args.seat.now.impossible.now c.args.start.now.pass.targets.items c.args.floor.now c.run_local_passes.new.floor c.run_soft_pass.new.floor
+    c.run_last_pass.new.floor (then_stay c.args.seat.now.team.now c.args.seat.now.impossible.now c.args.floor.now c.run_pass.new.floor c.run_local_passes.new.floor c.in-Ok.ensures.flagged c.in-Ok-run_local_passes.ensures.flagged)
+    (subst (λ (places : List (Option Place)). KeepsCellsAtTargets c.args.seat.now.team.now places c.run_local_passes.new.floor c.run_soft_pass.new.floor) c.as_slice-targets.ensures.value
+    c.in-Ok-run_soft_pass.ensures.targets) c.run_last_pass.ensures.flagged

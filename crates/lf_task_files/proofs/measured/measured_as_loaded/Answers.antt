@@ -8,11 +8,11 @@ pub returns-clause-ok : goal.returns-clause-ok
 returns-clause-ok c = record {
   begins = c.in_ok-floor.ensures;
   whole = subst (λ (f : FloorState). length f.teams ≡ length f.frame.teams + 1) (sym c.in_ok-floor.ensures) (opening_whole c.args.loaded).0;
-  least = record { many = c.in_ok-least.ensures.many; each = c.in_ok-least.ensures.each };
+  known = c.in_ok-limits.ensures;
 }
 
-pub returns-in_err-least-clause-err : goal.returns-in_err-least-clause-err
-returns-in_err-least-clause-err c =
+pub returns-in_err-limits-clause-err : goal.returns-in_err-limits-clause-err
+returns-in_err-limits-clause-err c =
     let p = err_from_is_err_and c.from_residual.result c.from_residual.ensures.1 in
     rw (p.1, p.2) refl
 

@@ -17,7 +17,7 @@ returns-clause-ok g c =
       whole = is.whole;
       seen = is.seen;
       shown = viewed_of_held gives path text design is.seen given is.shown;
-      least = is.least;
+      known = is.known;
     })
     c.measured_in_text.ensures.ok
 

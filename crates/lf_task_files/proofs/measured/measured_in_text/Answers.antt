@@ -19,12 +19,12 @@ returns-clause-ok c =
           ∙ ap (λ (f : Frame). length f.teams + 1) (sym (begun_frame gives (Some path) (initial_floor seen) floor c.in_ok-floor.ensures.ok));
       seen = seen;
       shown = c.in_ok-seen.ensures.ok;
-      least = record { many = c.in_ok-least.ensures.many; each = c.in_ok-least.ensures.each };
+      known = c.in_ok-limits.ensures;
     }
 
-pub returns-in_err-least-clause-err : goal.returns-in_err-least-clause-err
-returns-in_err-least-clause-err c =
-    let p = err_from_is_err_and c.from_residual-in_err-least.result c.from_residual-in_err-least.ensures.1 in
+pub returns-in_err-limits-clause-err : goal.returns-in_err-limits-clause-err
+returns-in_err-limits-clause-err c =
+    let p = err_from_is_err_and c.from_residual-in_err-limits.result c.from_residual-in_err-limits.ensures.1 in
     rw (p.1, p.2) (inl refl)
 
 pub returns-in_err-floor-clause-err : goal.returns-in_err-floor-clause-err

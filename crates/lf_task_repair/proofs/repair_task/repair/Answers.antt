@@ -34,7 +34,7 @@ returns-clause-ok g c =
       loaded = is.loaded;
       opened = is.opened;
       begin = ready.measured.floor;
-      bounds = ready.measured.least.items;
+      known = ready.measured.limits;
       measured = is.measured;
       repaired = repaired;
     })
@@ -52,7 +52,7 @@ returns-clause-err g c =
         loaded = is.loaded;
         opened = is.opened;
         begin = ready.measured.floor;
-        bounds = ready.measured.least.items;
+        known = ready.measured.limits;
         measured = is.measured;
         unrepaired = why;
       }),

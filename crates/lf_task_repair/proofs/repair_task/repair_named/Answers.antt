@@ -13,7 +13,8 @@ returns-in_ok-add-in-Ok-clause-reported g c = (
   record {
     legal = c.in-Ok.ensures.named;
     illegal = c.in-Ok.ensures.illegal;
-    complete = c.in-Ok.ensures.complete;
+    complete = rw c.as_slice.ensures.value at c.in-Ok.ensures.complete;
+    unmoved = rw c.as_slice.ensures.value at c.in-Ok.ensures.unmoved;
     rise = c.in-Ok.ensures.rise;
     stats = c.in-Ok.ensures.reported;
     committed = c.in-Ok.ensures.committed;

@@ -3,7 +3,6 @@ use Rattle.std.proofs.lemmas.Result.{err_from_is_err_and}
 use Rattle.lf_io_files.specs.Shelf.{Put}
 use Rattle.lf_task_repair.specs.Exits.{IsNotPut, IsPut}
 use Rattle.lf_task_repair.specs.Repairs.{IsStatusOf, kept_text}
-use Rattle.lf_task_repair.specs.Reports.{IsReport}
 use Rattle.lf_cli.specs.Command.{repair_paths}
 use Rattle.lf_task_repair.proofs.Repairing.{memory_early, unknown_early}
 use Rattle.lf_task_files.proofs.WorkSteps.{blames_as, early_blames, export_blames}
@@ -27,7 +26,7 @@ returns-clause-ok g c = λ document kept.
         run = λ l. c.in_ok-done.ensures.run l;
         only = c.in_ok-done.ensures.only;
         stay = λ to_stay. c.in_ok-done.ensures.kept to_stay;
-        decides = subst (λ (bounds : List ℕ). IsReport (map (λ team. team.now) requested.teams.now) bounds c.args.floor.now floor report) c.deref.ensures.value c.in_ok-done.ensures.reported;
+        decides = c.in_ok-done.ensures.reported;
       };
       put = subst (λ (puts : Option (List Put)). IsPut (repair_paths requested.files) c.args.before.now.original.text.items document floor lines
           report (g.W.Sink.contents c.args.writer.now) (g.W.Sink.contents c.put_all.new.writer) puts (g.E.OutputFiles.puts c.put_all.new.exports)) c.try_files.ensures.unput
@@ -51,7 +50,7 @@ returns-in_err-status-clause-err g c = λ document kept.
         run = λ l. c.in_ok-done.ensures.run l;
         only = c.in_ok-done.ensures.only;
         stay = λ to_stay. c.in_ok-done.ensures.kept to_stay;
-        decides = subst (λ (bounds : List ℕ). IsReport (map (λ team. team.now) requested.teams.now) bounds c.args.floor.now floor report) c.deref.ensures.value c.in_ok-done.ensures.reported;
+        decides = c.in_ok-done.ensures.reported;
       },
       subst (λ (puts : Option (List Put)). IsNotPut (repair_paths requested.files) c.args.before.now.original.text.items document floor lines
           report (g.W.Sink.contents c.args.writer.now) (g.W.Sink.contents c.put_all.new.writer) puts (g.E.OutputFiles.puts c.put_all.new.exports) c.in_err-status.field-0.0)

@@ -6,8 +6,8 @@ use Rattle.lf_cells.specs.Cells.{working_at}
 
 -- the place at this position in a list of places; None also past its end
 abbrev pub target_at : List (Option Place) → ℕ → Option Place
-target_at wanted_places own = option_and_then (λ wanted_place. wanted_place) (slice_get wanted_places own)
+target_at targets own = option_and_then (λ wanted_place. wanted_place) (slice_get targets own)
 
 -- these are the working places of the cells
 abbrev pub AreWorkingPlaces : List Cell → List (Option Place) → Type 0
-AreWorkingPlaces cells wanted_places = (own : ℕ) → target_at wanted_places own ≡ working_at cells own
+AreWorkingPlaces cells targets = (own : ℕ) → target_at targets own ≡ working_at cells own

@@ -1,0 +1,240 @@
+//! Exchanges the places of two cells of equal width if that lowers the cost of their displacements.
+
+ghost use Rattle.std.specs.Prelude.{◌≡◌};
+
+use crate::free_rows::{FreeRows, FreeSpan, PlannerRow};
+use crate::passes::PlannerInput;
+use crate::plan::PlannerCell;
+use crate::plan_state::{CellSpan, PlanState};
+use crate::search::{clipped, site_at};
+use crate::search_limits::{SearchLimits, apart, cost_of, number_of};
+use lf_repair_packing::{PackedCell, PackedSpan};
+
+/// The greatest distance of the other cell from a cell's target along the row, in sites.
+const REACH: i64 = 16;
+
+/// A span, with its position in the list of spans, and its row.
+#[derive(Clone, Copy)]
+struct SpanOfRow {
+    span: usize,
+    sites: FreeSpan,
+    row: PlannerRow,
+}
+
+/// A cell at its place: its position among the cells of its span, and its displacement.
+#[derive(Clone, Copy)]
+struct PlacedCell {
+    wish: PlannerCell,
+    along: SpanOfRow,
+    position: usize,
+    cell: PackedCell,
+    displacement: i64,
+}
+
+/// The best exchange so far: the other cell, and by how much the cost is lowered.
+#[derive(Clone, Copy)]
+struct Exchange {
+    gain: i64,
+    other: Option<PlacedCell>,
+}
+
+/// The displacement of a cell with this target at a site of a span.
+fn displacement_at_site(wish: &PlannerCell, along: &SpanOfRow, at: u32) -> i64 {
+    let pitch = along.sites.pitch();
+    let x = (along.sites.first as i64).saturating_add(pitch.saturating_mul(at as i64));
+    let dx = x.saturating_sub(wish.x as i64).saturating_abs();
+    dx.saturating_add(apart(along.row.y, wish.y))
+}
+
+/// The cell of a span at this position, with its target.
+fn placed_at(
+    wish: &PlannerCell,
+    along: &SpanOfRow,
+    position: usize,
+    cell: &PackedCell,
+) -> PlacedCell {
+    PlacedCell {
+        wish: *wish,
+        along: *along,
+        position,
+        cell: *cell,
+        displacement: displacement_at_site(wish, along, cell.at),
+    }
+}
+
+/// The span at this position, and the row that contains it.
+fn span_of_row(land: &FreeRows, span: usize) -> Option<SpanOfRow> {
+    let after = land.rows.partition_point(|row| row.first <= span);
+    Some(SpanOfRow {
+        span,
+        sites: *land.spans.get(span)?,
+        row: *land.rows.get(after.checked_sub(1)?)?,
+    })
+}
+
+/// The cell with this number at its place. `None` if it has no place.
+fn placed_cell(given: &PlannerInput, board: &PlanState, number: u32) -> Option<PlacedCell> {
+    let place = board.place_of(number)?;
+    let wish = given.wishes.get(number as usize)?;
+    let along = span_of_row(given.land, place.span)?;
+    Some(placed_at(wish, &along, place.gap, &place.cell))
+}
+
+/// Whether two cells may exchange their places: they differ, are equally wide, and may be placed on
+/// the rows of each other.
+fn may_exchange(one: &PlacedCell, other: &PlacedCell) -> bool {
+    one.cell.number != other.cell.number
+        && one.wish.width == other.wish.width
+        && one.wish.kinds.has(other.along.row.kind)
+        && other.wish.kinds.has(one.along.row.kind)
+}
+
+/// By how much an exchange of two cells lowers their cost. 0 if the longer displacement would grow
+/// beyond `how.near`.
+fn gain_of(one: &PlacedCell, other: &PlacedCell, how: &SearchLimits) -> i64 {
+    let first = displacement_at_site(&one.wish, &other.along, other.cell.at);
+    let second = displacement_at_site(&other.wish, &one.along, one.cell.at);
+    let longest = one.displacement.max(other.displacement).max(how.near);
+    if longest < first.max(second) {
+        return 0;
+    }
+    let before = cost_of(one.displacement, how).saturating_add(cost_of(other.displacement, how));
+    let after = cost_of(first, how).saturating_add(cost_of(second, how));
+    before.saturating_sub(after)
+}
+
+/// Tries an exchange with this cell.
+fn try_exchange(one: &PlacedCell, other: &PlacedCell, how: &SearchLimits, best: &mut Exchange) {
+    if !may_exchange(one, other) {
+        return;
+    }
+    let gain = gain_of(one, other, how);
+    if best.gain < gain {
+        *best = Exchange {
+            gain,
+            other: Some(*other),
+        };
+    }
+}
+
+/// Tries an exchange with each cell of a span that is within reach of the cell's target.
+fn try_span(
+    wishes: &[PlannerCell],
+    along: &SpanOfRow,
+    cells: &[PackedCell],
+    one: &PlacedCell,
+    how: &SearchLimits,
+    best: &mut Exchange,
+) {
+    let target = site_at(&along.sites, one.wish.x);
+    let (low, high) = (target.saturating_sub(REACH), target.saturating_add(REACH));
+    let begin = cells.partition_point(|cell| (cell.at as i64) < low);
+    for (away, cell) in cells[begin..].iter().enumerate() {
+        if high < cell.at as i64 {
+            return;
+        }
+        if let Some(wish) = wishes.get(cell.number as usize) {
+            let position = begin.saturating_add(away);
+            try_exchange(one, &placed_at(wish, along, position, cell), how, best);
+        }
+    }
+}
+
+/// Tries an exchange with the cells of a row near the cell's target, in the span at the target.
+fn try_row(
+    given: &PlannerInput,
+    board: &PlanState,
+    row: &PlannerRow,
+    one: &PlacedCell,
+    how: &SearchLimits,
+    best: &mut Exchange,
+) {
+    let spans = given.land.spans.get(row.first..row.last).unwrap_or(&[]);
+    let after = spans.partition_point(|span| span.first <= one.wish.x);
+    let span = row.first.saturating_add(after.saturating_sub(1));
+    let (Some(sites), Some(segment)) = (given.land.spans.get(span), board.segments.get(span)) else {
+        return;
+    };
+    let along = SpanOfRow {
+        span,
+        sites: *sites,
+        row: *row,
+    };
+    try_span(given.wishes, &along, segment.as_slice(), one, how, best);
+}
+
+/// The best exchange of a cell with one near its target, in the target's row or an adjacent one.
+fn best_exchange(
+    given: &PlannerInput,
+    board: &PlanState,
+    one: &PlacedCell,
+    how: &SearchLimits,
+) -> Exchange {
+    let mut best = Exchange {
+        gain: 0,
+        other: None,
+    };
+    let rows = given.land.rows.as_slice();
+    let above = rows.partition_point(|row| row.y < one.wish.y);
+    let last = above.saturating_add(2).min(rows.len());
+    let near = rows.get(above.saturating_sub(1)..last).unwrap_or(&[]);
+    for row in near {
+        try_row(given, board, row, one, how, &mut best);
+    }
+    best
+}
+
+/// Replaces the cell of a span at this position by a cell of the same width.
+fn replace_in(segment: &mut PackedSpan, position: usize, number: u32, wanted: u32) {
+    if segment.len() <= position {
+        return;
+    }
+    let old = segment.as_slice()[position];
+    segment.replace(
+        position,
+        PackedCell {
+            number,
+            wanted,
+            ..old
+        },
+    );
+}
+
+/// Puts a cell at the place of another one, which is equally wide.
+fn put_at_place(board: &mut PlanState, cell: &PlacedCell, place: &PlacedCell) {
+    let number = cell.cell.number;
+    let along = &place.along;
+    let last = (along.sites.count as i64).saturating_sub(place.cell.width as i64);
+    let wanted = site_at(&along.sites, cell.wish.x).min(last);
+    if let Some(segment) = board.segments.get_mut(along.span) {
+        replace_in(segment, place.position, number, clipped(wanted));
+    }
+    if let Some(are_placed) = board.is_in_place.get_mut(number as usize) {
+        *are_placed = Some(CellSpan {
+            span: number_of(along.span),
+            near: place.cell.at,
+        });
+    }
+}
+
+/// Lets each cell that is more than a site from its target exchange places with another cell if
+/// that lowers their cost, in this order.
+pub(crate) fn swap_cells(
+    given: &PlannerInput,
+    order: &[u32],
+    how: &SearchLimits,
+    board: &mut PlanState,
+) {
+    for number in order {
+        let Some(one) = placed_cell(given, board, *number) else {
+            continue;
+        };
+        if one.displacement <= one.along.sites.pitch() {
+            continue;
+        }
+        if let Some(other) = best_exchange(given, board, &one, how).other {
+            put_at_place(board, &one, &other);
+            put_at_place(board, &other, &one);
+        }
+    }
+}
