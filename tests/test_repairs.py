@@ -6,6 +6,7 @@ No contract knows the contents of files, or what the report counts.
 from __future__ import annotations
 
 import json
+import re
 import subprocess
 import unittest
 from pathlib import Path
@@ -14,8 +15,8 @@ from program import DEF, LEF, PROGRAM, InFolder, Start, preloading, run
 
 # The keys of the line of a team, and of the line of all teams, in order.
 TEAM_KEYS = [
-    "cells", "gaps", "kept", "largest", "least_largest", "left", "mean", "moved", "placed", "pushed", "team",
-    "total", "turned",
+    "cells", "gaps", "impossible", "kept", "largest", "least_largest", "left", "mean", "moved", "placed", "pushed",
+    "team", "total", "turned",
 ]
 ALL_KEYS = [
     "cells", "kept", "largest", "least_largest", "left_cells", "legal", "mean", "moved", "placed", "pushed",
@@ -123,11 +124,11 @@ class Repairs(InFolder):
     def test_one_of_a_large_team_says_how_far_it_is_every_two_seconds(self) -> None:
         # The clock is read once in 1,024 commands. It is then half a second later, or a little more if the test's
         # program reads it for itself.
-        self.text.write_text(half_a_site_off(2_200))
+        self.text.write_text(half_a_site_off(4_400))
         hastened = {**preloading("hasten.c", self.folder), "HASTEN": "500"}
         words = ["repair", str(self.text), str(LEF), "--lines", str(self.lines)]
         status, written, said = run(words, start=Start(environment=hastened))
-        self.assertEqual((status, json.loads(written.splitlines()[0])["cells"]), (0, 2_200))
+        self.assertEqual((status, json.loads(written.splitlines()[0])["cells"]), (0, 4_400))
         self.assertGreater(len(self.lines.read_text().splitlines()), 4_096)
         begin, end = 'lefence: repairing "-", team 1 of 1: ', " commands so far"
         counts = [int(line.removeprefix(begin).removesuffix(end)) for line in said.splitlines()]
@@ -319,12 +320,42 @@ class Repairs(InFolder):
         self.assertEqual(
             run(["check", str(working), str(LEF)]), run(["check", str(self.text), str(LEF), "--state", str(saved)])
         )
-        left = report[0]["left"]
-        assert isinstance(left, list)
+        self.assertEqual(report[0]["left"], ["a1", "a3"])
+        self.assertEqual(report[0]["impossible"], [None, "wider than every segment"])
         lines = working.read_text().splitlines()
-        for name in left:
-            self.assertIn("+ UNPLACED", next(line for line in lines if line.startswith(f"- {name} ")))
+        for name, clause in (("a1", "+ UNPLACED"), ("a3", "+ PLACED ( 2000 0 ) N")):
+            self.assertIn(clause, next(line for line in lines if line.startswith(f"- {name} ")))
         self.assertNotEqual(working.read_text(), self.text.read_text())
+
+    def test_a_cell_that_no_place_can_hold_stays_and_nobody_is_put_on_its_ground(self) -> None:
+        macros = {"TALL": "0.6 BY 26.0", "WIDE": "9.0 BY 2.0", "INV": "0.4 BY 2.0"}
+        sizes = "".join(
+            f"MACRO {name} CLASS CORE ; SIZE {size} ; SYMMETRY X Y ; SITE core ; END {name}\n"
+            for name, size in macros.items()
+        )
+        lef, working = self.folder / "tall.lef", self.folder / "working.def"
+        lef.write_text(f"SITE core CLASS CORE ; SYMMETRY Y ; SIZE 0.2 BY 2.0 ; END core\n{sizes}END LIBRARY\n")
+        rows = "".join(
+            f"ROW r{row} core 0 {2000 * row} {('N', 'FS')[row % 2]} DO 8 BY 1 STEP 200 0 ;\n" for row in range(14)
+        )
+        tall = "- t TALL + PLACED ( 600 0 ) N ;\n"
+        cells = "".join(f"- c{number} INV + PLACED ( {600 + 100 * number} 2000 ) N ;\n" for number in range(6))
+        head = f"VERSION 5.8 ;\nDESIGN w ;\nUNITS DISTANCE MICRONS 1000 ;\n{rows}"
+        self.text.write_text(
+            f"{head}COMPONENTS 8 ;\n{tall}{cells}- w WIDE ;\nEND COMPONENTS\nEND DESIGN\n"
+        )
+        words = ["repair", str(self.text), str(lef), "--export", str(self.new), "--export-working", str(working)]
+        status, written, _ = run(words)
+        line = json.loads(written.splitlines()[0])
+        self.assertEqual((status, line["left"]), (4, ["t", "w"]))
+        self.assertEqual(line["impossible"], ["not 1 to 8 rows high", "wider than every segment"])
+        self.assertEqual(self.new.read_text(), self.text.read_text())
+        after = working.read_text()
+        self.assertIn(tall, after)
+        spots = [int(found) for found in re.findall(r"- c\d INV \+ PLACED \( (\d+) ", after)]
+        self.assertEqual((len(spots), [x for x in spots if 200 < x < 1200]), (6, []))
+        broken = json.loads(run(["check", str(working), str(lef)])[1].splitlines()[0])
+        self.assertEqual([each["cell"] for each in broken["violations"]], ["t"])
 
     def test_the_working_places_of_a_legal_design_are_the_committed_ones(self) -> None:
         working = self.folder / "working.def"

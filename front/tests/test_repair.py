@@ -112,23 +112,35 @@ class Repairs(FrontCase):
             {name for name, cell in self.cells(self.folder / "unplaced.def").items() if cell.box is None}, {*spots}
         )
 
-    def test_a_cell_without_room_is_reported_and_unplaced_and_all_others_are_repaired(self) -> None:
+    def test_a_cell_that_no_place_can_hold_stays_and_all_others_are_repaired(self) -> None:
         self.lef.write_text(LEF.replace("END LIBRARY", HIGH))
-        self.add(f"- high HIGH + PLACED ( {2 * WIDTH + 1000} 0 ) N", "- more high + REGION f2")
+        place = f"{2 * WIDTH + 1000} 0 N"
+        high = f"- high HIGH + PLACED ( {2 * WIDTH + 1000} 0 ) N"
+        self.add(high, "- more high + REGION f2")
         self.add("- new HIGH", "- other new + REGION f2")
         done = self.repair("--out", self.target)
         self.assertEqual(done.returncode, 4)
-        gap = rb"; the widest gap of the rows near it is \d+\.\d{3} microns\n"
-        self.assertRegex(done.stderr, rb"team f2: no place for high, which was at %d 0 N" % (2 * WIDTH + 1000) + gap)
-        self.assertRegex(done.stderr, rb"team f2: no place for new, which had none" + gap)
-        # (teams that were fully repaired are not mentioned)
+        why = "no ground of its team holds it; it stays"
+        self.assertIn(f"team f2: no place can hold high: {why} at {place}\n".encode(), done.stderr)
+        self.assertIn(f"team f2: no place can hold new: {why} unplaced\n".encode(), done.stderr)
         self.assertIn(b"not fully legal: 2 cells unrepaired\n", done.stderr)
-        check = subprocess.run([PROGRAM, "check", self.target, self.lef], capture_output=True)
-        self.assertEqual(json.loads(check.stdout), {"cells": 92, "unplaced": 2, "violations": []})
-        self.assertIn("- high HIGH + UNPLACED ;", self.target.read_text())
+        check = json.loads(subprocess.run([PROGRAM, "check", self.target, self.lef], capture_output=True).stdout)
+        self.assertEqual((check["cells"], check["unplaced"]), (92, 1))
+        self.assertEqual([each["cell"] for each in check["violations"]], ["high"])
+        self.assertIn(f"{high} ;", self.target.read_text())
         dry = self.repair("--dry-run", "--team", "f2")
-        self.assertIn(f"f2 high {2 * WIDTH + 1000} 0 N -> no place\nf2 new unplaced -> no place\n".encode(), dry.stdout)
+        self.assertIn(b"f2 new unplaced -> no place\n", dry.stdout)
+        self.assertNotIn(b"f2 high ", dry.stdout)
         self.assertEqual(dry.returncode, 4)
+
+    def test_a_cell_without_room_is_reported_and_unplaced(self) -> None:
+        self.design.write_text(TIGHT.replace("( 1000 2000 )", "( 800 2000 )"))
+        done = self.repair("--out", self.target)
+        self.assertEqual(done.returncode, 4)
+        gap = rb"; the widest gap of the rows near it is \d+\.\d{3} microns\n"
+        self.assertRegex(done.stderr, rb"team A: no place for (two|three), which was at (0 0 FN|200 0 N)" + gap)
+        self.assertEqual(self.target.read_text().count("+ UNPLACED"), 1)
+        self.assertIn(b" -> no place\n", self.repair("--dry-run").stdout)
 
     def test_cells_that_found_no_room_go_first_in_the_next_order(self) -> None:
         self.design.write_text(TIGHT)

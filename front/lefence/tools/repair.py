@@ -84,7 +84,7 @@ def parser() -> Parser:
         TOOL,
         "Runs `lefence repair`, which moves each cell that is unplaced or breaks a rule to a legal place near its old\n"
         "one. It writes the DEF file with these places, or sends them to a hub. The status is 4 if some cell found no\n"
-        "place: such cells are listed, and are unplaced in the file.",
+        "place: such cells are listed, and are unplaced in the file; those that no place can hold stay.",
         f"{TOOL} chip.def tech.lef cells.lef --output new.def\n{TOOL} chip.def tech.lef cells.lef --dry-run --team A",
     )
     made.add_design()

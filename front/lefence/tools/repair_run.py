@@ -124,8 +124,12 @@ class RepairRun:
         for team in reported:
             name = team["team"]
             self._report_counts(name, team, len(team["left"]))
-            for cell, gap in zip(team["left"], team["gaps"], strict=True):
+            for cell, gap, reason in zip(team["left"], team["gaps"], team["impossible"], strict=True):
                 old = old_spots[name, cell]
+                if reason:
+                    stays = f"it stays at {_spot_text(old)}" if old else "it stays unplaced"
+                    log(self._tool, f"team {name}: no place can hold {cell}: {reason}; {stays}")
+                    continue
                 origin = f"was at {_spot_text(old)}" if old else "had none"
                 widest = f"the widest gap of the rows near it is {gap / self._units:.3f} microns"
                 near = widest if gap else "no site near it is free"
@@ -151,10 +155,10 @@ class RepairRun:
 
 def print_moves(moves: list[Move], unrepaired: Mapping[str, list[str]]) -> None:
     """Prints a line for each cell that would move, on standard output."""
-    unplaced = {(team, cell) for team, names in unrepaired.items() for cell in names}
+    unrepaired_cells = {(team, cell) for team, names in unrepaired.items() for cell in names}
     for move in moves:
         old, new = move.old, move.new
-        if (move.team, move.cell) in unplaced or new is None:
+        if new is None or (move.team, move.cell) in unrepaired_cells and new != old:
             print(f"{move.team} {move.cell} {_spot_text(old)} -> no place")
         elif new != old:
             distance = f" by {abs(new.x - old.x) + abs(new.y - old.y)}" if old else ""
