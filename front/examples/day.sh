@@ -144,7 +144,7 @@ for team in A B -; do
 done
 #> lefence-repair: team A: now at revision 5
 #> lefence-repair: every cell of team A is legal
-#> lefence-repair: team B: now at revision 4
+#> lefence-repair: team B: now at revision 3
 #> lefence-repair: every cell of team B is legal
 #> lefence-repair: team -: now at revision 2
 #> lefence-repair: every cell of team - is legal
