@@ -593,16 +593,20 @@ class Operator(HubCase):
         self.assertEqual((self.talk("f0").ask("open f0"), self.talk("operator").ask(f"open {long}")), (["ok 0 0"],) * 2)
 
     def test_a_second_hangup_gives_nothing_up(self) -> None:
-        async def signals(*numbers: int) -> bool:
+        async def signals(second: int, seconds: float) -> bool:
+            stopped = asyncio.Event()
             with mock.patch("os._exit") as exits, mock.patch.object(hub_tool, "say"), mock.patch("threading.Timer"):
-                hub_tool.end_by_signals(mock.Mock(), asyncio.Event(), 1)
-                for number in numbers:
-                    os.kill(os.getpid(), number)
-                    await asyncio.sleep(0.05)
+                hub_tool.end_by_signals(mock.Mock(), stopped, 1)
+                os.kill(os.getpid(), signal.SIGHUP)
+                await asyncio.wait_for(stopped.wait(), PATIENCE)
+                os.kill(os.getpid(), second)
+                last = time.monotonic() + seconds
+                while not exits.called and time.monotonic() < last:
+                    await asyncio.sleep(0.01)
                 return exits.called
 
-        self.assertFalse(asyncio.run(signals(signal.SIGHUP, signal.SIGHUP)))
-        self.assertTrue(asyncio.run(signals(signal.SIGHUP, signal.SIGTERM)))
+        self.assertFalse(asyncio.run(signals(signal.SIGHUP, 0.2)))
+        self.assertTrue(asyncio.run(signals(signal.SIGTERM, PATIENCE)))
 
     def test_a_log_that_nobody_reads_holds_nothing(self) -> None:
         script = "from lefence.tools.hub import say\nfor turn in range(5000):\n    say('x' * 100)"
