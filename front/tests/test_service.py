@@ -605,6 +605,8 @@ class Operator(HubCase):
                     await asyncio.sleep(0.01)
                 return exits.called
 
+        # (under `nohup` it is ignored)
+        self.addCleanup(signal.signal, signal.SIGHUP, signal.signal(signal.SIGHUP, signal.SIG_DFL))
         self.assertFalse(asyncio.run(signals(signal.SIGHUP, 0.2)))
         self.assertTrue(asyncio.run(signals(signal.SIGTERM, PATIENCE)))
 
