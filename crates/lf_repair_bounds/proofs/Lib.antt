@@ -5,3 +5,10 @@ pub mod Ways
 pub mod SameRules
 pub mod ReasonLemmas
 pub mod Searching
+pub mod SiteRunLemmas
+pub mod NearRunLemmas
+pub mod BlockedLemmas
+pub mod SiteLemmas
+pub mod StripRunLemmas
+pub mod TeamRunLemmas
+pub mod GapLemmas

@@ -1,5 +1,5 @@
 -- Why no place can hold a macro.
-use Rattle.std.proofs.Common.{◌≡◌, ◌∙◌, ℕ, ℤ, zero, suc, pos, ◌<◌, ◌+ℤ◌, ◌-ℤ◌, ◌≤ℤ◌, ◌<ℤ◌, List, [], ◌∷◌, length, Some, refl, ap, sym, subst, arith}
+use Rattle.std.proofs.Common.{◌≡◌, ℕ, ℤ, zero, suc, pos, ◌<◌, ◌+ℤ◌, ◌-ℤ◌, ◌≤ℤ◌, ◌<ℤ◌, List, [], ◌∷◌, length, Some, refl, ap, sym, subst, arith}
 use Rattle.std.specs.Prelude.{Any, slice_get}
 use Rattle.std.proofs.lemmas.Int.{ints}
 use Rattle.lf_floorplan.specs.declared.frame.Frame.{Frame}
@@ -27,7 +27,7 @@ has_row f m k high any none = none k high any
 
 -- ---- segments
 
-row_there : {X : Type 0} (xs : List X) (k : ℕ) → k < length xs → (x : X) × (slice_get xs k ≡ Some x)
+pub row_there : {X : Type 0} (xs : List X) (k : ℕ) → k < length xs → (x : X) × (slice_get xs k ≡ Some x)
 row_there [] k within = absurd (omega (arith, within))
 row_there (x ∷ xs) zero within = (x, cc)
 row_there (x ∷ xs) (suc k) within = row_there xs k (omega (arith, within))

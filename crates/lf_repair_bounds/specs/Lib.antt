@@ -3,3 +3,7 @@ pub mod MinDisplacements
 pub mod EmptyFloors
 pub mod ImpossibleMacros
 pub mod Searched
+pub mod Gaps
+pub mod SiteRuns
+pub mod NearRuns
+pub mod FreeRuns

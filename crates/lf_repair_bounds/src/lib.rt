@@ -10,8 +10,11 @@
 //! is on the floor. A design with such a cell cannot be legal. `impossible_macros` lists them, each
 //! with the reason (`ImpossibleReason`).
 //!
-//! The searches run on a floor without cells (`EmptyFloor`), with the search for best places. The
-//! crate also copies frames (`clone_frame`).
+//! The *gap* of a cell is the width of the widest free run of sites in the rows near its committed
+//! place. `widest_gaps` returns it for the cells of a team, among the team's working places.
+//!
+//! The other searches run on a floor without cells (`EmptyFloor`), with the search for best places.
+//! The crate also copies frames (`clone_frame`).
 //!
 //! Used by `lf_repair_team`, `lf_repair_report`, `lf_task_files` and `lf_task_repair`.
 //!
@@ -23,6 +26,11 @@
 //! - `min_displacement`: least displacements, and the largest of each team
 //! - `reasons`: why no place can hold a macro
 //! - `impossible`: the macros that no place can hold
+//! - `site_runs`: the longest run of sites between blocked sites
+//! - `near_runs`: the widest of the runs in rows near a point
+//! - `blocked_boxes`: the boxes that block sites for a team
+//! - `free_runs`: the widest free run of sites in each strip of a team
+//! - `gaps`: the widest free runs of sites near cells
 //! - `laws`: what the numbers mean for any repair
 //!
 //! From `crates/lf_task_files/src/measured.rt`:
@@ -33,15 +41,21 @@
 //! ```
 #![tactic(auto)]
 
+mod blocked_boxes;
 mod empty_floor;
 mod frame_copy;
+mod free_runs;
+mod gaps;
 mod impossible;
 mod laws;
 mod min_displacement;
+mod near_runs;
 mod nearest_place;
 mod reasons;
+mod site_runs;
 
 pub use frame_copy::clone_frame;
+pub use gaps::widest_gaps;
 pub use impossible::{impossible_macros, is_listed};
 pub use laws::no_repair_does_better;
 pub use min_displacement::max_min_displacements;

@@ -13,7 +13,7 @@ use lf_units::Point;
 use std::alloc::{AllocError, Global};
 
 /// The corner of the place.
-fn corner(place: &Place) -> Point
+pub(crate) fn corner(place: &Place) -> Point
     ensures { result ≡ corner_of place.now }
 {
     Point {

@@ -1,2 +1,3 @@
 mod NoFloat
 mod ReasonLemmas
+pub mod GapLemmas

@@ -27,6 +27,6 @@ reasons (Some r ∷ rs) = reasons rs
 pub team_has_none : (floor : FloorState) (team : List ℕ) (list : List ImpossibleMacro) (r : RepairStats) (least : ℕ) (line : Data)
     → IsTeamData floor team list r least line → has_float line ≡ false
 team_has_none floor team list r least line is =
-    subst (λ (d : Data). has_float d ≡ false) (sym is.1)
+    subst (λ (d : Data). has_float d ≡ false) (sym is.2)
     (neither _ _ (counts is.0) (neither _ _ (reasons (cell_reasons list floor team r.unrepaired.items))
     (neither _ _ (names (cell_names floor team r.unrepaired.items)) (neither _ _ (text team) refl))))

@@ -5,12 +5,13 @@ use Rattle.std.specs.Option.{option_map_or}
 use Rattle.serde_json.specs.Data.{Data, Members, array, boolean, member, no_members, null, object, put, string}
 use Rattle.serde_json.specs.View.{items_of}
 use Rattle.lf_describe.specs.Description.{count_data as whole_number, line_text as text_of_line, text_data as name_data}
-use Rattle.lf_floor_model.specs.States.{FloorState}
+use Rattle.lf_floor_model.specs.States.{FloorState, TeamState}
 use Rattle.lf_floor_model.specs.Teams.{state_of, team_number}
 use Rattle.lf_floor_model.specs.Outcomes.{name_at}
 use Rattle.lf_repair_bounds.specs.declared.reasons.ImpossibleMacro.{ImpossibleMacro}
 use Rattle.lf_repair_bounds.specs.declared.reasons.ImpossibleReason.{ImpossibleReason}
 use Rattle.lf_repair_bounds.specs.declared.reasons.ImpossibleReason.TheVariants.{Ground, Height, Orientation, Width}
+use Rattle.lf_repair_bounds.specs.Gaps.{AreGaps, placed_team}
 use Rattle.lf_repair_bounds.specs.ImpossibleMacros.{is_of_macro}
 use Rattle.lf_repair_strategy.specs.declared.stats.RepairStats.{RepairStats}
 use Rattle.lf_repair_report.specs.declared.totals.Totals.{Totals}
@@ -120,15 +121,22 @@ team_line name left least r = report_line_text (team_data (report_text_value nam
 abbrev pub least_for : List ℕ → Option ℕ → ℕ
 least_for least number = option_map_or (λ n. option_map_or (λ way. way) (slice_get least n) 0) number 0
 
+-- these are the gaps of the team's cells at these positions on this floor
+abbrev pub AreGapsIn : FloorState → List ℕ → List ℕ → List ℕ → Type 0
+AreGapsIn floor team owns gaps = (number : ℕ) (s : TeamState) → team_number floor.frame team ≡ Some number
+    → state_of floor team ≡ Some s → AreGaps (placed_team floor.frame number s.padding s.cells) owns gaps
+
 -- the members of the team on this floor, without the reasons
 abbrev pub HasTeamMembers : FloorState → List ℕ → RepairStats → ℕ → Data → Type 0
-HasTeamMembers floor team r least line = (gaps : List ℕ) × (line ≡ object (team_members (report_text_value team)
+HasTeamMembers floor team r least line = (gaps : List ℕ) × AreGapsIn floor team r.unrepaired.items gaps
+    × (line ≡ object (team_members (report_text_value team)
     (names_data (cell_names floor team r.unrepaired.items)) (counts_data gaps) least r))
 
 -- the JSON of the team on this floor
 abbrev pub IsTeamData : FloorState → List ℕ → List ImpossibleMacro → RepairStats → ℕ → Data → Type 0
 IsTeamData floor team list r least line =
-    (gaps : List ℕ) × (line ≡ team_data (report_text_value team) (names_data (cell_names floor team r.unrepaired.items))
+    (gaps : List ℕ) × AreGapsIn floor team r.unrepaired.items gaps
+    × (line ≡ team_data (report_text_value team) (names_data (cell_names floor team r.unrepaired.items))
     (counts_data gaps) (reasons_data (cell_reasons list floor team r.unrepaired.items)) least r)
 
 -- ---- all teams
@@ -191,7 +199,7 @@ all_line s legal = report_line_text (all_data s legal)
 
 -- ---- the lines
 
--- these are the team's unrepaired cells on this floor, with gaps near them
+-- these are the team's unrepaired cells on this floor, with these gaps
 abbrev pub unrepaired_with : List ImpossibleMacro → FloorState → List ℕ → List ℕ → List ℕ → UnrepairedCells
 unrepaired_with list floor team owns gaps = record {
   names = cell_names floor team owns;
@@ -202,6 +210,7 @@ unrepaired_with list floor team owns gaps = record {
 -- the line of one more team is appended, given the result of its repair on this floor
 pub record IsOneMore (floor : FloorState) (team : List ℕ) (r : RepairStats) (old new : RepairReport) : Type 0 where
   pub gaps : List ℕ
+  pub near : AreGapsIn floor team r.unrepaired.items gaps
   pub text : new.text.items ≡ old.text.items
       ++ team_line team (unrepaired_with old.impossible.items floor team r.unrepaired.items gaps)
       (least_for old.least.items (team_number floor.frame team)) r

@@ -20,7 +20,6 @@
 //! - `ordered_moves`: moves in an order in which few cells are unplaced
 //! - `rounds`: the edits of each phase of a pass
 //! - `local_pass`: passes that also free legal cells
-//! - `gaps`: the widest free run of sites near a cell
 //! - `stats`: the result of repairing a team
 //!
 //! From `crates/lf_repair_team/src/team.rt`:
@@ -34,7 +33,6 @@
 
 mod edit;
 mod free_space;
-mod gaps;
 mod local_pass;
 mod ordered_moves;
 mod pass;
@@ -43,7 +41,6 @@ mod stats;
 
 pub use edit::{CellEdit, Edit};
 pub use free_space::PaddedTeam;
-pub use gaps::free_widths;
 pub use local_pass::{LocalPass, Neighborhood, plan_local_pass, undo_edits};
 pub use pass::{MovePolicy, Pass, RepairInput, initial_locks, working_places};
 pub use rounds::{Phase, edits_for};

@@ -15,7 +15,7 @@ use lf_units::Point;
 use std::alloc::{AllocError, Global};
 
 /// A cell is far if its displacement from its target is more than this number of row heights.
-pub(crate) const FAR: i64 = 8;
+const FAR: i64 = 8;
 
 /// The cells that a local pass may move.
 #[derive(Clone, Copy)]
@@ -48,7 +48,7 @@ struct ProblemCells {
 
 /// A box around the segments of a team.
 #[derive(Clone, Copy)]
-pub(crate) struct Bounds {
+struct Bounds {
     low: Point,
     high: Point,
 }
@@ -75,7 +75,7 @@ fn with_segment(bounds: &Bounds, segment: &Segment, y: i64) -> Bounds {
 }
 
 /// A box around the segments of the team with this number.
-pub(crate) fn bounds_of(placement: &Placement, number: usize) -> Bounds {
+fn bounds_of(placement: &Placement, number: usize) -> Bounds {
     let mut bounds = Bounds {
         low: Point {
             x: i64::MAX,
@@ -100,12 +100,7 @@ pub(crate) fn bounds_of(placement: &Placement, number: usize) -> Bounds {
 
 /// The target of a cell: its original place, moved into the box around its team's segments, or the
 /// team's anchor if it had no place.
-pub(crate) fn point_of(
-    frame: &Frame,
-    id: CellId,
-    wanted_place: Option<Place>,
-    bounds: &Bounds,
-) -> Point {
+fn point_of(frame: &Frame, id: CellId, wanted_place: Option<Place>, bounds: &Bounds) -> Point {
     match wanted_place {
         Some(wanted_place) => Point {
             x: (wanted_place.x as i64).max(bounds.low.x).min(bounds.high.x),

@@ -257,15 +257,6 @@ fn blocked_spans(
     Ok(taken)
 }
 
-/// The free sites of the team.
-pub(crate) fn free_rows(
-    alloc: Global,
-    placement: &Placement,
-    owner: &PaddedTeam,
-) -> Result<FreeRows, AllocError> {
-    free_rows_without(alloc, placement, owner, &[])
-}
-
 /// The free sites of the team if the cells whose entry in `loose` is true were unplaced.
 fn free_rows_without(
     alloc: Global,

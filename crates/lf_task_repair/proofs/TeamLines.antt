@@ -26,9 +26,10 @@ use Rattle.lf_repair_team.proofs.WithoutPlace.{none_through}
 use Rattle.lf_repair_strategy.specs.declared.stats.RepairStats.{RepairStats}
 use Rattle.lf_repair_report.specs.declared.report.RepairReport.{RepairReport}
 use Rattle.lf_repair_bounds.specs.declared.reasons.ImpossibleMacro.{ImpossibleMacro}
+use Rattle.lf_repair_bounds.specs.Gaps.{AreGaps, placed_team}
 use Rattle.lf_task_files.specs.declared.measured.RepairLimits.{RepairLimits}
 use Rattle.lf_repair_report.specs.declared.totals.Totals.{Totals}
-use Rattle.lf_repair_report.specs.RepairReports.{IsOneMore, all_line, least_for, listed_reason, no_sums, totals_with_team, unrepaired_with}
+use Rattle.lf_repair_report.specs.RepairReports.{AreGapsIn, IsOneMore, all_line, least_for, listed_reason, no_sums, totals_with_team, unrepaired_with}
 use Rattle.lf_floor.proofs.Saving.{names_many}
 use Rattle.lf_task_repair.specs.Repairs.{is_selected}
 use Rattle.lf_task_repair.specs.Reports.{AddsTeamLines, IsRepairOf, IsReport, AddsTotalLine, IsTeamReport, TeamReport, selected_at, selected_names, line_of_team, sums_with}
@@ -146,11 +147,19 @@ unrepaired_same list old new name owns gaps frame same =
       reasons = map (λ own. option_and_then (λ number. option_and_then (λ (s : TeamState). option_and_then (λ (c : Cell). listed_reason list number c.mac) (slice_get s.cells own)) o) (team_number f name)) owns;
     }) (sym frame) (sym same)
 
+-- the gaps are the same if the team is unchanged
+gaps_same : (old new : FloorState) (name owns gaps : List ℕ) → new.frame ≡ old.frame → state_of new name ≡ state_of old name
+    → AreGapsIn old name owns gaps → AreGapsIn new name owns gaps
+gaps_same old new name owns gaps frame same are number s named there =
+    subst (λ (f : Frame). AreGaps (placed_team f number s.padding s.cells) owns gaps) (sym frame)
+    (are number s (sym (ap (λ (f : Frame). team_number f name) frame) ∙ named) (sym same ∙ there))
+
 reported_same : (bounds : List ℕ) (list : List ImpossibleMacro) (begin old new : FloorState) (t : TeamReport) → new.frame ≡ old.frame → state_of new t.name ≡ state_of old t.name
     → IsTeamReport bounds list begin old t → IsTeamReport bounds list begin new t
 reported_same bounds list begin old new t frame same is = record {
   least = is.least ∙ ap (λ (f : Frame). least_for bounds (team_number f t.name)) (sym frame);
   left = is.left ∙ unrepaired_same list old new t.name t.became.unrepaired.items t.left.gaps frame same;
+  gaps = gaps_same old new t.name t.became.unrepaired.items t.left.gaps frame same is.gaps;
   repaired = repair_same list begin old begin new t.name t.became refl frame refl same is.repaired;
 }
 
@@ -173,7 +182,7 @@ reported_from bounds list begin old new (t ∷ ts) frame same each =
     let names : List (List ℕ) = map (λ (u : TeamReport). u.name) ts in
     let is : IsTeamReport bounds list old new t = All-head (IsTeamReport bounds list old new) t ts each in
     All-cons (IsTeamReport bounds list begin new) t ts
-    (record { least = is.least; left = is.left; repaired = repair_same list old new begin new t.name t.became frame refl (All-head Stays t.name names same) refl is.repaired })
+    (record { least = is.least; left = is.left; gaps = is.gaps; repaired = repair_same list old new begin new t.name t.became frame refl (All-head Stays t.name names same) refl is.repaired })
     (reported_from bounds list begin old new ts frame (All-tail Stays t.name names same) (All-tail (IsTeamReport bounds list old new) t ts each))
 
 lines_from : (names : List (List ℕ)) (begin old new : FloorState) (a b : RepairReport) → begin.frame ≡ old.frame
@@ -218,7 +227,7 @@ pub one_reported : (f : Frame) (teams : List (List ℕ)) (number : ℕ) (name : 
 one_reported f teams number name begin floor repaired old new there requested is result = record {
   reported = t ∷ [];
   named = sym (ap (λ (o : Option (List ℕ)). filter (is_selected teams) (option_map_or (λ name. name ∷ []) o [])) there ∙ ap (λ (b : Bool). cond b (name ∷ []) []) requested);
-  each = All-cons (IsTeamReport old.least.items old.impossible.items begin floor) t [] record { least = refl; left = refl; repaired = result }
+  each = All-cons (IsTeamReport old.least.items old.impossible.items begin floor) t [] record { least = refl; left = refl; gaps = is.near; repaired = result }
       (All-nil (IsTeamReport old.least.items old.impossible.items begin floor));
   text = is.text ∙ ap (λ (line : List ℕ). old.text.items ++ line) (sym (append-nil (line_of_team t)));
   sums = is.sums;

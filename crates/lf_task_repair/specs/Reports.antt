@@ -12,7 +12,7 @@ use Rattle.lf_repair_team.specs.TeamRepairs.{AreLegalExcept, AreMovedOffSoft, Ha
 use Rattle.lf_repair_strategy.specs.declared.stats.RepairStats.{RepairStats}
 use Rattle.lf_repair_report.specs.declared.report.RepairReport.{RepairReport}
 use Rattle.lf_repair_report.specs.declared.totals.Totals.{Totals}
-use Rattle.lf_repair_report.specs.RepairReports.{UnrepairedCells, all_line, least_for, no_sums, team_line, totals_with_team, unrepaired_with}
+use Rattle.lf_repair_report.specs.RepairReports.{AreGapsIn, UnrepairedCells, all_line, least_for, no_sums, team_line, totals_with_team, unrepaired_with}
 use Rattle.lf_repair_bounds.specs.declared.reasons.ImpossibleMacro.{ImpossibleMacro}
 use Rattle.lf_task_files.specs.declared.measured.RepairLimits.{RepairLimits}
 use Rattle.lf_task_repair.specs.Repairs.{is_selected}
@@ -61,12 +61,13 @@ pub record IsRepairOf (list : List ImpossibleMacro) (team : List ℕ) (begin flo
   pub slots : session_slots_in floor team ≡ session_slots_in begin team
   pub off_soft : AreMovedOffSoft team begin floor
 
--- the team is reported with its own bound, its unrepaired cells, and the result of its repair from
--- the first floor to the last one
+-- the team is reported with its own bound, its unrepaired cells and their gaps, and the result of its
+-- repair from the first floor to the last one
 pub record IsTeamReport (bounds : List ℕ) (list : List ImpossibleMacro) (begin floor : FloorState) (t : TeamReport)
     : Type 0 where
   pub least : t.least ≡ least_for bounds (team_number floor.frame t.name)
   pub left : t.left ≡ unrepaired_with list floor t.name t.became.unrepaired.items t.left.gaps
+  pub gaps : AreGapsIn floor t.name t.became.unrepaired.items t.left.gaps
   pub repaired : IsRepairOf list t.name begin floor t.became
 
 -- the lines of the teams with these names are appended, each with the result of its repair from one

@@ -13,7 +13,8 @@ returns g c =
     IfOk-weaker c.with_impossible.result _ _
     (λ v same. (
       is.0,
+      is.1,
       same ∙ ap (λ (d : Data). object (put (codes "impossible") d members)) (c.array_value.ensures ∙ ap (λ (ds : List Data). array (items_of ds)) c.in_ok-reasons.ensures
           ∙ ap (λ (owns : List ℕ). reasons_data (cell_reasons c.args.list.now c.args.floor.now c.args.team.now owns)) c.deref.ensures.value),
     ))
-    (c.with_impossible.ensures members is.1)
+    (c.with_impossible.ensures members is.2)
