@@ -1,0 +1,73 @@
+//! The exact change of the length if a few cells move.
+
+use crate::board::{Board, FREE, SitePlace};
+use crate::wires::Wires;
+use std::alloc::AllocError;
+
+/// A move of a cell to a place.
+#[derive(Clone, Copy)]
+pub(crate) struct CellMove {
+    pub(crate) cell: u32,
+    pub(crate) place: SitePlace,
+}
+
+/// Moves the pins of a cell to those of a place.
+fn move_pins(board: &Board, wires: &mut Wires, cell: u32, place: &SitePlace) {
+    if let Some(corner) = board.point_of(place) {
+        wires.move_pins(cell, &corner, place.orientation);
+    }
+}
+
+/// Moves the pins of all moves, and returns by how much the length grows.
+fn begin(board: &Board, wires: &mut Wires, moves: &[CellMove]) -> Result<i64, AllocError> {
+    wires.clear();
+    for one in moves {
+        wires.touch(one.cell)?;
+    }
+    for one in moves {
+        move_pins(board, wires, one.cell, &one.place);
+    }
+    Ok(wires.change())
+}
+
+/// Moves the pins back to the places of their cells.
+fn undo(board: &Board, wires: &mut Wires, moves: &[CellMove]) {
+    for one in moves {
+        if let Some(place) = board.place_of(one.cell) {
+            move_pins(board, wires, one.cell, &place);
+        }
+    }
+}
+
+/// By how much the length grows if the cells move. They do not move.
+pub(crate) fn change_of(
+    board: &Board,
+    wires: &mut Wires,
+    moves: &[CellMove],
+) -> Result<i64, AllocError> {
+    let change = begin(board, wires, moves)?;
+    undo(board, wires, moves);
+    Ok(change)
+}
+
+/// Moves the cells if that lowers the length.
+pub(crate) fn make_moves(
+    board: &mut Board,
+    wires: &mut Wires,
+    moves: &[CellMove],
+) -> Result<(), AllocError> {
+    if 0 <= begin(board, wires, moves)? {
+        undo(board, wires, moves);
+        return Ok(());
+    }
+    wires.keep();
+    for one in moves {
+        if let Some(old) = board.place_of(one.cell) {
+            board.mark(&old, FREE);
+        }
+    }
+    for one in moves {
+        board.put(one.cell, &one.place);
+    }
+    Ok(())
+}

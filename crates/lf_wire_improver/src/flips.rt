@@ -1,0 +1,31 @@
+//! Flips: a cell is mirrored at its place.
+
+use crate::board::{Board, SitePlace};
+use crate::cells::flipped;
+use crate::change::{CellMove, make_moves};
+use crate::wires::Wires;
+use std::alloc::AllocError;
+
+/// The flip of a cell, if the flipped orientation is allowed at its place.
+fn flip_of(board: &Board, cell: u32) -> Option<CellMove> {
+    let place = board.place_of(cell)?;
+    let given = board.cells.get(cell as usize)?;
+    let run = board.runs.get(place.run)?;
+    let orientation = flipped(place.orientation);
+    if !given.orientations.in_row(run.kind).has(orientation) {
+        return None;
+    }
+    let place = SitePlace {
+        orientation,
+        ..place
+    };
+    Some(CellMove { cell, place })
+}
+
+/// Flips a cell if that lowers the length.
+pub(crate) fn flip(board: &mut Board, wires: &mut Wires, cell: u32) -> Result<(), AllocError> {
+    match flip_of(board, cell) {
+        Some(one) => make_moves(board, wires, &[one]),
+        None => Ok(()),
+    }
+}

@@ -1,0 +1,135 @@
+//! Rounds of exchanges, insertions and flips over all cells.
+
+ghost use Rattle.std.specs.Prelude.{◌<ℤ◌, pos};
+
+use crate::board::Board;
+use crate::cells::{CellPlace, ImprovableCell};
+use crate::exchange::exchange;
+use crate::flips::flip;
+use crate::insertion::insert;
+use crate::nets::BoardNets;
+use crate::scratch::Scratch;
+use crate::wires::Wires;
+use lf_repair_planner::FreeRows;
+use std::alloc::{AllocError, Global};
+
+/// The side of a tile, in rows.
+const TILE: i64 = 16;
+
+/// A round is the last one if it lowers the length by no more than one part of this number of
+/// parts.
+const PARTS: i64 = 200;
+
+/// The greatest number of rounds, and the greatest distance |dx| + |dy| of a cell from where it was
+/// at the beginning, in database units.
+#[derive(Clone, Copy)]
+pub struct ImproveOptions {
+    pub rounds: u32,
+    pub within: Option<u64>,
+}
+
+/// The sort key of a cell: by tiles, in a tile by rows, and in a row from left to right.
+#[derive(Clone, Copy, PartialEq, Eq, PartialOrd, Ord)]
+struct Key {
+    tile_y: i64,
+    tile_x: i64,
+    y: i32,
+    x: i32,
+    cell: u32,
+}
+
+/// The key of a cell, for tiles of this side. `None` if it has no place.
+fn key_of(board: &Board, cell: u32, side: i64) -> Option<Key>
+    requires { pos 0 <ℤ side }
+{
+    let place = board.place_of(cell)?;
+    let (x, y) = board.runs.point_of(place.run, place.site)?;
+    Some(Key {
+        tile_y: (y as i64).div_euclid(side),
+        tile_x: (x as i64).div_euclid(side),
+        y,
+        x,
+        cell,
+    })
+}
+
+/// Sorts the keys of all cells that have a place.
+fn sort_cells(board: &Board, keys: &mut Vec<Key>) -> Result<(), AllocError> {
+    let side = board.runs.height() * TILE;
+    keys.clear();
+    for cell in 0..board.count() {
+        if let Some(key) = key_of(board, cell, side) {
+            keys.push(key)?;
+        }
+    }
+    keys.sort_unstable();
+    Ok(())
+}
+
+/// The lists that each round uses again.
+#[derive(Drop)]
+struct RoundLists {
+    keys: Vec<Key>,
+    scratch: Scratch,
+}
+
+/// Tries an exchange of each cell, then an insertion of each, and then a flip of each.
+fn round(board: &mut Board, wires: &mut Wires, lists: &mut RoundLists) -> Result<(), AllocError> {
+    sort_cells(board, &mut lists.keys)?;
+    for key in &lists.keys {
+        exchange(board, wires, key.cell, &mut lists.scratch)?;
+    }
+    sort_cells(board, &mut lists.keys)?;
+    for key in &lists.keys {
+        insert(board, wires, key.cell, &mut lists.scratch)?;
+    }
+    for cell in 0..board.count() {
+        flip(board, wires, cell)?;
+    }
+    Ok(())
+}
+
+/// Makes rounds until one lowers the length by little.
+fn improve(
+    alloc: Global,
+    board: &mut Board,
+    wires: &mut Wires,
+    rounds: u32,
+) -> Result<(), AllocError> {
+    let mut lists = RoundLists {
+        keys: Vec::new(alloc),
+        scratch: Scratch::new(alloc),
+    };
+    for _ in 0..rounds {
+        let before = wires.length();
+        round(board, wires, &mut lists)?;
+        let gain = before.saturating_sub(wires.length());
+        if gain.saturating_mul(PARTS) <= before {
+            break;
+        }
+    }
+    Ok(())
+}
+
+/// Shortens the nets of cells on free sites, and returns the new place of each cell. `None` if a
+/// cell keeps its place.
+///
+/// Each cell stays on the sites of one span, in an orientation that is allowed there, and overlaps
+/// no other one of the list. A cell that is not so at the beginning is not moved, and its sites are
+/// free for others. `Err` if an allocation fails.
+pub fn improved_places(
+    alloc: Global,
+    land: &FreeRows,
+    cells: &[ImprovableCell],
+    nets: &BoardNets,
+    options: &ImproveOptions,
+) -> Result<Vec<Option<CellPlace>>, AllocError> {
+    let mut board = Board::new(alloc, land, cells, options.within)?;
+    let mut wires = Wires::new(alloc, nets, &board)?;
+    improve(alloc, &mut board, &mut wires, options.rounds)?;
+    let mut places = Vec::with_capacity(alloc, cells.len())?;
+    for cell in 0..board.count() {
+        places.push(board.changed_place(cell))?;
+    }
+    Ok(places)
+}

@@ -1,0 +1,121 @@
+//! A cell for which a better place is looked for, and the runs in which it is tried.
+
+use crate::board::{Board, SitePlace};
+use crate::change::CellMove;
+use crate::nets::BoardPoint;
+use crate::runs::SiteRun;
+use crate::wanted::CellNets;
+use crate::wires::Wires;
+use lf_repair_planner::RowKind;
+use std::alloc::AllocError;
+
+/// A cell that is not in the rectangle in which it costs least: its place and corner, its cost
+/// there, and the nearest corner in that rectangle. Corners are in half database units.
+#[derive(Clone, Copy)]
+pub(crate) struct Seeker {
+    pub(crate) cell: u32,
+    pub(crate) place: SitePlace,
+    pub(crate) corner: BoardPoint,
+    pub(crate) cost: i64,
+    pub(crate) wanted: BoardPoint,
+}
+
+/// The cell if it is not in the rectangle in which it costs least. `nets` takes its nets.
+pub(crate) fn seeker_of(
+    board: &Board,
+    wires: &Wires,
+    cell: u32,
+    nets: &mut CellNets,
+) -> Result<Option<Seeker>, AllocError> {
+    let Some(place) = board.place_of(cell) else {
+        return Ok(None);
+    };
+    let Some(corner) = board.point_of(&place) else {
+        return Ok(None);
+    };
+    nets.gather(wires, cell)?;
+    let Some(along) = nets.wanted_x(place.orientation)? else {
+        return Ok(None);
+    };
+    let Some(across) = nets.wanted_y(place.orientation)? else {
+        return Ok(None);
+    };
+    let wanted = BoardPoint {
+        x: along.nearest(corner.x),
+        y: across.nearest(corner.y),
+    };
+    if wanted.x == corner.x && wanted.y == corner.y {
+        return Ok(None);
+    }
+    let cost = nets.cost(&corner, place.orientation);
+    Ok(Some(Seeker {
+        cell,
+        place,
+        corner,
+        cost,
+        wanted,
+    }))
+}
+
+/// A run in which a cell is tried, its number, the cell's count of sites and orientation there, and
+/// the wanted site, which may be outside of the run.
+#[derive(Clone, Copy)]
+pub(crate) struct Target {
+    pub(crate) run: SiteRun,
+    pub(crate) number: u32,
+    pub(crate) count: u32,
+    pub(crate) orientation: RowKind,
+    pub(crate) site: i64,
+}
+
+impl Target {
+    /// The corner of a cell at a site.
+    pub(crate) fn corner(&self, site: u32) -> BoardPoint {
+        BoardPoint {
+            x: self.run.doubled_x(site),
+            y: self.run.doubled_y(),
+        }
+    }
+
+    /// The move of the cell to a site.
+    pub(crate) fn move_to(&self, cell: u32, site: u32) -> CellMove {
+        CellMove {
+            cell,
+            place: SitePlace {
+                run: self.number,
+                site,
+                count: self.count,
+                orientation: self.orientation,
+            },
+        }
+    }
+}
+
+/// The run with this number and the cell in it. `None` if the cell may not be placed there, or if
+/// its nets grow by no less than `limit` even at the wanted x.
+pub(crate) fn target_in(
+    board: &Board,
+    seeker: &Seeker,
+    nets: &CellNets,
+    number: u32,
+    limit: i64,
+) -> Option<Target> {
+    let run = *board.runs.get(number)?;
+    let given = board.cells.get(seeker.cell as usize)?;
+    let orientation = given.orientation_in(seeker.place.orientation, run.kind)?;
+    let corner = BoardPoint {
+        x: seeker.wanted.x,
+        y: run.doubled_y(),
+    };
+    let least = nets.cost(&corner, orientation);
+    if limit <= least.saturating_sub(seeker.cost) {
+        return None;
+    }
+    Some(Target {
+        run,
+        number,
+        count: board.sites_in(seeker.cell, &seeker.place, &run),
+        orientation,
+        site: run.site_near(seeker.wanted.x),
+    })
+}
