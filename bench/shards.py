@@ -7,20 +7,24 @@ usage: bench/shards.py [SECONDS [CELLS [PROGRAM]]]    (5 seconds for each figure
 The designs are those of `generate.py packed`. In the first, half of CELLS cells are in 16 fences and half in the
 ground team. One client of a fence flips its cells, one `place` at a time, as in `fairness.py`: alone, and then while
 clients of the ground team send `tidy`, `check`, `def` and `commit`. In the second, with four fences of CELLS / 8 cells
-each, four clients send these commands one after the other, and then at once.
+each, four clients send these commands one after the other, and then at once, as often with one program as with four.
+The processor seconds show what the wall time is spent on: those of a program grow if the processors share a cache or a
+core, and side programs, which make states meanwhile, take a processor from the others.
 """
 
 from __future__ import annotations
 
+import os
 import sys
 import tempfile
 import threading
 import time
+from collections.abc import Callable
 from pathlib import Path
 
 from fairness import VERBS, flood, ground_client, options_of, places
 from front import FENCES, Hub, clear, quantiles
-from hub import Turns, generated
+from hub import Turns, children, generated
 
 # The numbers of programs that are compared.
 COUNTS = ("1", "4")
@@ -73,26 +77,58 @@ def send_rounds(hub: Hub, team: int, rounds: int) -> None:
                 replies.read(int(words[1]))
 
 
+def processor_seconds(pid: int) -> tuple[float, float]:
+    """The processor seconds of a process, and of its children that have ended."""
+    fields = Path(f"/proc/{pid}/stat").read_text().rpartition(")")[2].split()
+    own, ended = (sum(map(int, fields[at : at + 2])) / os.sysconf("SC_CLK_TCK") for at in (11, 13))
+    return own, ended
+
+
+def measured(hub: Hub, programs: list[int], step: Callable[[], None]) -> tuple[float, str]:
+    """The seconds that a step takes, and the processor seconds of the hub, its programs, and side programs in it."""
+
+    def used() -> list[float]:
+        own, ended = processor_seconds(hub.process.pid)
+        return [own, sum(processor_seconds(pid)[0] for pid in programs), ended]
+
+    before, begin = used(), time.monotonic()
+    step()
+    seconds = time.monotonic() - begin
+    own, served, ended = (last - first for first, last in zip(before, used()))
+    return seconds, f"processor seconds: hub {own:.1f}, programs {served:.1f}, ended side programs {ended:.1f}"
+
+
+def send_at_once(hub: Hub, rounds: int) -> None:
+    """Sends the commands of four teams at once."""
+    threads = [threading.Thread(target=send_rounds, args=(hub, team, rounds)) for team in range(4)]
+    for thread in threads:
+        thread.start()
+    for thread in threads:
+        thread.join()
+
+
+def send_one_by_one(hub: Hub, rounds: int) -> None:
+    """Sends the commands of four teams, one team after the other."""
+    for team in range(4):
+        send_rounds(hub, team, rounds)
+
+
 def measure_at_once(folder: Path, program: str, seconds: float) -> None:
     """Prints how long the commands of four teams take one after the other and at once."""
+    rounds = 0
     for count in COUNTS:
         clear(folder)
         hub = Hub(folder, program, "--programs", count, fences=4)
+        programs = children(hub.process.pid)
         begin = time.monotonic()
-        send_rounds(hub, 0, 1)
-        rounds = max(1, int(seconds / (time.monotonic() - begin)))
-        begin = time.monotonic()
-        for team in range(4):
-            send_rounds(hub, team, rounds)
-        one_by_one, begin = time.monotonic() - begin, time.monotonic()
-        threads = [threading.Thread(target=send_rounds, args=(hub, team, rounds)) for team in range(4)]
-        for thread in threads:
-            thread.start()
-        for thread in threads:
-            thread.join()
-        at_once = time.monotonic() - begin
-        ratio = f"{at_once / one_by_one:.2f} of it"
-        print(f"{count} programs: {one_by_one:.1f} s one by one, {at_once:.1f} s at once, {ratio}", flush=True)
+        send_one_by_one(hub, 1)
+        # (the same number for each count of programs)
+        rounds = rounds or max(1, int(4 * seconds / (time.monotonic() - begin)))
+        one_by_one, one_by_one_text = measured(hub, programs, lambda: send_one_by_one(hub, rounds))
+        at_once, at_once_text = measured(hub, programs, lambda: send_at_once(hub, rounds))
+        print(f"{count} programs, {rounds} rounds: {at_once / one_by_one:.2f} of the time one by one", flush=True)
+        print(f"  one by one {one_by_one:.1f} s; {one_by_one_text}", flush=True)
+        print(f"  at once {at_once:.1f} s; {at_once_text}", flush=True)
         hub.end()
 
 

@@ -12,30 +12,47 @@ from collections.abc import AsyncIterator
 from typing import IO, TypeVar
 
 from .faults import Fault
-from .program import PIECE, fault_of
+from .program import fault_of
+from .reply_reader import ReplyReader, reply_pipe
 
 T = TypeVar("T")
 # More bytes than any line of a description has.
 _LONGEST = 1 << 30
 
 
-async def start_run(words: list[str], has_input: bool) -> AsyncRun:
-    """Starts the program with these words. A run with an input writes its errors to the caller's standard error."""
-    pipe, nothing = asyncio.subprocess.PIPE, asyncio.subprocess.DEVNULL
-    errors = None if has_input else tempfile.TemporaryFile()
+async def start_run(words: list[str]) -> AsyncRun:
+    """Starts the program with these words, without an input."""
+    errors = tempfile.TemporaryFile()
+    return AsyncRun(await _start(words, asyncio.subprocess.DEVNULL, asyncio.subprocess.PIPE, errors), errors)
+
+
+async def start_answering_run(words: list[str]) -> AnsweringRun:
+    """Starts the program with these words and an input. It writes its errors to the caller's standard error."""
+    replies, pipe = reply_pipe()
+    try:
+        return AnsweringRun(await _start(words, asyncio.subprocess.PIPE, pipe), replies)
+    except BaseException:
+        replies.close()
+        raise
+    finally:
+        os.close(pipe)
+
+
+async def _start(
+    words: list[str], source: int, target: int, errors: IO[bytes] | None = None
+) -> asyncio.subprocess.Process:
     # A session of its own: the terminal's Ctrl-C reaches the caller only. The program's input ends when the caller
     # ends.
-    process = await asyncio.create_subprocess_exec(
+    return await asyncio.create_subprocess_exec(
         *words,
-        stdin=pipe if has_input else nothing,
-        stdout=pipe,
+        stdin=source,
+        stdout=target,
         stderr=errors,
         start_new_session=True,
         # (files that the program writes are private until they get their mode)
         umask=0o077,
-        limit=PIECE if has_input else _LONGEST,
+        limit=_LONGEST,
     )
-    return AsyncRun(process, errors)
 
 
 @contextlib.asynccontextmanager
@@ -56,8 +73,6 @@ class AsyncRun:
 
     def __init__(self, process: asyncio.subprocess.Process, errors: IO[bytes] | None) -> None:
         """Makes a run of a process and, if its errors are kept, the file with them."""
-        assert process.stdout
-        self.reader = process.stdout
         self._process = process
         self._errors = errors
 
@@ -66,19 +81,14 @@ class AsyncRun:
         """The id of its process."""
         return self._process.pid
 
-    def send(self, text: bytes) -> None:
-        """Sends bytes without waiting."""
-        assert self._process.stdin
-        self._process.stdin.write(text)
+    @property
+    def reader(self) -> asyncio.StreamReader:
+        """Its output."""
+        assert self._process.stdout
+        return self._process.stdout
 
     async def wait(self) -> int:
         """Waits until the program has ended; returns its exit status."""
-        return await self._process.wait()
-
-    async def finish(self) -> int:
-        """Closes the program's input and waits until the program has ended; returns its exit status."""
-        assert self._process.stdin
-        self._process.stdin.close()
         return await self._process.wait()
 
     async def fault(self, otherwise: str) -> Fault:
@@ -99,3 +109,29 @@ class AsyncRun:
             await self._process.wait()
         if self._errors:
             self._errors.close()
+
+
+class AnsweringRun(AsyncRun):
+    """A run of the program that answers lines."""
+
+    def __init__(self, process: asyncio.subprocess.Process, replies: ReplyReader) -> None:
+        """Makes a run of a process, given the reader of its replies, which `kill` closes."""
+        super().__init__(process, None)
+        self.replies = replies
+
+    def send(self, text: bytes) -> None:
+        """Sends bytes without waiting."""
+        assert self._process.stdin
+        self._process.stdin.write(text)
+
+    async def finish(self) -> int:
+        """Closes the program's input and waits until the program has ended; returns its exit status."""
+        assert self._process.stdin
+        self._process.stdin.close()
+        return await self._process.wait()
+
+    async def kill(self) -> None:
+        try:
+            await super().kill()
+        finally:
+            self.replies.close()

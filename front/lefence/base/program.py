@@ -18,7 +18,7 @@ from .faults import FAILED, USAGE, Fault
 from .protocol import MOST_LINES, SLOTS
 
 if TYPE_CHECKING:
-    from .async_run import AsyncRun
+    from .async_run import AnsweringRun, AsyncRun
     from .progress import Progress
 
 # Bytes read at a time, and seconds to wait between reads. The program writes line by line; waking up for each of a
@@ -47,7 +47,7 @@ def find_program(given: str | None) -> str:
 
 class Program:
     """The program with the files of a design: `replay` answers lines, `describe` describes it, `repair` repairs its
-    teams.
+    teams, `wirelength` measures its nets.
 
     A `Run` blocks. An `AsyncRun` uses asyncio, which is imported only then.
     """
@@ -109,6 +109,18 @@ class Program:
                         return report
             raise fault_of(process.returncode, errors, lost_text(process.returncode))
 
+    def wire_length(self) -> dict[str, Any]:
+        """Has the program measure the nets; returns the object of all teams. Raises a Fault if it fails."""
+        lines: list[bytes] = []
+        with Run([self.path, "wirelength", *self._words]) as run:
+            with contextlib.suppress(EOFError):
+                while True:
+                    lines += run.lines()
+            if run.wait() == 0 and lines:
+                total: dict[str, Any] = json.loads(lines[-1])
+                return total
+            raise run.fault(lost_text(run.wait()))
+
     def replay_on(self, end: socket.socket) -> subprocess.Popen[bytes]:
         """Starts a program that answers the lines of a socket. It ignores the terminal's Ctrl-C and shares standard
         error.
@@ -122,23 +134,23 @@ class Program:
 
     async def replay_async(
         self, export: str | None = None, state: Path | None = None, save: Path | None = None
-    ) -> AsyncRun:
+    ) -> AnsweringRun:
         """Starts a program that answers the lines of a pipe, with the caller's standard error.
 
         It starts from `state`, and at the end of its input it writes `export` and `save`, each if given.
         """
-        from .async_run import start_run
+        from .async_run import start_answering_run
 
         words = self._replay_words(export)
         for option, path in (("--state", state), ("--save", save)):
             words += [option, *path_words([path])] if path else []
-        return await start_run(words, has_input=True)
+        return await start_answering_run(words)
 
     async def describe_async(self) -> AsyncRun:
         """Starts a description of the design, for asyncio."""
         from .async_run import start_run
 
-        return await start_run(self._describe_words(), has_input=False)
+        return await start_run(self._describe_words())
 
     def _replay_words(self, export: str | Path | None = None) -> list[str]:
         words = [self.path, "replay", *self._words, "--lines", str(MOST_LINES), *self._slots]

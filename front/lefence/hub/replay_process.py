@@ -8,10 +8,10 @@ import time
 from collections.abc import Callable, Iterator
 from pathlib import Path
 
-from ..base.async_run import AsyncRun
+from ..base.async_run import AnsweringRun
 from ..base.description import add_team
 from ..base.faults import FAILED, REFUSED, Fault
-from ..base.program import PIECE, Program
+from ..base.program import Program
 from ..base.protocol import GROUND, text_length
 from ..journal.frames import Record, sums_of
 from ..journal.segments import State
@@ -34,8 +34,8 @@ class ReplayProcess:
         self.program = program
         self.sums = sums
         self._export, self._save = export, save
-        self._run: AsyncRun | None = None
-        # Since when the program has been silent although it has work; None if it has none.
+        self._run: AnsweringRun | None = None
+        # Since when the program has work; None if it has none.
         self._since: float | None = None
 
     @property
@@ -45,7 +45,9 @@ class ReplayProcess:
 
     def seconds_silent(self) -> float:
         """How many seconds the program has been silent although it has work."""
-        return 0 if self._since is None else time.monotonic() - self._since
+        if self._since is None or self._run is None:
+            return 0
+        return time.monotonic() - max(self._since, self._run.replies.last_heard)
 
     def send_kill(self) -> None:
         """Kills a hung program without waiting; pending calls raise ReplayLost."""
@@ -84,26 +86,21 @@ class ReplayProcess:
             assert self._run
             self._run.send(b"\n".join(lines) + b"\n")
             return await self._replies(lines)
-        except (OSError, asyncio.IncompleteReadError) as error:
+        except (OSError, EOFError) as error:
             raise ReplayLost(f"the program is lost: {error}") from None
         finally:
             self._since = None
 
     async def _replies(self, lines: list[bytes]) -> list[bytes]:
         assert self._run
-        reader = self._run.reader
-        pieces, line_feeds = [], 0
-        while line_feeds < len(lines):
-            piece = await reader.read(PIECE)
-            if not piece:
-                raise ConnectionResetError("end of its replies")
-            pieces.append(piece)
-            self._since = time.monotonic()
-            line_feeds += piece.count(b"\n")
-        *texts, rest = b"".join(pieces).split(b"\n", len(lines))
-        replies = [text + b"\n" for text in texts]
+        *replies, rest = await self._run.replies.lines(len(lines))
         if length := text_length(lines[-1], replies[-1]):
-            replies[-1] += rest + await reader.readexactly(length - len(rest))
+            # (read into its place: a `def` may have tens of megabytes)
+            begin = len(replies[-1]) + len(rest)
+            reply = bytearray(len(replies[-1]) + length)
+            reply[:begin] = replies[-1] + rest
+            await self._run.replies.fill(memoryview(reply)[begin:])
+            replies[-1] = reply
         return replies
 
     async def restore(

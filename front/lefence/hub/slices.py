@@ -108,7 +108,7 @@ class SliceTexts:
         package = str(Path(__file__).resolve().parents[2])
         code = f"import sys; sys.path.insert(0, {package!r}); from {__name__} import main; sys.exit(main())"
         words = [str(self.folder), str(count), key.decode(), self._program.path, *map(str, self._program.texts)]
-        run = await start_run([sys.executable, "-c", code, *words], has_input=False)
+        run = await start_run([sys.executable, "-c", code, *words])
         try:
             if await run.wait() != DONE:
                 raise await run.fault("the slices were not cut")
