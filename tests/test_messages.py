@@ -44,7 +44,7 @@ class Mistakes(unittest.TestCase):
             self.said(words, 2, USAGE)
 
     def test_a_subcommand_without_its_files(self) -> None:
-        for verb in ("check", "describe", "replay", "serve", "repair"):
+        for verb in ("check", "describe", "wirelength", "replay", "serve", "repair"):
             self.said([verb], 2, USAGE)
             self.said([verb, W_DEF], 2, USAGE)
 
@@ -145,7 +145,7 @@ class Mistakes(unittest.TestCase):
     def test_an_option_without_its_value_or_twice(self) -> None:
         self.said(["replay", *DESIGN, "--export"], 2, USAGE)
         self.said(["replay", *DESIGN, "--export", "a", "--export", "b"], 2, USAGE)
-        for verb in ("check", "describe"):
+        for verb in ("check", "describe", "wirelength"):
             self.said([verb, *DESIGN, "--state"], 2, USAGE)
             self.said([verb, *DESIGN, "--state", "a", "--state=a"], 2, USAGE)
         for option in ("--state", "--save"):
@@ -174,7 +174,7 @@ class Mistakes(unittest.TestCase):
     def test_a_missing_file_or_a_folder_in_its_place(self) -> None:
         with tempfile.TemporaryDirectory() as folder:
             for path, why in ((f"{folder}/missing", "there is no such file"), (folder, "it is a folder")):
-                for verb in ("check", "describe", "replay"):
+                for verb in ("check", "describe", "wirelength", "replay"):
                     self.said([verb, path, W_LEF], 3, "lefence: File", f"DEF file {path} cannot be read: {why}")
                     self.said([verb, W_DEF, path], 3, "lefence: File", f"LEF file {path} cannot be read: {why}")
                     self.said([verb, W_DEF, W_LEF, path], 3, "lefence: File", f"LEF file {path} cannot be read: {why}")
@@ -318,6 +318,7 @@ class Mistakes(unittest.TestCase):
         with open("/dev/full", "wb") as full:
             self.said(["check", *DESIGN], 3, "lefence: Output", start=Start(stdout=full))
             self.said(["describe", *DESIGN], 3, "lefence: Output", start=Start(stdout=full))
+            self.said(["wirelength", *DESIGN], 3, "lefence: Output", start=Start(stdout=full))
             self.said(
                 ["serve", *DESIGN, "--port", str(free_port()), "--connections", "1"],
                 3,
@@ -346,11 +347,11 @@ class Help(unittest.TestCase):
         status, written, said = run(["--help"])
         self.assertEqual((status, said), (0, ""))
         self.assertTrue(written.startswith("  lefence [demo] "), written)
-        for verb in ("check", "describe", "replay", "serve", "repair"):
+        for verb in ("check", "describe", "wirelength", "replay", "serve", "repair"):
             self.assertIn(f"\n  lefence {verb} DEF LEF...", written)
 
     def test_each_subcommand_has_its_help_with_an_example(self) -> None:
-        for verb in ("demo", "check", "describe", "replay", "serve", "repair"):
+        for verb in ("demo", "check", "describe", "wirelength", "replay", "serve", "repair"):
             with self.subTest(verb):
                 status, written, said = run([verb, "--help"])
                 self.assertEqual((status, said), (0, ""))

@@ -43,11 +43,11 @@ class Pipes(InFolder):
                 cat.wait()
 
     def test_a_design(self) -> None:
-        for task in ("check", "describe", "repair"):
+        for task in ("check", "describe", "wirelength", "repair"):
             with self.subTest(task):
                 ran = run([task, *map(str, self.design)])
                 self.assertEqual(self.through_pipes([task, *self.design]), ran)
-                self.assertEqual((ran[0], ran[2]), (0 if task == "repair" else 4, ""))
+                self.assertEqual((ran[0], ran[2]), (0 if task in ("wirelength", "repair") else 4, ""))
 
     def test_a_design_by_named_pipes(self) -> None:
         named = [path.with_name(path.name + ".pipe") for path in self.design]
@@ -105,7 +105,8 @@ class Closed(unittest.TestCase):
             os.close(writer)
 
     def test_a_report_a_description_and_a_help_end_without_a_message(self) -> None:
-        for words in (["check", *DESIGN], ["describe", *DESIGN], ["--help"], ["check", "--help"]):
+        reports = [[task, *DESIGN] for task in ("check", "describe", "wirelength")]
+        for words in (*reports, ["--help"], ["check", "--help"]):
             with self.subTest(words):
                 self.assertEqual(self.unread(words), (3, "", ""))
 

@@ -144,7 +144,7 @@ class Slots(States):
         message = f"lefence: 26 OtherDesign line 3\nlefence: state file {self.state}, line 3: team A 0 0 9 3 0\n"
         self.assertEqual(self.resume("open A\n"), (1, "", message))
         self.assertEqual(self.resume("open A\n", ["--sessions", "10"]), (1, "", message))
-        for verb in ("check", "describe"):
+        for verb in ("check", "describe", "wirelength"):
             with self.subTest(verb):
                 looked = [verb, *DESIGN, "--state", str(self.state)]
                 self.assertEqual(run(looked), (1, "", message))
@@ -152,7 +152,7 @@ class Slots(States):
 
     def test_a_malformed_number(self) -> None:
         for number in ("0", "65", "-1", "x", "", "4294967304"):
-            for verb in ("check", "describe", "replay", "repair"):
+            for verb in ("check", "describe", "wirelength", "replay", "repair"):
                 with self.subTest((verb, number)):
                     status, written, said = run([verb, *DESIGN, f"--sessions={number}"], "open A\n")
                     self.assertEqual((status, written, said.split("\n")[0]), (2, "", "lefence: usage"))

@@ -15,6 +15,8 @@ const USAGE: &str =
   lefence describe DEF LEF... [--state FILE] [--sessions N]
                                 writes the design as JSON Lines: rows, fences, obstacles, cells with boxes and
                                 broken rules
+  lefence wirelength DEF LEF... [--state FILE] [--sessions N]
+                                writes the half-perimeter wire length of the nets, of each team and of all
   lefence replay DEF LEF... [--state FILE] [--save FILE] [--export FILE] [--lines N] [--sessions N]
                                 answers at most N lines of standard input over the design; then writes its text,
                                 with the committed places, to FILE
@@ -62,6 +64,17 @@ status is 0 if the design is fully legal, and 4 if it is not.
 
 example:
   lefence describe chip.def tech.lef cells.lef > chip.jsonl
+";
+
+const WIRELENGTH: &str = "lefence wirelength DEF LEF... [--state FILE] [--sessions N]
+
+Writes the half-perimeter wire length of the design's nets: a line of JSON for each team, with the nets of its cells
+alone and those that join other teams too, and one for all. Supplies are not counted. With --state, each cell is at its
+working place in the state that was saved to FILE. Each team has N session slots (8 if not given). The exit status
+is 0.
+
+example:
+  lefence wirelength chip.def tech.lef cells.lef
 ";
 
 const REPLAY: &str =
@@ -113,6 +126,7 @@ fn text_of(chosen: Subcommand) -> &'static str {
         Subcommand::Demo => DEMO,
         Subcommand::Check => CHECK,
         Subcommand::Describe => DESCRIBE,
+        Subcommand::Wirelength => WIRELENGTH,
         Subcommand::Replay => REPLAY,
         Subcommand::Serve => SERVE,
         Subcommand::Repair => REPAIR,

@@ -120,7 +120,10 @@ const PAUSE: u64 = 2;
 
 /// Whether the task only writes to standard output. If nobody reads that any more, nothing is lost.
 fn only_writes(task: &Task<'_>) -> bool {
-    matches!(task, Task::Check { .. } | Task::Describe { .. })
+    matches!(
+        task,
+        Task::Check { .. } | Task::Describe { .. } | Task::Wirelength { .. }
+    )
 }
 
 /// Does the task over the files, the network and the standard streams.

@@ -6,7 +6,7 @@ use Rattle.lf_lef.specs.declared.built_in.TheConstants.{DEMO_LEF}
 use Rattle.lf_def.specs.declared.built_in.TheConstants.{DEMO_DEF}
 use Rattle.lf_floor_model.specs.States.{FloorState}
 use Rattle.lf_floor_model.specs.Designs.{initial_floor}
-use Rattle.lf_cli.specs.Command.{Job, demo, replay, serve, check, describe, repair}
+use Rattle.lf_cli.specs.Command.{Job, demo, replay, serve, check, describe, wirelength, repair}
 use Rattle.lf_task_faults.specs.declared.faults.Fault.{Fault}
 use Rattle.lf_task_faults.specs.declared.faults.TaskExit.{TaskExit}
 use Rattle.lf_task_designs.specs.Checks.{IsNotReported}
@@ -16,6 +16,7 @@ use Rattle.lf_task_serve.specs.Lines.{default_most_lines}
 use Rattle.lf_task_files.specs.States.{IsFloorFault, IsViewedDesignOf}
 use Rattle.lf_task_files.specs.Exits.{IsOpenDescribed}
 use Rattle.lf_task_serve.specs.Exits.{AnswersInput, EndsWithFault, IsJobStop, IsLinesFault, IsOffered}
+use Rattle.lf_task_wires.specs.Wirelengths.{IsMeasured, IsNotMeasured}
 use Rattle.lf_task_repair.specs.Exits.{IsNotRepaired, IsOpenRepaired}
 use Rattle.lf_task_repair.specs.Repairs.{WritesExportAlone, WritesNoFile}
 use Rattle.lf_task_files.specs.Exits.{IsOpenUndescribed, IsReported}
@@ -54,6 +55,7 @@ ReadsNoInput job = Unit {0}
 abbrev pub job_slots : Job → ℕ
 job_slots (check def lefs state slots committed) = slots
 job_slots (describe def lefs state slots) = slots
+job_slots (wirelength def lefs state slots) = slots
 job_slots (replay def lefs state slots lines save export) = slots
 job_slots (serve def lefs state slots port connections save export) = slots
 job_slots (repair def lefs state slots teams legal files) = slots
@@ -83,6 +85,8 @@ IsOutcomeWithin limits gives (check def lefs state slots committed) io status =
     × IsReported seen io.before io.after status
 IsOutcomeWithin limits gives (describe def lefs state slots) io status =
     IsOpenDescribed limits gives def lefs state io.before io.after status
+IsOutcomeWithin limits gives (wirelength def lefs state slots) io status =
+    IsMeasured limits gives def lefs state io.before io.after status
 IsOutcomeWithin limits gives (repair def lefs state slots teams legal files) io status =
     IsOpenRepaired limits gives def lefs state teams legal files io.before io.after io.old_puts io.new_puts status
 
@@ -114,6 +118,8 @@ IsJobFaultWithin limits gives (check def lefs state slots committed) fault io =
     (λ seen fault io. IsNotReported seen io.before io.after fault) fault io
 IsJobFaultWithin limits gives (describe def lefs state slots) fault io =
     IsDesignFault limits gives def lefs fault ⊎ IsOpenUndescribed limits gives def lefs state io.before io.after fault
+IsJobFaultWithin limits gives (wirelength def lefs state slots) fault io =
+    IsNotMeasured limits gives def lefs state io.before io.after fault
 IsJobFaultWithin limits gives (repair def lefs state slots teams legal files) fault io =
     IsNotRepaired limits gives def lefs state teams legal files io.before io.after io.old_puts io.new_puts fault
 

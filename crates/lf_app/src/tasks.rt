@@ -31,6 +31,7 @@ use lf_task_repair::{NoProgress, Progress, RepairJob, repair};
 use lf_task_serve::{
     Environment, LineSource, NetListener, PortListener, serve_files, serve_loaded,
 };
+use lf_task_wires::wirelength;
 use std::alloc::Global;
 use std::io::{Read, Write};
 use std::net::Net;
@@ -96,6 +97,12 @@ fn input_of<'a>(task: &'a Task<'_>, limits: Limits) -> DesignInput<'a>
             ..
         } => input_at(*def, lefs.as_slice(), *state, limits),
         Task::Describe {
+            def,
+            lefs,
+            state,
+            ..
+        } => input_at(*def, lefs.as_slice(), *state, limits),
+        Task::Wirelength {
             def,
             lefs,
             state,
@@ -224,6 +231,7 @@ fn outcome_within<
             check(alloc, &around.texts, inputs, *committed, &mut around.writer)
         }
         Task::Describe { .. } => describe_files(alloc, &around.texts, inputs, &mut around.writer),
+        Task::Wirelength { .. } => wirelength(alloc, &around.texts, inputs, &mut around.writer),
         Task::Repair {
             teams,
             legal,
@@ -246,6 +254,7 @@ fn slots_of(task: &Task<'_>) -> Slots
     match task {
         Task::Check { slots, .. } => *slots,
         Task::Describe { slots, .. } => *slots,
+        Task::Wirelength { slots, .. } => *slots,
         Task::Replay { slots, .. } => *slots,
         Task::Serve { slots, .. } => *slots,
         Task::Demo => Slots::standard(),

@@ -18,7 +18,7 @@ use Rattle.lf_cli.specs.declared.parse.RepairFiles.{RepairFiles}
 use Rattle.lf_cli.specs.declared.parse.Task.{Task}
 use Rattle.lf_cli.specs.declared.parse.Task.TheVariants as task
 use Rattle.lf_cli.specs.declared.subcommand.Subcommand.{Subcommand}
-use Rattle.lf_cli.specs.declared.subcommand.Subcommand.TheVariants.{Demo, Check, Describe, Replay, Serve, Repair}
+use Rattle.lf_cli.specs.declared.subcommand.Subcommand.TheVariants.{Demo, Check, Describe, Wirelength, Replay, Serve, Repair}
 
 -- ---- the subcommands
 
@@ -27,13 +27,14 @@ abbrev pub subcommand_word : Subcommand → Text
 subcommand_word Demo = codes "demo"
 subcommand_word Check = codes "check"
 subcommand_word Describe = codes "describe"
+subcommand_word Wirelength = codes "wirelength"
 subcommand_word Replay = codes "replay"
 subcommand_word Serve = codes "serve"
 subcommand_word Repair = codes "repair"
 
 -- All subcommands, in the order in which they are listed.
 abbrev pub subcommands : List Subcommand
-subcommands = Demo ∷ Check ∷ Describe ∷ Replay ∷ Serve ∷ Repair ∷ []
+subcommands = Demo ∷ Check ∷ Describe ∷ Wirelength ∷ Replay ∷ Serve ∷ Repair ∷ []
 
 -- The subcommand of this word.
 abbrev pub subcommand_named : Text → Option Subcommand
@@ -88,6 +89,7 @@ line_of Demo = new_app (subcommand_word Demo)
 line_of Check = design_line (subcommand_word Check)
     (text_rule (codes "state") ∷ slots_rule ∷ flag_rule (codes "committed") ∷ [])
 line_of Describe = design_line (subcommand_word Describe) (text_rule (codes "state") ∷ slots_rule ∷ [])
+line_of Wirelength = design_line (subcommand_word Wirelength) (text_rule (codes "state") ∷ slots_rule ∷ [])
 line_of Replay = design_line (subcommand_word Replay)
     (number_rule (codes "lines") 4294967295
     ∷ text_rule (codes "state") ∷ slots_rule ∷ text_rule (codes "save") ∷ text_rule (codes "export") ∷ [])
@@ -125,6 +127,7 @@ pub data Job : Type 0 where
   -- Whether the committed places of the state are shown, in place of the working ones.
   check : Text → List Text → Option Text → ℕ → Bool → Job
   describe : Text → List Text → Option Text → ℕ → Job
+  wirelength : Text → List Text → Option Text → ℕ → Job
   -- The most lines that are answered; the paths of the state and of the DEF file to write.
   replay : Text → List Text → Option Text → ℕ → ℕ → Option Text → Option Text → Job
   -- The port and the number of connections; the paths of the state and of the DEF file to write.
@@ -270,6 +273,8 @@ job_on Check def lefs rows =
     (slots_among rows)
 job_on Describe def lefs rows =
     option_map (λ slots. describe def lefs (first_of (codes "state") rows) slots) (slots_among rows)
+job_on Wirelength def lefs rows =
+    option_map (λ slots. wirelength def lefs (first_of (codes "state") rows) slots) (slots_among rows)
 job_on Replay def lefs rows =
     option_and_then (λ lines. option_map
     (λ slots. replay def lefs (first_of (codes "state") rows) slots lines (first_of (codes "save") rows)
@@ -345,6 +350,8 @@ as_job (task.Check def lefs state slots committed) =
     check def.now (map (λ lef. lef.now) lefs) (option_map (λ path. path.now) state) slots.number committed
 as_job (task.Describe def lefs state slots) =
     describe def.now (map (λ lef. lef.now) lefs) (option_map (λ path. path.now) state) slots.number
+as_job (task.Wirelength def lefs state slots) =
+    wirelength def.now (map (λ lef. lef.now) lefs) (option_map (λ path. path.now) state) slots.number
 as_job (task.Replay def lefs state slots lines save export) =
     replay def.now (map (λ lef. lef.now) lefs) (option_map (λ path. path.now) state) slots.number
     lines (option_map (λ path. path.now) save) (option_map (λ path. path.now) export)

@@ -5,7 +5,7 @@ ghost use Rattle.std.specs.List.{list_any};
 ghost use Rattle.clap.specs.Matches.{found_of};
 ghost use Rattle.clap.specs.Simple.{subcommand_rows_of};
 ghost use Rattle.clap.specs.Walk.{all_of, first_of, rows_of};
-ghost use Rattle.lf_cli.specs.declared.subcommand.Subcommand.TheVariants.{Check, Describe, Repair, Replay, Serve};
+ghost use Rattle.lf_cli.specs.declared.subcommand.Subcommand.TheVariants.{Check, Describe, Repair, Replay, Serve, Wirelength};
 ghost use Rattle.lf_cli.specs.declared.parse.UsageFault.TheVariants.{Usage};
 ghost use Rattle.lf_cli.specs.Command.{as_job, clash_among, clash_of, is_among, is_demo, is_same, is_set, job_requested, job_by, job_found, job_of, job_on};
 ghost use Rattle.lf_cli.specs.Command.{export_clash, legal_cells, lines_clash, most_lines, number_in, repair_clash, repair_paths, repair_paths_among};
@@ -67,6 +67,14 @@ pub enum Task<'a> {
     },
     /// Writes a design as JSON Lines.
     Describe {
+        def: &'a str,
+        lefs: Sequence<&'a str>,
+        /// The path of the saved state that has the cells' places, if any.
+        state: Option<&'a str>,
+        slots: Slots,
+    },
+    /// Writes the lengths of a design's wires.
+    Wirelength {
         def: &'a str,
         lefs: Sequence<&'a str>,
         /// The path of the saved state that has the cells' places, if any.
@@ -281,6 +289,25 @@ fn describe_on<'a>(
     })
 }
 
+/// Makes the task of wire lengths on these paths.
+fn wirelength_on<'a>(
+    def: &'a str,
+    lefs: Sequence<&'a str>,
+    matches: &ArgMatches<'a>,
+) -> Option<Task<'a>>
+    ensures { option_map as_job result
+        ≡ job_on Wirelength def.now (map (λ lef. lef.now) lefs.entry) (rows_of (found_of matches.now)) }
+{
+    let slots = slots_of(matches)?;
+    let state = value_of(matches, "state");
+    Some(Task::Wirelength {
+        def,
+        lefs,
+        state,
+        slots,
+    })
+}
+
 /// Makes the task of a replay on these paths.
 fn replay_on<'a>(
     def: &'a str,
@@ -380,6 +407,7 @@ fn task_on<'a>(
         Subcommand::Demo => Ok(Some(Task::Demo)),
         Subcommand::Check => Ok(check_on(def, lefs, matches)),
         Subcommand::Describe => Ok(describe_on(def, lefs, matches)),
+        Subcommand::Wirelength => Ok(wirelength_on(def, lefs, matches)),
         Subcommand::Replay => Ok(replay_on(def, lefs, matches)),
         Subcommand::Serve => Ok(serve_on(def, lefs, matches)),
         Subcommand::Repair => repair_on(alloc, def, lefs, matches),

@@ -24,6 +24,8 @@ pub enum Subcommand {
     Check,
     /// Writes a design as JSON Lines.
     Describe,
+    /// Writes the lengths of a design's wires.
+    Wirelength,
     /// Answers the lines of standard input over a design.
     Replay,
     /// Answers the lines of connections over a design.
@@ -33,10 +35,11 @@ pub enum Subcommand {
 }
 
 /// All subcommands, in the order in which they are listed.
-const SUBCOMMANDS: [Subcommand; 6] = [
+const SUBCOMMANDS: [Subcommand; 7] = [
     Subcommand::Demo,
     Subcommand::Check,
     Subcommand::Describe,
+    Subcommand::Wirelength,
     Subcommand::Replay,
     Subcommand::Serve,
     Subcommand::Repair,
@@ -50,6 +53,7 @@ fn word_of(chosen: Subcommand) -> &'static str
         Subcommand::Demo => "demo",
         Subcommand::Check => "check",
         Subcommand::Describe => "describe",
+        Subcommand::Wirelength => "wirelength",
         Subcommand::Replay => "replay",
         Subcommand::Serve => "serve",
         Subcommand::Repair => "repair",
@@ -239,6 +243,7 @@ fn line_of<'a>(alloc: Global, chosen: Subcommand) -> Result<Command<'a>, AllocEr
         Subcommand::Demo => Ok(Command::new(alloc, "demo")),
         Subcommand::Check => check(alloc),
         Subcommand::Describe => look(alloc, "describe"),
+        Subcommand::Wirelength => look(alloc, "wirelength"),
         Subcommand::Replay => replay(alloc),
         Subcommand::Serve => serve(alloc),
         Subcommand::Repair => repair(alloc),

@@ -1,6 +1,6 @@
 -- Designs of files, step by step: the fault that a refusal becomes, and LEF files one after the
 -- other.
-use Rattle.std.proofs.Common.{◌≡◌, inl, inr, ℕ, ◌+◌, ◌<◌, List, ◌∷◌, Ok, length, map, drop, slice_index_or, ap, subst, ◌∙◌}
+use Rattle.std.proofs.Common.{◌≡◌, inl, inr, ℕ, ◌+◌, ◌<◌, List, ◌∷◌, Ok, length, map, drop, slice_index_or, ap, subst, refl, ◌∙◌}
 use Rattle.std.specs.Borrow.{Bor}
 use Rattle.std.proofs.Math.Numerals.{suc-eq-add-one}
 use Rattle.std.proofs.Math.Seq.{drop-cons}
@@ -16,7 +16,7 @@ use Rattle.lf_task_faults.specs.declared.faults.Fault.TheVariants.{Refused, File
 use Rattle.lf_task_faults.specs.declared.faults.TextKind.{TextKind}
 use Rattle.lf_task_faults.specs.declared.faults.TextKind.TheVariants.{Lef, Def}
 use Rattle.lf_task_faults.specs.Refusals.{IsReportedConflict}
-use Rattle.lf_task_designs.specs.Designs.{AddsFile, RefusalCause, ReadsFile, IsDefRefusal, IsFileFault, IsLefRefusal, IsLibraryFault, IsLibraryOf, IsLoadRefusal, IsRefusedText, ConflictsIn}
+use Rattle.lf_task_designs.specs.Designs.{AddsFile, RefusalCause, ReadsFile, IsDefRefusal, IsFileFault, IsLefRefusal, IsLibraryFault, IsLibraryOf, IsLoadRefusal, IsRefusedText, ConflictsIn, RefusedFor}
 
 -- A refusal for one cause is a refusal for a cause that includes it.
 pub refused_as : (kind : TextKind) (path text : List ℕ) (P Q : RefusalCause) (fault : Fault) → IsRefusedText kind path text P fault
@@ -60,6 +60,11 @@ pub reported_as : (kind : TextKind) (path text : List ℕ) (P : RefusalCause) (f
     → IsRefusedText kind path text (IsReportedConflict found overlapping_one) fault → P found overlapping_one → P (load_fault_of Memory) no_fence → IsRefusedText kind path text P fault
 reported_as kind path text P found overlapping_one fault is holds memory =
     refused_as kind path text (IsReportedConflict found overlapping_one) P fault is (λ reported fences one. reported_of P found reported overlapping_one fences one holds memory)
+
+-- Both are refusals for a cause that names no fences.
+pub reported_for : (kind : TextKind) (path text : List ℕ) (Why : LoadFault → Type 0) (found : LoadFault) (fault : Fault)
+    → IsRefusedText kind path text (IsReportedConflict found no_fence) fault → Why found → Why (load_fault_of Memory) → IsRefusedText kind path text (RefusedFor Why) fault
+reported_for kind path text Why found fault is holds memory = reported_as kind path text (RefusedFor Why) found no_fence fault is (holds, refl) (memory, refl)
 
 abbrev Path : Type 0
 Path = Bor (List ℕ)

@@ -124,16 +124,18 @@ abbrev pub IsTextDesign : Limits → List ℕ → List ℕ → Loaded → Type 0
 IsTextDesign limits text lef_text loaded = (library : Contents) × (lef.library_after no_library lef_text ≡ Ok library)
     × IsDesignIn limits library text loaded
 
+-- A cause that names no fences.
+abbrev pub RefusedFor : (LoadFault → Type 0) → RefusalCause
+RefusedFor Why refusal overlapping_one = Why refusal × (overlapping_one ≡ no_fence)
+
 -- Why a LEF text is refused over the library: its first fault with its line, or a failed
 -- allocation.
 abbrev pub IsLefRefusal : Contents → List ℕ → RefusalCause
-IsLefRefusal library text refusal overlapping_one = lef.RefusesLef refusal (lef.library_after library text)
-    × (overlapping_one ≡ no_fence)
+IsLefRefusal library text = RefusedFor (λ refusal. lef.RefusesLef refusal (lef.library_after library text))
 
 -- Why a DEF text is not read: its first fault with its line, or a failed allocation.
 abbrev pub IsReadRefusal : List ℕ → RefusalCause
-IsReadRefusal text refusal overlapping_one = def.RefusesDef refusal (def.document_of text)
-    × (overlapping_one ≡ no_fence)
+IsReadRefusal text = RefusedFor (λ refusal. def.RefusesDef refusal (def.document_of text))
 
 -- Why a DEF text has no design over the library: it is not read, or the document is not loaded.
 abbrev pub IsDefRefusal : Limits → Contents → List ℕ → RefusalCause

@@ -6,7 +6,7 @@
 //! through the trait `InputFiles`. Contracts know nothing of the files of a runtime
 //! (`FsInputFiles`). Faults are those of `lf_task_faults`.
 //!
-//! Used by `lf_task_files`, `lf_task_serve`, `lf_task_repair` and `lf_app`.
+//! Used by `lf_task_files`, `lf_task_wires`, `lf_task_serve`, `lf_task_repair` and `lf_app`.
 //!
 //! Modules, in reading order:
 //!
@@ -31,7 +31,7 @@ mod opening;
 pub use check_report::{illegal_in, report_design};
 pub use input_files::{FsInputFiles, InputFiles, single_chunk};
 pub use loading::{
-    def_file, library_of, limits_for, load_document, load_files, load_texts, read_document,
-    read_file_chunks, read_text,
+    add_text, def_file, lef_file, library_of, limits_for, load_document, load_files, load_texts,
+    read_document, read_file_chunks, read_text, text_refusal,
 };
 pub use opening::{OpenedDesign, SourceText, open_design};

@@ -72,7 +72,7 @@ pub fn read_file_chunks<'a, T: InputFiles>(
 }
 
 /// Makes the description of a LEF file.
-fn lef_file(path: &str) -> TextFile<'_>
+pub fn lef_file(path: &str) -> TextFile<'_>
     ensures kind { result.kind ≡ Lef }
     ensures path { result.path.now ≡ path.now }
 {
@@ -95,7 +95,7 @@ pub fn def_file(path: &str) -> TextFile<'_>
 
 /// Makes the fault of a refused text. If memory for its details runs out, the fault is a failed
 /// allocation.
-pub(crate) fn refused<'a>(
+pub fn text_refusal<'a>(
     alloc: Global,
     file: TextFile<'a>,
     text: &[u8],
@@ -130,7 +130,7 @@ fn load_fault<'a>(
 }
 
 /// Reads one more LEF text, of the file `path`, into the library.
-fn add_text<'a>(
+pub fn add_text<'a>(
     alloc: Global,
     library: &mut Library,
     path: &'a str,
@@ -141,7 +141,7 @@ fn add_text<'a>(
 {
     match read_lef(library, text) {
         Ok(()) => Ok(()),
-        Err(fault) => Err(refused(alloc, lef_file(path), text, &fault)),
+        Err(fault) => Err(text_refusal(alloc, lef_file(path), text, &fault)),
     }
 }
 
@@ -204,7 +204,7 @@ pub fn read_document<'t, 'a>(
 {
     match read_def(alloc, text) {
         Ok(document) => Ok(document),
-        Err(fault) => Err(refused(alloc, def_file(path), text, &fault)),
+        Err(fault) => Err(text_refusal(alloc, def_file(path), text, &fault)),
     }
 }
 

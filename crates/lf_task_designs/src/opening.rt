@@ -11,7 +11,7 @@ ghost use Rattle.lf_write.specs.Export.{clause_of};
 ghost use Rattle.lf_task_designs.specs.Designs.{IsDefRefusal, IsDesignFault, IsFileFault, IsLoadedText, IsLoadRefusal, IsLoadedIn, IsOpenedOf, IsRefusedText};
 
 use crate::input_files::InputFiles;
-use crate::loading::{def_file, library_of, load_document, read_document, read_text, refused};
+use crate::loading::{def_file, library_of, load_document, read_document, read_text, text_refusal};
 use lf_def::DefDoc;
 use lf_frame::{Limits, Loaded};
 use lf_lef::Library;
@@ -48,7 +48,7 @@ fn open_document<'a>(
         Ok(clauses) => Ok(LoadedDocument { loaded, clauses }),
         Err(_) => {
             let fault = ReadError::Memory.into_load_fault();
-            Err(refused(alloc, def_file(path), text, &fault))
+            Err(text_refusal(alloc, def_file(path), text, &fault))
         }
     }
 }

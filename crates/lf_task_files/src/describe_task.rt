@@ -47,7 +47,7 @@ fn describe_loaded<'a, W: Sink>(
 }
 
 /// Loads the design of the DEF text's document over the library, with the places to describe.
-fn seen_of_document<'a, T: InputFiles>(
+pub fn seen_of_document<'a, T: InputFiles>(
     alloc: Global,
     texts: &T,
     library: &Library,

@@ -10,7 +10,7 @@
 //! Functions that are a whole task return the exit status: 0, or 4 if the design is not fully
 //! legal. Otherwise they return the fault, which is not printed here.
 //!
-//! Used by `lf_task_serve`, `lf_task_repair` and `lf_app`.
+//! Used by `lf_task_wires`, `lf_task_serve`, `lf_task_repair` and `lf_app`.
 //!
 //! Modules, in reading order:
 //!
@@ -56,7 +56,7 @@ mod working_export;
 
 pub use check_task::check;
 pub use committed_legality::is_committed_legal;
-pub use describe_task::describe_files;
+pub use describe_task::{describe_files, seen_of_document};
 pub use exit_status::{ILLEGAL_STATUS, LEGAL_STATUS};
 pub use export::save_export;
 pub use inputs::{DesignInput, open_floor, start_floor};

@@ -679,6 +679,42 @@ fn a_design_is_described(rt: HostRuntime) -> Result<(), Fail> {
     Ok(())
 }
 
+/// Nets of the sample: one of two cells, of an unplaced cell and of a pin that is not there, and a
+/// supply.
+const NETS: &[u8] = b"END BLOCKAGES
+NETS 2 ;
+- n ( b1 VDD ) ( g1 VSS ) ( a2 VDD ) ( b1 Q ) ;
+- v ( a1 VDD ) + USE POWER ;
+END NETS";
+
+/// Their lengths. The pins that count are at (6200, 2000) and (4600, 0).
+const LENGTHS: &str = "\
+    {\"crossing\":0,\"crossing_nets\":0,\"nets\":0,\"own\":0,\"team\":\"A\"}\n\
+    {\"crossing\":3600,\"crossing_nets\":1,\"nets\":0,\"own\":0,\"team\":\"B\"}\n\
+    {\"crossing\":3600,\"crossing_nets\":1,\"nets\":0,\"own\":0,\"team\":\"-\"}\n\
+    {\"crossing\":3600,\"crossing_nets\":1,\"doubled\":7200,\"fixed_nets\":0,\"length\":3600,\"nets\":1,\
+    \"one_pin\":0,\"pins\":2,\"supplies\":1,\"teams\":3,\"unknown\":1,\"unplaced\":1}\n";
+
+#[test]
+fn a_design_is_measured(rt: HostRuntime) -> Result<(), Fail> {
+    let def = with_line(
+        rt.alloc(),
+        DEMO_DEF,
+        18,
+        b"- b1 INV + PLACED ( 6000 2000 ) FS ;",
+    )?;
+    let def = with_line(rt.alloc(), &def, 19, b"- g1 INV + PLACED ( 4400 0 ) N ;")?;
+    let def = with_line(rt.alloc(), &def, 23, NETS)?;
+    let task = Task::Wirelength {
+        def: "w.def",
+        lefs: only_lef(rt.alloc())?,
+        state: None,
+        slots: Slots::standard(),
+    };
+    assert!(rt; done(&rt, &files_of(&def), &task, "open A\n").is(0, LENGTHS, ""));
+    Ok(())
+}
+
 #[test]
 fn a_check_without_its_file_is_a_fault(rt: HostRuntime) -> Result<(), Fail> {
     let files = [("w.lef", Some(DEMO_LEF))];

@@ -21,6 +21,12 @@ enum Named<'a> {
         state: Option<&'a str>,
         sessions: u32,
     },
+    Wirelength {
+        def: &'a str,
+        lefs: &'a [&'a str],
+        state: Option<&'a str>,
+        sessions: u32,
+    },
     Replay {
         def: &'a str,
         lefs: &'a [&'a str],
@@ -75,6 +81,17 @@ fn as_named<'a>(task: &'a Task<'a>) -> Named<'a> {
             state,
             slots,
         } => Named::Describe {
+            def: *def,
+            lefs: lefs.as_slice(),
+            state: *state,
+            sessions: slots.number,
+        },
+        Task::Wirelength {
+            def,
+            lefs,
+            state,
+            slots,
+        } => Named::Wirelength {
             def: *def,
             lefs: lefs.as_slice(),
             state: *state,
@@ -184,6 +201,19 @@ fn words_name_the_demo_a_check_and_a_description(rt: HostRuntime) -> Result<(), 
         sessions: 8,
     };
     assert!(rt; names(rt.alloc(), "lefence describe x.def x.lef", &describe)?);
+    let wirelength = Named::Wirelength {
+        def: "x.def",
+        lefs: &["x.lef"],
+        state: Some("s"),
+        sessions: 3,
+    };
+    assert!(rt;
+        names(
+            rt.alloc(),
+            "lefence wirelength x.def --state s x.lef --sessions 3",
+            &wirelength
+        )?
+    );
     Ok(())
 }
 
@@ -586,6 +616,8 @@ fn other_words_are_refused(rt: HostRuntime) -> Result<(), Fail> {
         "lefence check x.def x.lef --committed --committed",
         "lefence check x.def x.lef --committed=true",
         "lefence describe x.def x.lef --committed",
+        "lefence wirelength x.def",
+        "lefence wirelength x.def x.lef --export s",
         "lefence replay x.def x.lef --export-working w",
         "lefence replay x.def x.lef --save s --save s",
     ];

@@ -8,6 +8,8 @@
 //! `bind_nets` returns a `Netlist` of `lf_wire_length`. Contracts see the list of its nets, each with
 //! the pins that its terms denote.
 //!
+//! Used by `lf_task_wires`.
+//!
 //! Modules, in reading order:
 //!
 //! - `texts`: the texts of a design

@@ -6,7 +6,7 @@
 //! A contract sees of a `DesignPin` its name and its point, and of a `NetTerm` the names of its
 //! component and of its pin.
 //!
-//! Used by `lf_wire_binding`.
+//! Used by `lf_wire_binding` and `lf_task_wires`.
 //!
 //! Modules, in reading order:
 //!

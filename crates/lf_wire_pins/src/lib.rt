@@ -8,7 +8,7 @@
 //! `MacroPins` the macro's name and its pins, and of a `MacroPin` its name and
 //! its box.
 //!
-//! Used by `lf_wire_binding`.
+//! Used by `lf_wire_binding` and `lf_task_wires`.
 //!
 //! Modules, in reading order:
 //!

@@ -14,6 +14,7 @@ from typing import NamedTuple
 from ..base.description import Cell, Frame
 from ..base.protocol import ORIENTS
 from .team_area import areas_of
+from .wires import Wires
 
 # The upper ends of the bins of a histogram, in rows; the last bin has none.
 BINS = (0, 1, 2, 5, 10, 20, 50)
@@ -124,7 +125,7 @@ class _Farthest:
 class Summary:
     """The teams in the order of the frame after, their sum, the cells of one design only, and the farthest cells.
 
-    `notes` lists other differences in words.
+    `notes` lists other differences in words. `wires` has the wire lengths, if the design has nets.
     """
 
     frame: Frame
@@ -134,6 +135,7 @@ class Summary:
     only_after: list[str]
     notes: list[str]
     farthest: list[FarCell]
+    wires: Wires | None = None
 
 
 def summary_of(before: Iterable[Cell], after: Iterable[Cell], frame: Frame, most_far: int = MOST_FAR) -> Summary:

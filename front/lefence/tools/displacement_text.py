@@ -5,6 +5,7 @@ from __future__ import annotations
 from collections.abc import Iterable
 
 from .displacement import BINS, FarCell, Summary, Team
+from .drawing import number
 
 # The most cells of one design listed by name, and the length of the longest bar.
 _NAMED, _BAR = 10, 40
@@ -19,6 +20,7 @@ def object_of(summary: Summary) -> dict[str, object]:
     - `only_before` and `only_after`: lists of names;
     - `farthest`: objects with `name`, `team`, `before` and `after` (x, y, orientation), `displacement` and
       `displacement_rows`;
+    - `wire_length` with `before`, `after` and the number of `nets`: null without nets;
     - `notes`.
 
     An object of a team has
@@ -40,8 +42,16 @@ def object_of(summary: Summary) -> dict[str, object]:
         "only_before": summary.only_before,
         "only_after": summary.only_after,
         "farthest": [_far_object(summary, cell) for cell in summary.farthest],
+        "wire_length": _wires_object(summary),
         "notes": summary.notes,
     }
+
+
+def _wires_object(summary: Summary) -> dict[str, object] | None:
+    if summary.wires is None:
+        return None
+    before, after = summary.wires.microns(summary.frame.facts.units)
+    return {"before": before, "after": after, "nets": summary.wires.nets}
 
 
 def _far_object(summary: Summary, cell: FarCell) -> dict[str, object]:
@@ -90,6 +100,8 @@ def text_of(summary: Summary) -> str:
         ),
         _bars(summary.all.histogram(height)),
     ]
+    if summary.wires:
+        parts.append(f"wire length of {number(summary.wires.nets, 'net')}: {summary.wires.text(facts.units)}")
     if summary.farthest:
         parts.append(
             _table(

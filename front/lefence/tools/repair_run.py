@@ -19,6 +19,7 @@ from ..base.progress import Progress
 from ..base.protocol import VERBS, is_accepted
 from .drawing import number
 from .splice import Spot, with_spots
+from .wires import wires_or_note
 
 
 class Move(NamedTuple):
@@ -108,14 +109,17 @@ class RepairRun:
         return list(zip(lines, replies_of(self._program, lines)))
 
     def write(self, output: BinaryIO, moves: list[Move]) -> None:
-        """Writes the program's export, with the places of teams that could not be committed, which it lacks."""
-        if not moves:
-            with open(self._exported, "rb") as file:
-                shutil.copyfileobj(file, output)
-            return
-        output.write(
-            with_spots(self._exported.read_bytes(), {move.cell: move.new for move in moves if move.old != move.new})
-        )
+        """Writes the program's export, with the places of teams that could not be committed, which it lacks. Then it
+        prints the wire lengths.
+        """
+        if moves:
+            spots = {move.cell: move.new for move in moves if move.old != move.new}
+            self._exported.write_bytes(with_spots(self._exported.read_bytes(), spots))
+        with open(self._exported, "rb") as file:
+            shutil.copyfileobj(file, output)
+        wires, notes = wires_or_note(self._program, self._program.with_design(self._exported))
+        for text in [f"wire length: {wires.text(self._units)}"] if wires else notes:
+            log(self._tool, text)
 
     def report(self, moves: list[Move]) -> None:
         """Prints the result of each team and its unrepaired cells on standard error."""

@@ -20,7 +20,7 @@ from ..base.atomic_file import refuse_inputs, write_output
 from ..base.description import Box, Cell, Description, Frame, Obstacle
 from ..base.faults import DONE, Parser, log, run_tool
 from ..base.input_files import use_plain_files
-from ..base.program import find_program
+from ..base.program import Program, find_program
 from ..base.progress import Progress
 from ..base.protocol import GROUND, RULES
 from ..client.refusals import violation_text
@@ -29,6 +29,7 @@ from .report_moves import PlacementDiff, data_of, legend_of, placement_diff, sec
 from .scene import BROKEN, LIMIT, SHADES, Bins, Scene, colour_of, row_blocks
 from .summary import refuse_other_units
 from .team_area import areas_of
+from .wires import wires_or_note
 
 TOOL = "lefence-report"
 # The default number of listed violations.
@@ -53,6 +54,8 @@ class Report:
     design: Path
     # The differences to an earlier placement, if one was given.
     diff: PlacementDiff | None = None
+    # The wire lengths, of the earlier placement first, or why they are not known.
+    wires: str = ""
     # Whether some cells near violations are left out.
     lacks: bool = False
 
@@ -133,6 +136,9 @@ def report_of(
             cells = Progress(TOOL, "cells again").over(description.cells())
             report.cells = [cell for cell in cells if near.has(cell)]
         report.lacks = near.is_full
+    placements = [Program(program, [each, *libraries]) for each in (before, design) if each]
+    wires, notes = wires_or_note(*placements)
+    report.wires = wires.text(scene.frame.facts.units) if wires else "; ".join(notes)
     return report
 
 
@@ -149,7 +155,7 @@ def page_of(report: Report) -> str:
         "VIOLATIONS": _violations(report.scene),
         "SINCE": section_of(report.diff) if report.diff else "",
         "TEAMS": _teams(report),
-        "FACTS": _facts(report.scene),
+        "FACTS": _facts(report.scene, report.wires),
         "DATA": _embedded(_data(report)),
     }
     page = (Path(__file__).parent / "report.html").read_text(encoding="utf-8")
@@ -315,7 +321,7 @@ def _utilization(area: int, ground: int) -> str:
     return f'<span class="bar"><i style="width:{min(1, share):.1%}"></i></span><span{kind}>{share:.1%}</span>'
 
 
-def _facts(scene: Scene) -> str:
+def _facts(scene: Scene, wires: str) -> str:
     frame, facts = scene.frame, scene.frame.facts
     units, box = facts.units, frame.box
     fixed = sum(obstacle.name is not None for obstacle in frame.obstacles)
@@ -330,6 +336,7 @@ def _facts(scene: Scene) -> str:
         "Obstacles": f"{fixed:,} FIXED, {number(len(frame.obstacles) - fixed, 'rectangle')} of blockages",
         "Soft blockages": number(len(frame.soft), "rectangle"),
         "Cells": f"{scene.sum_of('cells'):,}",
+        **({"Wire length": wires} if wires else {}),
         "Made": f"{datetime.now(timezone.utc):%Y-%m-%d %H:%M} UTC, by {TOOL} {__version__}",
     }
     return "".join(f"<div><dt>{key}</dt><dd>{text_of(value)}</dd></div>" for key, value in values.items())

@@ -9,10 +9,11 @@ from pathlib import Path
 from ..base.description import Description, Frame
 from ..base.faults import DONE, REFUSED, Fault, Parser, run_tool
 from ..base.input_files import use_plain_files
-from ..base.program import find_program
+from ..base.program import Program, find_program
 from ..base.progress import Progress
 from .displacement import MOST_FAR, Summary, notes_of, summary_of
 from .displacement_text import object_of, text_of
+from .wires import wires_or_note
 
 TOOL = "lefence-summary"
 
@@ -26,7 +27,9 @@ def summary_of_files(program: str, before: Path, after: Path, libraries: list[Pa
         cells = Progress(TOOL, "cells").over(late.cells())
         summary = summary_of(early.cells(), cells, late.frame, most_far)
         summary.notes[:0] = notes_of(early.frame, late.frame)
-        return summary
+    summary.wires, notes = wires_or_note(*(Program(program, [design, *libraries]) for design in (before, after)))
+    summary.notes += notes
+    return summary
 
 
 def refuse_other_units(before: tuple[Path, Frame], after: tuple[Path, Frame]) -> None:

@@ -55,6 +55,17 @@ returns-in-Describe-clause-err g c =
     rw c.in-Describe.is (also_fails c.describe_files.result _ _ _ (rw (i.def_is, i.lefs_are, i.state_is, i.limits_are) at c.describe_files.ensures.err)
     (λ fault blames. writer_blames fault _ _ _ _ _ _ _ _ blames (λ k. k) (λ same. record { exports = refl; services = refl; reader = refl; writer = same })))
 
+pub returns-in-Wirelength-clause-ok : goal.returns-in-Wirelength-clause-ok
+returns-in-Wirelength-clause-ok g c =
+    let i = rw c.in-Wirelength.is at c.input_of-inputs.ensures in
+    rw c.in-Wirelength.is (rw (i.def_is, i.lefs_are, i.state_is, i.limits_are) at c.wirelength.ensures.ok)
+
+pub returns-in-Wirelength-clause-err : goal.returns-in-Wirelength-clause-err
+returns-in-Wirelength-clause-err g c =
+    let i = rw c.in-Wirelength.is at c.input_of-inputs.ensures in
+    rw c.in-Wirelength.is (also_fails c.wirelength.result _ _ _ (rw (i.def_is, i.lefs_are, i.state_is, i.limits_are) at c.wirelength.ensures.err)
+    (λ fault blames. writer_blames fault _ _ _ _ _ _ _ _ blames (λ k. k) (λ same. record { exports = refl; services = refl; reader = refl; writer = same })))
+
 pub returns-in-Replay-clause-unput : goal.returns-in-Replay-clause-unput
 returns-in-Replay-clause-unput g c = λ none.
     let o = rw c.in-Replay.is at c.outputs_of.ensures in

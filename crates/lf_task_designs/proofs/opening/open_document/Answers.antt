@@ -8,5 +8,5 @@ use Rattle.lf_task_designs.proofs.opening.open_document.Goals as goal
 
 pub returns-in-Err-clause-err : goal.returns-in-Err-clause-err
 returns-in-Err-clause-err c =
-    reported_as Def c.args.path.now c.args.text.now (IsLoadRefusal c.args.limits c.args.library.now (contents c.args.document.now)) c.into_load_fault-fault.result no_fence c.refused.result
-    (rw (c.def_file.ensures.kind, c.def_file.ensures.path) at c.refused.ensures) (inl c.into_load_fault-fault.ensures, rw c.into_load_fault-fault.ensures refl) (inl refl, refl)
+    reported_as Def c.args.path.now c.args.text.now (IsLoadRefusal c.args.limits c.args.library.now (contents c.args.document.now)) c.into_load_fault-fault.result no_fence c.text_refusal.result
+    (rw (c.def_file.ensures.kind, c.def_file.ensures.path) at c.text_refusal.ensures) (inl c.into_load_fault-fault.ensures, rw c.into_load_fault-fault.ensures refl) (inl refl, refl)
