@@ -137,6 +137,7 @@ class Summaries(FrontCase):
             "displacement": 8.9,
             "displacement_rows": 4.45,
         }
+        self.assertIsNone(read.pop("wire_length"))
         self.assertEqual(read, {**known, "only_before": [], "only_after": [], "farthest": [far], "notes": []})
 
     def test_other_units_are_refused(self) -> None:

@@ -57,9 +57,9 @@ class WireLengths(FrontCase):
         words = (self.lef, "--program", self.program)
         page = self.tool("lefence-report", self.after, *words, "--before", self.design).stdout.decode()
         self.assertIn("<dt>Wire length</dt><dd>2.200 -&gt; 3.200 microns (+45.5%)</dd>", page)
-        self.design.write_text(design("2100 0 ) N"))
+        self.design.write_text(design("2060 0 ) N"))
         done = self.tool("lefence-repair", self.design, *words, "--output", self.folder / "new.def")
-        self.assertIn(b"lefence-repair: wire length: 2.300 -> 2.200 microns (-4.3%)\n", done.stderr)
+        self.assertIn(b"lefence-repair: wire length: 2.260 -> 2.200 microns (-2.7%)\n", done.stderr)
 
 
 if __name__ == "__main__":

@@ -5,7 +5,8 @@ Modules in reading order:
 - `faults`: errors that end a tool, and the frame in which a tool runs.
 - `compression`, `atomic_file`: compressed files, and files that are replaced as a whole.
 - `input_files`: plain copies of compressed input files.
-- `program`, `async_run`, `progress`: runs of the lefence program, blocking and for asyncio, and their progress.
+- `program`, `reply_reader`, `async_run`, `progress`: runs of the lefence program, blocking and for asyncio, the pipe of
+  its replies, and their progress.
 - `description`: the output of `lefence describe`.
 - `state_text`: saved states of a floor.
 - `slices`: DEF texts with the cells of some teams.

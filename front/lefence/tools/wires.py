@@ -29,13 +29,14 @@ class Wires(NamedTuple):
 
 
 def wires_of(*placements: Program) -> Wires | None:
-    """Measures the placements of a design, side by side. Returns None if it has no nets. Raises a Fault if the program
-    does.
+    """Measures the placements of a design, side by side. Returns None if no pin of a net counts. Raises a Fault if the
+    program does.
     """
     with ThreadPoolExecutor(len(placements)) as pool:
         totals = [*pool.map(Program.wire_length, placements)]
     nets = max(total["nets"] for total in totals)
-    return Wires([total["doubled"] for total in totals], nets) if nets else None
+    has_pins = any(total["pins"] for total in totals)
+    return Wires([total["doubled"] for total in totals], nets) if has_pins else None
 
 
 def wires_or_note(*placements: Program) -> tuple[Wires | None, list[str]]:
