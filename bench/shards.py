@@ -6,8 +6,9 @@ usage: bench/shards.py [SECONDS [CELLS [PROGRAM]]]    (5 seconds for each figure
 
 The designs are those of `generate.py packed`. In the first, half of CELLS cells are in 16 fences and half in the
 ground team. One client of a fence flips its cells, one `place` at a time, as in `fairness.py`: alone, and then while
-clients of the ground team send `tidy`, `check`, `def` and `commit`. In the second, with four fences of CELLS / 8 cells
-each, four clients send these commands one after the other, and then at once, as often with one program as with four.
+clients of the ground team send `tidy`, `check`, `def` and `commit`. In the second, with the cells of four fences alone,
+CELLS / 8 each, four clients send these commands one after the other, and then at once, as often with one program as
+with four, of which each then has a team.
 The processor seconds show what the wall time is spent on: those of a program grow if the processors share a cache or a
 core, and side programs, which make states meanwhile, take a processor from the others.
 """
@@ -36,6 +37,13 @@ def write_design(folder: Path, cells: str, fences: int) -> str:
     (folder / "t.def").write_bytes(text)
     (folder / "t.lef").write_bytes(generated("tall"))
     return text.decode()
+
+
+def without_ground_cells(text: str) -> str:
+    """A design without the cells of the ground team, so that its teams with cells are those of the fences."""
+    lines = text.splitlines(keepends=True)
+    names = {name for line in lines if line.startswith("- g") for name in line.split()[2:]}
+    return "".join(line for line in lines if not line.startswith("- u") or line.split()[1] in names)
 
 
 def measure_waits(folder: Path, program: str, turns: Turns, seconds: float) -> None:
@@ -137,7 +145,7 @@ def main(words: list[str]) -> int:
     with tempfile.TemporaryDirectory(dir=".") as name:
         folder = Path(name).resolve()
         measure_waits(folder, program, Turns(write_design(folder, cells, FENCES)), seconds)
-        write_design(folder, cells, 4)
+        (folder / "t.def").write_text(without_ground_cells(write_design(folder, cells, 4)))
         measure_at_once(folder, program, seconds)
     return 0
 

@@ -13,8 +13,8 @@ A tool `lefence-NAME` is the function `main` of module NAME.
 - `repair`, `repair_run`, `repair_remote`: repair a design by the program, here or through a hub.
 - `farm`, `farm_runs`: run one job a team, each with its own hub.
 - `picture`, `report`, `report_moves`, `markers`: show a design; `scene`, `drawing` and `team_area` are what they share.
-- `summary`, `displacement`, `displacement_text`, `wires`: how far the cells of a design have moved, and how long its nets
-  are.
+- `summary`, `displacement`, `displacement_text`, `wires`: how far the cells of a design have moved, and how long its
+  nets are.
 
 The tools import all other sub-packages, and nothing imports them.
 """
