@@ -8,7 +8,7 @@ The designs are those of `generate.py packed`. In the first, half of CELLS cells
 ground team. One client of a fence flips its cells, one `place` at a time, as in `fairness.py`: alone, and then while
 clients of the ground team send `tidy`, `check`, `def` and `commit`. In the second, with the cells of four fences alone,
 CELLS / 8 each, four clients send these commands one after the other, and then at once, as often with one program as
-with four, of which each then has a team.
+with four. Then each program has a team.
 The processor seconds show what the wall time is spent on: those of a program grow if the processors share a cache or a
 core, and side programs, which make states meanwhile, take a processor from the others.
 """
