@@ -310,7 +310,7 @@ def wait_gone(processes: list[int]) -> None:
     """Waits until none of these processes runs."""
     last = time.monotonic() + PATIENCE
     for process in processes:
-        with contextlib.suppress(FileNotFoundError):
+        with contextlib.suppress(FileNotFoundError, ProcessLookupError):
             # (a zombie has no command line)
             while Path(f"/proc/{process}/cmdline").read_bytes():
                 if time.monotonic() > last:
