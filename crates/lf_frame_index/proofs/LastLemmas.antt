@@ -75,6 +75,23 @@ rest_point xs y x n point k d from within comes =
     let no = point.1 k d from within in
     absurd cc
 
+-- If the last entry in front of a position lies up to the point, all in front of it do.
+pub by_last : (xs : List RowEntry) (y x : ℤ) → AllPairs PrecedesByY xs → (n : ℕ) (e : RowEntry) → 0 < n → n ≤ length xs →
+    is_up_to_point y x (get_or xs (n - 1) e) ≡ true → (k : ℕ) (d : RowEntry) → k < n → IsUpToPoint y x (get_or xs k d)
+by_last xs y x pairs n e some bound here k d less =
+    let there : is_up_to_point y x (get_or xs (n - 1) d) ≡ true =
+    subst (λ (g : RowEntry). is_up_to_point y x g ≡ true) (get_or_default xs (n - 1) e d (omega arith)) here in
+    comes_of y x (get_or xs k d) (parted_by xs y x pairs k (n - 1) d (omega arith) (omega arith) there)
+
+-- If the entry at a position does not lie up to the point, no entry from there on does.
+pub rest_first : (xs : List RowEntry) (y x : ℤ) → AllPairs PrecedesByY xs → (n : ℕ) (e : RowEntry) → n < length xs →
+    is_up_to_point y x (get_or xs n e) ≡ false → (k : ℕ) (d : RowEntry) → n ≤ k → k < length xs → IsUpToPoint y x (get_or xs k d) → ⊥
+rest_first xs y x pairs n e inside here k d from within comes =
+    let no : is_up_to_point y x (get_or xs n d) ≡ false =
+    subst (λ (g : RowEntry). is_up_to_point y x g ≡ false) (get_or_default xs n e d inside) here in
+    let yes : is_up_to_point y x (get_or xs n d) ≡ true = parted_by xs y x pairs n k d from within (of_comes y x (get_or xs k d) comes) in
+    absurd cc
+
 -- The last entry that lies up to the point, in a list in order.
 pub none_level : (xs : List RowEntry) (y x : ℤ) (n : ℕ) (e : RowEntry) → AllPairs PrecedesByY xs → 0 < n → n ≤ length xs →
     ((k : ℕ) (d : RowEntry) → n ≤ k → k < length xs → IsUpToPoint y x (get_or xs k d) → ⊥) → (get_or xs (n - 1) e).y <ℤ y →

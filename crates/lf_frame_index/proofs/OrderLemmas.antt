@@ -1,6 +1,6 @@
 -- The strips of one row and team that overlap a range of x, and the search for them among all
 -- strips.
-use Rattle.std.proofs.Common.{◌≡◌, ◌⊎◌, inl, inr, ℕ, ◌+◌, ◌<◌, ◌≤◌, ℤ, ◌≤ℤ◌, ◌<ℤ◌, Bool, true, false, cond, List, length, get_or, eqb, ltb, refl}
+use Rattle.std.proofs.Common.{◌≡◌, ◌⊎◌, inl, inr, ℕ, ◌+◌, ◌-◌, ◌<◌, ◌≤◌, ℤ, ◌≤ℤ◌, ◌<ℤ◌, Bool, true, false, cond, List, length, get_or, eqb, ltb, refl}
 use Rattle.std.proofs.Common.{sym, ap, subst, ◌∙◌, arith, int_le, int_lt}
 use Rattle.std.specs.Prelude.{All, AllPairs}
 use Rattle.std.specs.List.Sorted.{IsPartitionedBy}
@@ -105,6 +105,29 @@ begun_parted row team x xs pairs wide = parted row team (λ g. int_lt g.area.x1 
     let w = wide i d (omega (arith, less, within)) in
     let l = less_of (get_or xs j d).area.x1 x h in
     of_less (get_or xs i d).area.x1 x (omega (arith, ints, w, l, apart)))
+
+-- If the last strip in front of a position is ended, all in front of it are.
+pub ended_last : (row team : ℕ) (x : ℤ) (xs : List Strip) → AllPairs LiesBefore xs → All (λ g. g.area.x1 <ℤ g.area.x2) xs → (n : ℕ) (e : Strip) →
+    0 < n → n ≤ length xs → is_earlier row team (int_le (get_or xs (n - 1) e).area.x2 x) (get_or xs (n - 1) e) ≡ true → (k : ℕ) (d : Strip) → k < n →
+    is_earlier row team (int_le (get_or xs k d).area.x2 x) (get_or xs k d) ≡ true
+ended_last row team x xs pairs wide n e some bound here k d less =
+    let there : is_earlier row team (int_le (get_or xs (n - 1) d).area.x2 x) (get_or xs (n - 1) d) ≡ true =
+    subst (λ (g : Strip). is_earlier row team (int_le g.area.x2 x) g ≡ true) (get_or_default xs (n - 1) e d (omega arith)) here in
+    ended_parted row team x xs pairs wide k (n - 1) d (omega arith) (omega arith) there
+
+-- If the strip at a position is not ended, no strip from there on is.
+pub not_ended_after : (row team : ℕ) (x : ℤ) (xs : List Strip) → AllPairs LiesBefore xs → All (λ g. g.area.x1 <ℤ g.area.x2) xs → (n : ℕ) (e : Strip) →
+    n < length xs → is_earlier row team (int_le (get_or xs n e).area.x2 x) (get_or xs n e) ≡ false → (k : ℕ) (d : Strip) → n ≤ k → k < length xs →
+    is_earlier row team (int_le (get_or xs k d).area.x2 x) (get_or xs k d) ≡ false
+not_ended_after row team x xs pairs wide n e inside here k d from within = of (is_earlier row team (int_le (get_or xs k d).area.x2 x) (get_or xs k d)) refl
+  where
+    there : is_earlier row team (int_le (get_or xs n d).area.x2 x) (get_or xs n d) ≡ false
+    there = subst (λ (g : Strip). is_earlier row team (int_le g.area.x2 x) g ≡ false) (get_or_default xs n e d inside) here
+
+    of : (b : Bool) → is_earlier row team (int_le (get_or xs k d).area.x2 x) (get_or xs k d) ≡ b →
+        is_earlier row team (int_le (get_or xs k d).area.x2 x) (get_or xs k d) ≡ false
+    of false is = is
+    of true is = absurd (false≢true (sym there ∙ ended_parted row team x xs pairs wide n k d from within is))
 
 -- If one strip is not begun, no strip after it is.
 pub not_begun_after : (row team : ℕ) (x : ℤ) (xs : List Strip) → AllPairs LiesBefore xs → All (λ g. g.area.x1 <ℤ g.area.x2) xs → (n : ℕ) (e : Strip) →

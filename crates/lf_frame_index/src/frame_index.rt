@@ -8,7 +8,8 @@ use crate::extent::extent_of;
 use crate::rows_by_y::{RowEntry, RowsByY};
 use crate::soft_spans::SoftSpans;
 use crate::strip::Strip;
-use crate::strips::{StripRange, near_strips, rows_near, strips_of};
+use crate::strips::{StripRange, StripTable, near_strips, rows_near, strips_of};
+use crate::team_starts::TeamStarts;
 use lf_floorplan::Frame;
 use lf_segments::{Segments, SegmentsAndLand, segments_and_land};
 use lf_units::{Rect, Span};
@@ -25,6 +26,7 @@ pub struct FrameIndex {
     segments: Segments,
     land: Segments,
     strips: Vec<Strip>,
+    starts: TeamStarts,
     soft: SoftSpans,
     extent: Rect,
     height: i64,
@@ -39,6 +41,7 @@ impl Drop for FrameIndex {
             segments: _,
             land: _,
             strips: _,
+            starts: _,
             soft: _,
             extent: _,
             height: _,
@@ -76,11 +79,13 @@ impl FrameIndex {
         let strips = strips_of(alloc, frame, segments.as_slice())?;
         let soft = SoftSpans::build(alloc, frame, strips.as_slice())?;
         let rows = RowsByY::build(alloc, frame)?;
+        let starts = TeamStarts::build(alloc, strips.as_slice())?;
         Ok(FrameIndex {
             rows,
             segments,
             land,
             strips,
+            starts,
             soft,
             extent: extent_of(frame),
             height: frame.pitch.y,
@@ -144,7 +149,11 @@ impl FrameIndex {
     pub fn strips_overlapping(&self, row: usize, team: usize, lo: &i64, hi: &i64) -> StripRange
         ensures { AreNear self.now.strips row team lo.now hi.now result.start result.end }
     {
-        near_strips(&self.strips, &self.segments, row, team, lo, hi)
+        let table = StripTable {
+            strips: &self.strips,
+            starts: &self.starts,
+        };
+        near_strips(&table, &self.segments, row, team, lo, hi)
     }
 
     /// Returns a run of the entries of the rows in order of y. It has each row whose strips may

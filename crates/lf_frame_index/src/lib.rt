@@ -16,6 +16,7 @@
 //! - `extent`: the rectangle that holds all rows of a frame
 //! - `rows_by_y`: the rows of a frame in order of y
 //! - `row_lookup`: the row at a point, and whether a box on rows lies in segments
+//! - `team_starts`: where the strips of each team begin in each row
 //! - `strips`: the strips of segments, and the search for them
 //! - `soft_spans`: the spans of segments under soft blockages
 //! - `frame_index`: the index of a frame
@@ -43,6 +44,7 @@ mod rows_by_y;
 mod soft_spans;
 mod strip;
 mod strips;
+mod team_starts;
 
 pub use frame_index::FrameIndex;
 pub use indexed_frame::IndexedFrame;

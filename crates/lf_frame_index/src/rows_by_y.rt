@@ -184,7 +184,54 @@ fn comes_by(entry: &RowEntry, y: &i64, x: &i64) -> bool
     entry.x <= *x
 }
 
-/// Returns the number of rows that lie below y, or lie at y and do not begin right of x.
+/// Estimates the number of rows that lie below y, or lie at y and do not begin right of x, as if
+/// the entries rose evenly and no two rows lay at the same y.
+fn even_count(entries: &[RowEntry], y: &i64, x: &i64) -> usize {
+    let place = even_place(entries, y);
+    let Some(entry) = entries.get(place) else {
+        return place;
+    };
+    if comes_by(entry, y, x) {
+        return place.saturating_add(1);
+    }
+    place
+}
+
+/// Returns whether each entry in front of this position lies below y, or lies at y and does not
+/// begin right of x. Looks at the last of them. False if there are fewer entries.
+fn front_comes_by(entries: &[RowEntry], y: &i64, x: &i64, at: usize) -> bool
+    requires { AllPairs PrecedesByY entries.now }
+    ensures within { IsTrue result → at ≤ length entries.now }
+    ensures by { IsTrue result → (k : ℕ) → (d : RowEntry) → k < at
+        → IsUpToPoint y.now x.now (slice_index_or entries.now k d) }
+{
+    if at == 0 {
+        return true;
+    }
+    if entries.len() < at {
+        return false;
+    }
+    comes_by(&entries[at - 1], y, x)
+}
+
+/// Returns whether no entry from this position on lies below y, or lies at y and does not begin
+/// right of x. Looks at the first of them.
+fn rest_comes_after(entries: &[RowEntry], y: &i64, x: &i64, at: usize) -> bool
+    requires { AllPairs PrecedesByY entries.now }
+    ensures { IsTrue result → (k : ℕ) → (d : RowEntry) → at ≤ k → k < length entries.now
+        → IsUpToPoint y.now x.now (slice_index_or entries.now k d) → ⊥ }
+{
+    if entries.len() <= at {
+        return true;
+    }
+    if comes_by(&entries[at], y, x) {
+        return false;
+    }
+    true
+}
+
+/// Returns the number of rows that lie below y, or lie at y and do not begin right of x. If the
+/// rows rise evenly, one probe finds it; otherwise a binary search does.
 fn count_by(entries: &[RowEntry], y: &i64, x: &i64) -> usize
     requires { AllPairs PrecedesByY entries.now }
     ensures within { result ≤ length entries.now }
@@ -192,6 +239,10 @@ fn count_by(entries: &[RowEntry], y: &i64, x: &i64) -> usize
     ensures rest { (k : ℕ) → (d : RowEntry) → result ≤ k → k < length entries.now
         → IsUpToPoint y.now x.now (slice_index_or entries.now k d) → ⊥ }
 {
+    let guess = even_count(entries, y, x);
+    if front_comes_by(entries, y, x, guess) && rest_comes_after(entries, y, x, guess) {
+        return guess;
+    }
     entries.partition_point(|entry| comes_by(entry, y, x))
 }
 

@@ -1,6 +1,6 @@
 //! The strips of segments, and the search for them.
 
-ghost use Rattle.std.specs.Prelude.{◌≡◌, ◌<◌, ◌≤◌, ◌<ℤ◌, ◌≤ℤ◌, ◌+ℤ◌, ℕ, ℤ, All, IfOk, int_lt, length, map, negsuc, pos, true, false};
+ghost use Rattle.std.specs.Prelude.{◌≡◌, ◌<◌, ◌≤◌, ◌<ℤ◌, ◌≤ℤ◌, ◌+ℤ◌, ℕ, ℤ, All, IfOk, IsTrue, int_le, int_lt, length, map, negsuc, pos, true, false};
 ghost use Rattle.lf_frame_index.specs.declared.strip.Strip.{Strip};
 ghost use Rattle.lf_segments.specs.RowStarts.{rows_of};
 ghost use Rattle.lf_frame_index.specs.Lookups.{AreWideStrips, IsRowHeight};
@@ -8,6 +8,7 @@ ghost use Rattle.lf_frame_index.specs.Strips.{AreNear, AreRowsNear, is_begun, is
 
 use crate::rows_by_y::{RowEntry, RowsByY};
 use crate::strip::Strip;
+use crate::team_starts::TeamStarts;
 use lf_floorplan::Frame;
 use lf_segments::{Segment, Segments};
 use lf_units::Rect;
@@ -15,6 +16,16 @@ use std::alloc::{AllocError, Global};
 
 /// No strip lies lower: the least coordinate of a DEF text is above this.
 const LOWEST: i64 = -2147483648;
+
+/// The greatest number of strips that a search skips one after another.
+const FEW: usize = 4;
+
+/// The strips of a frame, and where those of each team begin in each row.
+#[derive(Clone, Copy)]
+pub(crate) struct StripTable<'a> {
+    pub(crate) strips: &'a [Strip],
+    pub(crate) starts: &'a TeamStarts,
+}
 
 /// A run of numbers of strips, from `start` on and below `end`.
 #[derive(Clone, Copy, Debug, PartialEq, Eq)]
@@ -81,15 +92,75 @@ fn is_before(strip: &Strip, row: usize, team: usize, left: bool) -> bool
     left
 }
 
-/// Returns the number of strips of an earlier row or team, or of this row and team that end at x or
+/// Returns whether the strip is of an earlier row or team, or of this row and team and ends at x or
 /// left of it.
-fn count_ended(strips: &[Strip], row: usize, team: usize, x: &i64) -> usize
+fn ends_before(strip: &Strip, row: usize, team: usize, x: &i64) -> bool
+    ensures { result ≡ is_earlier row team (int_le strip.now.area.x2 x.now) strip.now }
+{
+    is_before(strip, row, team, strip.area.x2 <= *x)
+}
+
+/// Skips at most `FEW` strips, from position `from` on, for which `ends_before` holds. Returns the
+/// position reached.
+fn skip_ended(strips: &[Strip], from: usize, row: usize, team: usize, x: &i64) -> usize {
+    let last = from.saturating_add(FEW);
+    for at in from..last {
+        let Some(strip) = strips.get(at) else {
+            return at;
+        };
+        if !ends_before(strip, row, team, x) {
+            return at;
+        }
+    }
+    last
+}
+
+/// Returns whether `ends_before` holds for each strip in front of this position. Looks at the last
+/// of them. False if there are fewer strips.
+fn front_is_ended(strips: &[Strip], row: usize, team: usize, x: &i64, at: usize) -> bool
+    requires { AreWideStrips strips.now }
+    ensures within { IsTrue result → at ≤ length strips.now }
+    ensures ended { IsTrue result → (k : ℕ) → (d : Strip) → k < at → is_ended strips.now row team x.now k d ≡ true }
+{
+    if at == 0 {
+        return true;
+    }
+    if strips.len() < at {
+        return false;
+    }
+    ends_before(&strips[at - 1], row, team, x)
+}
+
+/// Returns whether `ends_before` holds for no strip from this position on. Looks at the first of
+/// them.
+fn rest_is_not_ended(strips: &[Strip], row: usize, team: usize, x: &i64, at: usize) -> bool
+    requires { AreWideStrips strips.now }
+    ensures { IsTrue result → (k : ℕ) → (d : Strip) → at ≤ k → k < length strips.now
+        → is_ended strips.now row team x.now k d ≡ false }
+{
+    if strips.len() <= at {
+        return true;
+    }
+    if ends_before(&strips[at], row, team, x) {
+        return false;
+    }
+    true
+}
+
+/// Returns the number of strips of an earlier row or team, or of this row and team that end at x or
+/// left of it. If `guess` is the number of strips of an earlier row or team, and few of the others
+/// end there, a few probes find it; otherwise a binary search does.
+fn count_ended(strips: &[Strip], guess: usize, row: usize, team: usize, x: &i64) -> usize
     requires { AreWideStrips strips.now }
     ensures within { result ≤ length strips.now }
     ensures ended { (k : ℕ) → (d : Strip) → k < result → is_ended strips.now row team x.now k d ≡ true }
     ensures rest { (k : ℕ) → (d : Strip) → result ≤ k → k < length strips.now
         → is_ended strips.now row team x.now k d ≡ false }
 {
+    let at = skip_ended(strips, guess, row, team, x);
+    if front_is_ended(strips, row, team, x, at) && rest_is_not_ended(strips, row, team, x, at) {
+        return at;
+    }
     strips.partition_point(|strip| is_before(strip, row, team, strip.area.x2 <= *x))
 }
 
@@ -121,22 +192,24 @@ fn end_of_begun(strips: &[Strip], first: usize, row: usize, team: usize, x: &i64
 }
 
 /// Returns the numbers of the strips of a row and a team that overlap a range of x. A lookup finds
-/// the strips of the row, a binary search among them the first, and a scan from there the last.
+/// the strips of the row, and another one the team's. A few probes, or a binary search, find the
+/// first that overlaps, and a scan from there the last.
 pub(crate) fn near_strips(
-    strips: &[Strip],
+    table: &StripTable<'_>,
     segments: &Segments,
     row: usize,
     team: usize,
     lo: &i64,
     hi: &i64,
 ) -> StripRange
-    requires strips { AreWideStrips strips.now }
-    requires rows { rows_in strips.now ≡ rows_of segments.now }
-    ensures { AreNear strips.now row team lo.now hi.now result.start result.end }
+    requires strips { AreWideStrips table.now.strips.now }
+    requires rows { rows_in table.now.strips.now ≡ rows_of segments.now }
+    ensures { AreNear table.now.strips.now row team lo.now hi.now result.start result.end }
 {
     let range = segments.range_of(row);
-    let in_row = &strips[range.start..range.end];
-    let first = count_ended(in_row, row, team, lo);
+    let in_row = &table.strips[range.start..range.end];
+    let guess = table.starts.start_of(row, team).saturating_sub(range.start);
+    let first = count_ended(in_row, guess, row, team, lo);
     let end = end_of_begun(in_row, first, row, team, hi);
     StripRange {
         start: range.start + first,

@@ -377,7 +377,7 @@ entries_insert f (x ∷ ms) zero m = refl
 entries_insert f (x ∷ ms) (suc i) m = ap (λ (es : List Entry). f x ∷ es) (entries_insert f ms i m)
 
 no_mark : Mark
-no_mark = record { own = 0; left = pos 0; width = 0 }
+no_mark = record { own = 0; left = pos 0; width = pos 0 }
 
 pub entry_there : (cells : List (Option Rect)) (area : Rect) (ms : List Mark) (k : ℕ) (d : Entry) (e : Mark) → k < length ms →
     get_or (marked_entries cells area ms) k d ≡ marked_entry cells area (get_or ms k e)
@@ -548,7 +548,7 @@ marked_put cells area own rect old new has nowhere near marked put = elim put [
         j = added.joined
 
         of_part : MarkIsOf record { own = own; area = part } m
-        of_part = record { left = added.of.left; width = added.of.width }
+        of_part = record { left = added.of.left; width = added.of.width; some = added.of.some }
 
         apart : All (λ z. z.own ≢ own) items
         apart = none_marked cells area own old marked nothing

@@ -116,7 +116,7 @@ near_marked cells area l rest lo hi f n marked bound same low high =
     many = entries_many cells area ms
 
     m0 : Mark
-    m0 = record { own = 0; left = pos 0; width = 0 }
+    m0 = record { own = 0; left = pos 0; width = pos 0 }
 
     before : (k : ℕ) (d : Entry) → k < f → (get_or es k d).area.x1 <ℤ (lo -ℤ l.widest)
     before k d less =

@@ -103,14 +103,11 @@ pub record ShowsBoxes (cells : List (Option Rect)) (area : Rect) (l : StripView)
   pub reported : All (λ e. (x y : ℤ) → Covers e.area x y → LiesInBox cells area e.own x y) l.entries
   pub once : AllPairs (λ a b. a.own ≢ b.own) l.entries
 
--- what a mark keeps of a width: the width, or 2^32 - 1, which says nothing about the width
-abbrev pub IsKeptAs : ℤ → ℕ → Type 0
-IsKeptAs width kept = kept ≢ 4294967295 → width ≡ pos kept
-
--- the mark has the entry's left edge, and keeps its width
+-- the mark has the entry's left edge and its width, which is no less than 0
 pub record MarkIsOf (e : Entry) (m : Mark) : Type 0 where
   pub left : m.left ≡ e.area.x1
-  pub width : IsKeptAs (e.area.x2 -ℤ e.area.x1) m.width
+  pub width : m.width ≡ (e.area.x2 -ℤ e.area.x1)
+  pub some : pos 0 ≤ℤ m.width
 
 -- each of the marks is that of its entry
 abbrev pub MarksAreOf : List (Option Rect) → Rect → List Mark → Type 0
@@ -237,7 +234,8 @@ pub record IsJoined (m : Mark) (width : ℤ) (old new : StripMarks) : Type 0 whe
 pub record IsMarkOf (own : ℕ) (part : Rect) (m : Mark) : Type 0 where
   pub is : m.own ≡ own
   pub left : m.left ≡ part.x1
-  pub width : IsKeptAs (part.x2 -ℤ part.x1) m.width
+  pub width : m.width ≡ (part.x2 -ℤ part.x1)
+  pub some : pos 0 ≤ℤ m.width
 
 -- a mark of the cell for this part is added to the strip
 pub record IsAdded (own : ℕ) (part : Rect) (old new : StripMarks) : Type 0 where

@@ -7,7 +7,7 @@ ghost use Rattle.lf_rules.specs.Padding.{HasRoomAround, IsShort};
 ghost use Rattle.lf_units.specs.declared.geometry.Rect.{Rect};
 ghost use Rattle.lf_occupancy.specs.declared.strip_marks.Mark.{Mark};
 ghost use Rattle.lf_occupancy.specs.MarkedStrips.{AreMarksIn, MarksItsBoxes, strip_entries, entries_in, entry_in};
-ghost use Rattle.lf_occupancy.specs.MarkLists.{AreRising, MarksAreOf, HasAtMostOne, HasRoom, HasRoomOf, IsJoined, KeepsMarksOf, IsKeptAs, IsLeast, IsMarked};
+ghost use Rattle.lf_occupancy.specs.MarkLists.{AreRising, MarksAreOf, HasAtMostOne, HasRoom, HasRoomOf, IsJoined, KeepsMarksOf, IsLeast, IsMarked};
 ghost use Rattle.lf_occupancy.specs.MarkLists.{IsNearRun, IsNearZero, IsPlaceX, IsUnmarked, IsPutIn, HasPoints, LiesBeside, OverlapsEntry, OverlapsOne, IsMarkOfCell};
 ghost use Rattle.lf_occupancy.specs.MarkLists.{HasNoMarkFrom, MarkIsOf, all_padded, marked_entries, marked_entry, entry_of_box, others_in, part_in, some_box, spans_in};
 ghost use Rattle.lf_occupancy.specs.MarkLists.{TakesPart, wider_range, x_range};
@@ -29,13 +29,13 @@ pub(crate) struct Entry {
 }
 
 /// What is kept of an entry: the cell's position among its team's cells, and the entry's left edge
-/// and width in database units. A width of 2^32 - 1 or more is kept as 2^32 - 1. The remaining
-/// edges follow from the cell's box.
+/// and width in database units. The remaining edges follow from the cell's box. A mark fills 16
+/// bytes, because lists of such elements are shifted fastest.
 #[derive(Clone, Copy, Debug, PartialEq, Eq)]
 pub(crate) struct Mark {
     pub(crate) own: u32,
     pub(crate) left: i32,
-    pub(crate) width: u32,
+    pub(crate) width: i64,
 }
 
 /// The marks of one widened strip in the order of their left edges, and a bound on the width of its
@@ -114,19 +114,15 @@ fn entry_at(strip: &MarkedStrip<'_>, mark: &Mark) -> Entry
     )
 }
 
-/// The x range of the entry of a mark in the strip. It computes the cell's box only if the mark does
-/// not contain the width.
+/// The x range of the entry of a mark in the strip.
 fn range_at(strip: &MarkedStrip<'_>, mark: &Mark) -> Span
     requires { MarkIsOf (entry_in strip.now mark.now) mark.now }
     ensures { result ≡ x_range (entry_in strip.now mark.now).area }
 {
-    if mark.width == u32::MAX {
-        return x_range_of(&entry_at(strip, mark).area);
-    }
     let lo = i64::from(mark.left);
     Span {
         lo,
-        hi: lo + i64::from(mark.width),
+        hi: lo + mark.width,
     }
 }
 
@@ -433,26 +429,17 @@ fn join(mark_list: &mut StripMarks, mark: &Mark, part: &CoveredPart<'_>)
     insert_at(&mut mark_list.marks, at, mark);
 }
 
-/// The width of the part as a mark keeps it. A width of 2^32 - 1 or more is kept as 2^32 - 1.
-fn kept_width(part: &CoveredPart<'_>) -> u32
-    ensures { IsKeptAs (part.now.rect.now.x2 -ℤ part.now.rect.now.x1) result }
-{
-    match u32::try_from(part.rect.x2 - part.rect.x1) {
-        Ok(kept) => kept,
-        Err(_) => u32::MAX,
-    }
-}
-
 /// The mark of a cell for a part of its strip.
 fn mark_of(own: u32, part: &CoveredPart<'_>) -> Mark
     ensures is { result.own ≡ own }
     ensures left { result.left ≡ part.now.rect.now.x1 }
-    ensures width { IsKeptAs (part.now.rect.now.x2 -ℤ part.now.rect.now.x1) result.width }
+    ensures width { result.width ≡ (part.now.rect.now.x2 -ℤ part.now.rect.now.x1) }
+    ensures some { pos 0 ≤ℤ result.width }
 {
     Mark {
         own,
         left: part.rect.x1 as i32,
-        width: kept_width(part),
+        width: part.rect.x2 - part.rect.x1,
     }
 }
 

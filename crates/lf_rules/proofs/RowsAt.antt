@@ -1,14 +1,16 @@
 -- The only row that lies at a y and extends over an x is the only one that may carry a box there.
-use Rattle.std.proofs.Common.{◌≡◌, ℕ, ℤ, pos, negsuc, ◌+ℤ◌, ◌*ℤ◌, ◌<◌, ◌<ℤ◌, length, Option, Some, None, refl, sym, ◌∙◌, ap, subst, arith, slice_get}
-use Rattle.std.specs.Option.{IsSomeAnd}
+use Rattle.std.proofs.Common.{◌≡◌, ℕ, zero, suc, ℤ, pos, negsuc, ◌+ℤ◌, ◌*ℤ◌, ◌<◌, ◌<ℤ◌, length, Option, Some, None, refl, sym, ◌∙◌, ap, subst, arith, slice_get}
+use Rattle.std.specs.Option.{IsSomeAnd, option_map}
 use Rattle.std.proofs.lemmas.Int.{ints}
 use Rattle.std.proofs.lemmas.Option.{slice_get_read, slice_get_within, get_or_from_slice_get}
 use Rattle.std.proofs.lemmas.List.Elements.{All-contains}
+use Rattle.lf_orient.specs.declared.Rail.{Rail}
+use Rattle.lf_orient.specs.Orientation.{rail_below}
 use Rattle.lf_units.specs.declared.geometry.Point.{Point}
 use Rattle.lf_units.specs.declared.geometry.Rect.{Rect}
 use Rattle.lf_floorplan.specs.declared.frame.Frame.{Frame}
 use Rattle.lf_floorplan.specs.declared.parts.Row.{Row}
-use Rattle.lf_floorplan.specs.RowSupport.{Supports, ExtendsOver, IsBottomRow, IsRowAt, IsRowOfBox}
+use Rattle.lf_floorplan.specs.RowSupport.{Supports, ExtendsOver, IsBottomRow, IsRowAt, IsRowOfBox, rail_alternated}
 use Rattle.lf_floorplan.proofs.RowAtLemmas.{row_at_one}
 use Rattle.lf_rules.specs.Solid.{IsOnlyRow}
 
@@ -71,6 +73,17 @@ no_other_bottom f box p r is wide only not_so s b =
     not_so (subst (λ (q : Row). IsBottomRow f box q) same b)
 
 -- ---- a row that carries the box
+
+-- A rail that is alternated 0 times is unchanged.
+not_alternated : (rail : Option Rail) → rail ≡ option_map (rail_alternated 0) rail
+not_alternated None = refl
+not_alternated (Some rail) = refl
+
+-- The bottom row carries the lowest part of the box.
+pub bottom_carries : (f : Frame) (box : Rect) (r : Row) → IsBottomRow f box r → (j : ℕ) → j < 1 → (s : Row) × Supports f box r j s
+bottom_carries f box r b zero less =
+    (r, record { core_ones = b.core_ones; at_row = b.at_bottom; rail = not_alternated (rail_below r.orient) })
+bottom_carries f box r b (suc j) less = absurd (omega arith)
 
 pub none_carries : (f : Frame) (box : Rect) (bottom : Row) (j : ℕ) (p : Point) → p ≡ foot f box j → box.x1 <ℤ box.x2 → IsOnlyRow f p None
     → (s : Row) → Supports f box bottom j s → ⊥

@@ -168,12 +168,14 @@ fn is_carried<N: FrameQuery>(near: &N, rect: &Rect, bottom: &Row, sites: u32) ->
     supports(frame, rect, bottom, sites, row)
 }
 
-/// Returns whether rows of the frame carry the box over all of its height.
+/// Returns whether rows of the frame carry the box over all of its height. Its bottom row carries
+/// the lowest part.
 pub(crate) fn is_supported<N: FrameQuery>(near: &N, rect: &Rect, bottom: &Row, height: u32) -> bool
-    requires { HasLevel rect.now height }
+    requires level { HasLevel rect.now height }
+    requires bottom { IsBottomRow (N.of near.now) rect.now bottom.now }
     ensures { IsTrue result ↔ ((j : ℕ) → j < height → (s : Row) × Supports (N.of near.now) rect.now bottom.now j s) }
 {
-    for sites in 0..height {
+    for sites in 1..height {
         if !is_carried(near, rect, bottom, sites) {
             return false;
         }

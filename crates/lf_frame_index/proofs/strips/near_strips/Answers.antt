@@ -19,11 +19,11 @@ wide_part xs rows row start end same of strips =
 
 pub count_ended-first-requires : goal.count_ended-first-requires
 count_ended-first-requires c =
-    wide_part c.args.strips.now _ c.args.row c.range_of-range.result.start c.range_of-range.result.end c.requires.rows c.range_of-range.ensures c.requires.strips
+    wide_part c.args.table.now.strips.now _ c.args.row c.range_of-range.result.start c.range_of-range.result.end c.requires.rows c.range_of-range.ensures c.requires.strips
 
 pub end_of_begun-end-requires-clause-strips : goal.end_of_begun-end-requires-clause-strips
 end_of_begun-end-requires-clause-strips c =
-    wide_part c.args.strips.now _ c.args.row c.range_of-range.result.start c.range_of-range.result.end c.requires.rows c.range_of-range.ensures c.requires.strips
+    wide_part c.args.table.now.strips.now _ c.args.row c.range_of-range.result.start c.range_of-range.result.end c.requires.rows c.range_of-range.ensures c.requires.strips
 
 pub returns : goal.returns
 returns c =
@@ -33,5 +33,5 @@ returns c =
     let ended = c.count_ended-first.ensures in
     let begun = c.end_of_begun-end.ensures in
     let range = subst (λ (rows : List ℕ). IsRangeOf rows row start end) (sym c.requires.rows) c.range_of-range.ensures in
-    near_in_row c.args.strips.now row c.args.team c.args.lo.now c.args.hi.now start end c.count_ended-first.result c.end_of_begun-end.result range
+    near_in_row c.args.table.now.strips.now row c.args.team c.args.lo.now c.args.hi.now start end c.count_ended-first.result c.end_of_begun-end.result range
     ended.within begun.within ended.ended ended.rest begun.begun begun.rest

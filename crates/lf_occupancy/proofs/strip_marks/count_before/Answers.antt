@@ -6,7 +6,7 @@ use Rattle.lf_occupancy.proofs.Runs.{parted, below_last, below_x, from_x}
 use Rattle.lf_occupancy.proofs.strip_marks.count_before.Goals as goal
 
 abbrev no_mark : Mark
-no_mark = record { own = 0; left = pos 0; width = 0 }
+no_mark = record { own = 0; left = pos 0; width = pos 0 }
 
 pub returns-then-from-x-clause-below : goal.returns-then-from-x-clause-below
 returns-then-from-x-clause-below c =

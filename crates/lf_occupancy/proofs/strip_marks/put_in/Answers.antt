@@ -31,7 +31,7 @@ returns-then-has_points c =
     let part = c.part_of-part.result in
     let added : IsAdded own part c.args.mark_list.now c.join.new.mark_list = record {
       mark = c.mark_of.result;
-      of = record { is = c.mark_of.ensures.is; left = c.mark_of.ensures.left; width = c.mark_of.ensures.width };
+      of = record { is = c.mark_of.ensures.is; left = c.mark_of.ensures.left; width = c.mark_of.ensures.width; some = c.mark_of.ensures.some };
       joined = c.join.ensures;
     } in
     subst (λ (r : Rect). IsPutPart own r c.args.mark_list.now c.join.new.mark_list) c.part_of-part.ensures (inl (c.if-has_points.ensures.0 refl, added))
