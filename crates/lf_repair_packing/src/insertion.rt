@@ -146,8 +146,8 @@ pub(crate) fn try_gap(
         return Ok(None);
     }
     curve.begin(low as u32, high as u32);
-    curve.add_own(cell.wanted, effort.near, effort.weight)?;
     add_left_side(curve, &cells[gap - left.count..gap], left.extent)?;
+    curve.add_own(cell.wanted, effort.near, effort.weight)?;
     add_right_side(curve, &cells[gap..gap + right.count], cell.width)?;
     let least = curve.least();
     Ok(Some(Insertion {

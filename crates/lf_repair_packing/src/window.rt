@@ -175,6 +175,21 @@ fn move_list(cells: &mut Vec<PackedCell>, own: usize, window: &Window)
     move_cells(cells.as_mut_slice(), own, window);
 }
 
+/// Inserts a cell at position `gap`. A full list grows by a quarter, since there are many of them.
+/// `Err` if an allocation fails; then nothing is changed.
+fn insert_at(cells: &mut Vec<PackedCell>, gap: usize, cell: PackedCell) -> Result<(), AllocError>
+    requires gap { gap ≤ vec_len cells.old }
+    ensures items { OnOk result (cells.new.items ≡ insert cells.old.items gap cell) }
+    ensures len { OnOk result (vec_len cells.new ≡ vec_len cells.old + 1) }
+    ensures failed { OnErr result (cells.new.items ≡ cells.old.items) }
+{
+    if cells.len() == cells.capacity() {
+        cells.reserve_exact(cells.len() / 4 + 2)?;
+    }
+    cells.insert(gap, cell)?;
+    Ok(())
+}
+
 /// Inserts a cell at position `gap`, at its own site if that is free, otherwise near it. Cells that
 /// overlap it make room. Returns by how much the total displacement of the cells grows. `Err` if an
 /// allocation fails; then nothing is changed.
@@ -198,7 +213,7 @@ pub(crate) fn insert_cell(
 {
     let window = window_at(cells.as_slice(), gap, &cell, room);
     let before = total_displacement(&cells[window.first..window.last]);
-    cells.insert(gap, cell)?;
+    insert_at(cells, gap, cell)?;
     let grown = with_one_more(&window);
     move_list(cells, gap, &grown);
     let after = total_displacement(&cells[grown.first..grown.last]);

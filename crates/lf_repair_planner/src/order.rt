@@ -3,6 +3,7 @@
 
 ghost use Rattle.std.specs.Prelude.{◌<◌};
 
+use crate::passes::PlannerInput;
 use crate::plan::PlannerCell;
 use crate::search_limits::number_of;
 use std::alloc::{AllocError, Global};
@@ -17,8 +18,8 @@ struct Key {
     /// that have a near place.
     nearness: i64,
     class: u8,
-    tile_y: i64,
-    tile_x: i64,
+    tile_y: i32,
+    tile_x: i32,
     /// The cell's number, scrambled.
     scattered: u32,
     number: u32,
@@ -50,8 +51,9 @@ fn class_of(width: u32, mean: u64) -> u8 {
 }
 
 /// The number of the tile in which a coordinate lies.
-fn tile_of(coordinate: i32, height: u32) -> i64 {
-    (coordinate as i64).div_euclid((height.max(1) as i64) * TILE)
+fn tile_of(coordinate: i32, height: u32) -> i32 {
+    let tile = (coordinate as i64).div_euclid((height.max(1) as i64) * TILE);
+    tile.clamp(-2_147_483_648, 2_147_483_647) as i32
 }
 
 fn key_of(wish: &PlannerCell, number: u32, away: i64, mean: u64, height: u32) -> Key {
@@ -70,25 +72,49 @@ fn key_of(wish: &PlannerCell, number: u32, away: i64, mean: u64, height: u32) ->
     }
 }
 
-/// The numbers of the cells in their order. `away` has the distance of each cell's nearest place on
-/// empty rows.
-pub(crate) fn order_of(
-    alloc: Global,
-    wishes: &[PlannerCell],
-    away: &[i64],
+/// The sort keys of cells.
+#[derive(Drop)]
+pub(crate) struct OrderKeys {
+    mean: u64,
     height: u32,
-) -> Result<Vec<u32>, AllocError> {
-    let mean = mean_width(wishes);
-    let mut keys = Vec::with_capacity(alloc, wishes.len())?;
-    for (number, (wish, away)) in wishes.iter().zip(away.iter()).enumerate() {
-        keys.push(key_of(wish, number_of(number), *away, mean, height))?;
+    keys: Vec<Key>,
+}
+
+impl OrderKeys {
+    /// No keys, with room for those of all cells.
+    pub(crate) fn with_capacity(
+        alloc: Global,
+        given: &PlannerInput,
+    ) -> Result<OrderKeys, AllocError> {
+        Ok(OrderKeys {
+            mean: mean_width(given.wishes),
+            height: given.height,
+            keys: Vec::with_capacity(alloc, given.wishes.len())?,
+        })
     }
-    keys.sort_unstable();
-    let mut order = Vec::with_capacity(alloc, keys.len())?;
-    for key in &keys {
-        order.push(key.number)?;
+
+    /// Adds a cell. `away` is the distance of its nearest place on empty rows.
+    pub(crate) fn push(
+        &mut self,
+        number: u32,
+        wish: &PlannerCell,
+        away: i64,
+    ) -> Result<(), AllocError> {
+        let key = key_of(wish, number, away, self.mean, self.height);
+        self.keys.push(key)?;
+        Ok(())
     }
-    Ok(order)
+
+    /// The numbers of the cells in the order of their keys.
+    pub(crate) fn into_order(self, alloc: Global) -> Result<Vec<u32>, AllocError> {
+        let OrderKeys { mut keys, .. } = self;
+        keys.sort_unstable();
+        let mut order = Vec::with_capacity(alloc, keys.len())?;
+        for key in &keys {
+            order.push(key.number)?;
+        }
+        Ok(order)
+    }
 }
 
 /// The sort key of a cell in the order by widths.

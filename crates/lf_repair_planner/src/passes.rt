@@ -1,41 +1,55 @@
 //! Places all cells, and improves their places in passes.
 
-use crate::free_rows::FreeRows;
+use crate::free_rows::{FreeRows, FreeSpan, PlannerRow};
 use crate::plan::PlannerCell;
-use crate::plan_state::{Gap, PlanState, empty_segments};
+use crate::plan_state::{Gap, PlanState};
 use crate::search::{Best, Search, best_gap};
 use crate::search_limits::{SearchLimits, apart, cost_of, number_of};
-use lf_repair_packing::CostCurve;
+use lf_repair_packing::{CostCurve, PackedCell, PackedSpan};
 use std::alloc::{AllocError, Global};
 
 /// The input that all steps read.
 #[derive(Clone, Copy)]
 pub(crate) struct PlannerInput<'a> {
     pub(crate) land: &'a FreeRows,
+    /// The position of the row of each span.
+    pub(crate) rows: &'a [u32],
     pub(crate) wishes: &'a [PlannerCell],
     pub(crate) height: u32,
 }
 
-/// The y of the row that contains a span: the last row whose spans begin at the span's position or
+/// The position of the row of each span: the last row whose spans begin at the span's position or
 /// in front of it.
-fn row_y(land: &FreeRows, span: usize) -> Option<i32> {
-    let after = land.rows.partition_point(|row| row.first <= span);
-    if after == 0 {
-        return None;
+pub(crate) fn rows_of_spans(alloc: Global, land: &FreeRows) -> Result<Vec<u32>, AllocError> {
+    let mut rows = Vec::with_capacity(alloc, land.spans.len())?;
+    for span in 0..land.spans.len() {
+        let after = land.rows.partition_point(|row| row.first <= span);
+        rows.push(number_of(after.saturating_sub(1)))?;
     }
-    Some(land.rows.get(after - 1)?.y)
+    Ok(rows)
+}
+
+impl<'a> PlannerInput<'a> {
+    /// The row of the span at this position.
+    pub(crate) fn row_of(&self, span: usize) -> Option<PlannerRow> {
+        let row = *self.rows.get(span)?;
+        Some(*self.land.rows.get(row as usize)?)
+    }
+}
+
+/// The displacement of a cell at a site of a span whose row has this y, in database units.
+pub(crate) fn displacement_at_site(wish: &PlannerCell, sites: &FreeSpan, y: i32, at: u32) -> i64 {
+    let x = (sites.first as i64).saturating_add(sites.pitch().saturating_mul(at as i64));
+    let dx = x.saturating_sub(wish.x as i64).saturating_abs();
+    dx.saturating_add(apart(y, wish.y))
 }
 
 /// The displacement of a cell in a gap, in database units.
 fn displacement_at(given: &PlannerInput, wish: &PlannerCell, gap: &Gap) -> i64 {
-    let (Some(sites), Some(y)) = (given.land.spans.get(gap.span), row_y(given.land, gap.span))
-    else {
+    let (Some(sites), Some(row)) = (given.land.spans.get(gap.span), given.row_of(gap.span)) else {
         return i64::MAX;
     };
-    let pitch = sites.pitch();
-    let x = (sites.first as i64).saturating_add(pitch.saturating_mul(gap.cell.at as i64));
-    let dx = x.saturating_sub(wish.x as i64).saturating_abs();
-    dx.saturating_add(apart(y, wish.y))
+    displacement_at_site(wish, sites, row.y, gap.cell.at)
 }
 
 /// The best gap. If it costs more than one and a half rows, the best gap with more cells pushed.
@@ -65,27 +79,25 @@ fn find_gap(
     Ok(best)
 }
 
-/// The cost of each cell's nearest place if no other cell is placed. 0 if there is no such place.
+/// The cost of a cell's nearest place in these segments, which have no cells. 0 if there is no such
+/// place.
 pub(crate) fn nearest_alone(
-    alloc: Global,
     given: &PlannerInput,
+    segments: &[PackedSpan],
+    number: u32,
+    wish: &PlannerCell,
     how: &SearchLimits,
     curve: &mut CostCurve,
-) -> Result<Vec<i64>, AllocError> {
-    let segments = empty_segments(alloc, given.land)?;
-    let mut away = Vec::with_capacity(alloc, given.wishes.len())?;
-    for (number, wish) in given.wishes.iter().enumerate() {
-        let search = Search {
-            land: given.land,
-            segments: segments.as_slice(),
-            number: number_of(number),
-            wish,
-            how,
-        };
-        let best = best_gap(&search, i64::MAX, curve)?;
-        away.push(if best.gap.is_some() { best.cost } else { 0 })?;
-    }
-    Ok(away)
+) -> Result<i64, AllocError> {
+    let search = Search {
+        land: given.land,
+        segments,
+        number,
+        wish,
+        how,
+    };
+    let best = best_gap(&search, i64::MAX, curve)?;
+    Ok(if best.gap.is_some() { best.cost } else { 0 })
 }
 
 /// Places one cell after the other where the total displacement grows least.
@@ -115,32 +127,26 @@ pub(crate) fn place_all(
     Ok(())
 }
 
-/// Removes a cell and inserts it where that costs less than its present displacement. If no gap
-/// costs less, it is inserted at its old place.
+/// Removes a cell from its old place, if it has one, and inserts it where that costs less than
+/// `limit`. If no gap costs less, it is inserted at its old place.
 fn place_again(
+    search: &LimitedSearch,
+    old: Option<Gap>,
     given: &PlannerInput,
-    number: u32,
-    how: &SearchLimits,
     board: &mut PlanState,
     curve: &mut CostCurve,
 ) -> Result<(), AllocError> {
-    let Some(wish) = given.wishes.get(number as usize) else {
-        return Ok(());
-    };
-    let old = board.place_of(number);
-    let mut limit = i64::MAX;
     if let Some(gap) = &old {
-        limit = cost_of(displacement_at(given, wish, gap), how);
         board.take(gap);
     }
-    let search = Search {
+    let open = Search {
         land: given.land,
         segments: board.segments.as_slice(),
-        number,
-        wish,
-        how,
+        number: search.number,
+        wish: search.wish,
+        how: search.how,
     };
-    let best = find_gap(&search, limit, given.height, curve)?;
+    let best = find_gap(&open, search.limit, given.height, curve)?;
     if let Some(gap) = best.gap {
         return board.put(&gap);
     }
@@ -148,6 +154,15 @@ fn place_again(
         return board.put(&gap);
     }
     Ok(())
+}
+
+/// A cell to place again, and the cost that its new place must be below.
+#[derive(Clone, Copy)]
+struct LimitedSearch<'a> {
+    number: u32,
+    wish: &'a PlannerCell,
+    how: &'a SearchLimits,
+    limit: i64,
 }
 
 /// Places each cell again that has no place or a longer displacement than `longer`, in this order.
@@ -163,15 +178,54 @@ pub(crate) fn pass(
         let Some(wish) = given.wishes.get(*number as usize) else {
             continue;
         };
-        let far = match board.place_of(*number) {
-            Some(gap) => longer < displacement_at(given, wish, &gap),
-            None => true,
+        let old = board.place_of(*number);
+        let displacement = match &old {
+            Some(gap) => displacement_at(given, wish, gap),
+            None => i64::MAX,
         };
-        if far {
-            place_again(given, *number, how, board, curve)?;
+        if old.is_some() && displacement <= longer {
+            continue;
+        }
+        let search = LimitedSearch {
+            number: *number,
+            wish,
+            how,
+            limit: cost_of(displacement, how),
+        };
+        place_again(&search, old, given, board, curve)?;
+    }
+    Ok(())
+}
+
+/// Appends the displacements of the cells of a span whose row has this y.
+fn push_displacements(
+    given: &PlannerInput,
+    sites: &FreeSpan,
+    y: i32,
+    cells: &[PackedCell],
+    displacements: &mut Vec<i64>,
+) -> Result<(), AllocError> {
+    for cell in cells {
+        if let Some(wish) = given.wishes.get(cell.number as usize) {
+            displacements.push(displacement_at_site(wish, sites, y, cell.at))?;
         }
     }
     Ok(())
+}
+
+/// The displacements of the placed cells, span by span.
+fn all_displacements(
+    alloc: Global,
+    given: &PlannerInput,
+    board: &PlanState,
+) -> Result<Vec<i64>, AllocError> {
+    let mut displacements = Vec::with_capacity(alloc, given.wishes.len())?;
+    for (span, segment) in board.segments.iter().enumerate() {
+        if let (Some(sites), Some(row)) = (given.land.spans.get(span), given.row_of(span)) {
+            push_displacements(given, sites, row.y, segment.as_slice(), &mut displacements)?;
+        }
+    }
+    Ok(displacements)
 }
 
 /// The displacement that 99.9 % of the cells do not exceed.
@@ -180,12 +234,7 @@ pub(crate) fn long_displacement(
     given: &PlannerInput,
     board: &PlanState,
 ) -> Result<i64, AllocError> {
-    let mut ways = Vec::with_capacity(alloc, given.wishes.len())?;
-    for (number, wish) in given.wishes.iter().enumerate() {
-        if let Some(gap) = board.place_of(number_of(number)) {
-            ways.push(displacement_at(given, wish, &gap))?;
-        }
-    }
+    let mut ways = all_displacements(alloc, given, board)?;
     ways.sort_unstable();
     let last = ways.len().saturating_sub(1);
     let place = last - last / 1000;
@@ -205,21 +254,34 @@ pub(crate) struct PlanCost {
     pub(crate) sum: i64,
 }
 
+/// Counts the cells of a span whose row has this y as placed.
+fn add_cells(
+    given: &PlannerInput,
+    sites: &FreeSpan,
+    y: i32,
+    cells: &[PackedCell],
+    worth: &mut PlanCost,
+) {
+    for cell in cells {
+        if let Some(wish) = given.wishes.get(cell.number as usize) {
+            let way = displacement_at_site(wish, sites, y, cell.at);
+            worth.left = worth.left.saturating_sub(1);
+            worth.longest = worth.longest.max(way);
+            worth.sum = worth.sum.saturating_add(way);
+        }
+    }
+}
+
 /// The cost of the current places.
 pub(crate) fn cost_of_plan(given: &PlannerInput, board: &PlanState) -> PlanCost {
     let mut worth = PlanCost {
-        left: 0,
+        left: given.wishes.len() as u64,
         longest: 0,
         sum: 0,
     };
-    for (number, wish) in given.wishes.iter().enumerate() {
-        match board.place_of(number_of(number)) {
-            Some(gap) => {
-                let way = displacement_at(given, wish, &gap);
-                worth.longest = worth.longest.max(way);
-                worth.sum = worth.sum.saturating_add(way);
-            }
-            None => worth.left = worth.left.saturating_add(1),
+    for (span, segment) in board.segments.iter().enumerate() {
+        if let (Some(sites), Some(row)) = (given.land.spans.get(span), given.row_of(span)) {
+            add_cells(given, sites, row.y, segment.as_slice(), &mut worth);
         }
     }
     worth

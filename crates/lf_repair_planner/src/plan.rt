@@ -4,10 +4,11 @@ ghost use Rattle.std.specs.Prelude.{◌≡◌, ◌⊎◌, ◌+◌, ◌-◌, ◌*
 ghost use Rattle.lf_repair_planner.specs.Plans.{IsFilledTo, IsPlan};
 
 use crate::free_rows::{FreeRows, RowKinds};
-use crate::order::{order_of, widest_first};
-use crate::passes::{PlanCost, PlannerInput, nearest_alone};
-use crate::plan_state::PlanState;
+use crate::order::{OrderKeys, widest_first};
+use crate::passes::{PlanCost, PlannerInput, nearest_alone, rows_of_spans};
+use crate::plan_state::{PlanState, empty_segments};
 use crate::scored_plan::{ScoredPlan, initial_limits, try_order};
+use crate::search_limits::number_of;
 use lf_repair_packing::{CostCurve, PackedCell, PackedSpan};
 use std::alloc::{AllocError, Global};
 
@@ -23,7 +24,7 @@ pub struct PlannerCell {
 /// A place of a plan: the position of a span in the list of spans, and a site of the span.
 #[derive(Clone, Copy, Debug, PartialEq, Eq)]
 pub struct PlannedSite {
-    pub span: usize,
+    pub span: u32,
     pub at: u32,
 }
 
@@ -66,7 +67,7 @@ fn is_open(spots: &[Option<PlannedSite>], own: usize) -> bool
 
 /// Records the spot of a cell of a span, which is right of the previous ones, and returns its end.
 /// A cell is skipped if it is not one of the plan, overlaps another, or reaches past the span's
-/// end.
+/// end, and if the span's position has more than 32 bits.
 fn note_cell(
     spots: &mut Vec<Option<PlannedSite>>,
     given: &PlannerInput,
@@ -87,6 +88,9 @@ fn note_cell(
     if start < free || length_of(sites.count, sites.step) < end || !is_open(spots, own) {
         return free;
     }
+    let Ok(span) = u32::try_from(span) else {
+        return free;
+    };
     set_spot(spots, own, PlannedSite { span, at: cell.at });
     end
 }
@@ -119,17 +123,21 @@ fn note_spans(spots: &mut Vec<Option<PlannedSite>>, given: &PlannerInput, segmen
     }
 }
 
-/// The spot of each cell.
+/// The spot of each cell. The list of the state's spots is used again.
 pub(crate) fn spots_of(
-    alloc: Global,
     given: &PlannerInput,
-    board: &PlanState,
+    board: PlanState,
 ) -> Result<Vec<Option<PlannedSite>>, AllocError>
     ensures plan { IfOk result (λ spots. IsPlan given.now.land.now.spans.items given.now.wishes.now spots.items) }
     ensures count { IfOk result (λ spots. vec_len spots ≡ length given.now.wishes.now) }
 {
-    let mut spots = vec![in alloc; None; given.wishes.len()]?;
-    note_spans(&mut spots, given, board.segments.as_slice());
+    let PlanState {
+        segments,
+        mut spots,
+    } = board;
+    spots.clear();
+    spots.resize(given.wishes.len(), None)?;
+    note_spans(&mut spots, given, segments.as_slice());
     Ok(spots)
 }
 
@@ -151,9 +159,17 @@ fn row_height(land: &FreeRows) -> u32 {
 
 /// The first order of the cells: those that are far from any place come first.
 fn first_order(alloc: Global, given: &PlannerInput) -> Result<Vec<u32>, AllocError> {
+    let segments = empty_segments(alloc, given.land)?;
+    let how = initial_limits(given.height);
     let mut curve = CostCurve::new(alloc);
-    let away = nearest_alone(alloc, given, &initial_limits(given.height), &mut curve)?;
-    order_of(alloc, given.wishes, away.as_slice(), given.height)
+    let mut keys = OrderKeys::with_capacity(alloc, given)?;
+    for (number, wish) in given.wishes.iter().enumerate() {
+        let number = number_of(number);
+        let away = nearest_alone(given, segments.as_slice(), number, wish, &how, &mut curve)?;
+        keys.push(number, wish, away)?;
+    }
+    drop(segments);
+    keys.into_order(alloc)
 }
 
 /// A plan moves a cell far if its displacement is more than this number of rows.
@@ -190,8 +206,10 @@ pub fn plan_cells(
     ensures count { IfOk result (λ spots. vec_len spots ≡ length wishes.now) }
 {
     let height = row_height(land);
+    let rows = rows_of_spans(alloc, land)?;
     let given = PlannerInput {
         land,
+        rows: rows.as_slice(),
         wishes,
         height,
     };

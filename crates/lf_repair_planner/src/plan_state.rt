@@ -1,6 +1,7 @@
 //! The places of the cells of a plan so far.
 
 use crate::free_rows::FreeRows;
+use crate::plan::PlannedSite;
 use crate::search_limits::number_of;
 use lf_repair_packing::{PackedCell, PackedSpan};
 use std::alloc::{AllocError, Global};
@@ -13,18 +14,12 @@ pub(crate) struct Gap {
     pub(crate) cell: PackedCell,
 }
 
-/// The span of a placed cell, and a site near its own.
-#[derive(Clone, Copy)]
-pub(crate) struct CellSpan {
-    pub(crate) span: u32,
-    pub(crate) near: u32,
-}
-
-/// The cells in each span, and the span of each cell. `None` if a cell has no place.
+/// The cells in each span, and for each cell its span and a site near its own. `None` if a cell has
+/// no place.
 #[derive(Drop)]
 pub(crate) struct PlanState {
     pub(crate) segments: Vec<PackedSpan>,
-    pub(crate) is_in_place: Vec<Option<CellSpan>>,
+    pub(crate) spots: Vec<Option<PlannedSite>>,
 }
 
 /// The greatest number of cells in one span.
@@ -66,7 +61,7 @@ impl PlanState {
     ) -> Result<PlanState, AllocError> {
         Ok(PlanState {
             segments: empty_segments(alloc, land)?,
-            is_in_place: vec![in alloc; None; count]?,
+            spots: vec![in alloc; None; count]?,
         })
     }
 
@@ -78,10 +73,10 @@ impl PlanState {
         if !put_in(segment, gap.gap, gap.cell)? {
             return Ok(());
         }
-        if let Some(are_placed) = self.is_in_place.get_mut(gap.cell.number as usize) {
-            *are_placed = Some(CellSpan {
+        if let Some(spot) = self.spots.get_mut(gap.cell.number as usize) {
+            *spot = Some(PlannedSite {
                 span: number_of(gap.span),
-                near: gap.cell.at,
+                at: gap.cell.at,
             });
         }
         Ok(())
@@ -89,10 +84,10 @@ impl PlanState {
 
     /// The gap that a cell would leave. `None` if it has no place.
     pub(crate) fn place_of(&self, number: u32) -> Option<Gap> {
-        let are_placed = (*self.is_in_place.get(number as usize)?)?;
-        let span = are_placed.span as usize;
+        let spot = (*self.spots.get(number as usize)?)?;
+        let span = spot.span as usize;
         let segment = self.segments.get(span)?;
-        let (gap, cell) = find_in(segment, number, are_placed.near)?;
+        let (gap, cell) = find_in(segment, number, spot.at)?;
         Some(Gap { span, gap, cell })
     }
 

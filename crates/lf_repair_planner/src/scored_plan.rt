@@ -88,6 +88,6 @@ pub(crate) fn try_order(
 {
     let board = placed_state(alloc, given, order, steps)?;
     let worth = cost_of_plan(given, &board);
-    let spots = spots_of(alloc, given, &board)?;
+    let spots = spots_of(given, board)?;
     Ok(ScoredPlan { spots, worth })
 }

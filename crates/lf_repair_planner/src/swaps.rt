@@ -2,12 +2,12 @@
 
 ghost use Rattle.std.specs.Prelude.{◌≡◌};
 
-use crate::free_rows::{FreeRows, FreeSpan, PlannerRow};
-use crate::passes::PlannerInput;
-use crate::plan::PlannerCell;
-use crate::plan_state::{CellSpan, PlanState};
+use crate::free_rows::{FreeSpan, PlannerRow};
+use crate::passes::{PlannerInput, displacement_at_site};
+use crate::plan::{PlannedSite, PlannerCell};
+use crate::plan_state::PlanState;
 use crate::search::{clipped, site_at};
-use crate::search_limits::{SearchLimits, apart, cost_of, number_of};
+use crate::search_limits::{SearchLimits, cost_of, number_of};
 use lf_repair_packing::{PackedCell, PackedSpan};
 
 /// The greatest distance of the other cell from a cell's target along the row, in sites.
@@ -39,11 +39,8 @@ struct Exchange {
 }
 
 /// The displacement of a cell with this target at a site of a span.
-fn displacement_at_site(wish: &PlannerCell, along: &SpanOfRow, at: u32) -> i64 {
-    let pitch = along.sites.pitch();
-    let x = (along.sites.first as i64).saturating_add(pitch.saturating_mul(at as i64));
-    let dx = x.saturating_sub(wish.x as i64).saturating_abs();
-    dx.saturating_add(apart(along.row.y, wish.y))
+fn displacement_along(wish: &PlannerCell, along: &SpanOfRow, at: u32) -> i64 {
+    displacement_at_site(wish, &along.sites, along.row.y, at)
 }
 
 /// The cell of a span at this position, with its target.
@@ -58,17 +55,16 @@ fn placed_at(
         along: *along,
         position,
         cell: *cell,
-        displacement: displacement_at_site(wish, along, cell.at),
+        displacement: displacement_along(wish, along, cell.at),
     }
 }
 
 /// The span at this position, and the row that contains it.
-fn span_of_row(land: &FreeRows, span: usize) -> Option<SpanOfRow> {
-    let after = land.rows.partition_point(|row| row.first <= span);
+fn span_of_row(given: &PlannerInput, span: usize) -> Option<SpanOfRow> {
     Some(SpanOfRow {
         span,
-        sites: *land.spans.get(span)?,
-        row: *land.rows.get(after.checked_sub(1)?)?,
+        sites: *given.land.spans.get(span)?,
+        row: given.row_of(span)?,
     })
 }
 
@@ -76,7 +72,7 @@ fn span_of_row(land: &FreeRows, span: usize) -> Option<SpanOfRow> {
 fn placed_cell(given: &PlannerInput, board: &PlanState, number: u32) -> Option<PlacedCell> {
     let place = board.place_of(number)?;
     let wish = given.wishes.get(number as usize)?;
-    let along = span_of_row(given.land, place.span)?;
+    let along = span_of_row(given, place.span)?;
     Some(placed_at(wish, &along, place.gap, &place.cell))
 }
 
@@ -92,8 +88,8 @@ fn may_exchange(one: &PlacedCell, other: &PlacedCell) -> bool {
 /// By how much an exchange of two cells lowers their cost. 0 if the longer displacement would grow
 /// beyond `how.near`.
 fn gain_of(one: &PlacedCell, other: &PlacedCell, how: &SearchLimits) -> i64 {
-    let first = displacement_at_site(&one.wish, &other.along, other.cell.at);
-    let second = displacement_at_site(&other.wish, &one.along, one.cell.at);
+    let first = displacement_along(&one.wish, &other.along, other.cell.at);
+    let second = displacement_along(&other.wish, &one.along, one.cell.at);
     let longest = one.displacement.max(other.displacement).max(how.near);
     if longest < first.max(second) {
         return 0;
@@ -209,10 +205,10 @@ fn put_at_place(board: &mut PlanState, cell: &PlacedCell, place: &PlacedCell) {
     if let Some(segment) = board.segments.get_mut(along.span) {
         replace_in(segment, place.position, number, clipped(wanted));
     }
-    if let Some(are_placed) = board.is_in_place.get_mut(number as usize) {
-        *are_placed = Some(CellSpan {
+    if let Some(spot) = board.spots.get_mut(number as usize) {
+        *spot = Some(PlannedSite {
             span: number_of(along.span),
-            near: place.cell.at,
+            at: place.cell.at,
         });
     }
 }

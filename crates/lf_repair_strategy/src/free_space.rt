@@ -25,6 +25,11 @@ impl PaddedTeam {
             pad: (padding.sites as i64).saturating_mul(frame.pitch.x),
         }
     }
+
+    /// The padding, in database units.
+    pub fn padding(&self) -> i64 {
+        self.pad
+    }
 }
 
 /// A blocked span of a row, from `lo` on and below `hi`, in database units.

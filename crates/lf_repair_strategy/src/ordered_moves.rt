@@ -10,11 +10,11 @@ use std::alloc::{AllocError, Global};
 
 /// A move of the team's cell at position `own`, which covers at most one row's height.
 #[derive(Clone, Copy)]
-pub(crate) struct Move {
-    pub(crate) own: u32,
-    pub(crate) width: u32,
-    pub(crate) from: Option<Place>,
-    pub(crate) to: Place,
+pub struct CellMove {
+    pub own: u32,
+    pub width: u32,
+    pub from: Option<Place>,
+    pub to: Place,
 }
 
 /// The new place of the cell of a move.
@@ -64,15 +64,15 @@ struct Step {
 
 /// Bands of one row's height, from `origin` upward and downward. Cells are at least `pad` apart.
 #[derive(Clone, Copy)]
-pub(crate) struct Bands {
-    pub(crate) origin: i64,
-    pub(crate) height: i64,
-    pub(crate) pad: i64,
+pub struct Bands {
+    pub origin: i64,
+    pub height: i64,
+    pub pad: i64,
 }
 
 /// The new places of the cells that move, and the marks of their old places.
 #[derive(Drop)]
-pub(crate) struct MoveList {
+pub struct MoveList {
     bands: Bands,
     places: Vec<NewPlace>,
     marks: Vec<Mark>,
@@ -135,7 +135,7 @@ fn last_band(bands: &Bands, place: &Place) -> i32 {
 
 impl MoveList {
     /// A list with room for `count` moves.
-    pub(crate) fn with_capacity(
+    pub fn with_capacity(
         alloc: Global,
         bands: Bands,
         count: usize,
@@ -148,7 +148,7 @@ impl MoveList {
     }
 
     /// Appends a move, unless its cell is at its new place already.
-    pub(crate) fn push(&mut self, one: &Move) -> Result<(), AllocError> {
+    pub fn push(&mut self, one: &CellMove) -> Result<(), AllocError> {
         if same_place(one.from, Some(one.to)) {
             return Ok(());
         }
@@ -372,7 +372,7 @@ fn ordered_steps(
     let mut order = Ordering {
         progress: vec![in alloc; Progress::Open; places.len()]?,
         path: Vec::new(alloc),
-        steps: Vec::with_capacity(alloc, places.len())?,
+        steps: Vec::with_capacity(alloc, places.len().saturating_add(places.len() / 2))?,
     };
     for number in 0..places.len() {
         make_move(&given, &mut order, number_of(number))?;
@@ -393,7 +393,7 @@ fn edit_of(place: &NewPlace, step: &Step) -> CellEdit {
 }
 
 /// These edits, followed by those that make the moves.
-pub(crate) fn with_moves(
+pub fn with_moves(
     alloc: Global,
     before: &[CellEdit],
     list: MoveList,

@@ -4,7 +4,7 @@ use crate::edit::{CellEdit, Edit};
 use crate::free_space::{
     Area, BlockedSpan, PaddedTeam, coordinate, free_rows_beside, take_area, take_soft,
 };
-use crate::ordered_moves::{Bands, Move, MoveList, with_moves};
+use crate::ordered_moves::{Bands, CellMove, MoveList, with_moves};
 use crate::pass::Pass;
 use lf_cells::CellId;
 use lf_floorplan::{Frame, Macro, Place};
@@ -58,7 +58,7 @@ fn length_of(frame: &Frame, micros: i64) -> i64 {
 }
 
 /// The width of a cell, in database units.
-pub(crate) fn width_of(placement: &Placement, id: CellId) -> i64 {
+pub fn width_of(placement: &Placement, id: CellId) -> i64 {
     let frame = placement.frame();
     let Some(facts) = placement.cells().cell(id) else {
         return 0;
@@ -258,7 +258,7 @@ fn blocked_spans(
 }
 
 /// The free sites of the team if the cells whose entry in `loose` is true were unplaced.
-fn free_rows_without(
+pub fn free_rows_without(
     alloc: Global,
     placement: &Placement,
     owner: &PaddedTeam,
@@ -286,7 +286,7 @@ fn area_of(frame: &Frame, mac: &Macro, place: &Place) -> Area {
 }
 
 /// Whether a cell of one row's height may have this orientation on a row of that one.
-fn fits_on(frame: &Frame, mac: &Macro, orient: Orient, row: Orient) -> bool {
+pub fn fits_on(frame: &Frame, mac: &Macro, orient: Orient, row: Orient) -> bool {
     is_candidate(mac.symmetry, orient) && equal_under(frame.site.symmetry, orient, row)
 }
 
@@ -380,7 +380,7 @@ fn planned_cells(
     for (own, spot) in owns.iter().zip(spots.iter()) {
         if let Some(spot) = spot {
             stops.push(PlannedCell {
-                span: spot.span.min(4_294_967_295) as u32,
+                span: spot.span,
                 at: spot.at,
                 own: *own,
             })?;
@@ -465,14 +465,14 @@ fn planned_move(
     pass: &Pass,
     land: &FreeRows,
     stop: &PlannedCell,
-) -> Option<Move> {
+) -> Option<CellMove> {
     let id = placement.cells().cell_of(team, stop.own as usize)?;
     let cell = movable_cell(placement, pass, id)?;
     let to = place_at(placement.frame(), land, stop, &cell)?;
     if placement.broken_frame_rule(id, &to).is_some() {
         return None;
     }
-    Some(Move {
+    Some(CellMove {
         own: stop.own,
         width: cell.width.clamp(0, 4_294_967_295) as u32,
         from: upright_place(placement, id),
@@ -481,7 +481,7 @@ fn planned_move(
 }
 
 /// The bands of rows in which cells of the team are moved.
-fn bands_of(frame: &Frame, owner: &PaddedTeam, land: &FreeRows) -> Bands {
+pub fn bands_of(frame: &Frame, owner: &PaddedTeam, land: &FreeRows) -> Bands {
     Bands {
         origin: match land.rows.first() {
             Some(row) => row.y as i64,
@@ -493,7 +493,7 @@ fn bands_of(frame: &Frame, owner: &PaddedTeam, land: &FreeRows) -> Bands {
 }
 
 /// Clears the entry of a cell that moves from its place.
-fn clear_moved(loose: &mut [bool], one: &Move) {
+fn clear_moved(loose: &mut [bool], one: &CellMove) {
     if let Some(is_loose) = loose.get_mut(one.own as usize) {
         *is_loose = one.from.is_none();
     }

@@ -13,8 +13,8 @@ move_list-requires-clause-fits c =
     let w = c.window_at-window.result in
     let e = c.window_at-window.ensures in
     let is = subst (λ zs. IsWindow c.args.room zs y.width w) c.as_slice.ensures.value e.window in
-    subst (λ g. g.start + total_width (between g.first g.last c.insert.new.self.items) ≤ g.end) (sym c.with_one_more-grown.ensures)
-    (subst (λ zs. w.start + total_width (between w.first (w.last + 1) zs) ≤ w.end) (sym c.in_ok-insert.ensures.items)
+    subst (λ g. g.start + total_width (between g.first g.last c.insert_at.new.cells.items) ≤ g.end) (sym c.with_one_more-grown.ensures)
+    (subst (λ zs. w.start + total_width (between w.first (w.last + 1) zs) ≤ w.end) (sym c.in_ok-insert_at.ensures.items)
     (room_grown c.args.room c.args.gap xs y w is e.first e.last))
 
 pub returns-clause-packed : goal.returns-clause-packed
@@ -25,7 +25,7 @@ returns-clause-packed c =
     let e = c.window_at-window.ensures in
     let is = subst (λ zs. IsWindow c.args.room zs y.width w) c.as_slice.ensures.value e.window in
     let moved = subst (λ g. MovesWithin g (insert xs c.args.gap y) c.move_list.new.cells.items) c.with_one_more-grown.ensures
-    (subst (λ zs. MovesWithin c.with_one_more-grown.result zs c.move_list.new.cells.items) c.in_ok-insert.ensures.items c.move_list.ensures.moved) in
+    (subst (λ zs. MovesWithin c.with_one_more-grown.result zs c.move_list.new.cells.items) c.in_ok-insert_at.ensures.items c.move_list.ensures.moved) in
     packed_grown c.args.room c.args.gap xs c.move_list.new.cells.items y w c.requires.packed is e.first e.last moved
 
 pub returns-clause-same : goal.returns-clause-same
@@ -37,7 +37,7 @@ returns-clause-same c =
     let first = e.first in
     let last = e.last in
     let moved = subst (λ g. MovesWithin g (insert xs c.args.gap y) c.move_list.new.cells.items) c.with_one_more-grown.ensures
-    (subst (λ zs. MovesWithin c.with_one_more-grown.result zs c.move_list.new.cells.items) c.in_ok-insert.ensures.items c.move_list.ensures.moved) in
+    (subst (λ zs. MovesWithin c.with_one_more-grown.result zs c.move_list.new.cells.items) c.in_ok-insert_at.ensures.items c.move_list.ensures.moved) in
     same_moved_within (grown w) (insert xs c.args.gap y) c.move_list.new.cells.items (omega (arith, first, last)) moved
 
 pub returns-clause-free : goal.returns-clause-free
@@ -48,7 +48,7 @@ returns-clause-free c = λ p.
     let e = c.window_at-window.ensures in
     let is = subst (λ zs. IsWindow c.args.room zs y.width w) c.as_slice.ensures.value e.window in
     let moved = subst (λ g. MovesWithin g (insert xs c.args.gap y) c.move_list.new.cells.items) c.with_one_more-grown.ensures
-    (subst (λ zs. MovesWithin c.with_one_more-grown.result zs c.move_list.new.cells.items) c.in_ok-insert.ensures.items c.move_list.ensures.moved) in
+    (subst (λ zs. MovesWithin c.with_one_more-grown.result zs c.move_list.new.cells.items) c.in_ok-insert_at.ensures.items c.move_list.ensures.moved) in
     kept_grown c.args.room c.args.gap xs c.move_list.new.cells.items y w is e.first e.last moved p
 
 pub returns-clause-cost : goal.returns-clause-cost
@@ -60,7 +60,7 @@ returns-clause-cost c =
     let e = c.window_at-window.ensures in
     let is = subst (λ zs. IsWindow c.args.room zs y.width w) c.as_slice.ensures.value e.window in
     let moved = subst (λ g. MovesWithin g (insert xs c.args.gap y) ys) c.with_one_more-grown.ensures
-    (subst (λ zs. MovesWithin c.with_one_more-grown.result zs ys) c.in_ok-insert.ensures.items c.move_list.ensures.moved) in
+    (subst (λ zs. MovesWithin c.with_one_more-grown.result zs ys) c.in_ok-insert_at.ensures.items c.move_list.ensures.moved) in
     let ways = way_grown c.args.room c.args.gap xs ys y w is e.first e.last moved in
     let before = c.total_displacement-before.ensures.way ∙ ap (λ zs. total_site_displacement (between w.first w.last zs)) c.deref.ensures.value in
     let g = c.with_one_more-grown.result in
