@@ -1,6 +1,7 @@
 -- Stored nets.
-use Rattle.std.proofs.Common.{◌≡◌, ℕ, zero, suc, ◌+◌, ◌-◌, ◌≤◌, ◌<◌, ◌==◌, Bool, true, false, List, [], ◌∷◌, ◌++◌, map, take, drop, length, All, Option, slice_get, get_or, arith, refl, ap, ap₂, sym, ◌∙◌, if◌then◌else◌}
+use Rattle.std.proofs.Common.{◌≡◌, ℕ, zero, suc, ◌+◌, ◌-◌, ◌≤◌, ◌<◌, ◌==◌, Bool, true, false, List, [], ◌∷◌, ◌++◌, map, take, drop, length, All, None, Option, Some, option_map, slice_get, get_or, arith, refl, ap, ap₂, sym, ◌∙◌, if◌then◌else◌}
 use Rattle.std.proofs.lemmas.List.{drop-append-le, take-append-le, drop_all, take_all, length-map, length-append, length-drop, take-map, drop-map}
+use Rattle.std.proofs.lemmas.Option.{slice_get-get_or, slice_get-map, slice_get_past}
 use Rattle.std.proofs.lemmas.List.Elements.{All-head, All-tail, All-weaker}
 use Rattle.lf_wire_length.specs.declared.pins.NetPin.TheVariants.{Unknown, Unplaced}
 use Rattle.lf_wire_length.specs.declared.points.PinOffset.{PinOffset}
@@ -57,6 +58,21 @@ net_mapped f starts pins k d below =
     let m : length (map f pins) ≡ length pins = length-map pins f in
     let e : get_or (nets_from starts (map f pins)) k d ≡ take (start_after starts k (length (map f pins)) - get_or starts k 0) (drop (get_or starts k 0) (map f pins)) = net_at starts (map f pins) k d below in
     simp (length-map, drop-map, take-map) at e
+
+-- The pin at a position within the net, and past its end.
+pub pin_mapped : {X Y : Type 0} (f : X → Y) (starts : List ℕ) (pins its : List X) (k at : ℕ) (d : List Y) (x : X) → k < length starts
+    → its ≡ take (start_after starts k (length pins) - get_or starts k 0) (drop (get_or starts k 0) pins) → at < length its
+    → slice_get (get_or (nets_from starts (map f pins)) k d) at ≡ Some (f (get_or its at x))
+pin_mapped f starts pins its k at d x below is within =
+    let e : get_or (nets_from starts (map f pins)) k d ≡ map f its = rw is (net_mapped f starts pins k d below) in
+    rw e (slice_get-map f its at ∙ ap (option_map f) (slice_get-get_or its at x within))
+
+pub no_pin_mapped : {X Y : Type 0} (f : X → Y) (starts : List ℕ) (pins its : List X) (k at : ℕ) (d : List Y) → k < length starts
+    → its ≡ take (start_after starts k (length pins) - get_or starts k 0) (drop (get_or starts k 0) pins) → length its ≤ at
+    → slice_get (get_or (nets_from starts (map f pins)) k d) at ≡ None
+no_pin_mapped f starts pins its k at d below is past =
+    let e : get_or (nets_from starts (map f pins)) k d ≡ map f its = rw is (net_mapped f starts pins k d below) in
+    rw e (slice_get-map f its at ∙ ap (option_map f) (slice_get_past its at past))
 
 -- ---- one row more
 

@@ -1,13 +1,14 @@
 //! The length of stored nets.
 
-ghost use Rattle.std.specs.Prelude.{◌≡◌, ◌-◌, ◌<◌, ◌≤◌, [], All, IfSome, None, drop, fold, length, map, slice_index, slice_index_or, take};
+ghost use Rattle.std.specs.Prelude.{◌≡◌, ◌-◌, ◌<◌, ◌≤◌, [], All, IfSome, List, None, drop, fold, length, map, option_map, slice_get, slice_index, slice_index_or, take};
 ghost use Rattle.lf_wire_length.specs.Bounds.{IsPinOffset};
 ghost use Rattle.lf_wire_length.specs.Boxes.{IsDesignBox, box_after};
 ghost use Rattle.lf_wire_length.specs.Length.{length_of_net, length_of_nets};
-ghost use Rattle.lf_wire_length.specs.Stored.{nets_from, pin_stored, start_after};
+ghost use Rattle.lf_wire_length.specs.Stored.{nets_from, pin_by_row, pin_stored, start_after};
+ghost use Rattle.lf_wire_length.specs.declared.points.PinOffset.{PinOffset};
 
 use crate::boxes::{PointBox, perimeter_half, widen_by};
-use crate::pins::{PackedPin, stored_point};
+use crate::pins::{PackedPin, PinRow, pin_row_of, stored_point};
 use crate::placed::PlacedCells;
 use crate::points::PinOffset;
 
@@ -67,6 +68,18 @@ pub(crate) fn pins_of<'a>(starts: &[u32], pins: &'a [PackedPin], net: usize) -> 
     let from = starts[net] as usize;
     let to = next_start(starts, net, pins.len());
     slice_between(pins, from, to)
+}
+
+/// Returns the pin at this position of the net. `None` if the net has fewer pins.
+pub(crate) fn pin_at(starts: &[u32], pins: &[PackedPin], net: usize, at: usize) -> Option<PinRow>
+    requires { net < length starts.now }
+    ensures { (rows : List PinOffset) → option_map (pin_by_row rows) result
+        ≡ slice_get (slice_index_or (nets_from starts.now (map (pin_stored rows) pins.now)) net []) at }
+{
+    match pins_of(starts, pins, net).get(at) {
+        Some(pin) => Some(pin_row_of(pin)),
+        None => None,
+    }
 }
 
 /// Returns the length of the net.

@@ -1,16 +1,16 @@
 //! The nets of a design.
 
-ghost use Rattle.std.specs.Prelude.{◌≡◌, ◌≢◌, ◌<◌, ◌≤◌, ◌++◌, ◌∷◌, [], Err, IfOk, OnErr, OnOk, length, slice_index_or};
+ghost use Rattle.std.specs.Prelude.{◌≡◌, ◌≢◌, ◌<◌, ◌≤◌, ◌++◌, ◌∷◌, [], Err, IfOk, IfSome, OnErr, OnOk, length, option_map, slice_get, slice_index_or};
 ghost use Rattle.lf_wire_length.specs.Bounds.{IsPinOffset};
 ghost use Rattle.lf_wire_length.specs.Counts.{net_counts};
 ghost use Rattle.lf_wire_length.specs.Length.{length_of_net, length_of_nets};
-ghost use Rattle.lf_wire_length.specs.Stored.{HasRow, IsNetlist, net_view, stored_nets, with_empty_net, with_pin_row, with_table_row};
+ghost use Rattle.lf_wire_length.specs.Stored.{HasRow, IsNetlist, net_view, pin_by_row, stored_nets, with_empty_net, with_pin_row, with_table_row};
 ghost use Rattle.lf_wire_length.specs.Teams.{lengths_of_teams};
 ghost use Rattle.lf_wire_length.specs.declared.netlist.NetlistError.TheVariants.{TooMany};
 
 use crate::counts::{NetCounts, counts_of_nets};
 use crate::joined::summaries;
-use crate::measure::{length_of_all, length_of_stored_net};
+use crate::measure::{length_of_all, length_of_stored_net, pin_at, pins_of};
 use crate::pins::{PackedPin, PinRow, packed_pin};
 use crate::placed::PlacedCells;
 use crate::points::PinOffset;
@@ -251,6 +251,32 @@ impl Netlist {
             &mut self.pins,
             pin,
         )
+    }
+
+    /// Returns the number of pins of the net of this number.
+    #[tactic(auto, using(crate::proofs::StoredLemmas::net_mapped))]
+    pub fn pin_count(&self, net: usize) -> usize
+        requires { net < length self.now.nets }
+        ensures { result ≡ length (slice_index_or self.now.nets net []) }
+    {
+        pins_of(self.starts.as_slice(), self.pins.as_slice(), net).len()
+    }
+
+    /// Returns the row of this number. `None` if the table has no such row.
+    pub fn row(&self, number: u32) -> Option<PinOffset>
+        ensures in_range { IfSome result IsPinOffset }
+        ensures is { result ≡ slice_get self.now.rows number }
+    {
+        self.rows.get(number as usize).copied()
+    }
+
+    /// Returns the pin at this position of the net of this number. `None` if the net has fewer pins.
+    pub fn pin(&self, net: usize, at: usize) -> Option<PinRow>
+        requires { net < length self.now.nets }
+        ensures { option_map (pin_by_row self.now.rows) result
+            ≡ slice_get (slice_index_or self.now.nets net []) at }
+    {
+        pin_at(self.starts.as_slice(), self.pins.as_slice(), net, at)
     }
 
     /// Returns the length of the net of this number, in half database units.

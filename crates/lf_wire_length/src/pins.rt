@@ -1,7 +1,8 @@
 //! The pins of nets.
 
-ghost use Rattle.std.specs.Prelude.{◌≡◌, All, IfSome, length, map, slice_get};
+ghost use Rattle.std.specs.Prelude.{◌≡◌, All, IfSome, List, length, map, slice_get};
 ghost use Rattle.lf_wire_length.specs.Bounds.{IsDesignPoint, IsPinInRange, IsPinOffset};
+ghost use Rattle.lf_wire_length.specs.declared.points.PinOffset.{PinOffset};
 ghost use Rattle.lf_wire_length.specs.Length.{point_of_pin};
 ghost use Rattle.lf_wire_length.specs.Stored.{HasRow, IsRowKnown, fixed_pin, pin_by_row, pin_of_cell, pin_stored};
 
@@ -108,6 +109,21 @@ pub(crate) fn unpacked_pin(rows: &[PinOffset], pin: &PackedPin) -> NetPin
         fixed_in(rows, pin.row)
     } else {
         of_cell_in(rows, pin.cell, pin.row)
+    }
+}
+
+/// Returns the pin by its row.
+pub(crate) fn pin_row_of(pin: &PackedPin) -> PinRow
+    ensures { (rows : List PinOffset) → pin_by_row rows result ≡ pin_stored rows pin.now }
+{
+    if pin.cell == UNPLACED {
+        PinRow::Unplaced
+    } else if pin.cell == UNKNOWN {
+        PinRow::Unknown
+    } else if pin.cell == FIXED {
+        PinRow::Fixed(pin.row)
+    } else {
+        PinRow::OfCell(pin.cell, pin.row)
     }
 }
 
