@@ -1,5 +1,5 @@
 -- The report of the wire lengths of a design of files.
-use Rattle.std.specs.Prelude.{◌≡◌, ◌⊎◌, ◌+◌, ℕ, false, List, [], Option, Some, Ok, count_by, length}
+use Rattle.std.specs.Prelude.{◌≡◌, ◌⊎◌, ◌+◌, ℕ, false, List, [], Option, Some, Ok, count_by, length, take}
 use Rattle.std.specs.Io.KnownBytes.{Appends}
 use Rattle.lf_lef.specs.Contents.{Contents}
 use Rattle.lf_def.specs.Document.{Document, document_of}
@@ -100,8 +100,11 @@ IsFilesFault limits gives def lefs state fault =
     ⊎ ((texts : List (List ℕ)) × (library : Contents) × (text : List ℕ)
     × IsKeptLibrary gives no_library lefs texts library × gives def (Some text) × IsWireFault lefs texts def text fault)
 
--- Why the report is not written: there is none, and nothing is written; or the writer failed.
+-- Why the report is not written: there is none, and nothing is written; or the writer failed, and at
+-- most a front of the report is written.
 abbrev pub IsNotMeasured : Limits → ReadsFile → List ℕ → List (List ℕ) → Option (List ℕ) → Option (List ℕ)
     → Option (List ℕ) → Fault → Type 0
 IsNotMeasured limits gives def lefs state before after fault =
-    (IsFilesFault limits gives def lefs state fault × (after ≡ before)) ⊎ (fault ≡ Output)
+    (IsFilesFault limits gives def lefs state fault × (after ≡ before))
+    ⊎ ((fault ≡ Output) × ((report : List ℕ) × (n : ℕ) × IsReportOfFiles limits gives def lefs state report
+    × Appends before after (take n report)))
