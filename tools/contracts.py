@@ -5,16 +5,14 @@ the declaration, the conditions (`requires`) and the comment. What an item ensur
 
 usage: tools/contracts.py            (from the top) prints all crates, as Markdown, in the order of crates.txt
        tools/contracts.py NAME..     prints these crates
-       tools/contracts.py --check    prints what lacks a comment, names in the example of a crate's first lines that no
-                                     source declares, and where the list of crates in docs/ARCHITECTURE.md differs from
-                                     the first sentences of the crates; finally 'N items of M crates'; status 1 if
-                                     anything else is printed
-       tools/contracts.py --write    writes that list
+       tools/contracts.py --list     prints each crate with its first sentence, sorted by name
+       tools/contracts.py --check    prints what lacks a comment, and names in the example of a crate's first lines that
+                                     no source declares; finally 'N items of M crates'; status 1 if anything else is
+                                     printed
 """
 
 from __future__ import annotations
 
-import difflib
 import re
 import signal
 import sys
@@ -35,9 +33,6 @@ A *model* is what contracts see of a value in place of its fields. What a type *
 true of each of its values, so no caller has to show it. A *law* is a public function with an empty body whose contract
 is a theorem.
 """
-PAGE = Path("docs/ARCHITECTURE.md")
-# The line in front of the list of crates.
-LIST = ["<!-- crates -->"]
 ITEM = re.compile(r"pub (?:const )?(fn|struct|enum|trait|type|const|static) (\w+)")
 USE = re.compile(r"^pub use ([\w:]+?)(?:::\{([^}]*)\}| as (\w+))?;", re.M)
 CLAUSE = re.compile(r"\s*(requires|ensures)\b")
@@ -231,9 +226,10 @@ def first_sentence(head: list[str]) -> str:
     return re.split(r"\.(?:\s|$)", paragraph)[0]
 
 
-def listed(crates: list[str]) -> list[str]:
-    """The lines of the list of crates, sorted by name."""
-    return [*LIST, *(f"- `{crate}`: {first_sentence(source_of(crate).head)}" for crate in sorted(crates))]
+def print_list(crates: list[str]) -> int:
+    """Prints each crate with its first sentence, sorted by name. Returns the status."""
+    print("\n".join(f"{crate}: {first_sentence(source_of(crate).head)}" for crate in sorted(crates)))
+    return 0
 
 
 def lacking(crates: list[str]) -> list[str]:
@@ -273,19 +269,9 @@ def methods_without(item: Item) -> list[str]:
     ]
 
 
-def compare(crates: list[str], is_written: bool) -> int:
-    """Prints what lacks a comment and where the list differs, or writes the list. Returns the status."""
-    page = PAGE.read_text(encoding="utf-8").split("\n")
-    start = page.index(LIST[0]) if LIST[0] in page else len(page)
-    stop = next((at for at in range(start + 1, len(page)) if not page[at].startswith("-")), len(page))
-    made = listed(crates)
-    if is_written:
-        PAGE.write_text("\n".join([*page[:start], *made, *page[stop:]]), encoding="utf-8")
-        return 0
+def check(crates: list[str]) -> int:
+    """Prints what lacks a comment, and names that no source declares. Returns the status."""
     said = [*lacking(crates), *unknown(crates)]
-    if page[start:stop] != made:
-        said += difflib.unified_diff(page[start:stop], made, str(PAGE), "the crates' first sentences", n=0, lineterm="")
-        said.append("the list of crates differs: tools/contracts.py --write")
     count = sum(len(items_of(crate, source_of(crate))) for crate in crates)
     print("\n".join([*said, f"{count} items of {len(crates)} crates"]))
     return 1 if said else 0
@@ -293,12 +279,14 @@ def compare(crates: list[str], is_written: bool) -> int:
 
 def main(words: list[str]) -> int:
     crates = [*lines_of(Path("crates.txt").read_text(encoding="utf-8"))]
-    if words in (["--check"], ["--write"]):
-        return compare(crates, words == ["--write"])
+    if words == ["--check"]:
+        return check(crates)
+    signal.signal(signal.SIGPIPE, signal.SIG_DFL)
+    if words == ["--list"]:
+        return print_list(crates)
     if not set(words) <= set(crates):
         print(__doc__, file=sys.stderr)
         return 2
-    signal.signal(signal.SIGPIPE, signal.SIG_DFL)
     if not words:
         print(HEAD.rstrip())
     for crate in words or crates:
