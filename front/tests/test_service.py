@@ -675,7 +675,8 @@ class Operator(HubCase):
 
     def test_slow_readers_hold_neither_the_end_nor_the_last_export(self) -> None:
         exported = self.folder / "new.def"
-        self.start("--grace", "30", "--export", str(exported), "--tail-seconds", "0")
+        # (the few changes are worth a state at the end, and none before)
+        self.start("--grace", "30", "--export", str(exported), "--tail-bytes", "400")
         talker, slow = self.talk("f0"), [self.talk("f0") for _ in range(2)]
         lines = ["open f0", "place f0 0 f0c1 0 0 N", "tidy f0 0", "commit f0 0"]
         self.assertEqual(talker.ask(*lines), ["ok 0 0", "ok 1", "ok 2 9", "ok 3"])
