@@ -13,8 +13,7 @@ struct Breakpoint {
 }
 
 /// A cost over the sites of a range, as a piecewise linear function. It has the value and the slope
-/// at the first site, and the breakpoints after it in rising order. Sums wrap, which the costs of
-/// fewer than 2^20 cells never do.
+/// at the first site, and the breakpoints after it in rising order. Sums saturate.
 #[derive(Drop)]
 pub struct CostCurve {
     low: u32,
@@ -85,8 +84,8 @@ impl CostCurve {
 
     /// Adds to the value and to the slope at the first site.
     fn raise(&mut self, value: i64, slope: i64) {
-        self.value = self.value.wrapping_add(value);
-        self.slope = self.slope.wrapping_add(slope);
+        self.value = self.value.saturating_add(value);
+        self.slope = self.slope.saturating_add(slope);
     }
 
     /// Increases the slope by `bend` from this site on.
@@ -156,13 +155,13 @@ impl CostCurve {
         let mut slope = self.slope;
         let mut least = Least { at, value };
         for kink in &self.kinks {
-            value = value.wrapping_add(slope.wrapping_mul(kink.at as i64 - at as i64));
+            value = value.saturating_add(slope.saturating_mul(kink.at as i64 - at as i64));
             at = kink.at;
-            slope = slope.wrapping_add(kink.bend as i64);
+            slope = slope.saturating_add(kink.bend as i64);
             least = lesser(least, at, value);
         }
         let rest = self.high as i64 - at as i64;
-        value = value.wrapping_add(slope.wrapping_mul(rest));
+        value = value.saturating_add(slope.saturating_mul(rest));
         lesser(least, self.high, value)
     }
 }
