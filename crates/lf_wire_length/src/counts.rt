@@ -2,8 +2,11 @@
 
 ghost use Rattle.std.specs.Prelude.{◌≡◌, ◌≤◌, ◌<◌, ◌+◌, [], All, length, map, slice_index_or};
 ghost use Rattle.lf_wire_length.specs.Bounds.{IsPinOffset};
-ghost use Rattle.lf_wire_length.specs.Counts.{AreNetCountsOf, ArePinCountsOf, length_if_crossing as length_crossing, net_counts, no_counts as no_net_counts, no_pins as no_pin_counts, one_if_crossing as one_crossing, one_if_fixed as one_fixed, one_if_short as one_short};
-ghost use Rattle.lf_wire_length.specs.Counts.{pin_counts, with_counted as counted_more, with_net_counted, with_pin_counted, with_pins_of_net, with_unknown as unknown_more, with_unplaced as unplaced_more};
+ghost use Rattle.lf_wire_length.specs.Counts.{AreNetCountsOf, ArePinCountsOf, length_if_crossing as length_crossing};
+ghost use Rattle.lf_wire_length.specs.Counts.{net_counts, no_counts as no_net_counts, no_pins as no_pin_counts, one_if_crossing as one_crossing};
+ghost use Rattle.lf_wire_length.specs.Counts.{one_if_fixed as one_fixed, one_if_short as one_short, pin_counts, with_counted as counted_more};
+ghost use Rattle.lf_wire_length.specs.Counts.{with_net_counted, with_pin_counted, with_pins_of_net, with_unknown as unknown_more};
+ghost use Rattle.lf_wire_length.specs.Counts.{with_unplaced as unplaced_more};
 ghost use Rattle.lf_wire_length.specs.Stored.{pin_stored, stored_nets};
 ghost use Rattle.lf_wire_length.specs.Teams.{IsSummaryInRange, net_summary};
 

@@ -11,7 +11,7 @@
 //! A `Netlist` has nets whose pins name cells by number; a contract sees for each net the list of
 //! its pins. The places of cells come from any `PlacedCells`.
 //!
-//! Used by `lf_wire_binding`, `lf_wire_report` and `lf_task_wires`.
+//! Used by most other crates.
 //!
 //! Modules, in reading order:
 //!
