@@ -6,7 +6,7 @@
 //! least, and its neighbors make room. At the end cells of equal width exchange places. No contract
 //! says how good a plan is: a floor tests each place that is requested of it.
 //!
-//! Used by `lf_repair_strategy` and `lf_wire_improver`.
+//! Used by `lf_repair_strategy`, `lf_wire_board`, `lf_wire_improver` and `lf_improve_strategy`.
 //!
 //! Modules, in reading order:
 //!

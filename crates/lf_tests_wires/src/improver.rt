@@ -3,10 +3,11 @@
 ghost use Rattle.std.specs.Prelude.{◌<◌};
 
 use lf_repair_planner::{FreeRows, FreeSpan, PlannerRow, RowKind};
-use lf_wire_improver::{
-    BoardNets, BoardPin, BoardPoint, CellPlace, ImprovableCell, ImproveOptions, Orientations,
-    OrientedOffsets, RowOrientations, improved_places,
+use lf_wire_board::{
+    BoardNets, BoardPin, BoardPoint, CellPlace, ImprovableCell, Orientations, OrientedOffsets,
+    RowOrientations,
 };
+use lf_wire_improver::{ImproveOptions, improved_places};
 use std::alloc::{AllocError, Global};
 use std::test::Fail;
 

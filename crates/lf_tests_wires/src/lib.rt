@@ -1,8 +1,8 @@
 //! Tests of the wire length, of the readers of pins and nets, and of their binding: what no clause
 //! says of them.
 //!
-//! The tests cover `lf_wire_length`, `lf_wire_pins`, `lf_wire_nets`, `lf_wire_binding` and
-//! `lf_wire_improver`.
+//! The tests cover `lf_wire_length`, `lf_wire_pins`, `lf_wire_nets`, `lf_wire_binding`,
+//! `lf_wire_board` and `lf_wire_improver`.
 //!
 //! Modules, in reading order:
 //!

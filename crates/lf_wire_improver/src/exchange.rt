@@ -1,14 +1,12 @@
 //! Exchanges: a cell moves to free sites near the place where it costs least, or exchanges places
 //! with a cell there.
 
-use crate::board::{Board, FREE, SitePlace, free_after, free_before};
-use crate::change::{CellMove, make_moves};
-use crate::limits::{clipped, count_of, number_of};
-use crate::runs::{Level, SiteRun};
 use crate::scratch::Scratch;
 use crate::target::{Seeker, Target, seeker_of, target_in};
-use crate::wanted::CellNets;
-use crate::wires::Wires;
+use lf_wire_board::{
+    Board, CellNets, FREE, Level, SiteMove, SitePlace, SiteRun, Wires, clipped, count_of,
+    free_after, free_before, make_moves,
+};
 use std::alloc::AllocError;
 
 /// The greatest distance of a place from the wanted one along the row, in sites.
@@ -57,8 +55,8 @@ fn room_around(sites: &[u32], place: &SitePlace) -> Room {
 #[derive(Clone, Copy)]
 struct BestMoves {
     change: i64,
-    own: Option<CellMove>,
-    other: Option<CellMove>,
+    own: Option<SiteMove>,
+    other: Option<SiteMove>,
 }
 
 /// The state of a search that does not change: the cell, its nets, and the room at its place.
@@ -125,7 +123,7 @@ impl ExchangeSearch<'_> {
         cell: u32,
         place: &SitePlace,
         nets: &mut CellNets,
-    ) -> Result<Option<CellMove>, AllocError> {
+    ) -> Result<Option<SiteMove>, AllocError> {
         let (Some(given), Some(corner)) = (
             self.board.cells.get(cell as usize),
             self.board.point_of(place),
@@ -153,11 +151,11 @@ impl ExchangeSearch<'_> {
             count,
             orientation,
         };
-        Ok(Some(CellMove { cell, place }))
+        Ok(Some(SiteMove { cell, place }))
     }
 
     /// By how much the length grows if another cell moves alone.
-    fn other_change(&self, old: &SitePlace, one: &CellMove, nets: &CellNets) -> i64 {
+    fn other_change(&self, old: &SitePlace, one: &SiteMove, nets: &CellNets) -> i64 {
         match (self.board.point_of(old), self.board.point_of(&one.place)) {
             (Some(from), Some(to)) => {
                 let after = nets.cost(&to, one.place.orientation);
@@ -237,7 +235,7 @@ impl ExchangeSearch<'_> {
         let runs = self.board.runs.of_level(level);
         let first = runs.partition_point(|run| run.last_near(REACH) < self.seeker.wanted.x);
         for position in first..runs.len() {
-            let number = number_of(level.first.saturating_add(position));
+            let number = level.run_at(position);
             let Some(target) = target_in(self.board, self.seeker, self.nets, number, best.change)
             else {
                 continue;

@@ -1,13 +1,10 @@
 //! Flips: a cell is mirrored at its place.
 
-use crate::board::{Board, SitePlace};
-use crate::cells::flipped;
-use crate::change::{CellMove, make_moves};
-use crate::wires::Wires;
+use lf_wire_board::{Board, SiteMove, SitePlace, Wires, flipped, make_moves};
 use std::alloc::AllocError;
 
 /// The flip of a cell, if the flipped orientation is allowed at its place.
-fn flip_of(board: &Board, cell: u32) -> Option<CellMove> {
+fn flip_of(board: &Board, cell: u32) -> Option<SiteMove> {
     let place = board.place_of(cell)?;
     let given = board.cells.get(cell as usize)?;
     let run = board.runs.get(place.run)?;
@@ -19,7 +16,7 @@ fn flip_of(board: &Board, cell: u32) -> Option<CellMove> {
         orientation,
         ..place
     };
-    Some(CellMove { cell, place })
+    Some(SiteMove { cell, place })
 }
 
 /// Flips a cell if that lowers the length.

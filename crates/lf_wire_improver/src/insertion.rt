@@ -1,13 +1,11 @@
 //! Insertions: a cell moves between two others near the place where it costs least, and those next
 //! to it make room.
 
-use crate::board::{Board, FREE, SitePlace};
-use crate::change::{CellMove, change_of, make_moves};
-use crate::limits::{clipped, count_of};
-use crate::runs::SiteRun;
 use crate::scratch::Scratch;
 use crate::target::{Seeker, Target, seeker_of, target_in};
-use crate::wires::Wires;
+use lf_wire_board::{
+    Board, FREE, SiteMove, SitePlace, SiteRun, Wires, clipped, count_of, length_change, make_moves,
+};
 use std::alloc::AllocError;
 use std::mem;
 
@@ -23,8 +21,8 @@ struct Gap {
 }
 
 /// A cell of the run, pushed to a site.
-fn pushed(cell: u32, place: &SitePlace, site: u32) -> CellMove {
-    CellMove {
+fn pushed(cell: u32, place: &SitePlace, site: u32) -> SiteMove {
+    SiteMove {
         cell,
         place: SitePlace { site, ..*place },
     }
@@ -37,7 +35,7 @@ fn push_right(
     run: &SiteRun,
     gap: u32,
     end: u64,
-    moves: &mut Vec<CellMove>,
+    moves: &mut Vec<SiteMove>,
 ) -> Result<bool, AllocError> {
     let sites = board.sites_of(run);
     let (mut end, mut next, mut count) = (end, gap as u64, 0usize);
@@ -74,7 +72,7 @@ fn push_left(
     run: &SiteRun,
     gap: u32,
     start: u32,
-    moves: &mut Vec<CellMove>,
+    moves: &mut Vec<SiteMove>,
 ) -> Result<bool, AllocError> {
     let sites = board.sites_of(run);
     let (mut start, mut next, mut count) = (start, gap, 0usize);
@@ -130,7 +128,7 @@ fn try_gap(
     {
         return Ok(());
     }
-    let change = change_of(board, wires, moves.as_slice())?;
+    let change = length_change(board, wires, moves.as_slice())?;
     if change < scratch.best_change {
         scratch.best_change = change;
         mem::swap(&mut scratch.moves, &mut scratch.best);

@@ -2,15 +2,12 @@
 
 ghost use Rattle.std.specs.Prelude.{◌<ℤ◌, pos};
 
-use crate::board::Board;
-use crate::cells::{CellPlace, ImprovableCell};
 use crate::exchange::exchange;
 use crate::flips::flip;
 use crate::insertion::insert;
-use crate::nets::BoardNets;
 use crate::scratch::Scratch;
-use crate::wires::Wires;
 use lf_repair_planner::FreeRows;
+use lf_wire_board::{Board, BoardNets, CellPlace, ImprovableCell, Wires};
 use std::alloc::{AllocError, Global};
 
 /// The side of a tile, in rows.

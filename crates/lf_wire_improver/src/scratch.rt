@@ -1,7 +1,6 @@
 //! Lists that the search of each cell uses again.
 
-use crate::change::CellMove;
-use crate::wanted::CellNets;
+use lf_wire_board::{CellNets, SiteMove};
 use std::alloc::Global;
 
 /// The nets of the cell and of another one, the moves that are tried, and the best so far with the
@@ -10,8 +9,8 @@ use std::alloc::Global;
 pub(crate) struct Scratch {
     pub(crate) nets: CellNets,
     pub(crate) other: CellNets,
-    pub(crate) moves: Vec<CellMove>,
-    pub(crate) best: Vec<CellMove>,
+    pub(crate) moves: Vec<SiteMove>,
+    pub(crate) best: Vec<SiteMove>,
     pub(crate) best_change: i64,
 }
 

@@ -1,12 +1,7 @@
 //! A cell for which a better place is looked for, and the runs in which it is tried.
 
-use crate::board::{Board, SitePlace};
-use crate::change::CellMove;
-use crate::nets::BoardPoint;
-use crate::runs::SiteRun;
-use crate::wanted::CellNets;
-use crate::wires::Wires;
 use lf_repair_planner::RowKind;
+use lf_wire_board::{Board, BoardPoint, CellNets, SiteMove, SitePlace, SiteRun, Wires};
 use std::alloc::AllocError;
 
 /// A cell that is not in the rectangle in which it costs least: its place and corner, its cost
@@ -78,8 +73,8 @@ impl Target {
     }
 
     /// The move of the cell to a site.
-    pub(crate) fn move_to(&self, cell: u32, site: u32) -> CellMove {
-        CellMove {
+    pub(crate) fn move_to(&self, cell: u32, site: u32) -> SiteMove {
+        SiteMove {
             cell,
             place: SitePlace {
                 run: self.number,

@@ -9,13 +9,13 @@ use std::alloc::{AllocError, Global};
 /// A free span of a row: `count` sites at a distance of `step` database units, the first at
 /// (`first`, `y`). `base` is the position of the first site in the list of all sites.
 #[derive(Clone, Copy)]
-pub(crate) struct SiteRun {
+pub struct SiteRun {
     pub(crate) first: i32,
     pub(crate) y: i32,
     pub(crate) step: u32,
-    pub(crate) count: u32,
+    pub count: u32,
     pub(crate) base: usize,
-    pub(crate) kind: RowKind,
+    pub kind: RowKind,
 }
 
 impl SiteRun {
@@ -33,12 +33,12 @@ impl SiteRun {
     }
 
     /// The x of a site, in half database units.
-    pub(crate) fn doubled_x(&self, site: u32) -> i32 {
+    pub fn doubled_x(&self, site: u32) -> i32 {
         doubled(self.x_of(site))
     }
 
     /// The y of the run, in half database units.
-    pub(crate) fn doubled_y(&self) -> i32 {
+    pub fn doubled_y(&self) -> i32 {
         doubled(self.y as i64)
     }
 
@@ -54,13 +54,13 @@ impl SiteRun {
 
     /// The number of the site nearest to an x in half database units. It may be less than 0, or
     /// past the last site.
-    pub(crate) fn site_near(&self, x: i32) -> i64 {
+    pub fn site_near(&self, x: i32) -> i64 {
         let pitch = self.pitch();
         (x as i64 - 2 * self.first as i64 + pitch).div_euclid(2 * pitch)
     }
 
     /// The x that is `reach` sites after the last site, in half database units.
-    pub(crate) fn last_near(&self, reach: i64) -> i32 {
+    pub fn last_near(&self, reach: i64) -> i32 {
         let sites = (self.count as i64).saturating_add(reach);
         doubled((self.first as i64).saturating_add(self.pitch().saturating_mul(sites)))
     }
@@ -74,15 +74,22 @@ impl SiteRun {
 
 /// The runs of one y, by their positions in the list of runs: from `first` on and below `last`.
 #[derive(Clone, Copy)]
-pub(crate) struct Level {
+pub struct Level {
     pub(crate) y: i32,
     pub(crate) first: usize,
     pub(crate) last: usize,
 }
 
+impl Level {
+    /// The number of the level's run at this position.
+    pub fn run_at(&self, position: usize) -> u32 {
+        number_of(self.first.saturating_add(position))
+    }
+}
+
 /// Runs of free sites by rising y and x, and their levels by rising y.
 #[derive(Drop)]
-pub(crate) struct SiteRuns {
+pub struct SiteRuns {
     runs: Vec<SiteRun>,
     levels: Vec<Level>,
     /// The number of all sites.
@@ -172,17 +179,17 @@ impl SiteRuns {
     }
 
     /// The run at this position.
-    pub(crate) fn get(&self, run: u32) -> Option<&SiteRun> {
+    pub fn get(&self, run: u32) -> Option<&SiteRun> {
         self.runs.get(run as usize)
     }
 
     /// The runs of a level.
-    pub(crate) fn of_level(&self, level: &Level) -> &[SiteRun] {
+    pub fn of_level(&self, level: &Level) -> &[SiteRun] {
         self.runs.get(level.first..level.last).unwrap_or(&[])
     }
 
     /// The number of the run of a level that is nearest to an x in half database units.
-    pub(crate) fn run_near(&self, level: &Level, x: i32) -> Option<u32> {
+    pub fn run_near(&self, level: &Level, x: i32) -> Option<u32> {
         let runs = self.of_level(level);
         let after = runs.partition_point(|run| doubled(run.first as i64) <= x);
         let mut position = after.saturating_sub(1);
@@ -192,7 +199,7 @@ impl SiteRuns {
                 position = after;
             }
         }
-        Some(number_of(level.first.saturating_add(position)))
+        Some(level.run_at(position))
     }
 
     /// The level at this y, in database units.
@@ -203,7 +210,7 @@ impl SiteRuns {
     }
 
     /// The position of the level nearest to a y in half database units.
-    pub(crate) fn level_near(&self, y: i32) -> usize {
+    pub fn level_near(&self, y: i32) -> usize {
         let levels = self.levels.as_slice();
         let above = levels.partition_point(|level| doubled(level.y as i64) < y);
         let Some(below) = above.checked_sub(1) else {
@@ -219,7 +226,7 @@ impl SiteRuns {
 
     /// The level that is visited in this step of a search outward from `middle`: this one, the one
     /// above, the one below, the second above, and so on.
-    pub(crate) fn level_by(&self, middle: usize, step: u32) -> Option<Level> {
+    pub fn level_by(&self, middle: usize, step: u32) -> Option<Level> {
         let away = (step / 2) as usize;
         let position = if step % 2 == 0 {
             middle.checked_sub(away)?
@@ -237,12 +244,11 @@ impl SiteRuns {
         let after = runs.partition_point(|run| run.first <= x);
         let position = after.checked_sub(1)?;
         let run = runs.get(position)?;
-        let number = number_of(level.first.saturating_add(position));
-        Some((number, run.site_at(x)?))
+        Some((level.run_at(position), run.site_at(x)?))
     }
 
     /// The least difference of two levels' y, at least 1: the height of a row.
-    pub(crate) fn height(&self) -> i64
+    pub fn height(&self) -> i64
         ensures some { pos 0 <ℤ result }
         ensures short { result <ℤ pos 4294967296 }
     {
@@ -258,7 +264,7 @@ impl SiteRuns {
     }
 
     /// The place of a site in database units.
-    pub(crate) fn point_of(&self, run: u32, site: u32) -> Option<(i32, i32)> {
+    pub fn point_of(&self, run: u32, site: u32) -> Option<(i32, i32)> {
         let run = self.get(run)?;
         Some((coordinate(run.x_of(site)), run.y))
     }

@@ -109,7 +109,7 @@ fn length_of(pins: &[Pin]) -> i64 {
 
 /// The nets with at least two and at most `MOST_PINS` pins, if a cell has one of them.
 #[derive(Drop)]
-pub(crate) struct Wires<'a> {
+pub struct Wires<'a> {
     given: &'a BoardNets,
     nets: Vec<Net>,
     pins: Vec<Pin>,
@@ -121,8 +121,8 @@ pub(crate) struct Wires<'a> {
 }
 
 impl<'a> Wires<'a> {
-    /// The nets of a board.
-    pub(crate) fn new(
+    /// The nets of a board. `Err` if an allocation fails.
+    pub fn new(
         alloc: Global,
         given: &'a BoardNets,
         board: &Board,
@@ -216,7 +216,7 @@ impl<'a> Wires<'a> {
     }
 
     /// The sum of the lengths of all nets.
-    pub(crate) fn length(&self) -> i64 {
+    pub fn length(&self) -> i64 {
         let mut sum: i64 = 0;
         for net in &self.nets {
             sum = sum.saturating_add(net.length);

@@ -80,21 +80,21 @@ fn others_of(wires: &Wires, net: u32, cell: u32) -> Bounds {
 
 /// A range of coordinates in half database units.
 #[derive(Clone, Copy)]
-pub(crate) struct WantedRange {
-    pub(crate) low: i64,
-    pub(crate) high: i64,
+pub struct WantedRange {
+    low: i64,
+    high: i64,
 }
 
 impl WantedRange {
     /// The number of the range nearest to this one.
-    pub(crate) fn nearest(&self, number: i32) -> i32 {
+    pub fn nearest(&self, number: i32) -> i32 {
         coordinate((number as i64).min(self.high).max(self.low))
     }
 }
 
 /// The nets of a cell.
 #[derive(Drop)]
-pub(crate) struct CellNets {
+pub struct CellNets {
     boxes: Vec<NetBox>,
     /// The ends of the ranges in which the nets do not grow, along one axis.
     ends: Vec<i64>,
@@ -102,15 +102,16 @@ pub(crate) struct CellNets {
 
 impl CellNets {
     /// No nets, which allocates nothing.
-    pub(crate) fn new(alloc: Global) -> CellNets {
+    pub fn new(alloc: Global) -> CellNets {
         CellNets {
             boxes: Vec::new(alloc),
             ends: Vec::new(alloc),
         }
     }
 
-    /// Takes the nets of a cell that also have other pins. It takes none if they are too many.
-    pub(crate) fn gather(&mut self, wires: &Wires, cell: u32) -> Result<(), AllocError> {
+    /// Takes the nets of a cell that also have other pins. It takes none if they are too many. `Err`
+    /// if an allocation fails.
+    pub fn gather(&mut self, wires: &Wires, cell: u32) -> Result<(), AllocError> {
         self.boxes.clear();
         for pin in wires.pins_of_cell(cell) {
             let Some(of) = wires.pin(pin.pin) else {
@@ -138,13 +139,8 @@ impl CellNets {
         Ok(())
     }
 
-    /// Whether there are no nets.
-    pub(crate) fn is_empty(&self) -> bool {
-        self.boxes.is_empty()
-    }
-
     /// The sum of the nets' lengths if the cell has this corner and orientation.
-    pub(crate) fn cost(&self, corner: &BoardPoint, orientation: RowKind) -> i64 {
+    pub fn cost(&self, corner: &BoardPoint, orientation: RowKind) -> i64 {
         let mut sum: i64 = 0;
         for net in &self.boxes {
             sum = sum.saturating_add(net.length_at(corner, orientation));
@@ -152,11 +148,9 @@ impl CellNets {
         sum
     }
 
-    /// The range of x of the cell's corner in which the nets are shortest. `None` without nets.
-    pub(crate) fn wanted_x(
-        &mut self,
-        orientation: RowKind,
-    ) -> Result<Option<WantedRange>, AllocError> {
+    /// The range of x of the cell's corner in which the nets are shortest. `None` without nets. `Err`
+    /// if an allocation fails.
+    pub fn wanted_x(&mut self, orientation: RowKind) -> Result<Option<WantedRange>, AllocError> {
         self.ends.clear();
         for net in &self.boxes {
             let own = &net.own[index_of(orientation)];
@@ -166,11 +160,9 @@ impl CellNets {
         Ok(self.middle())
     }
 
-    /// The range of y of the cell's corner in which the nets are shortest. `None` without nets.
-    pub(crate) fn wanted_y(
-        &mut self,
-        orientation: RowKind,
-    ) -> Result<Option<WantedRange>, AllocError> {
+    /// The range of y of the cell's corner in which the nets are shortest. `None` without nets. `Err`
+    /// if an allocation fails.
+    pub fn wanted_y(&mut self, orientation: RowKind) -> Result<Option<WantedRange>, AllocError> {
         self.ends.clear();
         for net in &self.boxes {
             let own = &net.own[index_of(orientation)];

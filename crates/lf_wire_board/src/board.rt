@@ -8,30 +8,30 @@ use lf_repair_planner::{FreeRows, RowKind};
 use std::alloc::{AllocError, Global};
 
 /// The number on a site without a cell.
-pub(crate) const FREE: u32 = u32::MAX;
+pub const FREE: u32 = u32::MAX;
 
 /// A place on the board: the position of a run, the first site and the number of sites that the
 /// cell takes there, and the cell's orientation.
 #[derive(Clone, Copy)]
-pub(crate) struct SitePlace {
-    pub(crate) run: u32,
-    pub(crate) site: u32,
-    pub(crate) count: u32,
-    pub(crate) orientation: RowKind,
+pub struct SitePlace {
+    pub run: u32,
+    pub site: u32,
+    pub count: u32,
+    pub orientation: RowKind,
 }
 
 impl SitePlace {
     /// The number of the first site after it.
-    pub(crate) fn end(&self) -> u64 {
+    pub fn end(&self) -> u64 {
         self.site as u64 + self.count as u64
     }
 }
 
 /// The cells on the sites. A cell that was not on free sites at the beginning has no place.
 #[derive(Drop)]
-pub(crate) struct Board<'a> {
-    pub(crate) cells: &'a [ImprovableCell],
-    pub(crate) runs: SiteRuns,
+pub struct Board<'a> {
+    pub cells: &'a [ImprovableCell],
+    pub runs: SiteRuns,
     /// The greatest distance of a cell from where it was at the beginning, in database units.
     within: u64,
     /// The number of the cell on each site, run after run, or `FREE`.
@@ -40,8 +40,8 @@ pub(crate) struct Board<'a> {
 }
 
 impl<'a> Board<'a> {
-    /// The board with all cells that are on free sites.
-    pub(crate) fn new(
+    /// The board with all cells that are on free sites. `Err` if an allocation fails.
+    pub fn new(
         alloc: Global,
         land: &FreeRows,
         cells: &'a [ImprovableCell],
@@ -86,23 +86,23 @@ impl<'a> Board<'a> {
     }
 
     /// The number of cells.
-    pub(crate) fn count(&self) -> u32 {
+    pub fn count(&self) -> u32 {
         number_of(self.places.len())
     }
 
     /// The sites of a run.
-    pub(crate) fn sites_of(&self, run: &SiteRun) -> &[u32] {
+    pub fn sites_of(&self, run: &SiteRun) -> &[u32] {
         let end = run.base.saturating_add(run.count as usize);
         self.sites.get(run.base..end).unwrap_or(&[])
     }
 
     /// The place of a cell.
-    pub(crate) fn place_of(&self, cell: u32) -> Option<SitePlace> {
+    pub fn place_of(&self, cell: u32) -> Option<SitePlace> {
         *self.places.get(cell as usize)?
     }
 
     /// Writes a number on the sites of a place.
-    pub(crate) fn mark(&mut self, place: &SitePlace, number: u32) {
+    pub fn mark(&mut self, place: &SitePlace, number: u32) {
         let Some(run) = self.runs.get(place.run) else {
             return;
         };
@@ -124,7 +124,7 @@ impl<'a> Board<'a> {
     }
 
     /// The number of sites that a cell takes in a run, if it has this place now.
-    pub(crate) fn sites_in(&self, cell: u32, now: &SitePlace, run: &SiteRun) -> u32 {
+    pub fn sites_in(&self, cell: u32, now: &SitePlace, run: &SiteRun) -> u32 {
         match (self.runs.get(now.run), self.cells.get(cell as usize)) {
             (Some(old), Some(given)) if old.step != run.step => {
                 count_of(run.sites_for(given.width))
@@ -134,7 +134,7 @@ impl<'a> Board<'a> {
     }
 
     /// Whether a site of a run is within the greatest distance for a cell.
-    pub(crate) fn is_near(&self, cell: u32, run: &SiteRun, site: u32) -> bool {
+    pub fn is_near(&self, cell: u32, run: &SiteRun, site: u32) -> bool {
         if self.within == u64::MAX {
             return true;
         }
@@ -147,7 +147,7 @@ impl<'a> Board<'a> {
     }
 
     /// The point of a place in half database units.
-    pub(crate) fn point_of(&self, place: &SitePlace) -> Option<BoardPoint> {
+    pub fn point_of(&self, place: &SitePlace) -> Option<BoardPoint> {
         let run = self.runs.get(place.run)?;
         Some(BoardPoint {
             x: run.doubled_x(place.site),
@@ -156,7 +156,7 @@ impl<'a> Board<'a> {
     }
 
     /// The place of a cell in database units. `None` if it is that at the beginning.
-    pub(crate) fn changed_place(&self, cell: u32) -> Option<CellPlace> {
+    pub fn changed_place(&self, cell: u32) -> Option<CellPlace> {
         let given = self.cells.get(cell as usize)?;
         let place = self.place_of(cell)?;
         let (x, y) = self.runs.point_of(place.run, place.site)?;
@@ -174,7 +174,7 @@ impl<'a> Board<'a> {
 }
 
 /// The number of free sites directly in front of a position, `most` at the most.
-pub(crate) fn free_before(sites: &[u32], position: usize, most: usize) -> usize {
+pub fn free_before(sites: &[u32], position: usize, most: usize) -> usize {
     for back in 0..position.min(most) {
         if sites.get(position - 1 - back) != Some(&FREE) {
             return back;
@@ -184,7 +184,7 @@ pub(crate) fn free_before(sites: &[u32], position: usize, most: usize) -> usize 
 }
 
 /// The number of free sites from a position on, `most` at the most.
-pub(crate) fn free_after(sites: &[u32], position: usize, most: usize) -> usize {
+pub fn free_after(sites: &[u32], position: usize, most: usize) -> usize {
     for ahead in 0..most {
         if sites.get(position.saturating_add(ahead)) != Some(&FREE) {
             return ahead;

@@ -6,12 +6,12 @@ pub(crate) fn number_of(position: usize) -> u32 {
 }
 
 /// A number of 64 bits, limited to the greatest number of 32 bits.
-pub(crate) fn clipped(number: u64) -> u32 {
+pub fn clipped(number: u64) -> u32 {
     number.min(4_294_967_295) as u32
 }
 
 /// A number limited to the range of a count of 32 bits.
-pub(crate) fn count_of(number: i64) -> u32 {
+pub fn count_of(number: i64) -> u32 {
     number.clamp(0, 4_294_967_295) as u32
 }
 

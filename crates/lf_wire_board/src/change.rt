@@ -6,9 +6,9 @@ use std::alloc::AllocError;
 
 /// A move of a cell to a place.
 #[derive(Clone, Copy)]
-pub(crate) struct CellMove {
-    pub(crate) cell: u32,
-    pub(crate) place: SitePlace,
+pub struct SiteMove {
+    pub cell: u32,
+    pub place: SitePlace,
 }
 
 /// Moves the pins of a cell to those of a place.
@@ -19,7 +19,7 @@ fn move_pins(board: &Board, wires: &mut Wires, cell: u32, place: &SitePlace) {
 }
 
 /// Moves the pins of all moves, and returns by how much the length grows.
-fn begin(board: &Board, wires: &mut Wires, moves: &[CellMove]) -> Result<i64, AllocError> {
+fn begin(board: &Board, wires: &mut Wires, moves: &[SiteMove]) -> Result<i64, AllocError> {
     wires.clear();
     for one in moves {
         wires.touch(one.cell)?;
@@ -31,7 +31,7 @@ fn begin(board: &Board, wires: &mut Wires, moves: &[CellMove]) -> Result<i64, Al
 }
 
 /// Moves the pins back to the places of their cells.
-fn undo(board: &Board, wires: &mut Wires, moves: &[CellMove]) {
+fn undo(board: &Board, wires: &mut Wires, moves: &[SiteMove]) {
     for one in moves {
         if let Some(place) = board.place_of(one.cell) {
             move_pins(board, wires, one.cell, &place);
@@ -39,22 +39,22 @@ fn undo(board: &Board, wires: &mut Wires, moves: &[CellMove]) {
     }
 }
 
-/// By how much the length grows if the cells move. They do not move.
-pub(crate) fn change_of(
+/// By how much the length grows if the cells move. They do not move. `Err` if an allocation fails.
+pub fn length_change(
     board: &Board,
     wires: &mut Wires,
-    moves: &[CellMove],
+    moves: &[SiteMove],
 ) -> Result<i64, AllocError> {
     let change = begin(board, wires, moves)?;
     undo(board, wires, moves);
     Ok(change)
 }
 
-/// Moves the cells if that lowers the length.
-pub(crate) fn make_moves(
+/// Moves the cells if that lowers the length. `Err` if an allocation fails.
+pub fn make_moves(
     board: &mut Board,
     wires: &mut Wires,
-    moves: &[CellMove],
+    moves: &[SiteMove],
 ) -> Result<(), AllocError> {
     if 0 <= begin(board, wires, moves)? {
         undo(board, wires, moves);

@@ -13,7 +13,7 @@ pub struct Orientations {
 
 impl Orientations {
     /// Whether this orientation is one of them.
-    pub(crate) fn has(&self, orientation: RowKind) -> bool {
+    pub fn has(&self, orientation: RowKind) -> bool {
         match orientation {
             RowKind::N => self.n,
             RowKind::S => self.s,
@@ -35,7 +35,7 @@ pub struct RowOrientations {
 
 impl RowOrientations {
     /// Those in a row of this kind.
-    pub(crate) fn in_row(&self, row: RowKind) -> &Orientations {
+    pub fn in_row(&self, row: RowKind) -> &Orientations {
         match row {
             RowKind::N => &self.in_n,
             RowKind::S => &self.in_s,
@@ -66,7 +66,7 @@ impl ImprovableCell {
     /// The orientation of the cell in a row of this kind, if it has the orientation `now`: one in
     /// which its pins have the same order from left to right if that is allowed, otherwise another.
     /// `None` if no orientation is allowed.
-    pub(crate) fn orientation_in(&self, now: RowKind, row: RowKind) -> Option<RowKind> {
+    pub fn orientation_in(&self, now: RowKind, row: RowKind) -> Option<RowKind> {
         let allowed = self.orientations.in_row(row);
         let wanted = turned_to(now, row);
         if allowed.has(wanted) {
@@ -85,7 +85,7 @@ impl ImprovableCell {
 }
 
 /// The orientation flipped over the y axis.
-pub(crate) fn flipped(orientation: RowKind) -> RowKind {
+pub fn flipped(orientation: RowKind) -> RowKind {
     match orientation {
         RowKind::N => RowKind::FN,
         RowKind::S => RowKind::FS,
