@@ -5,7 +5,7 @@
 //! `least_largest` of a line is the number for that team with which the report was created, and
 //! `impossible` has the reasons of the list with which it was created.
 //!
-//! Used by `lf_task_repair`.
+//! Used by `lf_improve_report` and `lf_task_repair`.
 //!
 //! Modules, in reading order:
 //!
@@ -30,4 +30,4 @@ mod report;
 mod totals;
 
 pub use report::RepairReport;
-pub use totals::Totals;
+pub use totals::{Totals, mean_displacement};

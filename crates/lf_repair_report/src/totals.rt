@@ -77,8 +77,8 @@ pub(crate) fn with_one(sums: &Totals, repaired: &RepairStats, least: u64) -> Tot
     }
 }
 
-/// The mean displacement of the cells that moved, rounded down. 0 if no cell moved.
-pub(crate) fn mean_displacement(total: u64, moved: u64) -> u64
+/// Returns the mean displacement of the cells that moved, rounded down. 0 if no cell moved.
+pub fn mean_displacement(total: u64, moved: u64) -> u64
     ensures { result ≡ mean_displacement total moved }
 {
     if moved == 0 {

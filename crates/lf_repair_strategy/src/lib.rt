@@ -10,7 +10,7 @@
 //! `RepairStats` is the result of repairing a team. `lf_repair_team` counts it, and
 //! `lf_repair_report` prints it.
 //!
-//! Used by `lf_repair_team`, `lf_repair_report` and `lf_task_repair`.
+//! Used by most other crates.
 //!
 //! Modules, in reading order:
 //!

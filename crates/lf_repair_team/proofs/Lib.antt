@@ -1,15 +1,16 @@
 mod Lines
-mod Runs
+pub mod Runs
 mod Steps
-mod Slots
+pub mod Slots
 mod Cells
 mod Lists
 pub mod Legal
 mod Ids
 mod Marking
-mod StatsLemmas
+pub mod StatsLemmas
 mod Finding
 mod Results
+mod Reverting
 mod OthersLegal
 pub mod WithoutPlace
 mod LastPass

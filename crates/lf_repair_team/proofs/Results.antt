@@ -22,6 +22,10 @@ pub ok_then : {T E : Type 0} (r : Result T E) (A B : Type 0) → (A → B) → I
 ok_then (Ok x) A B f a = f a
 ok_then (Err e) A B f a = tt
 
+pub ok_then_on : {T E : Type 0} (r : Result T E) (A B : Type 0) → (A → B) → IfOk r (λ x. A) → OnOk r B
+ok_then_on (Ok x) A B f a = f a
+ok_then_on (Err e) A B f a = tt
+
 pub err_then : {T E : Type 0} (r : Result T E) (A B : Type 0) → (A → B) → OnErr r A → OnErr r B
 err_then (Ok x) A B f a = tt
 err_then (Err e) A B f a = f a

@@ -1,8 +1,10 @@
 -- Runs one after the other, and what they leave unchanged.
 use Rattle.std.proofs.Common.{◌≡◌, ◌≢◌, ℕ, List, [], ◌∷◌, ◌++◌, Bool, true, false, Option, Some, None, refl, ap, sym, ◌∙◌, subst, take, append_assoc, append-nil, arith}
+use Rattle.std.specs.Prelude.{slice_get}
 use Rattle.std.specs.Io.KnownBytes.{Appends, Keeps}
 use Rattle.std.proofs.lemmas.List.Elements.{All-append, All-cons, All-nil}
 use Rattle.std.proofs.lemmas.List.Concat.{flat_map-append}
+use Rattle.lf_floorplan.specs.declared.frame.Frame.{Frame}
 use Rattle.lf_floorplan.specs.declared.place.Place.{Place}
 use Rattle.lf_proto.specs.Lines.{IsLineName}
 use Rattle.lf_rules.specs.Legalizer.{Legalizer}
@@ -12,7 +14,7 @@ use Rattle.lf_proto.specs.declared.reply.Reply.{Reply}
 use Rattle.lf_proto.specs.Requests.{IsPlain}
 use Rattle.lf_io.proofs.Known.{Appends-more, Appends-same}
 use Rattle.lf_floor_model.specs.States.{FloorState}
-use Rattle.lf_floor_model.specs.Teams.{state_of}
+use Rattle.lf_floor_model.specs.Teams.{state_of, team_number}
 use Rattle.lf_floor_model.specs.Steps.{IsTo, KeepsIfRefused, Step}
 use Rattle.lf_floor_model.specs.Runs.{Run}
 use Rattle.lf_floor_model.specs.VerbLaws.{is_ok}
@@ -144,11 +146,12 @@ then_cut l team a b c x y z first second =
 -- ---- what is unchanged
 
 pub unchanged : (team : List ℕ) (floor : FloorState) → ChangesOnly team floor floor
-unchanged team floor = record { others = λ other differ. refl; frame = refl; components = refl; names = refl; macros = refl; legal = λ legal. legal }
+unchanged team floor = record { others = λ other differ. refl; numbers = λ number differ. refl; frame = refl; components = refl; names = refl; macros = refl; legal = λ legal. legal }
 
 pub then_only : (team : List ℕ) (a b c : FloorState) → ChangesOnly team a b → ChangesOnly team b c → ChangesOnly team a c
 then_only team a b c first second = record {
   others = λ other differ. second.others other differ ∙ first.others other differ;
+  numbers = λ number differ. second.numbers number (λ e. differ (ap (λ (f : Frame). team_number f team) (sym first.frame) ∙ e)) ∙ first.numbers number differ;
   frame = second.frame ∙ first.frame;
   components = second.components ∙ first.components;
   names = second.names ∙ first.names;
@@ -158,11 +161,13 @@ then_only team a b c first second = record {
 
 -- a step to the team changes no other team
 pub step_only : (team : List ℕ) (command : Command (List ℕ) Place) (old new : FloorState) → IsTo team command
-    → ((other : List ℕ) → ¬ IsTo other command → state_of new other ≡ state_of old other) → new.frame ≡ old.frame → new.components ≡ old.components
+    → ((other : List ℕ) → ¬ IsTo other command → state_of new other ≡ state_of old other)
+    → ((number : ℕ) → team_number old.frame team ≢ Some number → slice_get new.teams number ≡ slice_get old.teams number) → new.frame ≡ old.frame → new.components ≡ old.components
     → team_cell_names new team ≡ team_cell_names old team → team_cell_macros new team ≡ team_cell_macros old team → (IsCommittedLegal old → IsCommittedLegal new)
     → ChangesOnly team old new
-step_only team command old new to others frame components names macros legal = record {
+step_only team command old new to others numbers frame components names macros legal = record {
   others = λ other differ. others other (not_to command to other differ);
+  numbers = numbers;
   frame = frame;
   components = components;
   names = names;

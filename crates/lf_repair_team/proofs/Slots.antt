@@ -70,7 +70,7 @@ opened_slots t s session revision replied = go (position is_none s.slots) refl r
       (freed_after s.slots k (Some s.revision) ∙ free_stays s.slots k (first_is_free s.slots k first))
 
 -- a command to no team
-no_team_answers : (l : Legalizer) (floor : FloorState) (team : List ℕ) (order : TeamCommand (List ℕ) Place) → state_of floor team ≡ None
+pub no_team_answers : (l : Legalizer) (floor : FloorState) (team : List ℕ) (order : TeamCommand (List ℕ) Place) → state_of floor team ≡ None
     → answer_of l floor (To team order) ≡ no_team floor
 unfolding answer_of
 no_team_answers l floor team order none = go (team_number floor.frame team) none where
@@ -82,7 +82,7 @@ no_team_answers l floor team order none = go (team_number floor.frame team) none
   go None e = refl
   go (Some number) e = by (slice_get floor.teams number) number e
 
-number_of_state : (floor : FloorState) (team : List ℕ) (s : TeamState) → state_of floor team ≡ Some s → (number : ℕ) × (team_number floor.frame team ≡ Some number)
+pub number_of_state : (floor : FloorState) (team : List ℕ) (s : TeamState) → state_of floor team ≡ Some s → (number : ℕ) × (team_number floor.frame team ≡ Some number)
 number_of_state floor team s there = go (team_number floor.frame team) refl there where
   go : (o : Option ℕ) → team_number floor.frame team ≡ o → state_at floor.teams o ≡ Some s → (number : ℕ) × (team_number floor.frame team ≡ Some number)
   go None is e = absurd (none_some e)

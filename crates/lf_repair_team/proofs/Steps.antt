@@ -1,5 +1,5 @@
 -- The effect of a step to a team on it.
-use Rattle.std.proofs.Common.{◌≡◌, ◌⊎◌, inl, inr, ℕ, List, map, Bool, true, false, Option, Some, None, refl, ap, sym, ◌∙◌, subst}
+use Rattle.std.proofs.Common.{◌≡◌, ◌≢◌, ◌⊎◌, inl, inr, ℕ, List, map, Bool, true, false, Option, Some, None, refl, ap, sym, ◌∙◌, subst}
 use Rattle.std.specs.Prelude.{MatchBool, slice_get, option_and_then}
 use Rattle.std.specs.Option.{option_map}
 use Rattle.lf_floorplan.specs.declared.place.Place.{Place}
@@ -18,7 +18,7 @@ use Rattle.lf_floor_model.specs.Steps.{IsAnswerOf, IsTo, MayRunOutOfMemory, Step
 use Rattle.lf_floor_model.specs.Verbs.{outcome_of}
 use Rattle.lf_floor_model.specs.VerbLaws.{QueryKeepsState, is_change}
 use Rattle.lf_floor_model.proofs.Forms.{state_at, answer_by}
-use Rattle.lf_floor_model.proofs.Answering.{own_answer}
+use Rattle.lf_floor_model.proofs.Answering.{get-set_other, own_answer}
 use Rattle.lf_floor_model.proofs.Cases.{CellsAfter, Facts, macs_stay, names_stay, order_facts}
 use Rattle.lf_repair_team.specs.CellEdits.{IsUnchangedOrStepped, SameCells}
 use Rattle.lf_repair_team.specs.TeamRepairs.{team_cell_macros, team_cell_names, place_of_cell_in}
@@ -73,6 +73,34 @@ pub requested_step : (l : Legalizer) (old new : FloorState) (team : List ℕ) (o
     → (new ≡ old) ⊎ IsServed l old new team order
 requested_step l old new team order (inl same) = inl same
 requested_step l old new team order (inr (reply, step)) = team_step l old new team order reply step
+
+-- ---- the other teams
+
+module _ (l : Legalizer) (floor : FloorState) (order : TeamCommand (List ℕ) Place) (number : ℕ) where
+  numbers_by : (n : ℕ) (o : Option TeamState) → n ≢ number → slice_get (answer_by o l floor n order).floor.teams number ≡ slice_get floor.teams number
+  numbers_by n None differ = refl
+  numbers_by n (Some s) differ = get-set_other floor.teams n number (outcome_by_rules l floor.frame n order s).team differ
+
+  numbers_at : (o : Option ℕ) → o ≢ Some number → slice_get (answer_at o l floor order).floor.teams number ≡ slice_get floor.teams number
+  numbers_at None differ = refl
+  numbers_at (Some n) differ = numbers_by n (slice_get floor.teams n) (λ e. differ (ap (λ (k : ℕ). Some k) e))
+
+numbers_kept : (l : Legalizer) (floor : FloorState) (command : Command (List ℕ) Place) (team : List ℕ) (number : ℕ) → IsTo team command
+    → team_number floor.frame team ≢ Some number → slice_get (answer_of l floor command).floor.teams number ≡ slice_get floor.teams number
+unfolding answer_of
+numbers_kept l floor Bye team number to differ = refl
+numbers_kept l floor (To name order) team number to differ =
+    numbers_at l floor order number (team_number floor.frame name) (λ e. differ (ap (team_number floor.frame) (sym to) ∙ e))
+
+-- a step to a team changes no team of another number
+pub step_numbers : (l : Legalizer) (team : List ℕ) (command : Command (List ℕ) Place) (old new : FloorState) (reply : Reply) → IsTo team command
+    → Step l old command reply new
+    → (number : ℕ) → team_number old.frame team ≢ Some number → slice_get new.teams number ≡ slice_get old.teams number
+step_numbers l team command old new reply to step number differ = short (is_short reply) step where
+  short : (b : Bool) → MatchBool b (MayRunOutOfMemory l old command new) (IsAnswerOf l old command reply new)
+      → slice_get new.teams number ≡ slice_get old.teams number
+  short true runs = ap (λ (f : FloorState). slice_get f.teams number) runs.short.kept
+  short false answer = ap (λ (f : FloorState). slice_get f.teams number) answer.floor_is ∙ numbers_kept l old command team number to differ
 
 -- ---- places
 

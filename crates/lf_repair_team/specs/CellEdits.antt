@@ -1,6 +1,6 @@
--- Changes of one cell, and what is read at the start and at the end of a repair. No public clause
--- cites this module.
-use Rattle.std.specs.Prelude.{◌≡◌, ◌≢◌, ◌⊎◌, ◌↔◌, ℕ, ◌<◌, ◌≤◌, ◌+◌, ◌++◌, ◌∷◌, [], List, Bool, true, All, AllPairs, Contains, IsSome, None, Option, Some, length, map, max, min, option_map, slice_get, slice_set}
+-- Changes of one cell, and what is read at the start and at the end of a repair. The clauses of
+-- `repair_team` do not cite this module.
+use Rattle.std.specs.Prelude.{◌≡◌, ◌≢◌, ◌⊎◌, ◌↔◌, ℕ, ◌<◌, ◌≤◌, ◌+◌, ◌++◌, ◌∷◌, [], List, Bool, true, All, AllPairs, Contains, IsSome, None, Option, Some, length, map, max, min, option_and_then, option_map, slice_get, slice_set}
 use Rattle.lf_floorplan.specs.declared.place.Place.{Place}
 use Rattle.lf_rules.specs.Legalizer.{Legalizer}
 use Rattle.lf_rules.specs.Team.{IsLegalCell}
@@ -87,6 +87,11 @@ KeepsLegalCells team old new = (own : ℕ) → IsLegalIn old team own
 -- the committed places are unchanged
 abbrev pub KeepsCommittedPlaces : List ℕ → FloorState → FloorState → Type 0
 KeepsCommittedPlaces team old new = committed_in new team ≡ committed_in old team
+
+-- the cells are at the places that were committed before
+abbrev pub AreBackAtCommitted : List ℕ → FloorState → FloorState → Type 0
+AreBackAtCommitted team old new = (own : ℕ) → place_of_cell_in new team own
+    ≡ option_and_then (λ places. target_at places own) (committed_in old team)
 
 -- ---- the session
 

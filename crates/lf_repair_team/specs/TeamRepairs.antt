@@ -34,10 +34,12 @@ committed_in floor team = option_map committed_places (state_of floor team)
 abbrev pub session_slots_in : FloorState → List ℕ → Option (List (Option ℕ))
 session_slots_in floor team = option_map (λ s. s.slots) (state_of floor team)
 
--- only the state of the team with this name may differ, the team has the same cells, and a fully
--- legal committed design stays fully legal
+-- only the state of the team with this name may differ (of two fences with one name, that of the
+-- first), the team has the same cells, and a fully legal committed design stays fully legal
 pub record ChangesOnly (team : List ℕ) (old new : FloorState) : Type 0 where
   pub others : (other : List ℕ) → other ≢ team → state_of new other ≡ state_of old other
+  pub numbers : (number : ℕ) → team_number old.frame team ≢ Some number
+      → slice_get new.teams number ≡ slice_get old.teams number
   pub frame : new.frame ≡ old.frame
   pub components : new.components ≡ old.components
   pub names : team_cell_names new team ≡ team_cell_names old team

@@ -12,11 +12,11 @@ ghost use Rattle.lf_repair_team.specs.CellEdits.{AreMovable, AreUnrepaired, Hold
 ghost use Rattle.lf_repair_team.specs.TeamRepairs.{ChangesOnly, HasNoPlace, IsIllegalIn, KeepsLegalPlaces, place_of_cell_in};
 ghost use Rattle.lf_repair_team.specs.Runs.{IsRunWithCutLine, IsWrittenRun};
 
-use crate::outcome::{illegal_cells, target_place};
-use crate::run_command::RepairFault;
-use crate::run_edits::{
+use crate::cell_edits::{
     Buffers, TeamSession, copy_name, is_locked, run_action, run_edit, target_in_range,
 };
+use crate::outcome::{illegal_cells, target_place};
+use crate::run_command::RepairFault;
 use lf_floor::{Floor, best_is_found, refusal_keeps_state};
 use lf_floorplan::Place;
 use lf_io::Sink;

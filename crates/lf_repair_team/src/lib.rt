@@ -8,12 +8,13 @@
 //! the cells of one row's height. Other cells, and those whose place is refused or on a soft
 //! blockage, move to their best places.
 //!
-//! Used by `lf_task_repair`.
+//! Used by `lf_improve_team`, `lf_task_repair` and `lf_task_improve`.
 //!
 //! Modules, in reading order:
 //!
 //! - `run_command`: a command sent to the floor, and its line written
-//! - `run_edits`: edits of single cells as commands
+//! - `cell_edits`: edits of single cells as commands
+//! - `session`: the session of a team, its commit and its revert
 //! - `repair_input`: a team at the start of its repair
 //! - `outcome`: the changed and the unrepaired cells
 //! - `last_pass`: the last pass, over cells that are still illegal
@@ -29,16 +30,21 @@
 //! ```
 #![tactic(auto)]
 
+mod cell_edits;
 mod last_pass;
 mod outcome;
 mod repair_input;
 mod run_command;
-mod run_edits;
+mod session;
 mod soft_pass;
 mod stats;
 mod team;
 
+pub use cell_edits::{Buffers, TeamSession, run_edits};
 pub use lf_repair_strategy::{MovePolicy, RepairStats};
-pub use repair_input::is_team_legal;
+pub use outcome::RepairOutcome;
+pub use repair_input::{is_team_legal, team_input};
 pub use run_command::RepairFault;
+pub use session::{close, open, revert, try_commit};
+pub use stats::stats_of;
 pub use team::repair_team;

@@ -8,7 +8,7 @@ ghost use Rattle.lf_repair_strategy.specs.Targets.{target_at};
 ghost use Rattle.lf_repair_team.specs.CellEdits.{AreAtTargetsExcept, HaveLeftTargets, IsLegalOrListed, HoldsOrIsListed, TeamHasLeftTargets, TeamIsAtTargetsExcept};
 ghost use Rattle.lf_repair_team.specs.TeamRepairs.{AreLegalExcept, IsIllegalIn};
 
-use crate::run_edits::TeamSession;
+use crate::cell_edits::TeamSession;
 use lf_cells::CellId;
 use lf_floor::Floor;
 use lf_floorplan::{Place, same_place};
@@ -19,9 +19,9 @@ use std::alloc::{AllocError, Global};
 /// The positions in a team of the cells whose place changed, and of those that are unplaced or
 /// break a rule.
 #[derive(Drop)]
-pub(crate) struct RepairOutcome {
-    pub(crate) changed: Vec<u32>,
-    pub(crate) left: Vec<u32>,
+pub struct RepairOutcome {
+    pub changed: Vec<u32>,
+    pub left: Vec<u32>,
 }
 
 /// The place at this position in the list, if there is one.

@@ -114,7 +114,7 @@ fn listed_of<S: Seeker + Drop>(
 
 /// The input of a repair of the team with this name and number. No place can hold the cells of the macros
 /// that are listed for the team. `Err` if an allocation fails.
-pub(crate) fn repair_input<S: Seeker + Drop>(
+pub fn team_input<S: Seeker + Drop>(
     alloc: Global,
     floor: &Floor<S>,
     team: &[u8],

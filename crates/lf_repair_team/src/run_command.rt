@@ -7,7 +7,7 @@ ghost use Rattle.lf_rules.specs.Legalizer.{Legalizer};
 ghost use Rattle.lf_proto.specs.Commands.{command_with_names};
 ghost use Rattle.lf_proto.specs.Requests.{IsPlain};
 ghost use Rattle.lf_floor_model.specs.VerbLaws.{is_ok};
-ghost use Rattle.lf_floor_model.specs.Steps.{CommitsLegally, IsTo, Step};
+ghost use Rattle.lf_floor_model.specs.Steps.{CommitsLegally, IsTo, KeepsIfRefused, Step};
 ghost use Rattle.lf_repair_team.specs.CellEdits.{IsUnchangedOrStepped};
 ghost use Rattle.lf_repair_team.specs.Runs.{AppendsSomeOf, IsRunWithCutLine, IsWrittenRun};
 ghost use Rattle.lf_repair_team.specs.TeamRepairs.{ChangesOnly};
@@ -34,7 +34,7 @@ pub enum RepairFault {
 }
 
 /// Whether the reply is no refusal.
-fn is_accepted(reply: &Reply) -> bool
+pub(crate) fn is_accepted(reply: &Reply) -> bool
     ensures { result ≡ is_ok reply.now }
 {
     !matches!(reply, Reply::Refused(_))
@@ -72,6 +72,7 @@ pub(crate) fn run_command<S: Seeker + Drop, K: Sink>(
         Step l floor.old (command_with_names request.now) reply floor.new) }
     ensures committed { (l : Legalizer) → IfOk result (λ reply.
         CommitsLegally l (command_with_names request.now) reply floor.new) }
+    ensures refused { IfOk result (λ reply. KeepsIfRefused reply floor.old floor.new) }
 {
     legalizer_exists();
     line.clear();

@@ -16,10 +16,10 @@ ghost use Rattle.lf_repair_team.specs.CellEdits.{AreAtTargetsOrOffSoft, IsAtTarg
 ghost use Rattle.lf_repair_team.specs.TeamRepairs.{ChangesOnly, place_of_cell_in};
 ghost use Rattle.lf_repair_team.specs.Runs.{IsRunWithCutLine, IsWrittenRun};
 
+use crate::cell_edits::{Buffers, TeamSession};
 use crate::last_pass::unplace_cell;
 use crate::outcome::target_place;
 use crate::run_command::RepairFault;
-use crate::run_edits::{Buffers, TeamSession};
 use lf_floor::Floor;
 use lf_floorplan::{Macro, Place, mac_at, same_place};
 use lf_io::Sink;

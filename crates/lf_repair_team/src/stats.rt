@@ -6,8 +6,8 @@ ghost use Rattle.lf_floor_model.specs.States.{TeamState};
 ghost use Rattle.lf_repair_team.specs.CellEdits.{CountsIf, CountsOneCell, AreStatsOfFirst};
 ghost use Rattle.lf_repair_team.specs.Stats.{AreTurned, displacement};
 
+use crate::cell_edits::is_locked;
 use crate::outcome::{RepairOutcome, target_place};
-use crate::run_edits::is_locked;
 use lf_floor::Floor;
 use lf_floorplan::{Place, same_place};
 use lf_legalize::Seeker;
@@ -130,7 +130,7 @@ fn count_cells(
 }
 
 /// Statistics of the repair of the team with this number, given its outcome.
-pub(crate) fn stats_of<S: Seeker + Drop>(
+pub fn stats_of<S: Seeker + Drop>(
     floor: &Floor<S>,
     number: usize,
     start: &RepairInput,

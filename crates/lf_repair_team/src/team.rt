@@ -11,20 +11,18 @@ ghost use Rattle.lf_repair_team.specs.TeamRepairs.{AllListedMove, AreLegalExcept
 ghost use Rattle.lf_repair_team.specs.Runs.{IsRunWithCutLine, IsWrittenRun};
 ghost use Rattle.lf_repair_team.specs.Stats.{AreTeamStats};
 
+use crate::cell_edits::{Buffers, TeamSession, run_edits};
 use crate::last_pass::run_last_pass;
 use crate::outcome::{RepairOutcome, found_of};
-use crate::repair_input::repair_input;
-use crate::run_command::{RepairFault, run_command};
-use crate::run_edits::{
-    Buffers, TeamSession, continue_unless_out_of_memory, run_action, run_edits,
-};
+use crate::repair_input::team_input;
+use crate::run_command::RepairFault;
+use crate::session::{close, commit, open};
 use crate::soft_pass::run_soft_pass;
 use crate::stats::stats_of;
-use lf_floor::{Floor, query_keeps_state};
+use lf_floor::Floor;
 use lf_floorplan::Place;
 use lf_io::Sink;
 use lf_legalize::Seeker;
-use lf_proto::{Action, Change, Command, Refusal, Reply, TeamCommand};
 use lf_repair_bounds::ImpossibleMacro;
 use lf_repair_strategy::{
     CellEdit, MovePolicy, Neighborhood, PaddedTeam, Pass, Phase, RepairInput, RepairStats,
@@ -32,79 +30,6 @@ use lf_repair_strategy::{
 };
 use lf_rules::legalizer_exists;
 use std::alloc::{AllocError, Global};
-
-/// Opens a session of the team.
-fn open<S: Seeker + Drop, K: Sink>(
-    floor: &mut Floor<S>,
-    team: &[u8],
-    texts: &mut Buffers,
-    lines: &mut K,
-) -> Result<u32, RepairFault>
-    ensures run { (l : Legalizer) → IfOk result (λ _.
-        IsWrittenRun l team.now floor.old (K.contents lines.old) (K.contents lines.new) floor.new) }
-    ensures err { (l : Legalizer) → OnErr result (
-        IsRunWithCutLine l team.now floor.old (K.contents lines.old) (K.contents lines.new) floor.new) }
-    ensures only { ChangesOnly team.now floor.old floor.new }
-    ensures cells { SameCells team.now floor.old floor.new }
-    ensures slots { IfOk result (λ session.
-        session_slots_without session floor.new team.now ≡ session_slots_in floor.old team.now) }
-{
-    legalizer_exists();
-    query_keeps_state();
-    let request = Command::To {
-        team,
-        order: TeamCommand::Open,
-    };
-    match run_command(floor, &request, &mut texts.line, lines) {
-        Ok(reply) => session_of(&reply),
-        Err(fault) => Err(fault),
-    }
-}
-
-/// The number of the opened session.
-fn session_of(reply: &Reply) -> Result<u32, RepairFault>
-    ensures { IfOk result (λ session. SaysOpened session reply.now) }
-{
-    match reply {
-        Reply::Opened { session, .. } => Ok(*session),
-        Reply::Refused(refusal) => Err(RepairFault::Refused(*refusal)),
-        _ => Err(RepairFault::Refused(Refusal::NoSession)),
-    }
-}
-
-/// Commits the team.
-fn commit<S: Seeker + Drop, K: Sink>(
-    floor: &mut Floor<S>,
-    seat: &TeamSession<'_>,
-    texts: &mut Buffers,
-    lines: &mut K,
-) -> Result<(), RepairFault>
-    ensures run { (l : Legalizer) → IfOk result (λ _.
-        IsWrittenRun l seat.now.team.now floor.old (K.contents lines.old) (K.contents lines.new) floor.new) }
-    ensures err { (l : Legalizer) → OnErr result (
-        IsRunWithCutLine l seat.now.team.now floor.old (K.contents lines.old) (K.contents lines.new) floor.new) }
-    ensures only { ChangesOnly seat.now.team.now floor.old floor.new }
-    ensures places { KeepsPlaces seat.now.team.now floor.old floor.new }
-    ensures slots { KeepsOtherSlots seat.now.team.now seat.now.session floor.old floor.new }
-    ensures committed { (l : Legalizer) → IfOk result (λ _. AllCommittedIn l floor.new seat.now.team.now) }
-{
-    legalizer_exists();
-    let action = Action::Change(Change::Commit);
-    match run_action(floor, seat, action, &mut texts.line, lines) {
-        Ok(reply) => accepted(&reply),
-        Err(fault) => Err(fault),
-    }
-}
-
-/// `Err` with the refusal if the reply is one.
-fn accepted(reply: &Reply) -> Result<(), RepairFault>
-    ensures { IfOk result (λ _. is_ok reply.now ≡ true) }
-{
-    match reply {
-        Reply::Refused(refusal) => Err(RepairFault::Refused(*refusal)),
-        _ => Ok(()),
-    }
-}
 
 /// Commits the team if no cell is unrepaired; otherwise sends no command.
 fn commit_if_clean<S: Seeker + Drop, K: Sink>(
@@ -130,30 +55,6 @@ fn commit_if_clean<S: Seeker + Drop, K: Sink>(
         return Ok(());
     }
     commit(floor, seat, texts, lines)
-}
-
-/// Closes the session, which frees its slot.
-fn close<S: Seeker + Drop, K: Sink>(
-    floor: &mut Floor<S>,
-    seat: &TeamSession<'_>,
-    texts: &mut Buffers,
-    lines: &mut K,
-) -> Result<(), RepairFault>
-    ensures run { (l : Legalizer) → IfOk result (λ _.
-        IsWrittenRun l seat.now.team.now floor.old (K.contents lines.old) (K.contents lines.new) floor.new) }
-    ensures err { (l : Legalizer) → OnErr result (
-        IsRunWithCutLine l seat.now.team.now floor.old (K.contents lines.old) (K.contents lines.new) floor.new) }
-    ensures only { ChangesOnly seat.now.team.now floor.old floor.new }
-    ensures cells { SameCells seat.now.team.now floor.old floor.new }
-    ensures slots { OnOk result (session_slots_in floor.new seat.now.team.now
-        ≡ session_slots_without seat.now.session floor.old seat.now.team.now) }
-{
-    legalizer_exists();
-    query_keeps_state();
-    match run_action(floor, seat, Action::Close, &mut texts.line, lines) {
-        Ok(reply) => continue_unless_out_of_memory(&reply),
-        Err(fault) => Err(fault),
-    }
 }
 
 /// Lists the cells whose place changed, commits the team if no cell is unrepaired, and closes the
@@ -507,7 +408,7 @@ pub fn repair_team<S: Seeker + Drop, K: Sink>(
     let Some(number) = floor.team_number(team) else {
         return Err(RepairFault::NoTeam);
     };
-    let Ok(start) = repair_input(alloc, floor, team, number, how, impossible) else {
+    let Ok(start) = team_input(alloc, floor, team, number, how, impossible) else {
         return Err(RepairFault::OutOfMemory);
     };
     match repair_in_session(alloc, floor, team, number, &start, lines) {

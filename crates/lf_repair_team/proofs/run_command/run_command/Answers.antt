@@ -5,7 +5,7 @@ use Rattle.lf_repair_team.specs.Runs.{AppendsSomeOf}
 use Rattle.lf_proto.specs.Printed.{request_line}
 use Rattle.lf_repair_team.proofs.Results.{err_is, ok_is}
 use Rattle.lf_repair_team.proofs.Runs.{left_out, none_cut, one_cut, one_written, step_only, unchanged}
-use Rattle.lf_repair_team.proofs.Steps.{step_macros, step_names}
+use Rattle.lf_repair_team.proofs.Steps.{step_macros, step_names, step_numbers}
 use Rattle.lf_repair_team.proofs.run_command.run_command.Goals as goal
 
 pub returns-then-is_err-clause-err : goal.returns-then-is_err-clause-err
@@ -25,7 +25,8 @@ returns-then-not-is_accepted-clause-run g c = λ l team to plain.
 pub returns-then-not-is_accepted-clause-only : goal.returns-then-not-is_accepted-clause-only
 returns-then-not-is_accepted-clause-only g c = λ team to.
     let l = c.legalizer_exists.ensures in
-    step_only team (command_with_names c.args.request.now) c.args.floor.now c.step-reply.new.self to c.step-reply.ensures.others c.step-reply.ensures.frame
+    step_only team (command_with_names c.args.request.now) c.args.floor.now c.step-reply.new.self to c.step-reply.ensures.others
+    (step_numbers l team (command_with_names c.args.request.now) c.args.floor.now c.step-reply.new.self c.step-reply.result to (c.step-reply.ensures.step l)) c.step-reply.ensures.frame
     c.step-reply.ensures.components (step_names l team (command_with_names c.args.request.now) c.args.floor.now c.step-reply.new.self c.step-reply.result to (c.step-reply.ensures.step l))
     (step_macros l team (command_with_names c.args.request.now) c.args.floor.now c.step-reply.new.self c.step-reply.result to (c.step-reply.ensures.step l))
     c.step-reply.ensures.legal
@@ -55,7 +56,8 @@ returns-then-is_err-2-clause-err g c = λ l team to plain.
 pub returns-then-is_err-2-clause-only : goal.returns-then-is_err-2-clause-only
 returns-then-is_err-2-clause-only g c = λ team to.
     let l = c.legalizer_exists.ensures in
-    step_only team (command_with_names c.args.request.now) c.args.floor.now c.step-reply.new.self to c.step-reply.ensures.others c.step-reply.ensures.frame
+    step_only team (command_with_names c.args.request.now) c.args.floor.now c.step-reply.new.self to c.step-reply.ensures.others
+    (step_numbers l team (command_with_names c.args.request.now) c.args.floor.now c.step-reply.new.self c.step-reply.result to (c.step-reply.ensures.step l)) c.step-reply.ensures.frame
     c.step-reply.ensures.components (step_names l team (command_with_names c.args.request.now) c.args.floor.now c.step-reply.new.self c.step-reply.result to (c.step-reply.ensures.step l))
     (step_macros l team (command_with_names c.args.request.now) c.args.floor.now c.step-reply.new.self c.step-reply.result to (c.step-reply.ensures.step l))
     c.step-reply.ensures.legal
@@ -76,7 +78,8 @@ returns-clause-run g c = λ l team to plain.
 pub returns-clause-only : goal.returns-clause-only
 returns-clause-only g c = λ team to.
     let l = c.legalizer_exists.ensures in
-    step_only team (command_with_names c.args.request.now) c.args.floor.now c.step-reply.new.self to c.step-reply.ensures.others c.step-reply.ensures.frame
+    step_only team (command_with_names c.args.request.now) c.args.floor.now c.step-reply.new.self to c.step-reply.ensures.others
+    (step_numbers l team (command_with_names c.args.request.now) c.args.floor.now c.step-reply.new.self c.step-reply.result to (c.step-reply.ensures.step l)) c.step-reply.ensures.frame
     c.step-reply.ensures.components (step_names l team (command_with_names c.args.request.now) c.args.floor.now c.step-reply.new.self c.step-reply.result to (c.step-reply.ensures.step l))
     (step_macros l team (command_with_names c.args.request.now) c.args.floor.now c.step-reply.new.self c.step-reply.result to (c.step-reply.ensures.step l))
     c.step-reply.ensures.legal

@@ -76,8 +76,8 @@ returns-in-Ok-repair_in_session-clause-committed g c = λ l.
 pub returns-in_default-clause-err : goal.returns-in_default-clause-err
 returns-in_default-clause-err g c = λ l. none_cut l c.args.team.now c.args.floor.now (g.K.Sink.contents c.args.lines.now)
 
-pub returns-in_default-repair_input-clause-err : goal.returns-in_default-repair_input-clause-err
-returns-in_default-repair_input-clause-err g c = λ l. none_cut l c.args.team.now c.args.floor.now (g.K.Sink.contents c.args.lines.now)
+pub returns-in_default-team_input-clause-err : goal.returns-in_default-team_input-clause-err
+returns-in_default-team_input-clause-err g c = λ l. none_cut l c.args.team.now c.args.floor.now (g.K.Sink.contents c.args.lines.now)
 
 pub returns-in-Ok-repair_in_session-clause-reported : goal.returns-in-Ok-repair_in_session-clause-reported
 returns-in-Ok-repair_in_session-clause-reported g c =
@@ -105,5 +105,5 @@ returns-clause-unmoved g c = λ own is.
     (flagged_at_start c.args.team.now c.args.floor.now c.in-Some.number c.in-Ok.start.pass.impossible.items c.in-Ok.start.pass.targets.items is.state named is.there c.in-Ok.ensures.targets)
     own ((c.in-Ok.ensures.flagged own).1 is)
 
-pub repair_input-requires : goal.repair_input-requires
-repair_input-requires g c = sym c.team_number.ensures ∙ c.in-Some.is
+pub team_input-requires : goal.team_input-requires
+team_input-requires g c = sym c.team_number.ensures ∙ c.in-Some.is

@@ -3,7 +3,7 @@ use Rattle.std.proofs.lemmas.Bool.Decides.{nat_tests}
 use Rattle.lf_floor_model.proofs.LegalPlaces.{some_one}
 use Rattle.lf_proto.specs.Lines.{IsLineName}
 use Rattle.lf_repair_team.proofs.Lines.{line_name, some_byte}
-use Rattle.lf_repair_team.proofs.run_edits.copy_name.Goals as goal
+use Rattle.lf_repair_team.proofs.cell_edits.copy_name.Goals as goal
 
 copied : (new clear bytes : List ℕ) → new ≡ clear ++ bytes → clear ≡ [] → new ≡ bytes
 copied new clear bytes is none = is ∙ ap (λ (xs : List ℕ). xs ++ bytes) none

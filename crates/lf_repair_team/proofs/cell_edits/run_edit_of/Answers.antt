@@ -5,7 +5,7 @@ use Rattle.lf_repair_team.proofs.OthersLegal.{other_remains_legal}
 use Rattle.lf_repair_team.proofs.Results.{err_from, ok_from}
 use Rattle.lf_repair_team.proofs.Runs.{uncut}
 use Rattle.lf_repair_team.proofs.Slots.{committed_and_slots_stay}
-use Rattle.lf_repair_team.proofs.run_edits.run_edit_of.Goals as goal
+use Rattle.lf_repair_team.proofs.cell_edits.run_edit_of.Goals as goal
 
 pub returns-in-Ok-clause-run : goal.returns-in-Ok-clause-run
 returns-in-Ok-clause-run g c = λ l.

@@ -8,7 +8,7 @@ use Rattle.lf_repair_team.proofs.Results.{err_from, ok_from, on_ok_from}
 use Rattle.lf_repair_team.proofs.Runs.{uncut}
 use Rattle.lf_repair_team.proofs.Slots.{close_frees}
 use Rattle.lf_repair_team.proofs.Steps.{look_same}
-use Rattle.lf_repair_team.proofs.team.close.Goals as goal
+use Rattle.lf_repair_team.proofs.session.close.Goals as goal
 
 pub returns-in-Ok-clause-run : goal.returns-in-Ok-clause-run
 returns-in-Ok-clause-run g c = λ l.

@@ -7,7 +7,7 @@ use Rattle.lf_repair_team.proofs.Results.{err_from, ok_from, ok_weaker}
 use Rattle.lf_repair_team.proofs.Runs.{uncut}
 use Rattle.lf_repair_team.proofs.Slots.{open_takes_free}
 use Rattle.lf_repair_team.proofs.Steps.{look_same}
-use Rattle.lf_repair_team.proofs.team.open.Goals as goal
+use Rattle.lf_repair_team.proofs.session.open.Goals as goal
 
 pub returns-in-Ok-clause-run : goal.returns-in-Ok-clause-run
 returns-in-Ok-clause-run g c = λ l.

@@ -1,5 +1,5 @@
 use Rattle.std.proofs.Common.{arith, refl}
-use Rattle.lf_repair_team.proofs.run_edits.run_action.Goals as goal
+use Rattle.lf_repair_team.proofs.cell_edits.run_action.Goals as goal
 
 pub returns-clause-run : goal.returns-clause-run
 returns-clause-run g c = λ l. c.run_command.ensures.run l c.args.seat.now.team.now refl (λ name. (name, omega arith, c.requires))

@@ -4,7 +4,7 @@ use Rattle.lf_floor_model.specs.Teams.{IsTeamOf}
 use Rattle.lf_repair_team.proofs.Cells.{named_is}
 use Rattle.lf_repair_team.proofs.Results.{each_state}
 use Rattle.lf_repair_team.proofs.Runs.{none_cut}
-use Rattle.lf_repair_team.proofs.run_edits.run_edit.Goals as goal
+use Rattle.lf_repair_team.proofs.cell_edits.run_edit.Goals as goal
 
 pub returns-in-Ok-true-clause-cells : goal.returns-in-Ok-true-clause-cells
 returns-in-Ok-true-clause-cells g c = λ other differ.

@@ -1,7 +1,7 @@
 use Rattle.std.proofs.Common.{◌∙◌, refl}
 use Rattle.lf_repair_team.proofs.LastPass.{then_locked_legal}
 use Rattle.lf_repair_team.proofs.Runs.{none_moves, nothing, then_cut, then_only, then_stay, then_written, unchanged}
-use Rattle.lf_repair_team.proofs.run_edits.run_edits.Goals as goal
+use Rattle.lf_repair_team.proofs.cell_edits.run_edits.Goals as goal
 
 pub loop-cell_edit-init : goal.loop-cell_edit-init
 loop-cell_edit-init g c = record {

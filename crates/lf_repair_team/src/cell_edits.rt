@@ -10,7 +10,7 @@ ghost use Rattle.lf_proto.specs.declared.request.TeamCommand.TheVariants.{Within
 ghost use Rattle.lf_proto.specs.declared.verb.Action.TheVariants.{Change as Changing};
 ghost use Rattle.lf_floor_model.specs.States.{TeamState};
 ghost use Rattle.lf_floor_model.specs.Outcomes.{name_at};
-ghost use Rattle.lf_floor_model.specs.Steps.{CommitsLegally, Step};
+ghost use Rattle.lf_floor_model.specs.Steps.{CommitsLegally, KeepsIfRefused, Step};
 ghost use Rattle.lf_floor_model.specs.Teams.{state_of};
 ghost use Rattle.lf_repair_team.specs.CellEdits.{IsAnotherCell, IsOfCell, IsUnchangedOrStepped, KeepsCommittedAndSlots, KeepsLockedLegal, KeepsLockedPlaces, RemainsLegal};
 ghost use Rattle.lf_repair_team.specs.TeamRepairs.{ChangesOnly, place_of_cell_in};
@@ -30,23 +30,23 @@ use std::alloc::{AllocError, Global};
 /// A session of a team. `impossible` says of each cell whether no place can hold it. Such cells do
 /// not move.
 #[derive(Clone, Copy)]
-pub(crate) struct TeamSession<'a> {
-    pub(crate) team: &'a [u8],
-    pub(crate) number: usize,
-    pub(crate) session: u32,
-    pub(crate) impossible: &'a [bool],
+pub struct TeamSession<'a> {
+    pub team: &'a [u8],
+    pub number: usize,
+    pub session: u32,
+    pub impossible: &'a [bool],
 }
 
 /// Buffers for the name of a cell and the line of a command.
 #[derive(Drop)]
-pub(crate) struct Buffers {
+pub struct Buffers {
     pub(crate) name: Vec<u8>,
     pub(crate) line: Vec<u8>,
 }
 
 impl Buffers {
     /// Empty buffers, which allocate nothing.
-    pub(crate) fn new(alloc: Global) -> Buffers {
+    pub fn new(alloc: Global) -> Buffers {
         Buffers {
             name: Vec::new(alloc),
             line: Vec::new(alloc),
@@ -120,6 +120,7 @@ pub(crate) fn run_action<S: Seeker + Drop, K: Sink>(
     ensures committed { (l : Legalizer)
         → IfOk result (λ reply. CommitsLegally l
         (To seat.now.team.now (Within seat.now.session (action_of action.entry))) reply floor.new) }
+    ensures refused { IfOk result (λ reply. KeepsIfRefused reply floor.old floor.new) }
 {
     let request = Command::To {
         team: seat.team,
@@ -255,7 +256,7 @@ fn run_edit_unless_locked<S: Seeker + Drop, K: Sink>(
 }
 
 /// Sends all edits in their order, except those of cells that are locked or that no place can hold.
-pub(crate) fn run_edits<S: Seeker + Drop, K: Sink>(
+pub fn run_edits<S: Seeker + Drop, K: Sink>(
     floor: &mut Floor<S>,
     seat: &TeamSession<'_>,
     marks: &[bool],

@@ -1,6 +1,6 @@
 use Rattle.std.proofs.Common.{◌≡◌, ◌∙◌, true, false, ap, sym}
 use Rattle.std.specs.Prelude.{slice_get}
-use Rattle.lf_repair_team.proofs.run_edits.run_edit_unless_locked.Goals as goal
+use Rattle.lf_repair_team.proofs.cell_edits.run_edit_unless_locked.Goals as goal
 
 false_true : false ≡ true → ⊥
 false_true e = cc

@@ -2,7 +2,7 @@ use Rattle.lf_rules.specs.Legalizer.{Legalizer}
 use Rattle.lf_repair_team.specs.CellEdits.{KeepsCommittedAndSlots, KeepsLockedLegal, KeepsLockedPlaces}
 use Rattle.lf_repair_team.specs.TeamRepairs.{ChangesOnly}
 use Rattle.lf_repair_team.specs.Runs.{IsWrittenRun}
-use Rattle.lf_repair_team.proofs.run_edits.run_edits.Given as goal
+use Rattle.lf_repair_team.proofs.cell_edits.run_edits.Given as goal
 
 abbrev pub invariant-loop-cell_edit : goal.invariant-loop-cell_edit
 invariant-loop-cell_edit g l = record {

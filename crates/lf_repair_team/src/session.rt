@@ -1,0 +1,174 @@
+//! The session of a team: it is opened, committed, moved back and closed.
+
+ghost use Rattle.std.specs.Prelude.{◌≡◌, IfOk, IsTrue, OnErr, OnOk, false, true};
+ghost use Rattle.lf_rules.specs.Legalizer.{Legalizer};
+ghost use Rattle.lf_floor_model.specs.Steps.{AllCommittedIn};
+ghost use Rattle.lf_floor_model.specs.VerbLaws.{is_ok};
+ghost use Rattle.lf_repair_team.specs.CellEdits.{AreBackAtCommitted, KeepsCommittedAndSlots, KeepsOtherSlots, KeepsPlaces, SameCells, SaysOpened, session_slots_without};
+ghost use Rattle.lf_repair_team.specs.TeamRepairs.{ChangesOnly, session_slots_in};
+ghost use Rattle.lf_repair_team.specs.Runs.{IsRunWithCutLine, IsWrittenRun};
+
+use crate::cell_edits::{Buffers, TeamSession, continue_unless_out_of_memory, run_action};
+use crate::run_command::{RepairFault, is_accepted, run_command};
+use lf_floor::{Floor, query_keeps_state};
+use lf_io::Sink;
+use lf_legalize::Seeker;
+use lf_proto::{Action, Change, Command, Refusal, Reply, TeamCommand};
+use lf_rules::legalizer_exists;
+
+/// Opens a session of the team.
+pub fn open<S: Seeker + Drop, K: Sink>(
+    floor: &mut Floor<S>,
+    team: &[u8],
+    texts: &mut Buffers,
+    lines: &mut K,
+) -> Result<u32, RepairFault>
+    ensures run { (l : Legalizer) → IfOk result (λ _.
+        IsWrittenRun l team.now floor.old (K.contents lines.old) (K.contents lines.new) floor.new) }
+    ensures err { (l : Legalizer) → OnErr result (
+        IsRunWithCutLine l team.now floor.old (K.contents lines.old) (K.contents lines.new) floor.new) }
+    ensures only { ChangesOnly team.now floor.old floor.new }
+    ensures cells { SameCells team.now floor.old floor.new }
+    ensures slots { IfOk result (λ session.
+        session_slots_without session floor.new team.now ≡ session_slots_in floor.old team.now) }
+{
+    legalizer_exists();
+    query_keeps_state();
+    let request = Command::To {
+        team,
+        order: TeamCommand::Open,
+    };
+    match run_command(floor, &request, &mut texts.line, lines) {
+        Ok(reply) => session_of(&reply),
+        Err(fault) => Err(fault),
+    }
+}
+
+/// The number of the opened session.
+fn session_of(reply: &Reply) -> Result<u32, RepairFault>
+    ensures { IfOk result (λ session. SaysOpened session reply.now) }
+{
+    match reply {
+        Reply::Opened { session, .. } => Ok(*session),
+        Reply::Refused(refusal) => Err(RepairFault::Refused(*refusal)),
+        _ => Err(RepairFault::Refused(Refusal::NoSession)),
+    }
+}
+
+/// Commits the team.
+pub(crate) fn commit<S: Seeker + Drop, K: Sink>(
+    floor: &mut Floor<S>,
+    seat: &TeamSession<'_>,
+    texts: &mut Buffers,
+    lines: &mut K,
+) -> Result<(), RepairFault>
+    ensures run { (l : Legalizer) → IfOk result (λ _.
+        IsWrittenRun l seat.now.team.now floor.old (K.contents lines.old) (K.contents lines.new) floor.new) }
+    ensures err { (l : Legalizer) → OnErr result (
+        IsRunWithCutLine l seat.now.team.now floor.old (K.contents lines.old) (K.contents lines.new) floor.new) }
+    ensures only { ChangesOnly seat.now.team.now floor.old floor.new }
+    ensures places { KeepsPlaces seat.now.team.now floor.old floor.new }
+    ensures slots { KeepsOtherSlots seat.now.team.now seat.now.session floor.old floor.new }
+    ensures committed { (l : Legalizer) → IfOk result (λ _. AllCommittedIn l floor.new seat.now.team.now) }
+{
+    legalizer_exists();
+    let action = Action::Change(Change::Commit);
+    match run_action(floor, seat, action, &mut texts.line, lines) {
+        Ok(reply) => accepted(&reply),
+        Err(fault) => Err(fault),
+    }
+}
+
+/// Commits the team. Returns whether the floor accepted it; if not, the floor is unchanged. `Err` if
+/// memory ran out.
+pub fn try_commit<S: Seeker + Drop, K: Sink>(
+    floor: &mut Floor<S>,
+    seat: &TeamSession<'_>,
+    texts: &mut Buffers,
+    lines: &mut K,
+) -> Result<bool, RepairFault>
+    ensures run { (l : Legalizer) → IfOk result (λ _.
+        IsWrittenRun l seat.now.team.now floor.old (K.contents lines.old) (K.contents lines.new) floor.new) }
+    ensures err { (l : Legalizer) → OnErr result (
+        IsRunWithCutLine l seat.now.team.now floor.old (K.contents lines.old) (K.contents lines.new) floor.new) }
+    ensures only { ChangesOnly seat.now.team.now floor.old floor.new }
+    ensures places { KeepsPlaces seat.now.team.now floor.old floor.new }
+    ensures slots { KeepsOtherSlots seat.now.team.now seat.now.session floor.old floor.new }
+    ensures committed { (l : Legalizer) → IfOk result (λ is_done.
+        IsTrue is_done → AllCommittedIn l floor.new seat.now.team.now) }
+    ensures refused { IfOk result (λ is_done. is_done ≡ false → floor.new ≡ floor.old) }
+{
+    legalizer_exists();
+    let action = Action::Change(Change::Commit);
+    match run_action(floor, seat, action, &mut texts.line, lines) {
+        Ok(reply) => done_unless_out_of_memory(&reply),
+        Err(fault) => Err(fault),
+    }
+}
+
+/// Whether the reply is no refusal. `Err` if memory ran out.
+fn done_unless_out_of_memory(reply: &Reply) -> Result<bool, RepairFault>
+    ensures { IfOk result (λ is_done. is_done ≡ is_ok reply.now) }
+{
+    match reply {
+        Reply::Refused(Refusal::OutOfMemory) => Err(RepairFault::OutOfMemory),
+        _ => Ok(is_accepted(reply)),
+    }
+}
+
+/// `Err` with the refusal if the reply is one.
+fn accepted(reply: &Reply) -> Result<(), RepairFault>
+    ensures { IfOk result (λ _. is_ok reply.now ≡ true) }
+{
+    match reply {
+        Reply::Refused(refusal) => Err(RepairFault::Refused(*refusal)),
+        _ => Ok(()),
+    }
+}
+
+/// Moves all cells of the team back to their committed places. `Err` if the floor refuses it.
+pub fn revert<S: Seeker + Drop, K: Sink>(
+    floor: &mut Floor<S>,
+    seat: &TeamSession<'_>,
+    texts: &mut Buffers,
+    lines: &mut K,
+) -> Result<(), RepairFault>
+    ensures run { (l : Legalizer) → IfOk result (λ _.
+        IsWrittenRun l seat.now.team.now floor.old (K.contents lines.old) (K.contents lines.new) floor.new) }
+    ensures err { (l : Legalizer) → OnErr result (
+        IsRunWithCutLine l seat.now.team.now floor.old (K.contents lines.old) (K.contents lines.new) floor.new) }
+    ensures only { ChangesOnly seat.now.team.now floor.old floor.new }
+    ensures committed { KeepsCommittedAndSlots seat.now.team.now seat.now.session floor.old floor.new }
+    ensures back { OnOk result (AreBackAtCommitted seat.now.team.now floor.old floor.new) }
+{
+    legalizer_exists();
+    let action = Action::Change(Change::Revert);
+    match run_action(floor, seat, action, &mut texts.line, lines) {
+        Ok(reply) => accepted(&reply),
+        Err(fault) => Err(fault),
+    }
+}
+
+/// Closes the session, which frees its slot.
+pub fn close<S: Seeker + Drop, K: Sink>(
+    floor: &mut Floor<S>,
+    seat: &TeamSession<'_>,
+    texts: &mut Buffers,
+    lines: &mut K,
+) -> Result<(), RepairFault>
+    ensures run { (l : Legalizer) → IfOk result (λ _.
+        IsWrittenRun l seat.now.team.now floor.old (K.contents lines.old) (K.contents lines.new) floor.new) }
+    ensures err { (l : Legalizer) → OnErr result (
+        IsRunWithCutLine l seat.now.team.now floor.old (K.contents lines.old) (K.contents lines.new) floor.new) }
+    ensures only { ChangesOnly seat.now.team.now floor.old floor.new }
+    ensures cells { SameCells seat.now.team.now floor.old floor.new }
+    ensures slots { OnOk result (session_slots_in floor.new seat.now.team.now
+        ≡ session_slots_without seat.now.session floor.old seat.now.team.now) }
+{
+    legalizer_exists();
+    query_keeps_state();
+    match run_action(floor, seat, Action::Close, &mut texts.line, lines) {
+        Ok(reply) => continue_unless_out_of_memory(&reply),
+        Err(fault) => Err(fault),
+    }
+}
