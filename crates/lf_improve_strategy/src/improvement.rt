@@ -1,0 +1,83 @@
+//! The edits of a team.
+
+use crate::board_nets::{NetSource, board_nets};
+use crate::movable::{MovableCells, movable_cells, place_of};
+use crate::team_nets::TeamNets;
+use lf_placement::Placement;
+use lf_repair_strategy::{
+    CellEdit, CellMove, MoveList, PaddedTeam, bands_of, width_of, with_moves,
+};
+use lf_wire_board::CellPlace;
+use lf_wire_improver::{ImproveOptions, improved_places};
+use lf_wire_length::Netlist;
+use std::alloc::{AllocError, Global};
+
+/// The nets of a design, and which of them each team has.
+#[derive(Clone, Copy)]
+pub struct WireNets<'a> {
+    pub netlist: &'a Netlist,
+    pub of_teams: &'a TeamNets,
+}
+
+/// Appends the move of the team's cell at position `own` to this place.
+fn push_move(
+    placement: &Placement,
+    owner: &PaddedTeam,
+    own: u32,
+    to: &CellPlace,
+    moves: &mut MoveList,
+) -> Result<(), AllocError> {
+    let Some(id) = placement.cells().cell_of(owner.team, own as usize) else {
+        return Ok(());
+    };
+    moves.push(&CellMove {
+        own,
+        width: width_of(placement, id).clamp(0, 4_294_967_295) as u32,
+        from: placement.cells().working(id),
+        to: place_of(to),
+    })
+}
+
+/// The edits that move the cells to their new places.
+fn edits_to(
+    alloc: Global,
+    placement: &Placement,
+    owner: &PaddedTeam,
+    movable: &MovableCells,
+    places: &[Option<CellPlace>],
+) -> Result<Vec<CellEdit>, AllocError> {
+    let bands = bands_of(placement.frame(), owner, &movable.land);
+    let mut moves = MoveList::with_capacity(alloc, bands, places.len())?;
+    for (own, place) in movable.owns.iter().zip(places.iter()) {
+        if let Some(to) = place {
+            push_move(placement, owner, *own, to, &mut moves)?;
+        }
+    }
+    with_moves(alloc, &[], moves)
+}
+
+/// The edits that shorten the wires of the team's cells, in an order in which most moves are one
+/// edit. `Err` if an allocation fails.
+///
+/// Cells of one row's height exchange places, are inserted between others, and are flipped, on the
+/// team's free sites off soft blockages, within the distance of the options from where they are.
+/// All other cells stay.
+pub fn improvement_edits(
+    alloc: Global,
+    placement: &Placement,
+    owner: &PaddedTeam,
+    wires: &WireNets<'_>,
+    options: &ImproveOptions,
+) -> Result<Vec<CellEdit>, AllocError> {
+    let movable = movable_cells(alloc, placement, owner)?;
+    let source = NetSource {
+        placement,
+        netlist: wires.netlist,
+        team: owner.team,
+        movable: &movable,
+    };
+    let nets = board_nets(alloc, &source, wires.of_teams.of(owner.team))?;
+    let cells = movable.cells.as_slice();
+    let places = improved_places(alloc, &movable.land, cells, &nets, options)?;
+    edits_to(alloc, placement, owner, &movable, places.as_slice())
+}

@@ -1,0 +1,4 @@
+mod Lengths
+mod Near
+mod Results
+mod Improving

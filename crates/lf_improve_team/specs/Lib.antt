@@ -1,0 +1,2 @@
+pub mod FloorLengths
+pub mod TeamImprovements

@@ -1,0 +1,428 @@
+//! The improvement of one team.
+
+ghost use Rattle.std.specs.Prelude.{◌≡◌, ◌↔◌, ◌<◌, ◌≤◌, [], IfOk, IfSome, IsTrue, List, None, OnErr, OnOk, Some, false, is_some, length, map, slice_get, unwrap_or, ℕ};
+ghost use Rattle.lf_cells.specs.Cells.{cells_of};
+ghost use Rattle.lf_rules.specs.Legalizer.{Legalizer};
+ghost use Rattle.lf_floor_model.specs.States.{TeamState};
+ghost use Rattle.lf_floor_model.specs.Outcomes.{places_of};
+ghost use Rattle.lf_floor_model.specs.Steps.{AllCommittedIn};
+ghost use Rattle.lf_floor_model.specs.Teams.{state_of, team_number};
+ghost use Rattle.lf_repair_team.specs.CellEdits.{AreStatsOfFirst, KeepsOtherSlots};
+ghost use Rattle.lf_repair_team.specs.Runs.{IsRunWithCutLine, IsWrittenRun};
+ghost use Rattle.lf_repair_team.specs.Stats.{AreTeamStats};
+ghost use Rattle.lf_repair_team.specs.TeamRepairs.{ChangesOnly, session_slots_in};
+ghost use Rattle.lf_improve_team.specs.FloorLengths.{IsWireLengthOn};
+ghost use Rattle.lf_improve_team.specs.TeamImprovements.{AreCellsNear, IsCommitted, IsImprovable, IsMovedBack, IsShortened, KeepsTeamPlaces, StaysWithin};
+
+use crate::cells_on_floor::CellsOnFloor;
+use lf_floor::Floor;
+use lf_floorplan::same_place;
+use lf_improve_strategy::{ImproveOptions, WireNets, improvement_edits};
+use lf_io::Sink;
+use lf_legalize::Seeker;
+use lf_placement::Placement;
+use lf_repair_strategy::{CellEdit, PaddedTeam, RepairInput};
+use lf_repair_team::{
+    Buffers, MovePolicy, RepairFault, RepairOutcome, RepairStats, TeamSession, close,
+    is_team_legal, open, revert, run_edits, stats_of, team_input, try_commit,
+};
+use std::alloc::{AllocError, Global};
+
+/// What is wanted of an improvement: its options, whose distance is in database units, and the wire
+/// length of the design before it, in half database units.
+#[derive(Clone, Copy)]
+pub struct ImproveWish {
+    pub options: ImproveOptions,
+    pub length: u64,
+}
+
+/// The result of improving one team.
+#[derive(Drop)]
+pub struct TeamImprovement {
+    /// Whether the team was left alone: a cell was unplaced or broke a rule, or a working place was
+    /// not committed.
+    pub is_skipped: bool,
+    /// Whether cells of the team have moved. Their new places are then committed.
+    pub is_improved: bool,
+    /// The number of the team's cells.
+    pub cells: u32,
+    /// The displacements and the turned cells, from before to after. Both lists are empty.
+    pub stats: RepairStats,
+    /// The wire length of the design afterwards, in half database units.
+    pub length: u64,
+}
+
+/// An attempt to improve a team: the team at its start, the nets, and what is wanted.
+#[derive(Clone, Copy)]
+struct Attempt<'a> {
+    start: &'a RepairInput,
+    wires: &'a WireNets<'a>,
+    wish: &'a ImproveWish,
+}
+
+/// Whether all cells of the team with this number are at their committed places.
+fn is_committed(placement: &Placement, number: usize) -> bool
+    ensures { IsTrue result ↔ map (λ c. c.committed) (cells_of placement.now.cells number)
+        ≡ places_of (cells_of placement.now.cells number) }
+{
+    for id in placement.cells().cells_of(number) {
+        if !same_place(
+            placement.cells().committed(*id),
+            placement.cells().working(*id),
+        ) {
+            return false;
+        }
+    }
+    true
+}
+
+/// Whether all cells of the team are placed, legal and at their committed places.
+fn is_improvable<S: Seeker + Drop>(floor: &Floor<S>, team: &[u8], number: usize) -> bool
+    requires { team_number floor.now.frame team.now ≡ Some number }
+    ensures whole { (s : TeamState) → state_of floor.now team.now ≡ Some s
+        → IsTrue result ↔ IsImprovable team.now floor.now }
+    ensures committed { IsTrue result → IsCommitted team.now floor.now }
+{
+    is_team_legal(floor, team) && is_committed(floor.placement(), number)
+}
+
+/// The edits that shorten the wires of the team with this number.
+fn team_edits<S: Seeker + Drop>(
+    alloc: Global,
+    floor: &Floor<S>,
+    number: usize,
+    wires: &WireNets<'_>,
+    options: &ImproveOptions,
+) -> Result<Vec<CellEdit>, AllocError> {
+    let placement = floor.placement();
+    let owner = PaddedTeam::new(placement.frame(), number, floor.padding_of(number));
+    improvement_edits(alloc, placement, &owner, wires, options)
+}
+
+/// The wire length of the design with all cells at their working places, in half database units.
+fn floor_length<S: Seeker + Drop>(floor: &Floor<S>, wires: &WireNets<'_>) -> u64
+    ensures { IsWireLengthOn wires.now.netlist.now.nets floor.now result }
+{
+    let cells = CellsOnFloor::new(floor.working(), &[]);
+    wires.netlist.wire_length(&cells)
+}
+
+/// Statistics of the team with this number since its start, with empty lists.
+fn team_stats<S: Seeker + Drop>(
+    alloc: Global,
+    floor: &Floor<S>,
+    number: usize,
+    start: &RepairInput,
+) -> RepairStats
+    ensures lists { (result.changed.items ≡ []) × (result.unrepaired.items ≡ []) }
+    ensures tally { (s : TeamState) → slice_get floor.now.teams number ≡ Some s
+        → AreStatsOfFirst start.now.pass.targets.items start.now.legal.items s.cells (length s.cells) result }
+{
+    let found = RepairOutcome {
+        changed: Vec::new(alloc),
+        left: Vec::new(alloc),
+    };
+    stats_of(floor, number, start, found)
+}
+
+/// Whether no cell of the team with this number is farther than the limit from its place at the
+/// start.
+fn is_near<S: Seeker + Drop>(
+    alloc: Global,
+    floor: &Floor<S>,
+    number: usize,
+    start: &RepairInput,
+    limit: Option<u64>,
+) -> bool
+    ensures { (team : List ℕ) → team_number floor.now.frame team ≡ Some number
+        → IsTrue result → AreCellsNear limit start.now.pass.targets.items team floor.now }
+{
+    match limit {
+        None => true,
+        Some(far) => team_stats(alloc, floor, number, start).max_displacement <= far,
+    }
+}
+
+/// The wire length on the floor, if it is shorter than before and no cell of the team with this
+/// number is too far from its place at the start.
+fn better_length<S: Seeker + Drop>(
+    alloc: Global,
+    floor: &Floor<S>,
+    number: usize,
+    attempt: &Attempt<'_>,
+) -> Option<u64>
+    ensures measured { IfSome result (λ length.
+        IsWireLengthOn attempt.now.wires.now.netlist.now.nets floor.now length) }
+    ensures shorter { IfSome result (λ length. length < attempt.now.wish.now.length) }
+    ensures near { (team : List ℕ) → team_number floor.now.frame team ≡ Some number → IfSome result (λ _.
+        AreCellsNear attempt.now.wish.now.options.within attempt.now.start.now.pass.targets.items team floor.now) }
+{
+    let length = floor_length(floor, attempt.wires);
+    if length >= attempt.wish.length {
+        return None;
+    }
+    if !is_near(
+        alloc,
+        floor,
+        number,
+        attempt.start,
+        attempt.wish.options.within,
+    ) {
+        return None;
+    }
+    Some(length)
+}
+
+/// Commits the team if the wire length is shorter than before and no cell is too far from its place
+/// at the start. Returns the wire length if the floor accepts the commit. Otherwise the floor is
+/// unchanged.
+fn commit_if_better<S: Seeker + Drop, K: Sink>(
+    alloc: Global,
+    floor: &mut Floor<S>,
+    seat: &TeamSession<'_>,
+    attempt: &Attempt<'_>,
+    lines: &mut K,
+) -> Result<Option<u64>, RepairFault>
+    requires { team_number floor.old.frame seat.now.team.now ≡ Some seat.now.number }
+    ensures run { (l : Legalizer) → IfOk result (λ _.
+        IsWrittenRun l seat.now.team.now floor.old (K.contents lines.old) (K.contents lines.new) floor.new) }
+    ensures err { (l : Legalizer) → OnErr result (
+        IsRunWithCutLine l seat.now.team.now floor.old (K.contents lines.old) (K.contents lines.new) floor.new) }
+    ensures only { ChangesOnly seat.now.team.now floor.old floor.new }
+    ensures slots { KeepsOtherSlots seat.now.team.now seat.now.session floor.old floor.new }
+    ensures improved { IfOk result (λ found. IfSome found (λ length.
+        IsShortened attempt.now.wires.now.netlist.now.nets attempt.now.wish.now.length
+        attempt.now.wish.now.options.within attempt.now.start.now.pass.targets.items
+        seat.now.team.now floor.new length)) }
+    ensures kept { IfOk result (λ found. found ≡ None → floor.new ≡ floor.old) }
+{
+    let Some(length) = better_length(alloc, floor, seat.number, attempt) else {
+        return Ok(None);
+    };
+    let mut texts = Buffers::new(alloc);
+    match try_commit(floor, seat, &mut texts, lines) {
+        Ok(true) => Ok(Some(length)),
+        Ok(false) => Ok(None),
+        Err(fault) => Err(fault),
+    }
+}
+
+/// Commits the team if that is an improvement. Otherwise, or if the floor refuses the commit, moves
+/// its cells back. Returns the wire length if the team is committed.
+fn commit_or_move_back<S: Seeker + Drop, K: Sink>(
+    alloc: Global,
+    floor: &mut Floor<S>,
+    seat: &TeamSession<'_>,
+    attempt: &Attempt<'_>,
+    lines: &mut K,
+) -> Result<Option<u64>, RepairFault>
+    requires { team_number floor.old.frame seat.now.team.now ≡ Some seat.now.number }
+    ensures run { (l : Legalizer) → IfOk result (λ _.
+        IsWrittenRun l seat.now.team.now floor.old (K.contents lines.old) (K.contents lines.new) floor.new) }
+    ensures err { (l : Legalizer) → OnErr result (
+        IsRunWithCutLine l seat.now.team.now floor.old (K.contents lines.old) (K.contents lines.new) floor.new) }
+    ensures only { ChangesOnly seat.now.team.now floor.old floor.new }
+    ensures slots { KeepsOtherSlots seat.now.team.now seat.now.session floor.old floor.new }
+    ensures improved { IfOk result (λ found. IfSome found (λ length.
+        IsShortened attempt.now.wires.now.netlist.now.nets attempt.now.wish.now.length
+        attempt.now.wish.now.options.within attempt.now.start.now.pass.targets.items
+        seat.now.team.now floor.new length)) }
+    ensures kept { IfOk result (λ found.
+        found ≡ None → IsMovedBack seat.now.team.now floor.old floor.new) }
+{
+    match commit_if_better(alloc, floor, seat, attempt, lines) {
+        Ok(Some(length)) => return Ok(Some(length)),
+        Ok(None) => {}
+        Err(fault) => return Err(fault),
+    }
+    let mut texts = Buffers::new(alloc);
+    match revert(floor, seat, &mut texts, lines) {
+        Ok(()) => Ok(None),
+        Err(fault) => Err(fault),
+    }
+}
+
+/// Moves cells of the team, and moves them back unless that is an improvement. Returns the wire
+/// length if the team is improved.
+fn move_cells<S: Seeker + Drop, K: Sink>(
+    alloc: Global,
+    floor: &mut Floor<S>,
+    seat: &TeamSession<'_>,
+    attempt: &Attempt<'_>,
+    lines: &mut K,
+) -> Result<Option<u64>, RepairFault>
+    requires number { team_number floor.old.frame seat.now.team.now ≡ Some seat.now.number }
+    requires committed { IsCommitted seat.now.team.now floor.old }
+    ensures run { (l : Legalizer) → IfOk result (λ _.
+        IsWrittenRun l seat.now.team.now floor.old (K.contents lines.old) (K.contents lines.new) floor.new) }
+    ensures err { (l : Legalizer) → OnErr result (
+        IsRunWithCutLine l seat.now.team.now floor.old (K.contents lines.old) (K.contents lines.new) floor.new) }
+    ensures only { ChangesOnly seat.now.team.now floor.old floor.new }
+    ensures slots { KeepsOtherSlots seat.now.team.now seat.now.session floor.old floor.new }
+    ensures improved { IfOk result (λ found. IfSome found (λ length.
+        IsShortened attempt.now.wires.now.netlist.now.nets attempt.now.wish.now.length
+        attempt.now.wish.now.options.within attempt.now.start.now.pass.targets.items
+        seat.now.team.now floor.new length)) }
+    ensures kept { IfOk result (λ found.
+        found ≡ None → KeepsTeamPlaces seat.now.team.now floor.old floor.new) }
+{
+    let options = &attempt.wish.options;
+    let Ok(edits) = team_edits(alloc, floor, seat.number, attempt.wires, options) else {
+        return Err(RepairFault::OutOfMemory);
+    };
+    if edits.is_empty() {
+        return Ok(None);
+    }
+    let mut texts = Buffers::new(alloc);
+    match run_edits(floor, seat, &[], edits.as_slice(), &mut texts, lines) {
+        Ok(()) => {}
+        Err(fault) => return Err(fault),
+    }
+    commit_or_move_back(alloc, floor, seat, attempt, lines)
+}
+
+/// Opens a session, moves cells of the team, and closes the session. Returns the wire length if the
+/// team is improved.
+fn improve_in_session<S: Seeker + Drop, K: Sink>(
+    alloc: Global,
+    floor: &mut Floor<S>,
+    team: &[u8],
+    number: usize,
+    attempt: &Attempt<'_>,
+    lines: &mut K,
+) -> Result<Option<u64>, RepairFault>
+    requires number { team_number floor.old.frame team.now ≡ Some number }
+    requires committed { IsCommitted team.now floor.old }
+    ensures run { (l : Legalizer) → IfOk result (λ _.
+        IsWrittenRun l team.now floor.old (K.contents lines.old) (K.contents lines.new) floor.new) }
+    ensures err { (l : Legalizer) → OnErr result (
+        IsRunWithCutLine l team.now floor.old (K.contents lines.old) (K.contents lines.new) floor.new) }
+    ensures only { ChangesOnly team.now floor.old floor.new }
+    ensures slots { OnOk result (session_slots_in floor.new team.now ≡ session_slots_in floor.old team.now) }
+    ensures improved { IfOk result (λ found. IfSome found (λ length.
+        IsShortened attempt.now.wires.now.netlist.now.nets attempt.now.wish.now.length
+        attempt.now.wish.now.options.within attempt.now.start.now.pass.targets.items
+        team.now floor.new length)) }
+    ensures kept { IfOk result (λ found. found ≡ None → KeepsTeamPlaces team.now floor.old floor.new) }
+{
+    let mut texts = Buffers::new(alloc);
+    let session = match open(floor, team, &mut texts, lines) {
+        Ok(session) => session,
+        Err(fault) => return Err(fault),
+    };
+    let seat = TeamSession {
+        team,
+        number,
+        session,
+        impossible: &[],
+    };
+    let found = match move_cells(alloc, floor, &seat, attempt, lines) {
+        Ok(found) => found,
+        Err(fault) => return Err(fault),
+    };
+    match close(floor, &seat, &mut texts, lines) {
+        Ok(()) => Ok(found),
+        Err(fault) => Err(fault),
+    }
+}
+
+/// The number of cells of the team with this number.
+fn team_size(placement: &Placement, number: usize) -> u32
+    ensures { result ≡ length (cells_of placement.now.cells number) }
+{
+    placement.cells_are_sized();
+    placement.cells().cells_of(number).len() as u32
+}
+
+/// The result for the team with this number. `found` has the wire length if the team is improved.
+fn result_of<S: Seeker + Drop>(
+    alloc: Global,
+    floor: &Floor<S>,
+    number: usize,
+    attempt: &Attempt<'_>,
+    is_skipped: bool,
+    found: Option<u64>,
+) -> TeamImprovement
+    ensures skipped { result.is_skipped ≡ is_skipped }
+    ensures improved { result.is_improved ≡ is_some found }
+    ensures length { result.length ≡ unwrap_or found attempt.now.wish.now.length }
+    ensures cells { (s : TeamState) → slice_get floor.now.teams number ≡ Some s → result.cells ≡ length s.cells }
+    ensures lists { (result.stats.changed.items ≡ []) × (result.stats.unrepaired.items ≡ []) }
+    ensures tally { (s : TeamState) → slice_get floor.now.teams number ≡ Some s
+        → AreStatsOfFirst attempt.now.start.now.pass.targets.items attempt.now.start.now.legal.items s.cells
+        (length s.cells) result.stats }
+{
+    TeamImprovement {
+        is_skipped,
+        is_improved: found.is_some(),
+        cells: team_size(floor.placement(), number),
+        stats: team_stats(alloc, floor, number, attempt.start),
+        length: found.unwrap_or(attempt.wish.length),
+    }
+}
+
+/// Improves a team: moves its legal cells, so that the wire length of the design becomes shorter.
+///
+/// The team is skipped if one of its cells is unplaced or breaks a rule, or if a working place is
+/// not committed; then no command is sent. It is improved only if the wire length of the whole
+/// design is then shorter, and no cell of the team is farther from where it was than the wish
+/// allows; then all its cells are legal and committed. Otherwise its working and committed places
+/// are as before, and so is the wire length.
+///
+/// Each command is sent to the floor, and its line is written exactly if the floor accepts it. If a
+/// line can contain the team's name, each line reads as its command. No other team changes, and a
+/// fully legal committed design stays fully legal. The session is closed: the team's session slots
+/// are unchanged. The numbers in the result are exact.
+///
+/// `Err` says why the improvement stopped early. The floor is then as the accepted commands left
+/// it, and their lines are written; of the last line perhaps only a prefix.
+pub fn improve_team<S: Seeker + Drop, K: Sink>(
+    alloc: Global,
+    floor: &mut Floor<S>,
+    team: &[u8],
+    wires: &WireNets<'_>,
+    wish: &ImproveWish,
+    lines: &mut K,
+) -> Result<TeamImprovement, RepairFault>
+    requires measured { IsWireLengthOn wires.now.netlist.now.nets floor.old wish.now.length }
+    ensures run { (l : Legalizer) → IfOk result (λ _.
+        IsWrittenRun l team.now floor.old (K.contents lines.old) (K.contents lines.new) floor.new) }
+    ensures err { (l : Legalizer) → OnErr result (
+        IsRunWithCutLine l team.now floor.old (K.contents lines.old) (K.contents lines.new) floor.new) }
+    ensures only { ChangesOnly team.now floor.old floor.new }
+    ensures unknown { team_number floor.old.frame team.now ≡ None → result ≡ Err RepairFault.NoTeam }
+    ensures slots { OnOk result (session_slots_in floor.new team.now ≡ session_slots_in floor.old team.now) }
+    ensures skipped { (s : TeamState) → state_of floor.old team.now ≡ Some s
+        → IfOk result (λ done. done.is_skipped ≡ false ↔ IsImprovable team.now floor.old) }
+    ensures untouched { IfOk result (λ done. IsTrue done.is_skipped → floor.new ≡ floor.old) }
+    ensures improved { (l : Legalizer) → IfOk result (λ done.
+        IsTrue done.is_improved → AllCommittedIn l floor.new team.now) }
+    ensures kept { IfOk result (λ done. done.is_improved ≡ false → KeepsTeamPlaces team.now floor.old floor.new) }
+    ensures measured { IfOk result (λ done. IsWireLengthOn wires.now.netlist.now.nets floor.new done.length) }
+    ensures longer { IfOk result (λ done. done.length ≤ wish.now.length) }
+    ensures shorter { IfOk result (λ done. IsTrue done.is_improved → done.length < wish.now.length) }
+    ensures near { IfOk result (λ done. StaysWithin wish.now.options.within team.now floor.old floor.new) }
+    ensures counted { IfOk result (λ done. AreTeamStats team.now floor.old floor.new done.stats) }
+    ensures lists { IfOk result (λ done. (done.stats.changed.items ≡ []) × (done.stats.unrepaired.items ≡ [])) }
+    ensures cells { (s : TeamState) → state_of floor.old team.now ≡ Some s
+        → IfOk result (λ done. done.cells ≡ length s.cells) }
+{
+    let Some(number) = floor.team_number(team) else {
+        return Err(RepairFault::NoTeam);
+    };
+    let Ok(start) = team_input(alloc, floor, team, number, MovePolicy::MoveAll, &[]) else {
+        return Err(RepairFault::OutOfMemory);
+    };
+    let attempt = Attempt {
+        start: &start,
+        wires,
+        wish,
+    };
+    if !is_improvable(floor, team, number) {
+        return Ok(result_of(alloc, floor, number, &attempt, true, None));
+    }
+    match improve_in_session(alloc, floor, team, number, &attempt, lines) {
+        Ok(found) => Ok(result_of(alloc, floor, number, &attempt, false, found)),
+        Err(fault) => Err(fault),
+    }
+}
