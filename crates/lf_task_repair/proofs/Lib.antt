@@ -1,3 +1,3 @@
-mod Named
-mod Repairing
-mod TeamLines
+pub mod Named
+pub mod Repairing
+pub mod TeamLines

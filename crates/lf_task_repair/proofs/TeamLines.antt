@@ -77,7 +77,7 @@ stats_alike wanted now Was Also all r same is = record {
 abbrev places_in : Option TeamState → ℕ → Option Place
 places_in o own = option_and_then (λ (s : TeamState). working_at s.cells own) o
 
-stats_same : (a b c d : FloorState) (team : List ℕ) (r : RepairStats) → c.frame ≡ a.frame → state_of c team ≡ state_of a team → state_of d team ≡ state_of b team
+pub stats_same : (a b c d : FloorState) (team : List ℕ) (r : RepairStats) → c.frame ≡ a.frame → state_of c team ≡ state_of a team → state_of d team ≡ state_of b team
     → AreTeamStats team a b r → AreTeamStats team c d r
 stats_same a b c d team r frame first last is s there =
     stats_alike (places_in (state_of c team)) (places_in (state_of d team)) (IsLegalIn a team) (IsLegalIn c team) (length s.cells) r
@@ -199,7 +199,7 @@ lines_from names begin old new a b frame same more = record {
 }
 
 -- what holds for the names with this number holds for the selected one
-selected_have : (P : List ℕ → Type 0) (f : Frame) (teams : List (List ℕ)) (number : ℕ) → ((name : List ℕ) → team_number f name ≡ Some number → P name)
+pub selected_have : (P : List ℕ → Type 0) (f : Frame) (teams : List (List ℕ)) (number : ℕ) → ((name : List ℕ) → team_number f name ≡ Some number → P name)
     → All P (selected_at f teams number)
 selected_have P f teams number have = go (slice_get (team_names f) number) refl where
   go : (o : Option (List ℕ)) → slice_get (team_names f) number ≡ o → All P (filter (is_selected teams) (option_map_or (λ name. name ∷ []) o []))

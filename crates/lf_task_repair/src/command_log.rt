@@ -1,5 +1,4 @@
-//! Keeps the command lines of a repair if they are requested, and writes them to their file at the
-//! end.
+//! Keeps the command lines of a task if they are requested, and writes them to their file at the end.
 
 ghost use Rattle.std.specs.Prelude.{◌≡◌, None, IfErr, OnErr, OnOk, option_map};
 ghost use Rattle.std.specs.Io.KnownBytes.{Appends, Keeps};
@@ -17,7 +16,7 @@ use std::io::Write;
 
 /// Command lines, which are kept if they are requested.
 #[derive(Drop)]
-pub(crate) struct CommandLog {
+pub struct CommandLog {
     /// The text of the lines so far. `None` if they are not requested.
     kept: Option<Vec<u8>>,
     flushed: bool,
@@ -26,7 +25,7 @@ pub(crate) struct CommandLog {
 
 impl CommandLog {
     /// A log without lines. Lines are kept if there is a path for them.
-    pub(crate) fn new(alloc: Global, path: Option<&str>) -> CommandLog
+    pub fn new(alloc: Global, path: Option<&str>) -> CommandLog
         ensures { kept_text result ≡ initial_lines (path_of path.entry) }
     {
         let kept = match path {

@@ -7,12 +7,12 @@
 //! `Progress` reports how far the repair is. The exit status is 0, or 4 if the committed design is
 //! not fully legal. Messages of faults are not written here.
 //!
-//! Used by `lf_app`.
+//! Used by `lf_task_improve` and `lf_app`.
 //!
 //! Modules, in reading order:
 //!
-//! - `command_log`: the command lines of a repair
-//! - `progress`: how far a repair is
+//! - `command_log`: the command lines of a task
+//! - `progress`: how far a task is
 //! - `repair_task`: the repair of the teams of a design
 //!
 //! From `crates/lf_app/src/tasks.rt`:
@@ -29,5 +29,9 @@ mod command_log;
 mod progress;
 mod repair_task;
 
-pub use progress::{NoProgress, Progress, TimedProgress};
-pub use repair_task::{RepairJob, repair};
+pub use command_log::CommandLog;
+pub use progress::{NoProgress, Progress, ProgressSink, TimedProgress};
+pub use repair_task::{
+    FinishedTask, RepairJob, all_known, announce_team, is_selected, put_results, repair, status_by,
+    try_files,
+};

@@ -1,4 +1,4 @@
-//! Reports how far a repair is.
+//! Reports how far a task is.
 
 ghost use Rattle.lf_task_repair.specs.Repairs.{kept_text};
 
@@ -11,11 +11,11 @@ use std::str;
 use std::time::{Duration, Instant};
 
 /// A receiver of progress reports. Contracts say nothing about them: whatever the receiver is, the
-/// same holds for a repair.
+/// same holds for a task.
 pub trait Progress {
-    /// Reports that the repair of the team with this name begins. It is team `number`, counted from
-    /// 1, of `teams`.
-    fn begin(&mut self, team: &[u8], number: usize, teams: usize);
+    /// Reports that work on the team with this name begins. It is team `number`, counted from 1, of
+    /// `teams`. `work` names the work, as `repairing`.
+    fn begin(&mut self, work: &'static str, team: &[u8], number: usize, teams: usize);
 
     /// Reports that one more command was accepted.
     fn step(&mut self);
@@ -34,7 +34,7 @@ pub trait Progress {
 pub struct NoProgress;
 
 impl Progress for NoProgress {
-    fn begin(&mut self, _team: &[u8], _number: usize, _teams: usize) {}
+    fn begin(&mut self, _work: &'static str, _team: &[u8], _number: usize, _teams: usize) {}
 
     fn step(&mut self) {}
 
@@ -57,6 +57,8 @@ pub struct TimedProgress<'a, T, W> {
     /// The time of the last line, or of `new` if there is no line yet. `None` if no more lines are
     /// written.
     since: Option<Instant>,
+    /// The name of the work.
+    work: &'static str,
     /// The name of the team.
     team: Vec<u8>,
     number: usize,
@@ -73,6 +75,7 @@ impl<'a, T: Clock, W: Write> TimedProgress<'a, T, W> {
             writer,
             pause,
             since: Instant::now(clock).ok(),
+            work: "",
             team: Vec::new(alloc),
             number: 0,
             teams: 0,
@@ -95,17 +98,18 @@ impl<'a, T: Clock, W: Write> TimedProgress<'a, T, W> {
     /// Writes a line. Returns false if that fails.
     fn report_it(&mut self) -> bool {
         let team = str::from_utf8(&self.team).unwrap_or("?");
-        let (number, teams, commands) = (self.number, self.teams, self.commands);
+        let (work, number, teams, commands) = (self.work, self.number, self.teams, self.commands);
         writeln!(
             self.writer,
-            "lefence: repairing {team:?}, team {number} of {teams}: {commands} commands so far"
+            "lefence: {work} {team:?}, team {number} of {teams}: {commands} commands so far"
         )
         .is_ok()
     }
 }
 
 impl<'a, T: Clock, W: Write> Progress for TimedProgress<'a, T, W> {
-    fn begin(&mut self, team: &[u8], number: usize, teams: usize) {
+    fn begin(&mut self, work: &'static str, team: &[u8], number: usize, teams: usize) {
+        self.work = work;
         self.team.clear();
         // (if there is no memory for the name, the line has no name)
         let _ = self.team.extend_from_slice(team);
@@ -139,9 +143,9 @@ impl<'a, T: Clock, W: Write> Progress for TimedProgress<'a, T, W> {
 
 /// Command lines that are kept. Each is also reported to `progress`.
 #[derive(Drop)]
-pub(crate) struct ProgressSink<'p, P> {
-    pub(crate) lines: CommandLog,
-    pub(crate) progress: &'p mut P,
+pub struct ProgressSink<'p, P> {
+    pub lines: CommandLog,
+    pub progress: &'p mut P,
 }
 
 impl<'p, P: Progress> Sink for ProgressSink<'p, P> {

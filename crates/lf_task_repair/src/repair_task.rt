@@ -83,8 +83,8 @@ fn position_of(teams: &[&str], name: &[u8]) -> Option<usize>
     teams.iter().position(|team| team.as_bytes() == name)
 }
 
-/// Whether the team with this name is selected: it is in the list, or the list is empty.
-fn is_selected(teams: &[&str], name: &[u8]) -> bool
+/// Returns whether the team with this name is selected: it is in the list, or the list is empty.
+pub fn is_selected(teams: &[&str], name: &[u8]) -> bool
     ensures { result ≡ is_selected (map (λ team. team.now) teams.now) name.now }
 {
     if teams.len() == 0 {
@@ -101,7 +101,7 @@ fn is_known(floor: &Floor<IndexSeeker>, name: &[u8]) -> bool
 }
 
 /// Tests that each of the names is that of a team. `Err(NoTeam)` with the first that is not.
-fn all_known<'a>(floor: &Floor<IndexSeeker>, teams: &'a [&'a str]) -> Result<(), Fault<'a>>
+pub fn all_known<'a>(floor: &Floor<IndexSeeker>, teams: &'a [&'a str]) -> Result<(), Fault<'a>>
     ensures ok { OnOk result (AreKnown floor.now.frame (map (λ team. team.now) teams.now)) }
     ensures err { IfErr result (IsUnknown floor.now.frame (map (λ team. team.now) teams.now)) }
 {
@@ -141,9 +141,16 @@ fn repair_named<'f, P: Progress>(
     }
 }
 
-/// Reports that the repair of the team with this name and number begins.
-fn announce_team<P: Progress>(progress: &mut P, frame: &Frame, name: &[u8], number: usize) {
-    progress.begin(name, number.saturating_add(1), frame.teams.len() + 1);
+/// Reports that work on the team with this name and number begins.
+pub fn announce_team<P: Progress>(
+    progress: &mut P,
+    work: &'static str,
+    frame: &Frame,
+    name: &[u8],
+    number: usize,
+) {
+    let (number, teams) = (number.saturating_add(1), frame.teams.len() + 1);
+    progress.begin(work, name, number, teams);
 }
 
 /// Repairs the team with this number, if it is selected.
@@ -176,7 +183,8 @@ fn repair_numbered<'a, P: Progress>(
     if !is_selected(requested.teams, name) {
         return Ok(());
     }
-    announce_team(lines.progress, floor.placement().frame(), name, number);
+    let frame = floor.placement().frame();
+    announce_team(lines.progress, "repairing", frame, name, number);
     repair_named(alloc, floor, name, how_of(requested.legal), lines, report)
 }
 
@@ -204,8 +212,8 @@ fn repair_teams<'a, P: Progress>(
     Ok(())
 }
 
-/// The exit status: whether the committed design is fully legal.
-fn status_by(legal: bool) -> u8
+/// Returns the exit status, given whether the committed design is fully legal.
+pub fn status_by(legal: bool) -> u8
     ensures done { IsDone result }
     ensures legal { result ≡ 0 → IsTrue legal }
     ensures illegal { result ≡ 4 → ¬ IsTrue legal }
@@ -229,13 +237,14 @@ fn close_report<'f>(
     Ok(status_by(legal))
 }
 
-/// A finished repair whose results are not written yet.
+/// A finished task whose results are not written yet.
 #[derive(Drop)]
-struct FinishedRepair {
-    lines: CommandLog,
-    report: RepairReport,
+pub struct FinishedTask {
+    pub lines: CommandLog,
+    /// The text of the report.
+    pub report: Vec<u8>,
     /// The exit status.
-    status: u8,
+    pub status: u8,
 }
 
 /// Repairs the selected teams, and reports the results with these limits.
@@ -245,7 +254,7 @@ fn repair_selected<'a, P: Progress>(
     requested: &RepairJob<'a>,
     limits: &RepairLimits,
     progress: &mut P,
-) -> Result<FinishedRepair, Fault<'a>>
+) -> Result<FinishedTask, Fault<'a>>
     requires { length floor.old.teams ≡ length floor.old.frame.teams + 1 }
     ensures run { (l : Legalizer) → IfOk result
         (λ done. IsKeptRun l floor.old (initial_lines (repair_paths requested.now.files).lines) (kept_text done.lines)
@@ -255,7 +264,7 @@ fn repair_selected<'a, P: Progress>(
     ensures kept { requested.now.legal ≡ KeepLegal → OnOk result (KeepsAllLegalPlaces floor.old floor.new) }
     ensures committed_checked { IfOk result (λ done. IsStatusOf floor.new done.status) }
     ensures reported { IfOk result (λ done. IsReport (map (λ team. team.now) requested.now.teams.now) limits.now
-        floor.old floor.new done.report.text.items) }
+        floor.old floor.new done.report.items) }
     ensures err { IfErr result (λ fault. fault ≡ SetupOutOfMemory) }
 {
     legalizer_exists();
@@ -267,41 +276,41 @@ fn repair_selected<'a, P: Progress>(
     repair_teams(alloc, floor, requested, &mut lines, &mut report)?;
     let status = close_report(alloc, floor, &mut report)?;
     let ProgressSink { lines, .. } = lines;
-    Ok(FinishedRepair {
+    let RepairReport { text, .. } = report;
+    Ok(FinishedTask {
         lines,
-        report,
+        report: text,
         status,
     })
 }
 
 /// Writes the report.
-fn put_report<'f, W: Sink>(writer: &mut W, report: &RepairReport) -> Result<(), Fault<'f>>
-    ensures ok { OnOk result (Appends (W.contents writer.old) (W.contents writer.new) report.now.text.items) }
+fn put_report<'f, W: Sink>(writer: &mut W, report: &[u8]) -> Result<(), Fault<'f>>
+    ensures ok { OnOk result (Appends (W.contents writer.old) (W.contents writer.new) report.now) }
     ensures healthy { OnOk result (W.has_failed writer.new ≡ W.has_failed writer.old) }
     ensures front { OnErr result
-        ((n : ℕ) × Appends (W.contents writer.old) (W.contents writer.new) (take n report.now.text.items)) }
+        ((n : ℕ) × Appends (W.contents writer.old) (W.contents writer.new) (take n report.now)) }
     ensures err { IfErr result (λ fault. fault ≡ Output) }
     ensures failed { OnErr result (W.has_failed writer.new ≡ true) }
     ensures held { W.holds writer.new ≡ W.holds writer.old }
 {
-    match send(writer, report.text.as_slice()) {
+    match send(writer, report) {
         Ok(()) => Ok(()),
         Err(_) => Err(Fault::Output),
     }
 }
 
 /// Tests whether the requested files can be written, as far as this can be known in advance.
-fn try_files<'a, E: OutputFiles>(
-    requested: &RepairJob<'a>,
+pub fn try_files<'a, E: OutputFiles>(
+    files: &RepairFiles<'a>,
     exports: &mut E,
 ) -> Result<(), Fault<'a>>
-    ensures err { IfErr result (IsFileOutputFault (repair_paths requested.now.files)) }
+    ensures err { IfErr result (IsFileOutputFault (repair_paths files.now)) }
     ensures fails { IfErr result (λ fault. ExportFails fault (E.has_failed exports.old) (E.has_failed exports.new)) }
     ensures sound { OnOk result (E.has_failed exports.new ≡ E.has_failed exports.old) }
     ensures unput { E.puts exports.new ≡ E.puts exports.old }
-    ensures unasked { WritesNoFile (repair_paths requested.now.files) → exports.new ≡ exports.old }
+    ensures unasked { WritesNoFile (repair_paths files.now) → exports.new ≡ exports.old }
 {
-    let files = requested.files;
     check_output_path(OutputKind::Export, files.export, exports)?;
     check_output_path(OutputKind::Working, files.working, exports)?;
     check_output_path(OutputKind::Lines, files.lines, exports)?;
@@ -314,7 +323,7 @@ fn put_files<'a, E: OutputFiles>(
     floor: &Floor<IndexSeeker>,
     original: &SourceText,
     lines: &CommandLog,
-    requested: &RepairJob<'a>,
+    files: &RepairFiles<'a>,
     exports: &mut E,
 ) -> Result<(), Fault<'a>>
     requires fits { (s : FloorState) (places : List (ℕ × Option Place)) → s.components ≡ floor.now.components
@@ -322,31 +331,33 @@ fn put_files<'a, E: OutputFiles>(
         → CanBeRenewed original.now.text.items original.now.clauses places }
     ensures ok { (document : Document)
         → original.now.clauses ≡ map (clause_of original.now.text.items) document.components
-        → OnOk result (AreWritten (repair_paths requested.now.files) original.now.text.items document floor.now
+        → OnOk result (AreWritten (repair_paths files.now) original.now.text.items document floor.now
         (kept_text lines.now) (E.puts exports.old) (E.puts exports.new)) }
     ensures err { (document : Document)
         → original.now.clauses ≡ map (clause_of original.now.text.items) document.components
-        → IfErr result (AreNotPut (repair_paths requested.now.files) original.now.text.items document floor.now
+        → IfErr result (AreNotPut (repair_paths files.now) original.now.text.items document floor.now
         (kept_text lines.now) (E.puts exports.old) (E.puts exports.new)) }
     ensures fails { IfErr result (λ fault. ExportFails fault (E.has_failed exports.old) (E.has_failed exports.new)) }
     ensures sound { OnOk result (E.has_failed exports.new ≡ E.has_failed exports.old) }
-    ensures unput { WritesExportAlone (repair_paths requested.now.files)
+    ensures unput { WritesExportAlone (repair_paths files.now)
         → OnErr result (E.puts exports.new ≡ E.puts exports.old) }
-    ensures unasked { WritesNoFile (repair_paths requested.now.files) → exports.new ≡ exports.old }
+    ensures unasked { WritesNoFile (repair_paths files.now) → exports.new ≡ exports.old }
 {
-    let files = requested.files;
     save_export(floor, original, files.export, exports)?;
     save_working(floor, original, files.working, exports)?;
     save_lines(lines, files.lines, exports)?;
     save_to(floor, files.save, exports)
 }
 
-/// Writes the report, and then the requested files.
-fn put_all<'a, E: OutputFiles, W: Sink>(
+/// Writes the report, and then the requested files. Returns the exit status.
+///
+/// `Err(Output)` if the writer fails; then a prefix of the report and no file is written. At other
+/// faults the report and the files in front of the one at fault are written.
+pub fn put_results<'a, E: OutputFiles, W: Sink>(
     floor: &Floor<IndexSeeker>,
     original: &SourceText,
-    done: &FinishedRepair,
-    requested: &RepairJob<'a>,
+    done: &FinishedTask,
+    files: &RepairFiles<'a>,
     exports: &mut E,
     writer: &mut W,
 ) -> Result<u8, Fault<'a>>
@@ -356,26 +367,26 @@ fn put_all<'a, E: OutputFiles, W: Sink>(
     ensures status { IfOk result (λ status. status ≡ done.now.status) }
     ensures ok { (document : Document)
         → original.now.clauses ≡ map (clause_of original.now.text.items) document.components
-        → OnOk result (IsPut (repair_paths requested.now.files) original.now.text.items document floor.now
+        → OnOk result (IsPut (repair_paths files.now) original.now.text.items document floor.now
         (kept_text done.now.lines)
-        done.now.report.text.items (W.contents writer.old) (W.contents writer.new) (E.puts exports.old)
+        done.now.report.items (W.contents writer.old) (W.contents writer.new) (E.puts exports.old)
         (E.puts exports.new)) }
     ensures err { (document : Document)
         → original.now.clauses ≡ map (clause_of original.now.text.items) document.components
-        → IfErr result (IsNotPut (repair_paths requested.now.files) original.now.text.items document floor.now
+        → IfErr result (IsNotPut (repair_paths files.now) original.now.text.items document floor.now
         (kept_text done.now.lines)
-        done.now.report.text.items (W.contents writer.old) (W.contents writer.new) (E.puts exports.old)
+        done.now.report.items (W.contents writer.old) (W.contents writer.new) (E.puts exports.old)
         (E.puts exports.new)) }
     ensures blames { IfErr result
         (λ fault. BlamesOutputs fault (writer.new ≡ writer.old) (W.has_failed writer.old) (W.has_failed writer.new)
         (E.has_failed exports.old) (E.has_failed exports.new)) }
-    ensures unput { WritesExportAlone (repair_paths requested.now.files)
+    ensures unput { WritesExportAlone (repair_paths files.now)
         → OnErr result (E.puts exports.new ≡ E.puts exports.old) }
-    ensures unasked { WritesNoFile (repair_paths requested.now.files) → exports.new ≡ exports.old }
+    ensures unasked { WritesNoFile (repair_paths files.now) → exports.new ≡ exports.old }
     ensures held { W.holds writer.new ≡ W.holds writer.old }
 {
-    put_report(writer, &done.report)?;
-    put_files(floor, original, &done.lines, requested, exports)?;
+    put_report(writer, done.report.as_slice())?;
+    put_files(floor, original, &done.lines, files, exports)?;
     Ok(done.status)
 }
 
@@ -450,9 +461,16 @@ fn repair_on_floor<'a, E: OutputFiles, W: Sink, P: Progress>(
     ensures held { W.holds writer.new ≡ W.holds writer.old }
 {
     all_known(floor, requested.teams)?;
-    try_files(requested, exports)?;
+    try_files(&requested.files, exports)?;
     let done = repair_selected(alloc, floor, requested, &before.limits, before.progress)?;
-    let status = put_all(floor, &before.original, &done, requested, exports, writer)?;
+    let status = put_results(
+        floor,
+        &before.original,
+        &done,
+        &requested.files,
+        exports,
+        writer,
+    )?;
     note_uncommitted(floor, &requested.files, before.progress);
     Ok(status)
 }

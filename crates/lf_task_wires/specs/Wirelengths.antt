@@ -58,6 +58,16 @@ pub record IsReportOfTexts (lefs : List (List ℕ)) (text : List ℕ) (document 
   pub macros_are : AddPins [] lefs macros
   pub over_pins : IsReportOverPins macros text document seen report
 
+-- Holds for the nets of a DEF text over LEF texts that are no supplies, bound to the cells of the
+-- design.
+pub record AreNetsOfTexts (lefs : List (List ℕ)) (text : List ℕ) (document : Document) (loaded : Loaded)
+    (nets : List (List NetPin)) : Type 0 where
+  pub macros : List MacroPins
+  pub macros_are : AddPins [] lefs macros
+  pub found : DesignNets
+  pub found_are : nets_of text ≡ Ok found
+  pub bound : nets ≡ bound_nets (facts_in loaded macros document found) found.nets
+
 -- The text is the report of the nets of a design of files, with the cells at the places of its DEF
 -- text or of the given state.
 pub record IsReportOfFiles (limits : Limits) (gives : ReadsFile) (def : List ℕ) (lefs : List (List ℕ))

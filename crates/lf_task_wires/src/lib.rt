@@ -4,7 +4,7 @@
 //! pins of the LEF texts and the nets of the DEF text are read from the same bytes, so that a path
 //! may be that of a pipe.
 //!
-//! Used by `lf_app`.
+//! Used by `lf_task_improve` and `lf_app`.
 //!
 //! Modules, in reading order:
 //!
@@ -25,4 +25,6 @@ mod measuring;
 mod second_reading;
 mod wirelength_task;
 
+pub use kept_texts::kept_library;
+pub use second_reading::{nets_in, pins_of};
 pub use wirelength_task::wirelength;

@@ -46,7 +46,7 @@ returns-clause-err g c = λ document kept.
 pub returns-clause-unput : goal.returns-clause-unput
 returns-clause-unput g c = λ alone.
     never_fails c.save_to.result _ _ c.save_to.ensures.err
-    (λ fault is. none_fails Save (repair_paths c.args.requested.now.files).save fault alone.save is)
+    (λ fault is. none_fails Save (repair_paths c.args.files.now).save fault alone.save is)
 
 pub returns-in_err-save_export-clause-err : goal.returns-in_err-save_export-clause-err
 returns-in_err-save_export-clause-err g c = λ document kept.
@@ -71,7 +71,7 @@ returns-in_err-save_working-clause-err g c = λ document kept.
 
 pub returns-in_err-save_working-clause-unput : goal.returns-in_err-save_working-clause-unput
 returns-in_err-save_working-clause-unput g c = λ alone.
-    absurd (none_fails Working (repair_paths c.args.requested.now.files).working _ alone.working c.in_err-save_working.ensures.err)
+    absurd (none_fails Working (repair_paths c.args.files.now).working _ alone.working c.in_err-save_working.ensures.err)
 
 pub returns-in_err-save_lines-clause-err : goal.returns-in_err-save_lines-clause-err
 returns-in_err-save_lines-clause-err g c = λ document kept.
@@ -91,4 +91,4 @@ returns-in_err-save_lines-clause-err g c = λ document kept.
 
 pub returns-in_err-save_lines-clause-unput : goal.returns-in_err-save_lines-clause-unput
 returns-in_err-save_lines-clause-unput g c = λ alone.
-    absurd (none_fails Lines (repair_paths c.args.requested.now.files).lines _ alone.lines c.in_err-save_lines.ensures.err)
+    absurd (none_fails Lines (repair_paths c.args.files.now).lines _ alone.lines c.in_err-save_lines.ensures.err)

@@ -8,14 +8,14 @@ use Rattle.lf_task_repair.proofs.Repairing.{memory_early, unknown_early}
 use Rattle.lf_task_files.proofs.WorkSteps.{blames_as, early_blames, export_blames}
 use Rattle.lf_task_repair.proofs.repair_task.repair_on_floor.Goals as goal
 
-pub put_all-requires : goal.put_all-requires
-put_all-requires g c = record { fits = λ s places same are. c.requires.fits s places (same ∙ c.in_ok-done.ensures.only.components) are }
+pub put_results-requires : goal.put_results-requires
+put_results-requires g c = record { fits = λ s places same are. c.requires.fits s places (same ∙ c.in_ok-done.ensures.only.components) are }
 
 pub returns-clause-ok : goal.returns-clause-ok
 returns-clause-ok g c = λ document kept.
     let floor = c.repair_selected.new.floor in
     let lines = kept_text c.in_ok-done.done.lines in
-    let report = c.in_ok-done.done.report.text.items in
+    let report = c.in_ok-done.done.report.items in
     let requested = c.args.requested.now in
     record {
       floor = floor;
@@ -29,7 +29,7 @@ returns-clause-ok g c = λ document kept.
         decides = c.in_ok-done.ensures.reported;
       };
       put = subst (λ (puts : Option (List Put)). IsPut (repair_paths requested.files) c.args.before.now.original.text.items document floor lines
-          report (g.W.Sink.contents c.args.writer.now) (g.W.Sink.contents c.put_all.new.writer) puts (g.E.OutputFiles.puts c.put_all.new.exports)) c.try_files.ensures.unput
+          report (g.W.Sink.contents c.args.writer.now) (g.W.Sink.contents c.put_results.new.writer) puts (g.E.OutputFiles.puts c.put_results.new.exports)) c.try_files.ensures.unput
           (c.in_ok-status.ensures.ok document kept);
       committed_checked = subst (λ (n : ℕ). IsStatusOf floor n) (sym c.in_ok-status.ensures.status) c.in_ok-done.ensures.committed_checked;
     }
@@ -39,7 +39,7 @@ returns-in_err-status-clause-err g c = λ document kept.
     let p = err_from_is_err_and c.from_residual-in_err-status.result c.from_residual-in_err-status.ensures.1 in
     let floor = c.repair_selected.new.floor in
     let lines = kept_text c.in_ok-done.done.lines in
-    let report = c.in_ok-done.done.report.text.items in
+    let report = c.in_ok-done.done.report.items in
     let requested = c.args.requested.now in
     rw (p.1, p.2) (inr (
       floor,
@@ -53,7 +53,7 @@ returns-in_err-status-clause-err g c = λ document kept.
         decides = c.in_ok-done.ensures.reported;
       },
       subst (λ (puts : Option (List Put)). IsNotPut (repair_paths requested.files) c.args.before.now.original.text.items document floor lines
-          report (g.W.Sink.contents c.args.writer.now) (g.W.Sink.contents c.put_all.new.writer) puts (g.E.OutputFiles.puts c.put_all.new.exports) c.in_err-status.field-0.0)
+          report (g.W.Sink.contents c.args.writer.now) (g.W.Sink.contents c.put_results.new.writer) puts (g.E.OutputFiles.puts c.put_results.new.exports) c.in_err-status.field-0.0)
           c.try_files.ensures.unput (c.in_err-status.ensures.err document kept),
     ))
 

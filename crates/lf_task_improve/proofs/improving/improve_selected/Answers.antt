@@ -1,0 +1,30 @@
+use Rattle.std.proofs.Common.{map}
+use Rattle.lf_task_repair.proofs.Repairing.{as_many}
+use Rattle.lf_task_improve.proofs.Results.{not_longer, wire_length_on}
+use Rattle.lf_task_improve.proofs.improving.improve_selected.Goals as goal
+
+pub results_of-requires : goal.results_of-requires
+results_of-requires g c = wire_length_on c.args.wires.now.teams.items c.args.wires.now.netlist.nets c.args.floor.now c.in_ok-before.before c.in_ok-before.ensures
+
+pub is_committed_legal-requires : goal.is_committed_legal-requires
+is_committed_legal-requires g c =
+    as_many c.legalizer_exists.ensures (map (λ team. team.now) c.args.requested.now.teams.now) c.args.floor.now c.results_of.new.floor _ _
+    (c.in_ok-results.ensures.run c.legalizer_exists.ensures) c.in_ok-results.ensures.only c.requires
+
+pub returns-clause-run : goal.returns-clause-run
+returns-clause-run g c = λ l. rw c.new-lines.ensures at (c.in_ok-results.ensures.run l)
+
+pub returns-clause-reported : goal.returns-clause-reported
+returns-clause-reported g c = record {
+  results = c.in_ok-results.results.teams.items;
+  are = c.in_ok-results.ensures.reported;
+  before = c.in_ok-before.before;
+  before_are = c.in_ok-before.ensures;
+  after = c.in_ok-after.after;
+  after_are = c.in_ok-after.ensures;
+  no_longer = not_longer c.wire_length_is_one.ensures c.args.wires.now.teams.items c.args.wires.now.netlist.nets c.results_of.new.floor c.in_ok-after.after
+      c.in_ok-results.results.length c.in_ok-before.before.length c.in_ok-after.ensures c.in_ok-results.ensures.measured c.in_ok-results.ensures.longer;
+  legal = c.in_ok-legal.legal;
+  right = c.in_ok-legal.ensures;
+  text_is = rw (c.frame-frame.ensures, c.placement.ensures.frame, c.deref.ensures.value) at c.in_ok-report.ensures;
+}
