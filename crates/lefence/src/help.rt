@@ -25,6 +25,9 @@ const USAGE: &str =
   lefence repair DEF LEF... [--team NAME]... [--keep | --all] [--state FILE] [--save FILE] [--export FILE]
               [--export-working FILE] [--lines FILE] [--sessions N]
                                 moves cells that break a rule or have no place to legal places
+  lefence improve DEF LEF... [--team NAME]... [--within ROWS] [--rounds N] [--export FILE] [--lines FILE]
+              [--sessions N]
+                                moves legal cells so that the nets become shorter
   (put -- before a path that begins with '-'; docs/PROTOCOL.md says more)
 ";
 
@@ -120,6 +123,22 @@ example:
   lefence repair chip.def tech.lef cells.lef --export new.def
 ";
 
+const IMPROVE: &str =
+    "lefence improve DEF LEF... [--team NAME]... [--within ROWS] [--rounds N] [--export FILE] [--lines FILE]
+               [--sessions N]
+
+Moves legal cells so that the nets become shorter: those of the named teams, or of all teams. A team is skipped if one
+of its cells is unplaced or breaks a rule. All others stay legal and are committed, and the wire length of the design
+never grows. With --within, no cell is farther from its place in the DEF text than ROWS times the height of a row (1 to
+65535). The search makes at most N rounds (1 to 100; 4 if not given). Writes a line of JSON for each team and one for
+all. --export writes the DEF text with the committed places to FILE, and --lines the accepted commands. With
+--sessions, each team has N session slots (1 to 64; 8 if not given). The exit status is 0 if the committed design is
+then fully legal, and 4 if it is not.
+
+example:
+  lefence improve chip.def tech.lef cells.lef --export new.def
+";
+
 /// Returns the help of a subcommand.
 fn text_of(chosen: Subcommand) -> &'static str {
     match chosen {
@@ -130,6 +149,7 @@ fn text_of(chosen: Subcommand) -> &'static str {
         Subcommand::Replay => REPLAY,
         Subcommand::Serve => SERVE,
         Subcommand::Repair => REPAIR,
+        Subcommand::Improve => IMPROVE,
     }
 }
 

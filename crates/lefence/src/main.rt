@@ -115,7 +115,7 @@ fn answer(rt: &HostRuntime, words: &[&str], fault: UsageFault) -> u8 {
     }
 }
 
-/// The seconds between progress messages of a repair.
+/// The seconds between progress messages of a repair or an improvement.
 const PAUSE: u64 = 2;
 
 /// Whether the task only writes to standard output. If nobody reads that any more, nothing is lost.

@@ -3,8 +3,8 @@ use Rattle.std.proofs.Common.{◌≡◌, ◌⊎◌, arith, inl, inr, ℕ}
 use Rattle.std.specs.Prelude.{IfErr, Result}
 use Rattle.std.proofs.lemmas.Result.{IfErr-weaker}
 use Rattle.lf_cli.specs.declared.parse.Task.{Task}
-use Rattle.lf_cli.specs.declared.parse.Task.TheVariants.{Demo, Replay, Serve, Check, Describe, Repair, Wirelength}
-use Rattle.lf_cli.specs.Command.{Job, ReadsNone, as_job, check, demo, describe, repair, replay, serve, wirelength}
+use Rattle.lf_cli.specs.declared.parse.Task.TheVariants.{Demo, Replay, Serve, Check, Describe, Improve, Repair, Wirelength}
+use Rattle.lf_cli.specs.Command.{Job, ReadsNone, as_job, check, demo, describe, improve, repair, replay, serve, wirelength}
 use Rattle.lf_task_faults.specs.declared.faults.Fault.{Fault}
 use Rattle.lf_task_faults.specs.declared.faults.Fault.TheVariants.{Refused, File, RefusedState, NoTeam, ReadFault, WriteFault, TooManyLines, OutOfMemory, Output, Bind, Accept, NotWritten, SetupOutOfMemory, OutputOutOfMemory}
 use Rattle.lf_task_designs.specs.Designs.{ReadsFile}
@@ -46,8 +46,9 @@ succeeds gives (check def lefs state number committed) io status (limits, slots,
 succeeds gives (describe def lefs state number) io status (limits, slots, is) = is.shown.2.done
 succeeds gives (wirelength def lefs state number) io status (limits, slots, is) = inl is.3
 succeeds gives (repair def lefs state number teams legal files) io status (limits, slots, is) = is.repaired.committed_checked.done
+succeeds gives (improve def lefs number teams within rounds files) io status (limits, slots, is) = is.improved.committed_checked.done
 
--- Only a check, a description or a repair has status 4.
+-- Only a check, a description, a repair or an improvement has status 4.
 pub checked : (gives : ReadsFile) (task : Task) (io : Streams) (status : ℕ) → IsJobOutcome gives (as_job task) io status → status ≡ 4 → ReadsNone task
 checked gives Demo io status (limits, slots, is) four = let zero : status ≡ 0 = is.3 in absurd (omega (arith, zero, four))
 checked gives (Replay def lefs state number lines save export) io status (limits, slots, is) four =
@@ -58,6 +59,7 @@ checked gives (Check def lefs state number committed) io status is four = tt
 checked gives (Describe def lefs state number) io status is four = tt
 checked gives (Wirelength def lefs state number) io status is four = tt
 checked gives (Repair def lefs state number teams legal files) io status is four = tt
+checked gives (Improve def lefs number teams within rounds files) io status is four = tt
 
 -- A task that only writes touches nothing if it writes nothing.
 pub stops_untouched : (r : Result ℕ Fault) (nothing work also more : Fault → Type 0) (same untouched : Type 0)

@@ -6,7 +6,7 @@ use Rattle.lf_lef.specs.declared.built_in.TheConstants.{DEMO_LEF}
 use Rattle.lf_def.specs.declared.built_in.TheConstants.{DEMO_DEF}
 use Rattle.lf_floor_model.specs.States.{FloorState}
 use Rattle.lf_floor_model.specs.Designs.{initial_floor}
-use Rattle.lf_cli.specs.Command.{Job, demo, replay, serve, check, describe, wirelength, repair}
+use Rattle.lf_cli.specs.Command.{Job, demo, replay, serve, check, describe, wirelength, repair, improve}
 use Rattle.lf_task_faults.specs.declared.faults.Fault.{Fault}
 use Rattle.lf_task_faults.specs.declared.faults.TaskExit.{TaskExit}
 use Rattle.lf_task_designs.specs.Checks.{IsNotReported}
@@ -19,6 +19,7 @@ use Rattle.lf_task_serve.specs.Exits.{AnswersInput, EndsWithFault, IsJobStop, Is
 use Rattle.lf_task_wires.specs.Wirelengths.{IsMeasured, IsNotMeasured}
 use Rattle.lf_task_repair.specs.Exits.{IsNotRepaired, IsOpenRepaired}
 use Rattle.lf_task_repair.specs.Repairs.{WritesExportAlone, WritesNoFile}
+use Rattle.lf_task_improve.specs.Exits.{IsNotImproved, IsOpenImproved}
 use Rattle.lf_task_files.specs.Exits.{IsOpenUndescribed, IsReported}
 use Rattle.lf_task_serve.specs.Exits.{IsServiceFault, IsUndone, IsServedDesign, Streams}
 
@@ -31,6 +32,7 @@ abbrev pub NamesNoState : Job → Type 0
 NamesNoState (replay def lefs state slots lines save export) = save ≡ None
 NamesNoState (serve def lefs state slots port connections save export) = save ≡ None
 NamesNoState (repair def lefs state slots teams legal files) = WritesExportAlone files
+NamesNoState (improve def lefs slots teams within rounds files) = WritesExportAlone files
 NamesNoState job = Unit {0}
 
 -- A job that requests no text to be written to a file.
@@ -38,11 +40,13 @@ abbrev pub NamesNoFile : Job → Type 0
 NamesNoFile (replay def lefs state slots lines save export) = (save ≡ None) × (export ≡ None)
 NamesNoFile (serve def lefs state slots port connections save export) = (save ≡ None) × (export ≡ None)
 NamesNoFile (repair def lefs state slots teams legal files) = WritesNoFile files
+NamesNoFile (improve def lefs slots teams within rounds files) = WritesNoFile files
 NamesNoFile job = Unit {0}
 
--- A job that repairs nothing: no progress is reported.
+-- A job that neither repairs nor improves: no progress is reported.
 abbrev pub RepairsNothing : Job → Type 0
 RepairsNothing (repair def lefs state slots teams legal files) = ⊥
+RepairsNothing (improve def lefs slots teams within rounds files) = ⊥
 RepairsNothing job = Unit {0}
 
 -- A job that reads nothing from standard input.
@@ -59,6 +63,7 @@ job_slots (wirelength def lefs state slots) = slots
 job_slots (replay def lefs state slots lines save export) = slots
 job_slots (serve def lefs state slots port connections save export) = slots
 job_slots (repair def lefs state slots teams legal files) = slots
+job_slots (improve def lefs slots teams within rounds files) = slots
 job_slots _ = 8
 
 -- The most lines of its input that a job answers.
@@ -89,6 +94,8 @@ IsOutcomeWithin limits gives (wirelength def lefs state slots) io status =
     IsMeasured limits gives def lefs state io.before io.after status
 IsOutcomeWithin limits gives (repair def lefs state slots teams legal files) io status =
     IsOpenRepaired limits gives def lefs state teams legal files io.before io.after io.old_puts io.new_puts status
+IsOutcomeWithin limits gives (improve def lefs slots teams within rounds files) io status =
+    IsOpenImproved limits gives def lefs teams within files io.before io.after io.old_puts io.new_puts status
 
 -- The outcome of a job that succeeds, with this status.
 abbrev pub IsJobOutcome : ReadsFile → Job → Streams → ℕ → Type 0
@@ -98,8 +105,8 @@ IsJobOutcome gives job io status = (limits : Limits) × AreWithSlots (job_slots 
 -- ---- faults
 
 -- Why a job on a design within these limits fails: there is no design, or no floor in the requested
--- state; or the lines, the service, a written file, the report, the description or the repair
--- fails.
+-- state; or the lines, the service, a written file, the report, the description, the repair or the
+-- improvement fails.
 abbrev pub IsJobFaultWithin : Limits → ReadsFile → Job → Fault → Streams → Type 0
 IsJobFaultWithin limits gives demo fault io =
     IsJobStop (IsTextFault limits DEMO_DEF.now DEMO_LEF.now) (IsTextDesign limits DEMO_DEF.now DEMO_LEF.now)
@@ -122,6 +129,8 @@ IsJobFaultWithin limits gives (wirelength def lefs state slots) fault io =
     IsNotMeasured limits gives def lefs state io.before io.after fault
 IsJobFaultWithin limits gives (repair def lefs state slots teams legal files) fault io =
     IsNotRepaired limits gives def lefs state teams legal files io.before io.after io.old_puts io.new_puts fault
+IsJobFaultWithin limits gives (improve def lefs slots teams within rounds files) fault io =
+    IsNotImproved limits gives def lefs teams within files io.before io.after io.old_puts io.new_puts fault
 
 -- Why a job fails.
 abbrev pub IsJobFault : ReadsFile → Job → Fault → Streams → Type 0

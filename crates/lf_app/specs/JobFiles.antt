@@ -1,7 +1,7 @@
 -- The files that a job reads and writes, as its functions receive them.
-use Rattle.std.specs.Prelude.{◌≡◌, List, Option, map, ℕ}
+use Rattle.std.specs.Prelude.{◌≡◌, List, None, Option, map, ℕ}
 use Rattle.lf_floorplan.specs.declared.limits.Limits.{Limits}
-use Rattle.lf_cli.specs.Command.{Job, check, demo, describe, repair, replay, serve, wirelength}
+use Rattle.lf_cli.specs.Command.{Job, check, demo, describe, improve, repair, replay, serve, wirelength}
 use Rattle.lf_task_files.specs.declared.inputs.DesignInput.{DesignInput}
 use Rattle.lf_task_files.specs.declared.outputs.OutputPaths.{OutputPaths}
 use Rattle.lf_task_files.specs.Inputs.{path_of}
@@ -23,6 +23,7 @@ IsInputOf limits (wirelength def lefs state slots) input = IsInputAt limits def 
 IsInputOf limits (replay def lefs state slots lines save export) input = IsInputAt limits def lefs state input
 IsInputOf limits (serve def lefs state slots port connections save export) input = IsInputAt limits def lefs state input
 IsInputOf limits (repair def lefs state slots teams legal files) input = IsInputAt limits def lefs state input
+IsInputOf limits (improve def lefs slots teams within rounds files) input = IsInputAt limits def lefs None input
 
 -- The outputs have these paths.
 pub record AreOutputsAt (save export : Option (List ℕ)) (outputs : OutputPaths) : Type 0 where

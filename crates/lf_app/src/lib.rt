@@ -19,24 +19,27 @@
 //! - check has written the report of all cells at their places in the DEF text, or with `--state`
 //!   at their working places in the state, or with `--committed` at their committed ones
 //! - describe has written the description, with the same places
+//! - wirelength has written the lengths of the nets, with the same places
 //! - repair has sent commands to the floor, which accepted each of them, and has written a report
+//! - improve has done the same, and the nets are not longer than before
 //!
-//! Only check, describe and repair return 4, which means that the design is not fully legal; for
-//! repair it is the committed design at the end. With `--export` the exported text was written to
-//! the path: exactly the DEF text with the floor's committed places at the end. Next come the same
-//! text with the working places (`--export-working` of repair), the lines of its commands
-//! (`--lines`), and the state (`--save`). No other file is ever written.
+//! Only check, describe, repair and improve return 4, which means that the design is not fully
+//! legal; for repair and improve it is the committed design at the end. With `--export` the exported
+//! text was written to the path: exactly the DEF text with the floor's committed places at the end.
+//! Next come the same text with the working places (`--export-working` of repair), the lines of the
+//! commands of repair or improve (`--lines`), and the state (`--save`). No other file is ever
+//! written.
 //!
 //! Status 1 or 3: there is one fault (`Fault`), which determines the status. It is the first one,
 //! in this order:
 //!
 //! 1. the LEF files and their texts, then the DEF file and its text
 //! 2. loading
-//! 3. the saved state
-//! 4. a team to repair that does not exist
+//! 3. the saved state, or the pins and nets that are measured
+//! 4. a team to repair or to improve that does not exist
 //! 5. the paths of the files to write
 //! 6. the port
-//! 7. the end of the lines, the service or the repair
+//! 7. the end of the lines, the service, the repair or the improvement
 //! 8. the report or the description
 //! 9. the files written at the end
 //!

@@ -27,6 +27,7 @@ use lf_lef::DEMO_LEF;
 use lf_task_designs::{FsInputFiles, InputFiles, limits_for, load_texts};
 use lf_task_faults::{Fault, TaskExit, exit_with, report_fault};
 use lf_task_files::{DesignInput, OutputPaths, check, describe_files};
+use lf_task_improve::{ImproveJob, improve};
 use lf_task_repair::{NoProgress, Progress, RepairJob, repair};
 use lf_task_serve::{
     Environment, LineSource, NetListener, PortListener, serve_files, serve_loaded,
@@ -126,6 +127,7 @@ fn input_of<'a>(task: &'a Task<'_>, limits: Limits) -> DesignInput<'a>
             state,
             ..
         } => input_at(*def, lefs.as_slice(), *state, limits),
+        Task::Improve { def, lefs, .. } => input_at(*def, lefs.as_slice(), None, limits),
     }
 }
 
@@ -170,6 +172,33 @@ fn repair_job<'a>(
         state: inputs.state,
         teams,
         legal,
+        files,
+        limits: inputs.limits,
+    }
+}
+
+/// Returns the improvement of these teams of the design of the files, which has no saved state.
+fn improve_job<'a>(
+    inputs: DesignInput<'a>,
+    teams: &'a [&'a str],
+    within: Option<u32>,
+    rounds: u32,
+    files: RepairFiles<'a>,
+) -> ImproveJob<'a>
+    ensures def { result.def ≡ inputs.entry.def }
+    ensures lefs { result.lefs ≡ inputs.entry.lefs }
+    ensures teams { result.teams.now ≡ teams.now }
+    ensures within { result.within ≡ within }
+    ensures rounds { result.rounds ≡ rounds }
+    ensures files { repair_paths result.files ≡ repair_paths files.entry }
+    ensures limits { result.limits ≡ inputs.entry.limits }
+{
+    ImproveJob {
+        def: inputs.def,
+        lefs: inputs.lefs,
+        teams,
+        within,
+        rounds,
         files,
         limits: inputs.limits,
     }
@@ -244,6 +273,19 @@ fn outcome_within<
             let progress = &mut around.progress;
             repair(alloc, &around.texts, exports, writer, progress, &requested)
         }
+        Task::Improve {
+            teams,
+            within,
+            rounds,
+            files,
+            ..
+        } => {
+            let requested = improve_job(inputs, teams.as_slice(), *within, *rounds, *files);
+            let exports = &mut around.exports;
+            let writer = &mut around.writer;
+            let progress = &mut around.progress;
+            improve(alloc, &around.texts, exports, writer, progress, &requested)
+        }
     }
 }
 
@@ -259,6 +301,7 @@ fn slots_of(task: &Task<'_>) -> Slots
         Task::Serve { slots, .. } => *slots,
         Task::Demo => Slots::standard(),
         Task::Repair { slots, .. } => *slots,
+        Task::Improve { slots, .. } => *slots,
     }
 }
 
@@ -295,10 +338,11 @@ fn outcome<'a, T: InputFiles, E: OutputFiles, V: PortListener, R: Source, W: Sin
 /// - 0 if the task succeeded
 /// - 1 if a text or the design was refused, or a team is not in the design
 /// - 1 if an allocation failed: before the first line, for the report, a line of a description, a
-///   repair or its commands, the exported text or the state
+///   repair, an improvement or its commands, the exported text or the state
 /// - 3 if a file, the reader, the writer, the port or a connection failed
 /// - 3 if the limit on lines was exceeded, or an allocation for the lines failed
-/// - 4 if a check, a description or a repair succeeded and the design is not fully legal
+/// - 4 if a check, a description, a repair or an improvement succeeded and the design is not fully
+///   legal
 ///
 /// A fault is reported once, here. Its first line names it. A second line names the file and its
 /// line, the path, the port or the team at fault, and the reason if it is known.
@@ -312,10 +356,9 @@ fn outcome<'a, T: InputFiles, E: OutputFiles, V: PortListener, R: Source, W: Sin
 /// 5. Listen on the port.
 /// 6. Read the first line, or make the report.
 ///
-/// A check, a description and a repair read no line, and neither they nor a service read from the
-/// reader. If there is no fault, the exported text is written at the end to `exports`, then those of
-/// a repair, and then the state. No other text is ever written there. Only the requested port of
-/// this machine is served.
+/// Only the demo and a replay read from the reader. If there is no fault, the exported text is
+/// written at the end to `exports`, then those of a repair or an improvement, and then the state. No
+/// other text is ever written there. Only the requested port of this machine is served.
 pub fn perform_over<
     T: InputFiles,
     E: OutputFiles,

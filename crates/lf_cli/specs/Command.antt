@@ -18,7 +18,7 @@ use Rattle.lf_cli.specs.declared.parse.RepairFiles.{RepairFiles}
 use Rattle.lf_cli.specs.declared.parse.Task.{Task}
 use Rattle.lf_cli.specs.declared.parse.Task.TheVariants as task
 use Rattle.lf_cli.specs.declared.subcommand.Subcommand.{Subcommand}
-use Rattle.lf_cli.specs.declared.subcommand.Subcommand.TheVariants.{Demo, Check, Describe, Wirelength, Replay, Serve, Repair}
+use Rattle.lf_cli.specs.declared.subcommand.Subcommand.TheVariants.{Demo, Check, Describe, Wirelength, Replay, Serve, Repair, Improve}
 
 -- ---- the subcommands
 
@@ -31,10 +31,11 @@ subcommand_word Wirelength = codes "wirelength"
 subcommand_word Replay = codes "replay"
 subcommand_word Serve = codes "serve"
 subcommand_word Repair = codes "repair"
+subcommand_word Improve = codes "improve"
 
 -- All subcommands, in the order in which they are listed.
 abbrev pub subcommands : List Subcommand
-subcommands = Demo ∷ Check ∷ Describe ∷ Wirelength ∷ Replay ∷ Serve ∷ Repair ∷ []
+subcommands = Demo ∷ Check ∷ Describe ∷ Wirelength ∷ Replay ∷ Serve ∷ Repair ∷ Improve ∷ []
 
 -- The subcommand of this word.
 abbrev pub subcommand_named : Text → Option Subcommand
@@ -100,6 +101,9 @@ line_of Repair = design_line (subcommand_word Repair)
     (repeated_rule (codes "team") ∷ flag_rule (codes "keep") ∷ flag_rule (codes "all")
     ∷ text_rule (codes "state") ∷ slots_rule ∷ text_rule (codes "save") ∷ text_rule (codes "export")
     ∷ text_rule (codes "export-working") ∷ text_rule (codes "lines") ∷ [])
+line_of Improve = design_line (subcommand_word Improve)
+    (repeated_rule (codes "team") ∷ number_rule (codes "within") 65535 ∷ number_rule (codes "rounds") 100
+    ∷ slots_rule ∷ text_rule (codes "export") ∷ text_rule (codes "lines") ∷ [])
 
 -- The program with one more subcommand.
 abbrev pub with_subcommand_line : App → Subcommand → App
@@ -111,7 +115,7 @@ command_line = fold with_subcommand_line (new_app (codes "lefence")) subcommands
 
 -- ---- jobs
 
--- The paths of the files that a repair writes: the DEF texts with the committed and with the working
+-- The paths of the files that a repair or an improvement writes: the DEF texts with the committed and with the working
 -- places, the command lines, and the state.
 pub record RepairPaths : Type 0 where
   pub export : Option Text
@@ -135,6 +139,9 @@ pub data Job : Type 0 where
   -- The teams, or all if the list is empty; what may be done with legal cells; the paths of the
   -- files to write.
   repair : Text → List Text → Option Text → ℕ → List Text → LegalCells → RepairPaths → Job
+  -- No state. The teams, as of a repair; the greatest displacement in rows; the most rounds; the paths
+  -- of the files to write.
+  improve : Text → List Text → ℕ → List Text → Option ℕ → ℕ → RepairPaths → Job
 
 -- ---- the files of a job
 
@@ -197,6 +204,7 @@ abbrev pub clash_of : Job → Option Text
 clash_of (replay def lefs state slots lines save export) = clash_among def lefs state save export
 clash_of (serve def lefs state slots port connections save export) = clash_among def lefs state save export
 clash_of (repair def lefs state slots teams legal files) = repair_clash def lefs state files
+clash_of (improve def lefs slots teams within rounds files) = repair_clash def lefs None files
 clash_of _ = None
 
 -- ---- numbers
@@ -247,6 +255,16 @@ service_of rows =
     (option_and_then (number_in 1 1000000) (first_of (codes "connections") rows)))
     (option_and_then (number_in 1 65535) (first_of (codes "port") rows))
 
+-- The greatest displacement in rows. By default there is none.
+abbrev pub within_requested : Option Text → Option (Option ℕ)
+within_requested None = Some None
+within_requested (Some text) = option_map (λ rows. Some rows) (number_in 1 65535 text)
+
+-- The most rounds of an improvement: 4 by default.
+abbrev pub rounds_requested : Option Text → Option ℕ
+rounds_requested None = Some 4
+rounds_requested (Some text) = number_in 1 100 text
+
 -- The paths of the files that a repair writes.
 abbrev pub repair_paths_among : List Row → RepairPaths
 repair_paths_among rows = record {
@@ -254,6 +272,15 @@ repair_paths_among rows = record {
   working = first_of (codes "export-working") rows;
   lines = first_of (codes "lines") rows;
   save = first_of (codes "save") rows;
+}
+
+-- The paths of the files that an improvement writes.
+abbrev pub improvement_paths_among : List Row → RepairPaths
+improvement_paths_among rows = record {
+  export = first_of (codes "export") rows;
+  working = None;
+  lines = first_of (codes "lines") rows;
+  save = None;
 }
 
 -- What '--keep' and '--all' mean for legal cells. At most one of them may be given.
@@ -293,6 +320,12 @@ job_on Repair def lefs rows =
     (repair_paths_among rows))
     (slots_among rows))
     (legal_cells (is_set (codes "keep") rows) (is_set (codes "all") rows))
+job_on Improve def lefs rows =
+    option_and_then (λ within. option_and_then (λ rounds. option_map
+    (λ slots. improve def lefs slots (values_of (codes "team") rows) within rounds (improvement_paths_among rows))
+    (slots_among rows))
+    (rounds_requested (first_of (codes "rounds") rows)))
+    (within_requested (first_of (codes "within") rows))
 
 -- The job of a subcommand that takes the path of a DEF file and at least one path of a LEF file.
 abbrev pub job_over : Subcommand → Option Text → List Text → List Row → Option Job
@@ -361,6 +394,9 @@ as_job (task.Serve def lefs state slots port connections save export) =
 as_job (task.Repair def lefs state slots teams legal files) =
     repair def.now (map (λ lef. lef.now) lefs) (option_map (λ path. path.now) state) slots.number
     (map (λ team. team.now) teams) legal (repair_paths files)
+as_job (task.Improve def lefs slots teams within rounds files) =
+    improve def.now (map (λ lef. lef.now) lefs) slots.number (map (λ team. team.now) teams) within rounds
+    (repair_paths files)
 
 -- Holds if the task reads no line.
 abbrev pub ReadsNone : Task → Type 0

@@ -6,7 +6,7 @@
 //! which task words name. It is based on what `clap`, by its own specification, finds in the words
 //! for the declared command line (`command_line`).
 //!
-//! Used by `lf_task_designs`, `lf_task_repair` and `lf_app`.
+//! Used by `lf_task_designs`, `lf_task_repair`, `lf_task_improve` and `lf_app`.
 //!
 //! Modules, in reading order:
 //!

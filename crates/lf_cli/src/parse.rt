@@ -5,14 +5,16 @@ ghost use Rattle.std.specs.List.{list_any};
 ghost use Rattle.clap.specs.Matches.{found_of};
 ghost use Rattle.clap.specs.Simple.{subcommand_rows_of};
 ghost use Rattle.clap.specs.Walk.{all_of, first_of, rows_of};
-ghost use Rattle.lf_cli.specs.declared.subcommand.Subcommand.TheVariants.{Check, Describe, Repair, Replay, Serve, Wirelength};
+ghost use Rattle.lf_cli.specs.declared.subcommand.Subcommand.TheVariants.{Check, Describe, Improve, Repair, Replay, Serve, Wirelength};
 ghost use Rattle.lf_cli.specs.declared.parse.UsageFault.TheVariants.{Usage};
 ghost use Rattle.lf_cli.specs.Command.{as_job, clash_among, clash_of, is_among, is_demo, is_same, is_set, job_requested, job_by, job_found, job_of, job_on};
-ghost use Rattle.lf_cli.specs.Command.{export_clash, legal_cells, lines_clash, most_lines, number_in, repair_clash, repair_paths, repair_paths_among};
-ghost use Rattle.lf_cli.specs.Command.{save_clash, service_of, slots_among, unless_clash, values_of, working_clash, working_repeats};
+ghost use Rattle.lf_cli.specs.Command.{export_clash, improvement_paths_among, legal_cells, lines_clash, most_lines, number_in, repair_clash, repair_paths, repair_paths_among};
+ghost use Rattle.lf_cli.specs.Command.{rounds_requested, save_clash, service_of, slots_among, unless_clash, values_of, within_requested, working_clash, working_repeats};
 
 use crate::session_slots::{MOST_SLOTS, Slots};
-use crate::subcommand::{MOST_CONNECTIONS, Subcommand, command_line, subcommand_named};
+use crate::subcommand::{
+    MOST_CONNECTIONS, MOST_ROUNDS, MOST_ROWS, Subcommand, command_line, subcommand_named,
+};
 use clap::ArgMatches;
 use clap::error::ErrorKind;
 use lf_units::Sequence;
@@ -21,6 +23,9 @@ use thiserror::Error;
 
 /// The most lines that are answered if the option is absent.
 const USUAL_LINES: u32 = 1_000_000;
+
+/// The most rounds of an improvement if the option is absent.
+const USUAL_ROUNDS: u32 = 4;
 
 /// The highest port.
 const MOST_PORT: u32 = 65_535;
@@ -36,14 +41,14 @@ pub enum LegalCells {
     MoveAll,
 }
 
-/// The paths of the files that a repair writes, each if requested.
+/// The paths of the files that a repair or an improvement writes, each if requested.
 #[derive(Clone, Copy, Debug, PartialEq, Eq)]
 pub struct RepairFiles<'a> {
     /// The path of the DEF file with the committed places.
     pub export: Option<&'a str>,
     /// The path of the DEF file with the working places.
     pub working: Option<&'a str>,
-    /// The path of the file for the commands of the repair.
+    /// The path of the file for the commands.
     pub lines: Option<&'a str>,
     /// The path to which the final state is saved.
     pub save: Option<&'a str>,
@@ -122,6 +127,21 @@ pub enum Task<'a> {
         /// order of the fences, `-` last. If empty, all teams are repaired.
         teams: Sequence<&'a str>,
         legal: LegalCells,
+        files: RepairFiles<'a>,
+    },
+    /// Moves legal cells so that the wires of a design become shorter.
+    Improve {
+        def: &'a str,
+        lefs: Sequence<&'a str>,
+        slots: Slots,
+        /// The names of the teams to improve, in the order of the words. They are improved in the
+        /// order of the fences, `-` last. If empty, all teams are improved.
+        teams: Sequence<&'a str>,
+        /// The greatest displacement of a cell, in heights of a row: from 1 to 65,535, if limited.
+        within: Option<u32>,
+        /// The most rounds of the search: from 1 to 100; 4 by default.
+        rounds: u32,
+        /// No file has the working places, and no state is saved.
         files: RepairFiles<'a>,
     },
 }
@@ -392,6 +412,72 @@ fn repair_on<'a>(
     }
 }
 
+/// Returns the greatest displacement in rows, `Some(None)` if it is not limited, or `None` if the
+/// option's value is wrong.
+fn within_of(matches: &ArgMatches<'_>) -> Option<Option<u32>>
+    ensures { result ≡ within_requested (first_of (codes "within") (rows_of (found_of matches.now))) }
+{
+    match value_of(matches, "within") {
+        Some(text) => Some(Some(number_in(text, MOST_ROWS)?)),
+        None => Some(None),
+    }
+}
+
+/// Returns the most rounds of an improvement, or `None` if the option's value is wrong.
+fn rounds_of(matches: &ArgMatches<'_>) -> Option<u32>
+    ensures { result ≡ rounds_requested (first_of (codes "rounds") (rows_of (found_of matches.now))) }
+{
+    match value_of(matches, "rounds") {
+        Some(text) => number_in(text, MOST_ROUNDS),
+        None => Some(USUAL_ROUNDS),
+    }
+}
+
+/// Returns the paths of the files that an improvement writes.
+fn improvement_files<'a>(matches: &ArgMatches<'a>) -> RepairFiles<'a>
+    ensures { repair_paths result ≡ improvement_paths_among (rows_of (found_of matches.now)) }
+{
+    RepairFiles {
+        export: value_of(matches, "export"),
+        working: None,
+        lines: value_of(matches, "lines"),
+        save: None,
+    }
+}
+
+/// Makes the task of an improvement on these paths.
+fn improve_on<'a>(
+    alloc: Global,
+    def: &'a str,
+    lefs: Sequence<&'a str>,
+    matches: &ArgMatches<'a>,
+) -> Result<Option<Task<'a>>, AllocError>
+    ensures { IfOk result (λ task. option_map as_job task
+        ≡ job_on Improve def.now (map (λ lef. lef.now) lefs.entry) (rows_of (found_of matches.now))) }
+{
+    let Some(within) = within_of(matches) else {
+        return Ok(None);
+    };
+    let Some(rounds) = rounds_of(matches) else {
+        return Ok(None);
+    };
+    let Some(slots) = slots_of(matches) else {
+        return Ok(None);
+    };
+    match values_of(alloc, matches, "team") {
+        Ok(teams) => Ok(Some(Task::Improve {
+            def,
+            lefs,
+            slots,
+            teams,
+            within,
+            rounds,
+            files: improvement_files(matches),
+        })),
+        Err(error) => Err(error),
+    }
+}
+
 /// Makes the task of a subcommand on these paths.
 fn task_on<'a>(
     alloc: Global,
@@ -411,6 +497,7 @@ fn task_on<'a>(
         Subcommand::Replay => Ok(replay_on(def, lefs, matches)),
         Subcommand::Serve => Ok(serve_on(def, lefs, matches)),
         Subcommand::Repair => repair_on(alloc, def, lefs, matches),
+        Subcommand::Improve => improve_on(alloc, def, lefs, matches),
     }
 }
 
@@ -630,6 +717,12 @@ fn clash_of(task: &Task<'_>) -> Option<&'static str>
             files,
             ..
         } => repair_clash(*def, lefs.as_slice(), *state, *files),
+        Task::Improve {
+            def,
+            lefs,
+            files,
+            ..
+        } => repair_clash(*def, lefs.as_slice(), None, *files),
         _ => None,
     }
 }
@@ -680,10 +773,12 @@ fn matches_of<'a>(alloc: Global, words: &'a [&'a str]) -> Result<ArgMatches<'a>,
 /// - `serve` needs `--port P`, from 1 to 65535, and `--connections N`, from 1 to 1,000,000
 /// - `replay` may have `--lines N`, from 1 to 4,294,967,295
 /// - `serve`, `replay` and `repair` may have `--save FILE` and `--export FILE`
-/// - all may have `--state FILE` and `--sessions N`, from 1 to 64
+/// - all may have `--sessions N`, from 1 to 64, and all but `improve` `--state FILE`
 /// - `check` may have `--committed`
 /// - `repair` may have `--export-working FILE`, `--lines FILE`, `--keep` or `--all`, and
 ///   `--team NAME` any number of times
+/// - `improve` may have `--export FILE`, `--lines FILE`, `--within ROWS`, from 1 to 65535,
+///   `--rounds N`, from 1 to 100, and `--team NAME` any number of times
 ///
 /// Each option except `--team` is given at most once. No FILE that is written may be one that is
 /// read, or be written twice; paths are compared as written. There are two exceptions: `--export`

@@ -4,7 +4,7 @@ ghost use Rattle.std.specs.Prelude.{◌≡◌, [], ◌∷◌, bytes_eq, codes, f
 ghost use Rattle.clap.specs.Simple.{app_of, with_rule};
 ghost use Rattle.clap.specs.Walk.{rule_of};
 ghost use Rattle.clap.specs.declared.builder.command.Command.TheViews.{out-Command};
-ghost use Rattle.lf_cli.specs.declared.subcommand.Subcommand.TheVariants.{Check, Repair, Replay, Serve};
+ghost use Rattle.lf_cli.specs.declared.subcommand.Subcommand.TheVariants.{Check, Improve, Repair, Replay, Serve};
 ghost use Rattle.lf_cli.specs.Command.{command_line, def_rule, design_line, flag_rule, lef_rule, line_of, needed, number_rule, repeated_rule, slots_rule, subcommand_named, text_rule, with_subcommand_line, subcommand_word};
 
 use crate::session_slots::MOST_SLOTS;
@@ -14,6 +14,12 @@ use std::alloc::{AllocError, Global};
 
 /// The most connections that a service accepts.
 pub(crate) const MOST_CONNECTIONS: u32 = 1_000_000;
+
+/// The most rows that an improvement may allow a cell to move.
+pub(crate) const MOST_ROWS: u32 = 65_535;
+
+/// The most rounds of an improvement.
+pub(crate) const MOST_ROUNDS: u32 = 100;
 
 /// A subcommand of the program.
 #[derive(Clone, Copy, Debug, PartialEq, Eq)]
@@ -32,10 +38,12 @@ pub enum Subcommand {
     Serve,
     /// Gives the cells of a design legal places.
     Repair,
+    /// Moves legal cells so that the wires of a design become shorter.
+    Improve,
 }
 
 /// All subcommands, in the order in which they are listed.
-const SUBCOMMANDS: [Subcommand; 7] = [
+const SUBCOMMANDS: [Subcommand; 8] = [
     Subcommand::Demo,
     Subcommand::Check,
     Subcommand::Describe,
@@ -43,6 +51,7 @@ const SUBCOMMANDS: [Subcommand; 7] = [
     Subcommand::Replay,
     Subcommand::Serve,
     Subcommand::Repair,
+    Subcommand::Improve,
 ];
 
 /// Returns the word of a subcommand.
@@ -57,6 +66,7 @@ fn word_of(chosen: Subcommand) -> &'static str
         Subcommand::Replay => "replay",
         Subcommand::Serve => "serve",
         Subcommand::Repair => "repair",
+        Subcommand::Improve => "improve",
     }
 }
 
@@ -234,6 +244,30 @@ fn repair<'a>(alloc: Global) -> Result<Command<'a>, AllocError>
         .arg(text(alloc, "lines"))
 }
 
+/// Declares the subcommand that shortens wires, with the options that limit its search.
+fn improvement_of_cells<'a>(alloc: Global) -> Result<Command<'a>, AllocError>
+    ensures line { IfOk result (λ made. app_of made
+        ≡ design_line (codes "improve") (repeated_rule (codes "team")
+        ∷ number_rule (codes "within") 65535 ∷ number_rule (codes "rounds") 100 ∷ [])) }
+    ensures local { IfOk result (λ made. (out-Command made).has_globals ≡ false) }
+{
+    over_design(alloc, "improve")?
+        .arg(repeated(alloc, "team"))?
+        .arg(number(alloc, "within", MOST_ROWS as u64))?
+        .arg(number(alloc, "rounds", MOST_ROUNDS as u64))
+}
+
+/// Declares the subcommand that shortens wires.
+fn improve<'a>(alloc: Global) -> Result<Command<'a>, AllocError>
+    ensures line { IfOk result (λ made. app_of made ≡ line_of Improve) }
+    ensures local { IfOk result (λ made. (out-Command made).has_globals ≡ false) }
+{
+    improvement_of_cells(alloc)?
+        .arg(slots(alloc))?
+        .arg(text(alloc, "export"))?
+        .arg(text(alloc, "lines"))
+}
+
 /// Declares the words that a subcommand takes.
 fn line_of<'a>(alloc: Global, chosen: Subcommand) -> Result<Command<'a>, AllocError>
     ensures line { IfOk result (λ made. app_of made ≡ line_of chosen) }
@@ -247,6 +281,7 @@ fn line_of<'a>(alloc: Global, chosen: Subcommand) -> Result<Command<'a>, AllocEr
         Subcommand::Replay => replay(alloc),
         Subcommand::Serve => serve(alloc),
         Subcommand::Repair => repair(alloc),
+        Subcommand::Improve => improve(alloc),
     }
 }
 

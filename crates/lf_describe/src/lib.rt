@@ -5,7 +5,7 @@
 //! breaks there. `docs/PROTOCOL.md` lists the keys. Each line is compact JSON. The whole text is a
 //! definition (`description`) over the loaded design and the document of the DEF text.
 //!
-//! Used by `lf_wire_report`, `lf_repair_report` and `lf_task_files`.
+//! Used by `lf_wire_report`, `lf_repair_report`, `lf_improve_report` and `lf_task_files`.
 //!
 //! Modules, in reading order:
 //!

@@ -14,8 +14,7 @@
 //! a floor without placed cells, `read_state_chunks` reads the rows from the text in chunks, and
 //! `restore_saved` restores them.
 //!
-//! Used by `lf_repair_team`, `lf_repair_report`, `lf_server`, `lf_task_files`, `lf_task_serve` and
-//! `lf_task_repair`.
+//! Used by most other crates.
 //!
 //! Modules, in reading order:
 //!

@@ -10,7 +10,8 @@
 //! first, or `None` if the implementation does not make them known. They also see whether a file
 //! could not be written (`has_failed`). The `puts` of `FsOutputFiles` are unknown.
 //!
-//! Used by `lf_task_faults`, `lf_task_files`, `lf_task_serve`, `lf_task_repair` and `lf_app`.
+//! Used by `lf_task_faults`, `lf_task_files`, `lf_task_serve`, `lf_task_repair`,
+//! `lf_task_improve` and `lf_app`.
 //!
 //! Modules, in reading order:
 //!

@@ -15,8 +15,7 @@
 //! Room for earlier places of a team is made without moving a cell: `reserve_undo` counts boxes in
 //! each strip while it undoes moves on a list of places.
 //!
-//! Used by `lf_repair_strategy`, `lf_repair_bounds`, `lf_state_restore`, `lf_floor_verbs`,
-//! `lf_floor` and `lf_repair_team`.
+//! Used by most other crates.
 //!
 //! Modules, in reading order:
 //!

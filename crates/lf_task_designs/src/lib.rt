@@ -6,7 +6,8 @@
 //! through the trait `InputFiles`. Contracts know nothing of the files of a runtime
 //! (`FsInputFiles`). Faults are those of `lf_task_faults`.
 //!
-//! Used by `lf_task_files`, `lf_task_wires`, `lf_task_serve`, `lf_task_repair` and `lf_app`.
+//! Used by `lf_task_files`, `lf_task_wires`, `lf_task_serve`, `lf_task_repair`, `lf_task_improve`
+//! and `lf_app`.
 //!
 //! Modules, in reading order:
 //!

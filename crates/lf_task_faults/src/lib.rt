@@ -6,8 +6,7 @@
 //! is at fault, a second line names it. Everything printed about a refused text is copied from it
 //! at once (`TextRefusal`, `StateRefusal`), so the text can be dropped.
 //!
-//! Used by `lf_task_designs`, `lf_task_files`, `lf_task_wires`, `lf_task_serve`, `lf_task_repair`
-//! and `lf_app`.
+//! Used by most other crates.
 //!
 //! Modules, in reading order:
 //!

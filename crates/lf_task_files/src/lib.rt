@@ -10,7 +10,7 @@
 //! Functions that are a whole task return the exit status: 0, or 4 if the design is not fully
 //! legal. Otherwise they return the fault, which is not printed here.
 //!
-//! Used by `lf_task_wires`, `lf_task_serve`, `lf_task_repair` and `lf_app`.
+//! Used by `lf_task_wires`, `lf_task_serve`, `lf_task_repair`, `lf_task_improve` and `lf_app`.
 //!
 //! Modules, in reading order:
 //!

@@ -7,8 +7,8 @@ ghost use Rattle.lf_server.specs.Devices.{writer};
 use crate::shelf::Shelf;
 use lf_app::{
     Acceptor, BindFailure, ClientReader, ClientWriter, Connection, Environment, FsInputFiles,
-    NetListener, NoProgress, PortListener, ServiceConfig, Slots, Task, TaskExit, perform,
-    perform_over,
+    NetListener, NoProgress, PortListener, RepairFiles, ServiceConfig, Slots, Task, TaskExit,
+    perform, perform_over,
 };
 use lf_def::DEMO_DEF;
 use lf_io::{DeviceFault, FromRead, ToWrite};
@@ -695,16 +695,17 @@ const LENGTHS: &str = "\
     {\"crossing\":3600,\"crossing_nets\":1,\"doubled\":7200,\"fixed_nets\":0,\"length\":3600,\"nets\":1,\
     \"one_pin\":0,\"pins\":2,\"supplies\":1,\"teams\":3,\"unknown\":1,\"unplaced\":1}\n";
 
+/// The sample with its nets and two placed cells.
+fn netted_def(alloc: Global) -> Result<Vec<u8>, AllocError> {
+    let b1 = b"- b1 INV + PLACED ( 6000 2000 ) FS ;";
+    let def = with_line(alloc, DEMO_DEF, 18, b1)?;
+    let def = with_line(alloc, &def, 19, b"- g1 INV + PLACED ( 4400 0 ) N ;")?;
+    with_line(alloc, &def, 23, NETS)
+}
+
 #[test]
 fn a_design_is_measured(rt: HostRuntime) -> Result<(), Fail> {
-    let def = with_line(
-        rt.alloc(),
-        DEMO_DEF,
-        18,
-        b"- b1 INV + PLACED ( 6000 2000 ) FS ;",
-    )?;
-    let def = with_line(rt.alloc(), &def, 19, b"- g1 INV + PLACED ( 4400 0 ) N ;")?;
-    let def = with_line(rt.alloc(), &def, 23, NETS)?;
+    let def = netted_def(rt.alloc())?;
     let task = Task::Wirelength {
         def: "w.def",
         lefs: only_lef(rt.alloc())?,
@@ -712,6 +713,39 @@ fn a_design_is_measured(rt: HostRuntime) -> Result<(), Fail> {
         slots: Slots::standard(),
     };
     assert!(rt; done(&rt, &files_of(&def), &task, "open A\n").is(0, LENGTHS, ""));
+    Ok(())
+}
+
+/// The report of its improvement. A has cells without a place, b1 is at the nearest edge of its
+/// fence, and g1 goes there too.
+const IMPROVEMENT: &str = "\
+    {\"cells\":3,\"crossing\":0,\"crossing_before\":0,\"largest\":0,\"mean\":0,\"moved\":0,\
+    \"own\":0,\"own_before\":0,\"skipped\":true,\"team\":\"A\",\"total\":0,\"turned\":0}\n\
+    {\"cells\":1,\"crossing\":2400,\"crossing_before\":3600,\"largest\":0,\"mean\":0,\"moved\":0,\
+    \"own\":0,\"own_before\":0,\"skipped\":false,\"team\":\"B\",\"total\":0,\"turned\":0}\n\
+    {\"cells\":1,\"crossing\":2400,\"crossing_before\":3600,\"largest\":3200,\"mean\":3200,\"moved\":1,\
+    \"own\":0,\"own_before\":0,\"skipped\":false,\"team\":\"-\",\"total\":3200,\"turned\":1}\n\
+    {\"cells\":5,\"doubled\":4800,\"doubled_before\":7200,\"largest\":3200,\"legal\":false,\"length\":2400,\
+    \"length_before\":3600,\"mean\":3200,\"moved\":1,\"skipped\":1,\"teams\":3,\"total\":3200,\"turned\":1}\n";
+
+#[test]
+fn a_design_is_improved(rt: HostRuntime) -> Result<(), Fail> {
+    let def = netted_def(rt.alloc())?;
+    let task = Task::Improve {
+        def: "w.def",
+        lefs: only_lef(rt.alloc())?,
+        slots: Slots::standard(),
+        teams: Sequence::new(rt.alloc()),
+        within: None,
+        rounds: 4,
+        files: RepairFiles {
+            export: None,
+            working: None,
+            lines: None,
+            save: None,
+        },
+    };
+    assert!(rt; done(&rt, &files_of(&def), &task, "open A\n").is(4, IMPROVEMENT, ""));
     Ok(())
 }
 

@@ -55,6 +55,15 @@ enum Named<'a> {
         legal: LegalCells,
         files: RepairFiles<'a>,
     },
+    Improve {
+        def: &'a str,
+        lefs: &'a [&'a str],
+        sessions: u32,
+        teams: &'a [&'a str],
+        within: Option<u32>,
+        rounds: u32,
+        files: RepairFiles<'a>,
+    },
     Nothing(UsageFault),
 }
 
@@ -148,6 +157,23 @@ fn as_named<'a>(task: &'a Task<'a>) -> Named<'a> {
             sessions: slots.number,
             teams: teams.as_slice(),
             legal: *legal,
+            files: *files,
+        },
+        Task::Improve {
+            def,
+            lefs,
+            slots,
+            teams,
+            within,
+            rounds,
+            files,
+        } => Named::Improve {
+            def: *def,
+            lefs: lefs.as_slice(),
+            sessions: slots.number,
+            teams: teams.as_slice(),
+            within: *within,
+            rounds: *rounds,
             files: *files,
         },
     }
@@ -381,6 +407,46 @@ fn words_name_the_files_of_a_repair(rt: HostRuntime) -> Result<(), Fail> {
     Ok(())
 }
 
+/// An improvement without options is of all teams and not limited.
+#[test]
+fn words_name_an_improvement(rt: HostRuntime) -> Result<(), Fail> {
+    let improve = Named::Improve {
+        def: "a",
+        lefs: &["b"],
+        sessions: 8,
+        teams: &[],
+        within: None,
+        rounds: 4,
+        files: RepairFiles {
+            export: None,
+            working: None,
+            lines: None,
+            save: None,
+        },
+    };
+    assert!(rt; names(rt.alloc(), "lefence improve a b", &improve)?);
+    let improve = Named::Improve {
+        def: "a",
+        lefs: &["b", "c"],
+        sessions: 9,
+        teams: &["B", "A", "-"],
+        within: Some(65_535),
+        rounds: 100,
+        files: RepairFiles {
+            export: Some("a"),
+            working: None,
+            lines: Some("l"),
+            save: None,
+        },
+    };
+    let lines = [
+        "lefence improve a b c --team B --team A --team - --within 65535 --rounds 100 --sessions 9 --export a --lines l",
+        "lefence improve --lines=l --export=a --sessions=9 --rounds=+100 --within=065535 --team=B --team=A --team=- a b c",
+    ];
+    assert!(rt; all_name(rt.alloc(), lines.as_slice(), &improve)?);
+    Ok(())
+}
+
 /// A number of session slots is given.
 #[test]
 fn words_name_the_number_of_sessions(rt: HostRuntime) -> Result<(), Fail> {
@@ -455,6 +521,7 @@ fn other_numbers_of_sessions_are_refused(rt: HostRuntime) -> Result<(), Fail> {
         "lefence replay a b --sessions 9 --sessions 9",
         "lefence serve a b --port 80 --connections 3 --sessions 65",
         "lefence repair a b --sessions 65",
+        "lefence improve a b --sessions 65",
         "lefence demo --sessions 9",
     ];
     let nothing = Named::Nothing(UsageFault::Usage);
@@ -565,6 +632,11 @@ fn files_of_other_arguments_are_not_written(rt: HostRuntime) -> Result<(), Fail>
         "lefence repair a b --export-working x --export x",
         "lefence repair a b --export-working x --lines x",
         "lefence repair a b --export-working x --save x",
+        "lefence improve a b c --export c",
+        "lefence improve a b --lines a",
+        "lefence improve a b c --lines c",
+        "lefence improve a b --export x --lines x",
+        "lefence improve a b --export a --lines a",
     ];
     let nothing = Named::Nothing(UsageFault::Usage);
     assert!(rt; all_name(rt.alloc(), lines.as_slice(), &nothing)?);
@@ -613,6 +685,18 @@ fn other_words_are_refused(rt: HostRuntime) -> Result<(), Fail> {
         "lefence repair x.def x.lef --state s --state s",
         "lefence repair x.def x.lef --save",
         "lefence repair x.def x.lef --export-working",
+        "lefence improve x.def",
+        "lefence improve x.def x.lef --within 0",
+        "lefence improve x.def x.lef --within 65536",
+        "lefence improve x.def x.lef --within",
+        "lefence improve x.def x.lef --within 2 --within 2",
+        "lefence improve x.def x.lef --rounds 0",
+        "lefence improve x.def x.lef --rounds 101",
+        "lefence improve x.def x.lef --team",
+        "lefence improve x.def x.lef --keep",
+        "lefence improve x.def x.lef --state s",
+        "lefence improve x.def x.lef --save s",
+        "lefence improve x.def x.lef --export-working w",
         "lefence check x.def x.lef --committed --committed",
         "lefence check x.def x.lef --committed=true",
         "lefence describe x.def x.lef --committed",

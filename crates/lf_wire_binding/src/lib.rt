@@ -8,7 +8,7 @@
 //! `bind_nets` returns a `Netlist` of `lf_wire_length`. Contracts see the list of its nets, each with
 //! the pins that its terms denote.
 //!
-//! Used by `lf_task_wires`.
+//! Used by `lf_task_wires` and `lf_task_improve`.
 //!
 //! Modules, in reading order:
 //!

@@ -121,3 +121,30 @@ returns-in-Repair-clause-unasked g c = λ none.
 
 pub returns-in-Repair-clause-silent : goal.returns-in-Repair-clause-silent
 returns-in-Repair-clause-silent g c = λ nothing. absurd (rw c.in-Repair.is at nothing)
+
+pub returns-in-Improve-clause-ok : goal.returns-in-Improve-clause-ok
+returns-in-Improve-clause-ok g c =
+    let i = rw c.in-Improve.is at c.input_of-inputs.ensures in
+    let r = c.improve_job-requested.ensures in
+    let ok = rw (r.def, r.lefs, r.teams, r.within, r.files, r.limits) at c.improve.ensures.ok in
+    rw c.in-Improve.is (rw (i.def_is, i.lefs_are, i.limits_are, c.as_slice-in-Improve.ensures) at ok)
+
+pub returns-in-Improve-clause-err : goal.returns-in-Improve-clause-err
+returns-in-Improve-clause-err g c =
+    let i = rw c.in-Improve.is at c.input_of-inputs.ensures in
+    let r = c.improve_job-requested.ensures in
+    let err = rw (r.def, r.lefs, r.teams, r.within, r.files, r.limits) at c.improve.ensures.err in
+    rw c.in-Improve.is (also_fails c.improve.result _ _ _ (rw (i.def_is, i.lefs_are, i.limits_are, c.as_slice-in-Improve.ensures) at err)
+    (λ fault blames. blames_as fault _ _ _ _ _ _ _ _ _ _ _ _ blames (λ k. k) (λ none. absurd none) (λ w. w) (λ e. e) (λ none. absurd none)
+    (λ sound. record { exports = sound.1; services = refl; reader = refl; writer = sound.0 })))
+
+pub returns-in-Improve-clause-unput : goal.returns-in-Improve-clause-unput
+returns-in-Improve-clause-unput g c = λ alone.
+    c.improve.ensures.unput (subst WritesExportAlone (sym c.improve_job-requested.ensures.files) (rw c.in-Improve.is at alone))
+
+pub returns-in-Improve-clause-unasked : goal.returns-in-Improve-clause-unasked
+returns-in-Improve-clause-unasked g c = λ none.
+    c.improve.ensures.unasked (subst WritesNoFile (sym c.improve_job-requested.ensures.files) (rw c.in-Improve.is at none))
+
+pub returns-in-Improve-clause-silent : goal.returns-in-Improve-clause-silent
+returns-in-Improve-clause-silent g c = λ nothing. absurd (rw c.in-Improve.is at nothing)
