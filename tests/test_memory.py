@@ -171,6 +171,30 @@ def random_requests(source: random.Random, count: int) -> list[str]:
     return found
 
 
+# Twenty cells in two rows. Each is wired to one that is far away.
+WIRED_LEF = """SITE core CLASS CORE ; SIZE 0.2 BY 2.0 ; END core
+MACRO INV CLASS CORE ; SIZE 0.4 BY 2.0 ; SYMMETRY X Y ; SITE core ;
+PIN A PORT LAYER m1 ; RECT 0.0 0.9 0.1 1.1 ; END END A
+PIN Y PORT LAYER m1 ; RECT 0.3 0.9 0.4 1.1 ; END END Y
+END INV
+END LIBRARY
+"""
+WIRED_DEF = "".join(
+    [
+        "VERSION 5.8 ;\nDESIGN wired ;\nUNITS DISTANCE MICRONS 1000 ;\nDIEAREA ( 0 0 ) ( 6000 4000 ) ;\n",
+        *(f"ROW r{row} core 0 {2000 * row} {('N', 'FS')[row]} DO 30 BY 1 STEP 200 0 ;\n" for row in (0, 1)),
+        "COMPONENTS 20 ;\n",
+        *(
+            f"- c{at} INV + PLACED ( {400 * (at // 2)} {2000 * (at % 2)} ) {('N', 'FS')[at % 2]} ;\n"
+            for at in range(20)
+        ),
+        "END COMPONENTS\nNETS 10 ;\n",
+        *(f"- n{at} ( c{at} Y ) ( c{19 - at} A ) ;\n" for at in range(10)),
+        "END NETS\nEND DESIGN\n",
+    ]
+)
+
+
 class Refusing:
     """The refusing library, and the file that controls it."""
 
@@ -380,6 +404,31 @@ class StartsRefused(WithRefusals):
                     self.assertIn(written, ("", usual[1]))
                     # (the commands are written last)
                     self.assertIn(left, (["old", "old"], [repaired[0], "old"]))
+        self.assertLessEqual(len(spared), SPARED, spared)
+
+    def test_improve(self) -> None:
+        folder = Path(self.folder.name)
+        chip, cells, *targets = (folder / name for name in ("nets.def", "pins.lef", "better.def", "better.txt"))
+        chip.write_text(WIRED_DEF)
+        cells.write_text(WIRED_LEF)
+        files = ["--export", str(targets[0]), "--lines", str(targets[1])]
+        words = [str(PROGRAM), "improve", str(chip), str(cells), *files]
+        usual = self.run_with(words, "", 0, 0)[:3]
+        self.assertEqual((usual[0], usual[2]), (0, ""))
+        improved = [target.read_text() for target in targets]
+        self.assertIn("commit - 0\n", improved[1])
+        spared = []
+        for growth, (status, written, said) in self.runs(words, "", *targets):
+            with self.subTest(growth):
+                left = [target.read_text() for target in targets]
+                if (status, written, said) == usual:
+                    spared.append(growth)
+                    self.assertEqual(left, improved)
+                else:
+                    self.assertEqual((status, said), NOT_DONE[0])
+                    self.assertIn(written, ("", usual[1]))
+                    # (the commands are written last)
+                    self.assertIn(left, (["old", "old"], [improved[0], "old"]))
         self.assertLessEqual(len(spared), SPARED, spared)
 
     def test_restoring_and_saving(self) -> None:

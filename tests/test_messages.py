@@ -44,7 +44,7 @@ class Mistakes(unittest.TestCase):
             self.said(words, 2, USAGE)
 
     def test_a_subcommand_without_its_files(self) -> None:
-        for verb in ("check", "describe", "wirelength", "replay", "serve", "repair"):
+        for verb in ("check", "describe", "wirelength", "replay", "serve", "repair", "improve"):
             self.said([verb], 2, USAGE)
             self.said([verb, W_DEF], 2, USAGE)
 
@@ -89,6 +89,18 @@ class Mistakes(unittest.TestCase):
                 ["repair", "chip.def", "a.lef", "--lines", "a.lef"],
                 ["the argument '--lines' names the file of another argument: 'a.lef'"],
             ),
+            (
+                ["improve", *DESIGN, "--rounds", "0"],
+                ["invalid value '0' for '--rounds <rounds>': 0 is not in 1..=100"],
+            ),
+            (
+                ["improve", *DESIGN, "--within", "0"],
+                ["invalid value '0' for '--within <within>': 0 is not in 1..=65535"],
+            ),
+            (
+                ["improve", "chip.def", "a.lef", "--lines", "x", "--export", "x"],
+                ["the argument '--export' names the file of another argument: 'x'"],
+            ),
         ):
             with self.subTest(" ".join(words)):
                 status, written, said = run(words)
@@ -113,6 +125,9 @@ class Mistakes(unittest.TestCase):
                 ["repair", chip, cells, "--export", cells],
                 ["repair", chip, cells, "--lines", chip],
                 ["repair", chip, cells, "--export", again, "--lines", again],
+                ["improve", chip, cells, "--export", cells],
+                ["improve", chip, cells, "--lines", chip],
+                ["improve", chip, cells, "--export", again, "--lines", again],
             ):
                 self.said(words, 2, USAGE)
                 self.assertEqual({path: Path(path).read_bytes() for path in texts}, texts)
@@ -140,6 +155,8 @@ class Mistakes(unittest.TestCase):
             self.said(["describe", *DESIGN, "--committed"], 2, USAGE)
             self.said(["check", *DESIGN, "--save", str(target)], 2, USAGE)
             self.said(["replay", *DESIGN, "--export-working", str(target)], 2, USAGE)
+            for option in ("--state", "--save", "--export-working"):
+                self.said(["improve", *DESIGN, option, str(target)], 2, USAGE)
             self.assertEqual(os.listdir(folder), [])
 
     def test_an_option_without_its_value_or_twice(self) -> None:
@@ -152,6 +169,8 @@ class Mistakes(unittest.TestCase):
             self.said(["replay", *DESIGN, option], 2, USAGE)
             self.said(["replay", *DESIGN, option, "a", f"{option}=a"], 2, USAGE)
         self.said(["repair", *DESIGN, "--team"], 2, USAGE)
+        self.said(["improve", *DESIGN, "--team"], 2, USAGE)
+        self.said(["improve", *DESIGN, "--rounds", "5", "--rounds=5"], 2, USAGE)
         self.said(["repair", *DESIGN, "--keep", "--keep"], 2, USAGE)
         self.said(["repair", *DESIGN, "--keep", "--all"], 2, USAGE)
         self.said(["replay", *DESIGN, "--lines"], 2, USAGE)
@@ -171,10 +190,15 @@ class Mistakes(unittest.TestCase):
         for lines in ("0", "4294967296", "all", "-1", ""):
             self.said(["replay", *DESIGN, "--lines", lines], 2, USAGE)
 
+    def test_rounds_and_rows_out_of_their_ranges(self) -> None:
+        for option, numbers in (("--rounds", ("0", "101", "all", "")), ("--within", ("0", "65536", "-1", ""))):
+            for number in numbers:
+                self.said(["improve", *DESIGN, f"{option}={number}"], 2, USAGE)
+
     def test_a_missing_file_or_a_folder_in_its_place(self) -> None:
         with tempfile.TemporaryDirectory() as folder:
             for path, why in ((f"{folder}/missing", "there is no such file"), (folder, "it is a folder")):
-                for verb in ("check", "describe", "wirelength", "replay"):
+                for verb in ("check", "describe", "wirelength", "replay", "improve"):
                     self.said([verb, path, W_LEF], 3, "lefence: File", f"DEF file {path} cannot be read: {why}")
                     self.said([verb, W_DEF, path], 3, "lefence: File", f"LEF file {path} cannot be read: {why}")
                     self.said([verb, W_DEF, W_LEF, path], 3, "lefence: File", f"LEF file {path} cannot be read: {why}")
@@ -319,6 +343,7 @@ class Mistakes(unittest.TestCase):
             self.said(["check", *DESIGN], 3, "lefence: Output", start=Start(stdout=full))
             self.said(["describe", *DESIGN], 3, "lefence: Output", start=Start(stdout=full))
             self.said(["wirelength", *DESIGN], 3, "lefence: Output", start=Start(stdout=full))
+            self.said(["improve", *DESIGN], 3, "lefence: Output", start=Start(stdout=full))
             self.said(
                 ["serve", *DESIGN, "--port", str(free_port()), "--connections", "1"],
                 3,
@@ -347,11 +372,11 @@ class Help(unittest.TestCase):
         status, written, said = run(["--help"])
         self.assertEqual((status, said), (0, ""))
         self.assertTrue(written.startswith("  lefence [demo] "), written)
-        for verb in ("check", "describe", "wirelength", "replay", "serve", "repair"):
+        for verb in ("check", "describe", "wirelength", "replay", "serve", "repair", "improve"):
             self.assertIn(f"\n  lefence {verb} DEF LEF...", written)
 
     def test_each_subcommand_has_its_help_with_an_example(self) -> None:
-        for verb in ("demo", "check", "describe", "wirelength", "replay", "serve", "repair"):
+        for verb in ("demo", "check", "describe", "wirelength", "replay", "serve", "repair", "improve"):
             with self.subTest(verb):
                 status, written, said = run([verb, "--help"])
                 self.assertEqual((status, said), (0, ""))

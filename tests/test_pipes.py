@@ -43,7 +43,7 @@ class Pipes(InFolder):
                 cat.wait()
 
     def test_a_design(self) -> None:
-        for task in ("check", "describe", "wirelength", "repair"):
+        for task in ("check", "describe", "wirelength", "repair", "improve"):
             with self.subTest(task):
                 ran = run([task, *map(str, self.design)])
                 self.assertEqual(self.through_pipes([task, *self.design]), ran)

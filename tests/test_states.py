@@ -152,7 +152,7 @@ class Slots(States):
 
     def test_a_malformed_number(self) -> None:
         for number in ("0", "65", "-1", "x", "", "4294967304"):
-            for verb in ("check", "describe", "wirelength", "replay", "repair"):
+            for verb in ("check", "describe", "wirelength", "replay", "repair", "improve"):
                 with self.subTest((verb, number)):
                     status, written, said = run([verb, *DESIGN, f"--sessions={number}"], "open A\n")
                     self.assertEqual((status, written, said.split("\n")[0]), (2, "", "lefence: usage"))
