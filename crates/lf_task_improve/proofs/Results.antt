@@ -26,7 +26,7 @@ use Rattle.lf_improve_report.specs.declared.improved.ImprovedTeam.{ImprovedTeam}
 use Rattle.lf_improve_report.specs.ImproveReports.{improved_team_name}
 use Rattle.lf_task_repair.specs.Repairs.{is_selected}
 use Rattle.lf_task_repair.specs.Reports.{selected_at, selected_names}
-use Rattle.lf_task_repair.proofs.Named.{numbered, others_before}
+use Rattle.lf_task_repair.proofs.Named.{others_before}
 use Rattle.lf_task_repair.proofs.Repairing.{AreUntouched, legal_same}
 use Rattle.lf_task_repair.proofs.TeamLines.{first_requested, selected_have, stats_same}
 use Rattle.lf_task_improve.specs.Improvements.{AddsResults, AreLengthsOnFloor, IsImprovementOf, IsTeamResult}
@@ -143,22 +143,6 @@ one_added teams name within begin floor t old new there selected list is = recor
 } where
   same : improved_team_name begin.frame t ≡ name
   same = described begin.frame t name there
-
--- a team that is not selected has no result
-pub unselected_added : (teams : List (List ℕ)) (name : List ℕ) (number : ℕ) (within : Option ℕ) (floor : FloorState) (xs : List ImprovedTeam)
-    → slice_get (team_names floor.frame) number ≡ Some name → is_selected teams name ≡ false → AddsResults (selected_at floor.frame teams number) within floor floor xs xs
-unselected_added teams name number within floor xs there selected =
-    subst (λ (names : List (List ℕ)). AddsResults names within floor floor xs xs)
-    (sym (ap (λ (o : Option (List ℕ)). filter (is_selected teams) (option_map_or (λ name. name ∷ []) o [])) there ∙ ap (λ (b : Bool). cond b (name ∷ []) []) selected))
-    (none_added within floor floor xs)
-
--- there is no such team
-pub nobody_added : (teams : List (List ℕ)) (number : ℕ) (within : Option ℕ) (floor : FloorState) (xs : List ImprovedTeam)
-    → slice_get (team_names floor.frame) number ≡ None → AddsResults (selected_at floor.frame teams number) within floor floor xs xs
-nobody_added teams number within floor xs there =
-    subst (λ (names : List (List ℕ)). AddsResults names within floor floor xs xs)
-    (sym (ap (λ (o : Option (List ℕ)). filter (is_selected teams) (option_map_or (λ name. name ∷ []) o [])) there))
-    (none_added within floor floor xs)
 
 -- more results after the first ones
 then_added : (names more : List (List ℕ)) (within : Option ℕ) (begin mid floor : FloorState) (xs ys zs : List ImprovedTeam) → floor.frame ≡ mid.frame
