@@ -111,9 +111,9 @@ async def serve(hub: Hub, options: argparse.Namespace, stopped: asyncio.Event) -
         run = asyncio.create_task(hub.run())
         tasks.append(run)
         listeners = await listen(hub, options.sockets, groups)
-        say(ready)
-        notify("READY=1", f"STATUS={ready}")
         with warning_of(hub):
+            say(ready)
+            notify("READY=1", f"STATUS={ready}")
             await asyncio.wait({run, stop, watch}, return_when=asyncio.FIRST_COMPLETED)
         for listener in listeners:
             listener.close()
