@@ -386,25 +386,30 @@ class StartsRefused(WithRefusals):
                     self.assertEqual(target.read_text(), "old")
         self.assertLessEqual(len(spared), SPARED, spared)
 
-    def test_repair(self) -> None:
-        targets = [Path(self.folder.name) / name for name in ("new.def", "lines.txt")]
-        words = [str(PROGRAM), "repair", str(DEF), str(LEF), "--export", str(targets[0]), "--lines", str(targets[1])]
+    def try_a_run_with_lines(self, words: list[str], targets: list[Path]) -> list[str]:
+        """Refuses each allocation of a run that writes an exported text and its commands. Returns both texts."""
         usual = self.run_with(words, "", 0, 0)[:3]
         self.assertEqual((usual[0], usual[2]), (0, ""))
-        repaired = [target.read_text() for target in targets]
+        done = [target.read_text() for target in targets]
         spared = []
         for growth, (status, written, said) in self.runs(words, "", *targets):
             with self.subTest(growth):
                 left = [target.read_text() for target in targets]
                 if (status, written, said) == usual:
                     spared.append(growth)
-                    self.assertEqual(left, repaired)
+                    self.assertEqual(left, done)
                 else:
                     self.assertEqual((status, said), NOT_DONE[0])
                     self.assertIn(written, ("", usual[1]))
                     # (the commands are written last)
-                    self.assertIn(left, (["old", "old"], [repaired[0], "old"]))
+                    self.assertIn(left, (["old", "old"], [done[0], "old"]))
         self.assertLessEqual(len(spared), SPARED, spared)
+        return done
+
+    def test_repair(self) -> None:
+        targets = [Path(self.folder.name) / name for name in ("new.def", "lines.txt")]
+        words = [str(PROGRAM), "repair", str(DEF), str(LEF), "--export", str(targets[0]), "--lines", str(targets[1])]
+        self.try_a_run_with_lines(words, targets)
 
     def test_improve(self) -> None:
         folder = Path(self.folder.name)
@@ -413,23 +418,8 @@ class StartsRefused(WithRefusals):
         cells.write_text(WIRED_LEF)
         files = ["--export", str(targets[0]), "--lines", str(targets[1])]
         words = [str(PROGRAM), "improve", str(chip), str(cells), *files]
-        usual = self.run_with(words, "", 0, 0)[:3]
-        self.assertEqual((usual[0], usual[2]), (0, ""))
-        improved = [target.read_text() for target in targets]
-        self.assertIn("commit - 0\n", improved[1])
-        spared = []
-        for growth, (status, written, said) in self.runs(words, "", *targets):
-            with self.subTest(growth):
-                left = [target.read_text() for target in targets]
-                if (status, written, said) == usual:
-                    spared.append(growth)
-                    self.assertEqual(left, improved)
-                else:
-                    self.assertEqual((status, said), NOT_DONE[0])
-                    self.assertIn(written, ("", usual[1]))
-                    # (the commands are written last)
-                    self.assertIn(left, (["old", "old"], [improved[0], "old"]))
-        self.assertLessEqual(len(spared), SPARED, spared)
+        done = self.try_a_run_with_lines(words, targets)
+        self.assertIn("commit - 0\n", done[1])
 
     def test_restoring_and_saving(self) -> None:
         state, target = (Path(self.folder.name) / name for name in ("old.state", "new.state"))
