@@ -1,5 +1,5 @@
 -- The nearest number for a list of spans, from those for its parts.
-use Rattle.std.proofs.Common.{◌≡◌, ℕ, ◌+◌, ◌-◌, ◌<◌, ◌≤◌, ℤ, pos, ◌+ℤ◌, ◌-ℤ◌, ◌≤ℤ◌, ◌<ℤ◌, ◌⊎◌, inl, inr, List, [], ◌∷◌, ◌++◌, length, get_or, take, drop, Option, Some, None, Vec, Global, map, sym, ap, ◌∙◌, subst, arith}
+use Rattle.std.proofs.Common.{◌≡◌, refl, ℕ, ◌+◌, ◌-◌, ◌<◌, ◌≤◌, ℤ, pos, ◌+ℤ◌, ◌-ℤ◌, ◌≤ℤ◌, ◌<ℤ◌, ◌⊎◌, inl, inr, List, [], ◌∷◌, ◌++◌, length, get_or, take, drop, Option, Some, None, Vec, Global, map, sym, ap, ◌∙◌, subst, arith}
 use Rattle.std.specs.Prelude.{All, Any, IsSomeAnd}
 use Rattle.std.proofs.lemmas.Int.{ints}
 use Rattle.std.proofs.lemmas.List.{get_or_default, get_or-take, get_or-drop, length-take, length-drop, take_more, take_all}
@@ -7,15 +7,16 @@ use Rattle.std.proofs.lemmas.List.Elements.{All-cons, All-drop, All-nil}
 use Rattle.std.proofs.lemmas.List.Quantifiers.{Any-push}
 use Rattle.lf_spans.specs.declared.span.Span.{Span}
 use Rattle.lf_spans.specs.Spans.{IsFilled, LiesIn, LiesInOneOf, IsRising, IsMeetAll}
-use Rattle.lf_spans.specs.Steps.{ContainsSpan}
-use Rattle.lf_spans.proofs.Anys.{any_cases, any_head, any_tail, any_left, any_split, any_weaker, all_at}
+use Rattle.lf_spans.specs.Steps.{AddsFilled, ContainsSpan}
+use Rattle.lf_spans.proofs.Anys.{any_cases, any_head, any_tail, any_left, any_nil, any_split, any_weaker, all_at}
 use Rattle.lf_spans.proofs.Edges.{InOne, in_of_lies, in_one_of_lies, rising_drop}
 use Rattle.lf_spans.proofs.Overlaps.{from_place}
 use Rattle.lf_spans.specs.declared.grid.SiteGrid.{SiteGrid}
+use Rattle.lf_gaps.specs.declared.gap_target.GapTarget.{GapTarget}
 use Rattle.lf_gaps.specs.declared.row.Target.{Target}
 use Rattle.lf_spans.specs.Grids.{FindsNearest, FitsSpan, IsBoundedSpan, IsNoFarther, LiesInSpanFrom, distance_to}
-use Rattle.lf_gaps.specs.Gaps.{FitsRows}
-use Rattle.lf_gaps.specs.Steps.{FitsOne, IsNearestSoFar, IsNearerOf, IsPast}
+use Rattle.lf_gaps.specs.Gaps.{FindsGap, FitsOne, FitsRows}
+use Rattle.lf_gaps.specs.Steps.{AddsGap, IsNearestSoFar, IsNearerOf, IsPast}
 
 along : (t x y z : ℤ) → IsNoFarther t x y → IsNoFarther t y z → IsNoFarther t x z
 along t x y z (inl a) (inl b) = inl (omega (arith, a, b))
@@ -356,3 +357,90 @@ pub before_is : (span : Span) (best : Option ℤ) (wanted : Target) (x : ℤ) �
     distance_to wanted.target x < distance_to wanted.target (span.hi -ℤ wanted.width) → IsNearestSoFar span best wanted
 before_is span best wanted x e left less =
     subst (λ (o : Option ℤ). IsNearestSoFar span o wanted) (sym e) (λ y h. omega (arith, ints, h, left, less))
+
+-- ---- gap after gap
+
+pub any_right : {X : Type 0} (P : X → Type 0) (xs ys : List X) → Any P ys → Any P (xs ++ ys)
+any_right P [] ys a = a
+any_right P (x ∷ xs) ys a = any_tail P x (xs ++ ys) (any_right P xs ys a)
+
+-- A gap too narrow changes nothing.
+pub narrow_gap : (gap : Span) (wanted : GapTarget) (best : Option ℤ) → (gap.hi ≤ℤ gap.lo) ⊎ ((gap.hi -ℤ gap.lo) <ℤ wanted.width) → AddsGap gap wanted best best
+narrow_gap gap wanted best narrow = record { next = None; nearest = nowhere; nearer = stays best }
+  where
+    nowhere : (x : ℤ) → FitsSpan gap wanted.grid wanted.width x → ⊥
+    nowhere x f =
+        let low = f.within.low in
+        let high = f.within.high in
+        let some = wanted.some in
+        elim narrow [ inl none ↦ omega (arith, ints, low, high, some, none) | inr less ↦ omega (arith, ints, low, high, less) ]
+
+    stays : (b : Option ℤ) → IsNearerOf b None wanted.target b
+    stays None = record { from = inl refl; first = tt; second = tt }
+    stays (Some x) = record { from = inl refl; first = inr (refl, omega (arith, ints)); second = tt }
+
+-- One gap more, if it holds a number.
+pub gap_added : (free new : List Span) (gap : Span) (wanted : GapTarget) (best found : Option ℤ) → AddsFilled gap free new →
+    FindsNearest (λ x. FitsOne free wanted.grid wanted.width x) wanted.target best → AddsGap gap wanted best found →
+    FindsNearest (λ x. FitsOne new wanted.grid wanted.width x) wanted.target found
+gap_added free new gap wanted best found (inl some) p adds =
+    subst (λ (xs : List Span). FindsNearest (λ x. FitsOne xs wanted.grid wanted.width x) wanted.target found) (sym some.1)
+    (nearest_of_both (λ x. FitsOne free wanted.grid wanted.width x) (λ x. FitsSpan gap wanted.grid wanted.width x)
+    (λ x. FitsOne (free ++ gap ∷ []) wanted.grid wanted.width x) wanted.target best adds.next found p adds.nearest adds.nearer split left right)
+  where
+    split : (x : ℤ) → FitsOne (free ++ gap ∷ []) wanted.grid wanted.width x → FitsOne free wanted.grid wanted.width x ⊎ FitsSpan gap wanted.grid wanted.width x
+    split x f =
+        let P : Span → Type 0 = λ s. LiesInSpanFrom s wanted.width x in
+        elim (any_split P free (gap ∷ []) f.within) [
+          | inl a ↦ inl record { on_grid = f.on_grid; within = a }
+          | inr a ↦ elim (any_cases P gap [] a) [
+            | inl h ↦ inr record { on_grid = f.on_grid; within = h }
+            | inr h ↦ absurd (omega (arith, h.2))
+          ]
+        ]
+
+    left : (x : ℤ) → FitsOne free wanted.grid wanted.width x → FitsOne (free ++ gap ∷ []) wanted.grid wanted.width x
+    left x f = record { on_grid = f.on_grid; within = any_left (λ s. LiesInSpanFrom s wanted.width x) free (gap ∷ []) f.within }
+
+    right : (x : ℤ) → FitsSpan gap wanted.grid wanted.width x → FitsOne (free ++ gap ∷ []) wanted.grid wanted.width x
+    right x f = record { on_grid = f.on_grid; within = Any-push (λ s. LiesInSpanFrom s wanted.width x) free gap f.within }
+gap_added free new gap wanted best found (inr none) p adds =
+    subst (λ (xs : List Span). FindsNearest (λ x. FitsOne xs wanted.grid wanted.width x) wanted.target found) (sym none.1)
+    (nearest_of_both (λ x. FitsOne free wanted.grid wanted.width x) (λ x. FitsSpan gap wanted.grid wanted.width x)
+    (λ x. FitsOne free wanted.grid wanted.width x) wanted.target best adds.next found p adds.nearest adds.nearer (λ x f. inl f) (λ x f. f) nowhere)
+  where
+    nowhere : (x : ℤ) → FitsSpan gap wanted.grid wanted.width x → FitsOne free wanted.grid wanted.width x
+    nowhere x f =
+        let low = f.within.low in
+        let high = f.within.high in
+        let some = wanted.some in
+        absurd (omega (arith, ints, low, high, some, none.0))
+
+-- The nearest number for two lists, one after the other.
+pub lists_joined : (first second : List Span) (wanted : GapTarget) (a b found : Option ℤ) →
+    FindsNearest (λ x. FitsOne first wanted.grid wanted.width x) wanted.target a → FindsNearest (λ x. FitsOne second wanted.grid wanted.width x) wanted.target b →
+    IsNearerOf a b wanted.target found → FindsNearest (λ x. FitsOne (first ++ second) wanted.grid wanted.width x) wanted.target found
+lists_joined first second wanted a b found p q n =
+    nearest_of_both (λ x. FitsOne first wanted.grid wanted.width x) (λ x. FitsOne second wanted.grid wanted.width x)
+    (λ x. FitsOne (first ++ second) wanted.grid wanted.width x) wanted.target a b found p q n split left right
+  where
+    split : (x : ℤ) → FitsOne (first ++ second) wanted.grid wanted.width x → FitsOne first wanted.grid wanted.width x ⊎ FitsOne second wanted.grid wanted.width x
+    split x f = elim (any_split (λ s. LiesInSpanFrom s wanted.width x) first second f.within) [
+      | inl h ↦ inl record { on_grid = f.on_grid; within = h }
+      | inr h ↦ inr record { on_grid = f.on_grid; within = h }
+    ]
+
+    left : (x : ℤ) → FitsOne first wanted.grid wanted.width x → FitsOne (first ++ second) wanted.grid wanted.width x
+    left x f = record { on_grid = f.on_grid; within = any_left (λ s. LiesInSpanFrom s wanted.width x) first second f.within }
+
+    right : (x : ℤ) → FitsOne second wanted.grid wanted.width x → FitsOne (first ++ second) wanted.grid wanted.width x
+    right x f = record { on_grid = f.on_grid; within = any_right (λ s. LiesInSpanFrom s wanted.width x) first second f.within }
+
+-- Nothing fits an empty list.
+pub none_fits : (wanted : GapTarget) → FindsNearest (λ x. FitsOne [] wanted.grid wanted.width x) wanted.target None
+none_fits wanted x f = any_nil (λ s. LiesInSpanFrom s wanted.width x) f.within
+
+-- What is true of the list of the found number.
+pub found_weaker : (A B : List Span → Type 0) (wanted : GapTarget) (found : Option ℤ) → ((spans : List Span) → A spans → B spans) → FindsGap A wanted found →
+    FindsGap B wanted found
+found_weaker A B wanted found to f = record { spans = f.spans; is = to f.spans f.is; nearest = f.nearest }

@@ -1,9 +1,10 @@
 -- Results of the steps of the search for the nearest gap.
-use Rattle.std.specs.Prelude.{◌≡◌, ℤ, pos, ◌+ℤ◌, ◌≤ℤ◌, ◌<ℤ◌, ◌<◌, ◌⊎◌, List, All, Any, Option, IfSome, IsSomeAnd}
+use Rattle.std.specs.Prelude.{◌≡◌, ℤ, pos, ◌+ℤ◌, ◌≤ℤ◌, ◌<ℤ◌, ◌<◌, ◌⊎◌, List, All, Option, IfSome, IsSomeAnd}
 use Rattle.lf_spans.specs.declared.span.Span.{Span}
 use Rattle.lf_spans.specs.declared.grid.SiteGrid.{SiteGrid}
-use Rattle.lf_spans.specs.Grids.{IsBounded, IsBoundedSpan, IsGrid, IsNoFarther, IsOnGrid, LiesInSpanFrom, distance_to}
+use Rattle.lf_spans.specs.Grids.{FindsNearest, FitsSpan, IsBounded, IsBoundedSpan, IsGrid, IsNoFarther, distance_to}
 use Rattle.lf_spans.specs.Spans.{IsRising}
+use Rattle.lf_gaps.specs.declared.gap_target.GapTarget.{GapTarget}
 use Rattle.lf_gaps.specs.declared.row.Target.{Target}
 
 -- A width above 0, and a target. The absolute values of both are at most 2^40.
@@ -18,11 +19,6 @@ pub record IsGapSearch (spans : List Span) (g : SiteGrid) (sought : Target) : Ty
   pub rising : IsRising spans
   pub bounded : All IsBoundedSpan spans
   pub wanted : IsWanted sought
-
--- The width fits, at this grid number, one span of the list.
-pub record FitsOne (spans : List Span) (g : SiteGrid) (width x : ℤ) : Type 0 where
-  pub on_grid : IsOnGrid g x
-  pub within : Any (λ s. LiesInSpanFrom s width x) spans
 
 -- One of the two options, and no farther from the target than either.
 pub record IsNearerOf (a b : Option ℤ) (target : ℤ) (found : Option ℤ) : Type 0 where
@@ -39,3 +35,10 @@ IsPast span best target = IsSomeAnd best (λ x. (y : ℤ) → span.lo ≤ℤ y �
 abbrev pub IsNearestSoFar : Span → Option ℤ → Target → Type 0
 IsNearestSoFar span best wanted = IsSomeAnd best
     (λ x. (y : ℤ) → (y +ℤ wanted.width) ≤ℤ span.hi → distance_to wanted.target x < distance_to wanted.target y)
+
+-- From the nearest number so far to the nearer of it and the nearest at which the width lies in the
+-- gap.
+pub record AddsGap (gap : Span) (wanted : GapTarget) (old new : Option ℤ) : Type 0 where
+  pub next : Option ℤ
+  pub nearest : FindsNearest (λ x. FitsSpan gap wanted.grid wanted.width x) wanted.target next
+  pub nearer : IsNearerOf old next wanted.target new

@@ -3,10 +3,12 @@
 //! This places a cell on several rows: each list has the free spans of one row. Spans, rising lists
 //! and grids are those of `lf_spans`.
 //!
-//! Used by `lf_legalize`.
+//! Used by `lf_occupancy` and `lf_legalize`.
 //!
 //! Modules, in reading order:
 //!
+//! - `gap_target`: a width, the grid of its left ends, and the number to be near
+//! - `gap`: the nearest place in one gap
 //! - `row`: the search, outwards from the target
 //!
 //! From `crates/lf_tests_basics/src/spans.rt`:
@@ -20,6 +22,10 @@
 //! ```
 #![tactic(auto)]
 
+mod gap;
+mod gap_target;
 mod row;
 
+pub use gap::{nearer_in_gap, nearer_of};
+pub use gap_target::GapTarget;
 pub use row::best_in_row;

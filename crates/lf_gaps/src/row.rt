@@ -1,12 +1,12 @@
 //! The nearest grid number at which a width fits one span of each of several lists.
 
 ghost use Rattle.std.specs.Prelude.{◌≡◌, ◌<◌, ◌≤ℤ◌, ◌<ℤ◌, ◌↔◌, All, IfOk, IsTrue, length, map, pos};
-ghost use Rattle.std.specs.Bool.{OnFalse, OnTrue};
-ghost use Rattle.lf_spans.specs.Grids.{FindsNearest, FitsSpan, IsBounded, IsBoundedSpan, IsGrid, IsNoFarther};
+ghost use Rattle.lf_spans.specs.Grids.{FindsNearest, FitsSpan, IsBounded, IsBoundedSpan, IsGrid};
 ghost use Rattle.lf_spans.specs.Spans.{IsMeetAll, IsRising};
-ghost use Rattle.lf_gaps.specs.Gaps.{FitsRows};
-ghost use Rattle.lf_gaps.specs.Steps.{FitsOne, IsGapSearch, IsNearestSoFar, IsNearerOf, IsPast, IsWanted};
+ghost use Rattle.lf_gaps.specs.Gaps.{FitsOne, FitsRows};
+ghost use Rattle.lf_gaps.specs.Steps.{IsGapSearch, IsNearestSoFar, IsPast, IsWanted};
 
+use crate::gap::nearer_of;
 use lf_spans::{SiteGrid, Span, nearest_fit, spans_meet_all};
 use std::alloc::{AllocError, Global};
 
@@ -32,37 +32,6 @@ fn nearest_in_span(span: &Span, grid: &SiteGrid, wanted: &Target) -> Option<i64>
     ensures { FindsNearest (λ x. FitsSpan span.now grid.now wanted.now.width x) wanted.now.target result }
 {
     nearest_fit(span, grid, wanted.width, wanted.target)
-}
-
-/// Returns whether the first number is nearer to the target than the second, or equally near and
-/// less or equal.
-fn is_nearer(first: &i64, second: &i64, wanted: &Target) -> bool
-    ensures yes { OnTrue result (IsNoFarther wanted.now.target first.now second.now) }
-    ensures other { OnFalse result (IsNoFarther wanted.now.target second.now first.now) }
-{
-    let near = first.abs_diff(wanted.target);
-    let far = second.abs_diff(wanted.target);
-    if near == far {
-        return first <= second;
-    }
-    near < far
-}
-
-/// Returns the nearer of two options; the other one if one is `None`.
-fn nearer_of(best: &Option<i64>, next: &Option<i64>, wanted: &Target) -> Option<i64>
-    ensures { IsNearerOf best.now next.now wanted.now.target result }
-{
-    let Some(first) = best else {
-        return *next;
-    };
-    let Some(second) = next else {
-        return *best;
-    };
-    if is_nearer(second, first, wanted) {
-        *next
-    } else {
-        *best
-    }
 }
 
 /// Returns whether no number in the span or right of it can be as near as the best so far.
@@ -105,7 +74,7 @@ fn nearest_rightwards(spans: &[Span], grid: &SiteGrid, wanted: &Target) -> Optio
         if is_past(span, &best, wanted) {
             return best;
         }
-        best = nearer_of(&best, &nearest_in_span(span, grid, wanted), wanted);
+        best = nearer_of(&best, &nearest_in_span(span, grid, wanted), &wanted.target);
     }
     best
 }
@@ -125,7 +94,7 @@ fn nearest_of(spans: &[Span], grid: &SiteGrid, wanted: &Target) -> Option<i64>
         if is_before(span, &best, wanted) {
             return best;
         }
-        best = nearer_of(&best, &nearest_in_span(span, grid, wanted), wanted);
+        best = nearer_of(&best, &nearest_in_span(span, grid, wanted), &wanted.target);
     }
     best
 }

@@ -22,51 +22,114 @@ use Rattle.lf_rules.proofs.Order.{compared}
 use Rattle.lf_rules.proofs.SiteLemmas.{OneOfFour, legal_upright, rank_decides}
 use Rattle.lf_frame_index.specs.declared.rows_by_y.RowEntry.{RowEntry}
 use Rattle.lf_frame_index.specs.RowsByY.{IsRowsByY, IsRunBetween, RunBetweenHasRows}
-use Rattle.lf_legalize.specs.Extents.{IsWithin, IsOnRow, ScansPlacesWithin}
+use Rattle.lf_legalize.specs.Extents.{IsWithin, IsOnEntries, IsOnRow, ScansPlacesWithin}
 use Rattle.lf_legalize.specs.RowSearches.{IsBestAmong, IsChoiceAmong, query_of_search}
 use Rattle.lf_legalize.specs.declared.row_search.RowSearch.{RowSearch}
 use Rattle.lf_legalize.proofs.Reaches.{abs_above, abs_below, row_level}
 
--- at this place a box of that size has the row of one of the first entries as its bottom row
-pub record IsOnEntries (f : Frame) (size : Point) (run : List RowEntry) (count : ℕ) (p : SpotPlace) : Type 0 where
+-- at this place a box of that size has the row of one of the entries from one position on and before
+-- another as its bottom row
+pub record IsOnPart (f : Frame) (size : Point) (run : List RowEntry) (from to : ℕ) (p : SpotPlace) : Type 0 where
   pub place : ℕ
   pub entry : RowEntry
-  pub within : place < count
+  pub low : from ≤ place
+  pub within : place < to
   pub there : slice_get run place ≡ Some entry
   pub on : IsOnRow f size entry.row p
 
 -- no entry was searched so far
-pub no_entry : (f : Frame) (size : Point) (run : List RowEntry) (cell : PlacementQuery) (target : Point) (reach : ℕ) →
-    ScansPlacesWithin (IsOnEntries f size run 0) cell target reach None None
-no_entry f size run cell target reach = record {
-  looked = record { may_go = λ h. h; kept = λ p h. h; seen = λ p s l. let within = s.1.within in absurd (omega arith) };
+pub no_entry : (f : Frame) (size : Point) (run : List RowEntry) (n : ℕ) (cell : PlacementQuery) (target : Point) (reach : ℕ) (best : Option SpotPlace) →
+    ScansPlacesWithin (IsOnPart f size run n n) cell target reach best best
+no_entry f size run n cell target reach best = record {
+  looked = record {
+    may_go = λ h. h;
+    kept = λ p h. h;
+    seen = λ p s l. let low = s.1.low in let within = s.1.within in absurd (omega arith);
+  };
   near = λ h. h;
 }
 
--- one more entry
-pub next_entry : (f : Frame) (size : Point) (run : List RowEntry) (n : ℕ) (e : RowEntry) (cell : PlacementQuery) (target : Point) (reach : ℕ) (a b c : Option SpotPlace) →
-    slice_get run n ≡ Some e → ScansPlacesWithin (IsOnEntries f size run n) cell target reach a b → ScansPlacesWithin (IsOnRow f size e.row) cell target reach b c →
-    ScansPlacesWithin (IsOnEntries f size run (n + 1)) cell target reach a c
-next_entry f size run n e cell target reach a b c there first second = record {
-  looked = onward (λ p. IsWithin target reach p × IsOnEntries f size run n p) (λ p. IsWithin target reach p × IsOnRow f size e.row p)
-      (λ p. IsWithin target reach p × IsOnEntries f size run (n + 1) p) cell target a b c split first.looked second.looked;
+-- a second search after a first
+pub searched_both : (First Second Both : SpotPlace → Type 0) (cell : PlacementQuery) (target : Point) (reach : ℕ) (a b c : Option SpotPlace) →
+    ((p : SpotPlace) → Both p → First p ⊎ Second p) → ScansPlacesWithin First cell target reach a b → ScansPlacesWithin Second cell target reach b c →
+    ScansPlacesWithin Both cell target reach a c
+searched_both First Second Both cell target reach a b c split first second = record {
+  looked = onward (λ p. IsWithin target reach p × First p) (λ p. IsWithin target reach p × Second p) (λ p. IsWithin target reach p × Both p)
+      cell target a b c apart first.looked second.looked;
   near = λ h. second.near (first.near h);
 }
+  where
+    apart : (p : SpotPlace) → (IsWithin target reach p × Both p) → IsAllowedPlace cell p → (IsWithin target reach p × First p) ⊎ (IsWithin target reach p × Second p)
+    apart p s may = elim (split p s.1) [ inl one ↦ inl (s.0, one) | inr other ↦ inr (s.0, other) ]
+
+-- the same two sides in the other order
+pub other_side : (A B : Type 0) → A ⊎ B → B ⊎ A
+other_side A B (inl a) = inr a
+other_side A B (inr b) = inl b
+
+-- the place on this entry, or on one of the others of the part
+of_entry : (f : Frame) (size : Point) (run : List RowEntry) (n : ℕ) (e : RowEntry) (p : SpotPlace) → slice_get run n ≡ Some e →
+    (from to : ℕ) → (s : IsOnPart f size run from to p) → s.place ≡ n → IsOnRow f size e.row p
+of_entry f size run n e p there from to s same =
+    let is : s.entry ≡ e = same_entry (sym s.there ∙ ap (slice_get run) same ∙ there) in
+    subst (λ (x : RowEntry). IsOnRow f size x.row p) is s.on
   where
     same_entry : {x y : RowEntry} → Some x ≡ Some y → x ≡ y
     same_entry is = cc
 
-    split : (p : SpotPlace) → (IsWithin target reach p × IsOnEntries f size run (n + 1) p) → IsAllowedPlace cell p →
-        (IsWithin target reach p × IsOnEntries f size run n p) ⊎ (IsWithin target reach p × IsOnRow f size e.row p)
-    split p s may =
-        let within = s.1.within in
-        let order : (s.1.place < n) ⊎ (s.1.place ≡ n) = grind arith in
+-- one more entry after those
+pub next_entry : (f : Frame) (size : Point) (run : List RowEntry) (n : ℕ) (e : RowEntry) (cell : PlacementQuery) (target : Point) (reach : ℕ) (a b c : Option SpotPlace) →
+    slice_get run n ≡ Some e → ScansPlacesWithin (IsOnPart f size run 0 n) cell target reach a b → ScansPlacesWithin (IsOnRow f size e.row) cell target reach b c →
+    ScansPlacesWithin (IsOnPart f size run 0 (n + 1)) cell target reach a c
+next_entry f size run n e cell target reach a b c there first second =
+    searched_both (IsOnPart f size run 0 n) (IsOnRow f size e.row) (IsOnPart f size run 0 (n + 1)) cell target reach a b c split first second
+  where
+    split : (p : SpotPlace) → IsOnPart f size run 0 (n + 1) p → IsOnPart f size run 0 n p ⊎ IsOnRow f size e.row p
+    split p s =
+        let within = s.within in
+        let order : (s.place < n) ⊎ (s.place ≡ n) = grind arith in
         elim order [
-          | inl less ↦ inl (s.0, record { place = s.1.place; entry = s.1.entry; within = less; there = s.1.there; on = s.1.on })
-          | inr same ↦
-              let is : s.1.entry ≡ e = same_entry (sym s.1.there ∙ ap (slice_get run) same ∙ there) in
-              inr (s.0, subst (λ (x : RowEntry). IsOnRow f size x.row p) is s.1.on)
+          | inl less ↦ inl (record { place = s.place; entry = s.entry; low = s.low; within = less; there = s.there; on = s.on })
+          | inr same ↦ inr (of_entry f size run n e p there 0 (n + 1) s same)
         ]
+
+-- one more entry before those
+pub entry_before : (f : Frame) (size : Point) (run : List RowEntry) (n m to : ℕ) (e : RowEntry) (cell : PlacementQuery) (target : Point) (reach : ℕ) (a b c : Option SpotPlace) →
+    n + 1 ≡ m → slice_get run n ≡ Some e → ScansPlacesWithin (IsOnPart f size run m to) cell target reach a b →
+    ScansPlacesWithin (IsOnRow f size e.row) cell target reach b c → ScansPlacesWithin (IsOnPart f size run n to) cell target reach a c
+entry_before f size run n m to e cell target reach a b c next there first second =
+    searched_both (IsOnPart f size run m to) (IsOnRow f size e.row) (IsOnPart f size run n to) cell target reach a b c split first second
+  where
+    split : (p : SpotPlace) → IsOnPart f size run n to p → IsOnPart f size run m to p ⊎ IsOnRow f size e.row p
+    split p s =
+        let low = s.low in
+        let order : (m ≤ s.place) ⊎ (s.place ≡ n) = grind arith in
+        elim order [
+          | inl more ↦ inl (record { place = s.place; entry = s.entry; low = more; within = s.within; there = s.there; on = s.on })
+          | inr same ↦ inr (of_entry f size run n e p there n to s same)
+        ]
+
+-- after all entries, the search has been over their rows
+pub all_entries : (f : Frame) (size : Point) (run : List RowEntry) (cell : PlacementQuery) (target : Point) (reach : ℕ) (a b : Option SpotPlace) →
+    ScansPlacesWithin (IsOnPart f size run 0 (length run)) cell target reach a b → ScansPlacesWithin (IsOnEntries f size run) cell target reach a b
+all_entries f size run cell target reach a b all = record {
+  looked = record {
+    may_go = all.looked.may_go;
+    kept = all.looked.kept;
+    seen = λ p s may. all.looked.seen p (s.0, part p s.1) may;
+  };
+  near = all.near;
+}
+  where
+    part : (p : SpotPlace) → IsOnEntries f size run p → IsOnPart f size run 0 (length run) p
+    part p any = record {
+      place = any.0;
+      entry = any.1;
+      low = omega arith;
+      within = any.2;
+      there = slice_get_read run (length run) any.0 any.1 refl any.2 (sym any.3);
+      on = any.4;
+    }
 
 -- what holds for all entries holds for those of a run
 pub run_holds : (P : RowEntry → Type 0) (entries before run after_it : List RowEntry) → entries ≡ before ++ (run ++ after_it) → All P entries →
@@ -100,30 +163,32 @@ is_placed_on_row s p legal =
     )
 
 -- a place on the row of some entry
-on_any : (f : Frame) (size : Point) (run : List RowEntry) (n : ℕ) (p : SpotPlace) → Any (λ e. e.row ≡ n) run → IsOnRow f size n p →
-    IsOnEntries f size run (length run) p
-on_any f size run n p any on = record {
-  place = any.0;
-  entry = any.1;
-  within = any.2;
-  there = slice_get_read run (length run) any.0 any.1 refl any.2 (sym any.3);
-  on = subst (λ (k : ℕ). IsOnRow f size k p) (sym any.4) on;
-}
+on_any : (f : Frame) (size : Point) (run : List RowEntry) (n : ℕ) (p : SpotPlace) → Any (λ e. e.row ≡ n) run → IsOnRow f size n p → IsOnEntries f size run p
+on_any f size run n p any on = (any.0, any.1, any.2, any.3, subst (λ (k : ℕ). IsOnRow f size k p) (sym any.4) on)
 
--- a legal place within the reach is on a row of the run
-pub all_seen : (s : RowSearch) (run : List RowEntry) (reach : ℕ) (from to : ℤ) → RunBetweenHasRows → IsRowsByY s.frame.now s.occupancy.now.index.rows →
-    IsRunBetween s.occupancy.now.index.rows from to run → from ≤ℤ (s.target.now.y -ℤ pos reach) → (s.target.now.y +ℤ pos reach) <ℤ to →
-    (p : SpotPlace) → IsLegalAt (query_of_search s) p → IsWithin s.target.now reach p → IsOnEntries s.frame.now s.size run (length run) p
-all_seen s run reach from to law rows between low high p legal within =
+-- a legal place within the reach is on a row of the run below the target or of the run from it up
+pub all_seen : (s : RowSearch) (below above : List RowEntry) (reach : ℕ) (from end start to : ℤ) → RunBetweenHasRows →
+    IsRowsByY s.frame.now s.occupancy.now.index.rows →
+    IsRunBetween s.occupancy.now.index.rows from end below → IsRunBetween s.occupancy.now.index.rows start to above →
+    from ≤ℤ (s.target.now.y -ℤ pos reach) → s.target.now.y ≤ℤ end → start ≤ℤ s.target.now.y → (s.target.now.y +ℤ pos reach) <ℤ to →
+    (p : SpotPlace) → IsLegalAt (query_of_search s) p → IsWithin s.target.now reach p →
+    IsOnEntries s.frame.now s.size below p ⊎ IsOnEntries s.frame.now s.size above p
+all_seen s below above reach from end start to law rows under over low last first high p legal within =
     let is_in_place = is_placed_on_row s p legal in
     let on = is_in_place.1 in
     let level : p.y ≡ on.row.y = row_level s.frame.now s.size on.row p on.bottom in
     let near : unsigned_abs (p.y -ℤ s.target.now.y) ≤ reach = omega (arith, within) in
-    let above = abs_above (p.y -ℤ s.target.now.y) reach near in
-    let below = abs_below (p.y -ℤ s.target.now.y) reach near in
-    let both = law s.frame.now s.occupancy.now.index.rows run from to is_in_place.0 on.row rows between on.there in
-    let any = both.1 (omega (arith, ints, level, above, below, low, high), omega (arith, ints, level, above, below, low, high)) in
-    on_any s.frame.now s.size run is_in_place.0 p any on
+    let up = abs_above (p.y -ℤ s.target.now.y) reach near in
+    let down = abs_below (p.y -ℤ s.target.now.y) reach near in
+    let order : (on.row.y <ℤ s.target.now.y) ⊎ (s.target.now.y ≤ℤ on.row.y) = grind (arith, ints) in
+    elim order [
+      | inl less ↦
+          let both = law s.frame.now s.occupancy.now.index.rows below from end is_in_place.0 on.row rows under on.there in
+          inl (on_any s.frame.now s.size below is_in_place.0 p (both.1 (omega (arith, ints, level, down, low), omega (arith, ints, less, last))) on)
+      | inr more ↦
+          let both = law s.frame.now s.occupancy.now.index.rows above start to is_in_place.0 on.row rows over on.there in
+          inr (on_any s.frame.now s.size above is_in_place.0 p (both.1 (omega (arith, ints, more, first), omega (arith, ints, level, up, high))) on)
+    ]
 
 -- a search over all allowed places within the reach finds the best of them
 pub chosen_near : (Seen : SpotPlace → Type 0) (cell : PlacementQuery) (target : Point) (reach : ℕ) (found : Option SpotPlace) →

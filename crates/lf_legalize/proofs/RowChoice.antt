@@ -1,11 +1,13 @@
 -- The nearest x at which a cell's box is free at each level, and the best place on its row.
-use Rattle.std.proofs.Common.{◌≡◌, ◌⊎◌, inl, inr, ℕ, ℤ, pos, negsuc, ◌*◌, ◌<◌, ◌≤◌, ◌+ℤ◌, ◌-ℤ◌, ◌*ℤ◌, ◌≤ℤ◌, ◌<ℤ◌, List, [], Option, Some, None}
+use Rattle.std.proofs.Common.{◌≡◌, ◌⊎◌, inl, inr, ℕ, ℤ, pos, negsuc, ◌*◌, ◌<◌, ◌≤◌, ◌+ℤ◌, ◌-ℤ◌, ◌*ℤ◌, ◌≤ℤ◌, ◌<ℤ◌, List, [], ◌∷◌, Option, Some, None}
 use Rattle.std.proofs.Common.{Vec, Global, length, get_or, map, slice_get, sym, ap, subst, arith}
 use Rattle.std.specs.Prelude.{All, Any, MatchOption, unsigned_abs}
 use Rattle.std.proofs.lemmas.Int.{ints}
 use Rattle.std.proofs.lemmas.List.{get_or-map, get_or_default, length-map}
+use Rattle.std.proofs.lemmas.List.Elements.{All-cons, All-nil}
 use Rattle.lf_units.specs.declared.geometry.Point.{Point}
 use Rattle.lf_orient.specs.declared.Orient.{Orient}
+use Rattle.lf_spans.specs.declared.grid.SiteGrid.{SiteGrid}
 use Rattle.lf_spans.specs.declared.span.Span.{Span}
 use Rattle.lf_spans.specs.Spans.{LiesIn, LiesInOneOf}
 use Rattle.lf_spans.specs.Grids.{FindsNearest, IsBounded, IsBoundedSpan, IsGrid, IsNearest, IsNoFarther, LiesInSpanFrom, grid_of}
@@ -17,15 +19,19 @@ use Rattle.lf_floorplan.specs.Bounds.{IsDefNumber}
 use Rattle.lf_floorplan.specs.Rows.{row_area}
 use Rattle.lf_floorplan.specs.Boxes.{macro_of, size_of}
 use Rattle.lf_floorplan.proofs.SizeBounds.{sized_pitch}
-use Rattle.lf_gaps.specs.Gaps.{FitsRows}
+use Rattle.lf_gaps.specs.declared.gap_target.GapTarget.{GapTarget}
+use Rattle.lf_gaps.specs.Gaps.{FindsGap, FitsOne, FitsRows}
+use Rattle.lf_gaps.proofs.Nearest.{nearest_of_same}
 use Rattle.lf_rules.specs.Choice.{SpotPlace, IsAllowedPlace, Precedes, distance, rank}
 use Rattle.lf_rules.proofs.Order.{same_spot}
 use Rattle.lf_rules.proofs.SiteLemmas.{one_of_four, rank_decides}
 use Rattle.lf_occupancy.specs.Floorplans.{IsOccupancyOf}
+use Rattle.lf_occupancy.specs.Views.{IsFreeInRow}
 use Rattle.lf_legalize.specs.declared.row_search.RowSearch.{RowSearch}
 use Rattle.lf_legalize.specs.RowSearches.{IsBestAmong, IsOnRowIn, query_of_search, padding_in}
-use Rattle.lf_legalize.specs.Levels.{AreLevels, HasBareLevel, IsFirstOrient, IsLevel, IsEquivalentTarget, FitsRow}
-use Rattle.lf_legalize.proofs.LevelLemmas.{own_one, over_row}
+use Rattle.lf_legalize.specs.Levels.{AreLevels, FindsFreeX, HasBareLevel, IsFirstOrient, IsLevel, IsEquivalentTarget, FitsRow}
+use Rattle.lf_legalize.proofs.LevelLemmas.{one_level, own_one, over_row}
+use Rattle.lf_legalize.proofs.SoftLemmas.{open_bare}
 use Rattle.lf_legalize.proofs.RunLemmas.{core_at}
 use Rattle.lf_legalize.proofs.RowLegal.{filled, may_go_is_free, legal_may, legal_y, reach, wide}
 use Rattle.lf_legalize.proofs.RowFree.{bottom_left, bottom_right, free_may_go, free_is_on_row, free_place, spot_on}
@@ -188,3 +194,34 @@ best_there s own bottom window lists o x there occupied levels first nearest =
           (rank_decides o p.orient (one_of_four symmetry o first.may.allowed) (one_of_four symmetry p.orient may.allowed))
           (first.least p.orient may);
     }
+
+-- ---- a cell of one row, without a list
+
+fits_of_one : (s : RowSearch) (bottom : Row) (free : List Span) (x : ℤ) → FitsOne free (grid_of bottom.x s.frame.now.pitch.x) s.size.x x → IsFit s bottom (free ∷ []) x
+fits_of_one s bottom free x f = record {
+  on_grid = f.on_grid;
+  within = All-cons (λ spans. Any (λ t. LiesInSpanFrom t s.size.x x) spans) free [] f.within (All-nil (λ spans. Any (λ t. LiesInSpanFrom t s.size.x x) spans));
+}
+
+one_of_fits : (s : RowSearch) (bottom : Row) (free : List Span) (x : ℤ) → IsFit s bottom (free ∷ []) x → FitsOne free (grid_of bottom.x s.frame.now.pitch.x) s.size.x x
+one_of_fits s bottom free x f = record { on_grid = f.on_grid; within = f.within 0 [] (omega arith) }
+
+-- the nearest place in the free spans of the row is the nearest to the target
+pub found_on : (s : RowSearch) (own : ℕ) (bottom : Row) (window : Span) (wanted : GapTarget) (found : Option ℤ) → slice_get s.frame.now.rows own ≡ Some bottom →
+    IsOccupancyOf s.frame.now s.occupied.now.cells s.occupancy.now → s.height ≡ 1 → ((k : ℕ) → get_or s.occupancy.now.index.soft k [] ≡ []) →
+    wanted.grid ≡ grid_of bottom.x s.frame.now.pitch.x → wanted.width ≡ s.size.x → IsEquivalentTarget s.target.now.x wanted.target →
+    FindsGap (IsFreeInRow s.occupancy.now own s.id window (padding_in s)) wanted found → FindsFreeX s own bottom window found
+found_on s own bottom window wanted found there occupied one bare grid width same gap = record {
+  free = gap.spans;
+  levels = levels;
+  nearest =
+      nearest_to_target (IsFit s bottom (gap.spans ∷ [])) s.target.now.x wanted.target found same
+      (λ x fit. fit_in_def s own bottom window (gap.spans ∷ []) x there occupied levels fit)
+      (nearest_of_same (λ x. FitsOne gap.spans (grid_of bottom.x s.frame.now.pitch.x) s.size.x x) (IsFit s bottom (gap.spans ∷ [])) wanted.target found
+      (fits_of_one s bottom gap.spans) (one_of_fits s bottom gap.spans)
+      (subst (λ (g : SiteGrid). FindsNearest (λ x. FitsOne gap.spans g s.size.x x) wanted.target found) grid
+      (subst (λ (w : ℤ). FindsNearest (λ x. FitsOne gap.spans wanted.grid w x) wanted.target found) width gap.nearest)));
+}
+  where
+    levels : AreLevels s own bottom window s.height (gap.spans ∷ [])
+    levels = one_level s own bottom window gap.spans one (open_bare s.occupancy.now own s.id window (padding_in s) gap.spans bare gap.is)

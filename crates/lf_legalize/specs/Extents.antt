@@ -1,5 +1,5 @@
 -- Places by their distance from a target.
-use Rattle.std.specs.Prelude.{◌≡◌, ◌⊎◌, ℕ, ℤ, pos, negsuc, ◌≤◌, ◌≤ℤ◌, ◌+◌, ◌-ℤ◌, Option, Some, IfSome, slice_get, min}
+use Rattle.std.specs.Prelude.{◌≡◌, ◌⊎◌, ℕ, ℤ, pos, negsuc, ◌≤◌, ◌≤ℤ◌, ◌+◌, ◌-ℤ◌, Option, Some, IfSome, List, Any, slice_get, min}
 use Rattle.std.specs.Int.RustNames.{unsigned_abs}
 use Rattle.std.specs.Option.{option_map_or}
 use Rattle.lf_units.specs.declared.geometry.Point.{Point}
@@ -10,6 +10,7 @@ use Rattle.lf_floorplan.specs.Sizes.{box_at}
 use Rattle.lf_floorplan.specs.RowSupport.{IsBottomRow}
 use Rattle.lf_rules.specs.Choice.{SpotPlace, PlacementQuery, Precedes, distance}
 use Rattle.lf_rules.specs.Scanning.{ScansPlaces, IsAsGood}
+use Rattle.lf_frame_index.specs.declared.rows_by_y.RowEntry.{RowEntry}
 
 -- the value of a range that is nearest to another value: the distance of each value of the range
 -- from the other value is its distance from the nearest one plus that of the nearest one
@@ -48,6 +49,10 @@ pub record IsOnRow (f : Frame) (size : Point) (number : ℕ) (p : SpotPlace) : T
   pub row : Row
   pub there : slice_get f.rows number ≡ Some row
   pub bottom : IsBottomRow f (box_at size p.x p.y) row
+
+-- at this place a box of this size has the row of one of the entries as its bottom row
+abbrev pub IsOnEntries : Frame → Point → List RowEntry → SpotPlace → Type 0
+IsOnEntries f size entries p = Any (λ e. IsOnRow f size e.row p) entries
 
 -- from the best place so far to the one after comparison with the seen places within `reach`; if
 -- the old one is within `reach`, so is the new one

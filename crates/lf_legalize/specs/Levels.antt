@@ -1,11 +1,12 @@
 -- The rows that can support a cell over a bottom row, level by level, and what is free on them. No
 -- public clause cites this module.
-use Rattle.std.specs.Prelude.{◌≡◌, ◌↔◌, ℕ, zero, suc, ℤ, pos, ◌<◌, ◌≤◌, ◌%◌, ◌+ℤ◌, ◌*ℤ◌, List, [], ◌++◌, Any, IsTrue, Option, Some, MatchOption}
+use Rattle.std.specs.Prelude.{◌≡◌, ◌↔◌, ℕ, zero, suc, ℤ, pos, ◌<◌, ◌≤◌, ◌%◌, ◌+ℤ◌, ◌*ℤ◌, List, [], ◌∷◌, ◌++◌, Any, IsTrue, Option, Some, MatchOption}
 use Rattle.std.specs.Prelude.{length, slice_get, slice_index_or}
 use Rattle.std.specs.Option.{option_map}
 use Rattle.lf_spans.specs.declared.span.Span.{Span}
 use Rattle.lf_spans.specs.Spans.{IsDisjointFrom, IsFilled, IsRising, LiesIn, LiesInOneOf}
-use Rattle.lf_spans.specs.Grids.{IsNoFarther, IsBounded}
+use Rattle.lf_spans.specs.Grids.{FindsNearest, IsNoFarther, IsBounded, grid_of}
+use Rattle.lf_gaps.specs.Gaps.{FitsRows}
 use Rattle.lf_orient.specs.declared.Orient.{Orient}
 use Rattle.lf_orient.specs.Orientation.{is_allowed, EqualUnder, rail_below}
 use Rattle.lf_floorplan.specs.declared.frame.Frame.{Frame}
@@ -94,6 +95,14 @@ pub record AreLevels (s : RowSearch) (own : ℕ) (bottom : Row) (window : Span) 
     (lists : List (List Span)) : Type 0 where
   pub number : length lists ≡ count
   pub each : (j : ℕ) → j < count → IsLevel s own bottom window j (slice_index_or lists j [])
+
+-- the nearest x to the target at which a cell of one row lies in the free spans of its row; None
+-- only if it lies in none of them
+pub record FindsFreeX (s : RowSearch) (own : ℕ) (bottom : Row) (window : Span) (found : Option ℤ) : Type 0 where
+  pub free : List Span
+  pub levels : AreLevels s own bottom window s.height (free ∷ [])
+  pub nearest : FindsNearest (λ x. FitsRows (free ∷ []) (grid_of bottom.x s.frame.now.pitch.x) s.size.x x)
+      s.target.now.x found
 
 -- nothing is free on the rows of one level of the cell
 pub record HasBareLevel (s : RowSearch) (own : ℕ) (bottom : Row) (window : Span) : Type 0 where

@@ -1,11 +1,11 @@
 //! The best place of a cell, searched on the rows around the target, farther away in each round.
 
-ghost use Rattle.std.specs.Prelude.{◌≡◌, ◌↔◌, ◌⊎◌, ◌≤◌, ◌<◌, ◌≤ℤ◌, ◌<ℤ◌, IfOk, IsTrue, Some, length, option_map, pos, slice_get};
+ghost use Rattle.std.specs.Prelude.{◌≡◌, ◌↔◌, ◌⊎◌, ◌≤◌, ◌<◌, ◌≤ℤ◌, ◌<ℤ◌, All, IfOk, IsTrue, Some, length, option_map, pos, slice_get};
 ghost use Rattle.lf_floorplan.specs.declared.parts.Row.{Row};
 ghost use Rattle.lf_floorplan.specs.Rows.{IsCoreRow, row_area};
 ghost use Rattle.lf_rules.specs.Choice.{IsChoice, IsAllowedPlace, SpotPlace, spot_of};
 ghost use Rattle.lf_frame_index.specs.RowsByY.{IsEntryOf};
-ghost use Rattle.lf_legalize.specs.Extents.{IsOnRow, IsWithin, ScansPlacesWithin};
+ghost use Rattle.lf_legalize.specs.Extents.{IsOnEntries, IsOnRow, IsWithin, ScansPlacesWithin};
 ghost use Rattle.lf_legalize.specs.RowSearches.{IsChoiceAmong, IsOnRowIn, query_of_search};
 
 use crate::key::gap;
@@ -71,8 +71,66 @@ fn with_row(
     }
 }
 
+/// The best place so far, compared with the places at most `reach` away on the rows of these
+/// entries, the first of them first.
+fn best_upward(
+    alloc: Global,
+    search: &RowSearch<'_>,
+    reach: u64,
+    so_far: Option<Place>,
+    entries: &[RowEntry],
+) -> Result<Option<Place>, AllocError>
+    requires small { reach ≤ 68719476736 }
+    requires known { All (IsEntryOf search.now.frame.now) entries.now }
+    ensures { IfOk result (λ found.
+        ScansPlacesWithin (IsOnEntries search.now.frame.now search.now.size entries.now) (query_of_search search.now)
+        search.now.target.now reach (option_map spot_of so_far) (option_map spot_of found)) }
+{
+    let mut best = so_far;
+    for entry in entries {
+        best = with_row(alloc, search, reach, best, entry)?;
+    }
+    Ok(best)
+}
+
+/// The best place so far, compared with the places at most `reach` away on the rows of these
+/// entries, the last of them first.
+fn best_downward(
+    alloc: Global,
+    search: &RowSearch<'_>,
+    reach: u64,
+    so_far: Option<Place>,
+    entries: &[RowEntry],
+) -> Result<Option<Place>, AllocError>
+    requires small { reach ≤ 68719476736 }
+    requires known { All (IsEntryOf search.now.frame.now) entries.now }
+    ensures { IfOk result (λ found.
+        ScansPlacesWithin (IsOnEntries search.now.frame.now search.now.size entries.now) (query_of_search search.now)
+        search.now.target.now reach (option_map spot_of so_far) (option_map spot_of found)) }
+{
+    let mut best = so_far;
+    let mut n = entries.len();
+    while 0 < n {
+        n -= 1;
+        best = with_row(alloc, search, reach, best, &entries[n])?;
+    }
+    Ok(best)
+}
+
+/// Whether the first row above is at most as far from y as the last one below it.
+fn is_nearer_above(y: &i64, below: &[RowEntry], above: &[RowEntry]) -> bool {
+    let Some(lower) = below.last() else {
+        return true;
+    };
+    let Some(upper) = above.first() else {
+        return false;
+    };
+    gap(&upper.y, y) <= gap(&lower.y, y)
+}
+
 /// The best of the places that are at most `reach` away from the target. `None` if the cell is
-/// allowed at no such place.
+/// allowed at no such place. The rows are searched from the target on, up and down, the side with
+/// the nearest row first: the nearer the best place so far, the fewer rows remain.
 fn best_within(
     alloc: Global,
     search: &RowSearch<'_>,
@@ -87,12 +145,14 @@ fn best_within(
     search_is_occupied(search);
     let y = search.target.y;
     let height = reach as i64;
-    let mut best = None;
-    let run = rows_of(search).between(y - height, y + height + 1);
-    for entry in run {
-        best = with_row(alloc, search, reach, best, entry)?;
+    let below = rows_of(search).between(y - height, y);
+    let above = rows_of(search).between(y, y + height + 1);
+    if is_nearer_above(&y, below, above) {
+        let best = best_upward(alloc, search, reach, None, above)?;
+        return best_downward(alloc, search, reach, best, below);
     }
-    Ok(best)
+    let best = best_downward(alloc, search, reach, None, below)?;
+    best_upward(alloc, search, reach, best, above)
 }
 
 /// The best place of the cell, provided that no allowed place is farther from the target than

@@ -1,20 +1,20 @@
 //! The best place of a cell on one row.
 
-ghost use Rattle.std.specs.Prelude.{◌≡◌, ◌↔◌, ◌<◌, ◌<ℤ◌, All, IfOk, IsTrue, Some, pos, option_map, slice_get, length, map};
+ghost use Rattle.std.specs.Prelude.{◌≡◌, ◌↔◌, ◌<◌, ◌<ℤ◌, ℕ, [], All, IfOk, IsTrue, Some, pos, option_map, slice_get, slice_index_or, length, map};
 ghost use Rattle.lf_floorplan.specs.declared.parts.Row.{Row};
 ghost use Rattle.lf_floorplan.specs.Bounds.{IsDefNumber};
 ghost use Rattle.lf_rules.specs.Choice.{spot_of};
 ghost use Rattle.lf_gaps.specs.Gaps.{FitsRows};
 ghost use Rattle.lf_spans.specs.Grids.{FindsNearest, IsBounded, IsBoundedSpan, IsGrid, grid_of};
 ghost use Rattle.lf_spans.specs.Spans.{IsRising};
-ghost use Rattle.lf_legalize.specs.Levels.{AreLevels, FindsOrient, IsFirstOrient, IsEquivalentTarget, FitsRow};
+ghost use Rattle.lf_legalize.specs.Levels.{AreLevels, FindsFreeX, FindsOrient, IsFirstOrient, IsEquivalentTarget, FitsRow};
 ghost use Rattle.lf_legalize.specs.RowSearches.{IsChoiceAmong, IsOnRowIn, query_of_search};
 
 use crate::levels::{BottomRow, free_by_level};
-use crate::open_spans::open_in_row;
+use crate::open_spans::{open_in_row, padding_length};
 use crate::row_search::{RowSearch, SearchWindow, search_is_occupied};
 use lf_floorplan::{Frame, Place, Row, mac_at};
-use lf_gaps::best_in_row;
+use lf_gaps::{GapTarget, best_in_row};
 use lf_orient::Orient;
 use lf_rules::{is_on_rail, is_oriented};
 use lf_spans::SiteGrid;
@@ -163,6 +163,54 @@ fn best_at(
     Ok(Some(place_on(bottom.row, &x, orient)))
 }
 
+/// The width of the cell, the sites of the row and the target's x.
+fn gap_target(search: &RowSearch<'_>, bottom: &BottomRow<'_>) -> GapTarget
+    requires { slice_get search.now.frame.now.rows bottom.now.number ≡ Some bottom.now.row.now }
+    ensures grid { result.grid ≡ grid_of bottom.now.row.now.x search.now.frame.now.pitch.x }
+    ensures width { result.width ≡ search.now.size.x }
+    ensures target { IsEquivalentTarget search.now.target.now.x result.target }
+{
+    GapTarget {
+        grid: grid_on(bottom.row, &search.frame.pitch),
+        width: search.size.x,
+        target: equivalent_target(&search.target.x),
+    }
+}
+
+/// The x nearest to the target at which the box of a cell of one row is free over the row, if no
+/// blockage is soft. Of two nearest ones, the lesser. It needs no list of free spans.
+fn nearest_free_x(search: &RowSearch<'_>, bottom: &BottomRow<'_>) -> Option<i64>
+    requires is_in_place { slice_get search.now.frame.now.rows bottom.now.number ≡ Some bottom.now.row.now }
+    requires one { search.now.height ≡ 1 }
+    requires bare { (k : ℕ) → slice_index_or search.now.occupancy.now.index.soft k [] ≡ [] }
+    ensures { FindsFreeX search.now bottom.now.number bottom.now.row.now bottom.now.window.now.span result }
+{
+    search_is_occupied(search);
+    let padding = padding_length(search);
+    let wanted = gap_target(search, bottom);
+    let window = &bottom.window.span;
+    search
+        .occupancy
+        .nearest_in_row(bottom.number, search.id, window, padding, &wanted)
+}
+
+/// The best place in this orientation of a cell of one row on this row, if no blockage is soft.
+fn best_in_gap(search: &RowSearch<'_>, bottom: &BottomRow<'_>, orient: Orient) -> Option<Place>
+    requires is_in_place { slice_get search.now.frame.now.rows bottom.now.number ≡ Some bottom.now.row.now }
+    requires first { IsFirstOrient search.now bottom.now.row.now orient }
+    requires one { search.now.height ≡ 1 }
+    requires bare { (k : ℕ) → slice_index_or search.now.occupancy.now.index.soft k [] ≡ [] }
+    ensures { IsChoiceAmong
+        (IsOnRowIn search.now.frame.now search.now.size bottom.now.row.now bottom.now.window.now.span)
+        (query_of_search search.now) search.now.target.now (option_map spot_of result) }
+{
+    search_is_occupied(search);
+    let Some(x) = nearest_free_x(search, bottom) else {
+        return None;
+    };
+    Some(place_on(bottom.row, &x, orient))
+}
+
 /// The best place in this orientation of a cell of one row on this row. It needs no list of lists.
 fn best_of_one(
     alloc: Global,
@@ -179,6 +227,9 @@ fn best_of_one(
         (option_map spot_of found)) }
 {
     search_is_occupied(search);
+    if search.occupancy.index().has_no_soft() {
+        return Ok(best_in_gap(search, bottom, orient));
+    }
     let free = open_in_row(alloc, search, bottom.number, bottom.window)?;
     if free.is_empty() {
         return Ok(None);

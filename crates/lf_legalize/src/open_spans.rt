@@ -43,7 +43,7 @@ fn without_soft(
 }
 
 /// The padding of the search, in database units.
-fn padding_length(search: &RowSearch<'_>) -> i64
+pub(crate) fn padding_length(search: &RowSearch<'_>) -> i64
     ensures is { result ≡ padding_in search.now }
     ensures padding { IsPaddingOf search.now.occupancy.now result }
 {

@@ -14,7 +14,8 @@ use Rattle.lf_occupancy.specs.Views.{strip_extent}
 use Rattle.lf_frame_index.specs.Strips.{AreNear, LiesBefore, IsNear}
 use Rattle.lf_cells.specs.declared.cell.CellId.{CellId}
 use Rattle.lf_occupancy.specs.Strips.{AreFreeTo, AreFreeSpansOfStrip, LiesFree}
-use Rattle.lf_occupancy.proofs.Lists.{pairs_append, any_right}
+use Rattle.lf_gaps.proofs.Nearest.{any_right}
+use Rattle.lf_occupancy.proofs.Lists.{pairs_append}
 use Rattle.lf_occupancy.proofs.Finds.{no_strip}
 
 -- the span lies in the strip of this number between two positions, and shares no number with

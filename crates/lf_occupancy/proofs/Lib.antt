@@ -7,6 +7,7 @@ pub mod Walking
 pub mod Parts
 pub mod Finds
 pub mod Frees
+pub mod Gaps
 pub mod Changes
 pub mod Settling
 pub mod Laning
@@ -20,3 +21,4 @@ pub mod Ones
 pub mod Counting
 pub mod Tallying
 pub mod Knowing
+pub mod Separating

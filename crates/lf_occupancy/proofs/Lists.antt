@@ -62,10 +62,6 @@ any_less {X} P xs i x within is a = elim (any_split P (take i xs) (get_or xs i x
     one y (zero, z, below, same, q) = subst P (sym same) q
     one y (suc k, z, below, same, q) = absurd (omega (arith, below))
 
-pub any_right : {X : Type 0} (P : X → Type 0) (xs ys : List X) → Any P ys → Any P (xs ++ ys)
-any_right P [] ys a = a
-any_right P (x ∷ xs) ys a = let r = any_right P xs ys a in (suc r.0, r.1, (let h = r.2 in omega (arith, h)), r.3, r.4)
-
 pub pairs_append : {X : Type 0} (R : X → X → Type 0) (xs ys : List X) → All (λ x. All (R x) ys) xs → AllPairs R xs → AllPairs R ys → AllPairs R (xs ++ ys)
 pairs_append R [] ys cross first second = second
 pairs_append R (x ∷ xs) ys cross first second =

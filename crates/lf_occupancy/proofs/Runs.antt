@@ -1,8 +1,7 @@
 -- Entries near a range, found by binary search.
-use Rattle.std.proofs.Common.{◌≡◌, ◌⊎◌, inl, inr, ℕ, ◌+◌, ◌-◌, ◌<◌, ◌≤◌, ℤ, ◌-ℤ◌, ◌≤ℤ◌, ◌<ℤ◌, true, false, List, ◌++◌, length, get_or, take}
-use Rattle.std.proofs.Common.{drop, map, eqb, sym, ap, subst, ◌∙◌, arith, int_lt}
+use Rattle.std.proofs.Common.{◌≡◌, ◌⊎◌, inl, inr, ℕ, ◌+◌, ◌-◌, ◌/◌, ◌<◌, ◌≤◌, ℤ, ◌-ℤ◌, ◌≤ℤ◌, ◌<ℤ◌, true, List, ◌++◌, length, get_or, take}
+use Rattle.std.proofs.Common.{drop, map, eqb, sym, ap, subst, ◌∙◌, arith}
 use Rattle.std.specs.Prelude.{All, AllPairs, Contains, not}
-use Rattle.std.specs.List.Sorted.{IsPartitionedBy, IsPartitionPoint}
 use Rattle.std.proofs.lemmas.Int.{ints}
 use Rattle.std.proofs.lemmas.Bool.Decides.{nat_tests}
 use Rattle.std.proofs.lemmas.List.{get_or_default, get_or-take, get_or-drop, get_or-map, length-take, length-drop, length-map, take-append-drop}
@@ -17,15 +16,6 @@ use Rattle.lf_occupancy.specs.declared.strip_marks.Mark.{Mark}
 use Rattle.lf_occupancy.specs.MarkLists.{AreInOrder, AreRising, IsNearRun, OverlapsOne, others_in, spans_in, x_range}
 use Rattle.lf_occupancy.proofs.Lists.{contains_filter, pairs_filter}
 
-less_of : (a b : ℤ) → int_lt a b ≡ true → a <ℤ b
-less_of a b e = grind (arith, ints)
-
-of_less : (a b : ℤ) → a <ℤ b → int_lt a b ≡ true
-of_less a b h = grind (arith, ints)
-
-not_less_of : (a b : ℤ) → int_lt a b ≡ false → b ≤ℤ a
-not_less_of a b e = grind (arith, ints)
-
 rises : (xs : List Mark) (i j : ℕ) (d : Mark) → AreRising xs → i ≤ j → j < length xs → (get_or xs i d).left ≤ℤ (get_or xs j d).left
 rises xs i j d pairs order within = elim same_or [
   | inl same ↦ let At : ℕ → Type 0 = λ n. (get_or xs i d).left ≤ℤ (get_or xs n d).left in subst At same (omega (arith, ints))
@@ -35,19 +25,48 @@ rises xs i j d pairs order within = elim same_or [
     same_or : (i ≡ j) ⊎ (i < j)
     same_or = grind arith
 
-pub parted : (xs : List Mark) (x : ℤ) → AreRising xs → IsPartitionedBy (λ e. int_lt e.left x) xs
-parted xs x pairs i j d order within t =
-    let later = rises xs i j d pairs order within in
-    let low = less_of (get_or xs j d).left x t in
-    of_less (get_or xs i d).left x (omega (arith, ints, later, low))
+-- the number of marks below x is from `from` up to `rest` more
+pub record IsHalved (xs : List Mark) (x : ℤ) (from rest : ℕ) : Type 0 where
+  pub within : from + rest ≤ length xs
+  pub below : (k : ℕ) (d : Mark) → k < from → (get_or xs k d).left <ℤ x
+  pub beyond : (k : ℕ) (d : Mark) → from + rest ≤ k → k < length xs → x ≤ℤ (get_or xs k d).left
 
-pub below_x : (xs : List Mark) (x : ℤ) (n : ℕ) → IsPartitionPoint (λ e. int_lt e.left x ≡ true) (λ e. int_lt e.left x ≡ false) xs n →
-    (k : ℕ) (d : Mark) → k < n → (get_or xs k d).left <ℤ x
-below_x xs x n point k d less = less_of (get_or xs k d).left x (point.0 k d (omega arith) less)
+-- the mark in the middle is below x
+pub halved_above : (xs : List Mark) (x : ℤ) (from rest : ℕ) (e : Mark) → AreRising xs → 0 < rest →
+    (get_or xs (from + (rest - rest / 2) - 1) e).left <ℤ x → IsHalved xs x from rest → IsHalved xs x (from + (rest - rest / 2)) (rest / 2)
+halved_above xs x from rest e pairs some low h =
+    let half : ℕ = rest / 2 in
+    let within = h.within in
+    let less : half ≤ rest = omega arith in
+    let part : half < rest = omega (arith, some) in
+    record {
+      within = omega (arith, within, less);
+      below = λ k d at.
+          let there : (get_or xs (from + (rest - half) - 1) d).left <ℤ x =
+          subst (λ (m : Mark). m.left <ℤ x) (get_or_default xs (from + (rest - half) - 1) e d (omega (arith, within, some, part))) low in
+          let later = rises xs k (from + (rest - half) - 1) d pairs (omega (arith, at)) (omega (arith, within, some, part)) in
+          omega (arith, ints, there, later);
+      beyond = λ k d at. h.beyond k d (omega (arith, at, less));
+    }
 
-pub from_x : (xs : List Mark) (x : ℤ) (n : ℕ) → IsPartitionPoint (λ e. int_lt e.left x ≡ true) (λ e. int_lt e.left x ≡ false) xs n →
-    (k : ℕ) (d : Mark) → n ≤ k → k < length xs → x ≤ℤ (get_or xs k d).left
-from_x xs x n point k d from within = not_less_of (get_or xs k d).left x (point.1 k d from within)
+-- the mark in the middle is not below x
+pub halved_below : (xs : List Mark) (x : ℤ) (from rest : ℕ) (e : Mark) → AreRising xs → 0 < rest →
+    x ≤ℤ (get_or xs (from + (rest - rest / 2) - 1) e).left → IsHalved xs x from rest → IsHalved xs x from (rest / 2)
+halved_below xs x from rest e pairs some high h =
+    let half : ℕ = rest / 2 in
+    let within = h.within in
+    let less : half ≤ rest = omega arith in
+    let part : half < rest = omega (arith, some) in
+    let ceiling : rest - half ≤ half + 1 = omega arith in
+    record {
+      within = omega (arith, within, less);
+      below = h.below;
+      beyond = λ k d at inside.
+          let there : x ≤ℤ (get_or xs (from + (rest - half) - 1) d).left =
+          subst (λ (m : Mark). x ≤ℤ m.left) (get_or_default xs (from + (rest - half) - 1) e d (omega (arith, within, some, part))) high in
+          let later = rises xs (from + (rest - half) - 1) k d pairs (omega (arith, at, ceiling)) inside in
+          omega (arith, ints, there, later);
+    }
 
 -- if the last mark is below x, all are
 pub below_last : (xs : List Mark) (x : ℤ) → AreRising xs → (e : Mark) → 0 < length xs → (get_or xs (length xs - 1) e).left <ℤ x →

@@ -127,6 +127,10 @@ pub record IsNearRun (entries : List Entry) (lo hi : ℤ) (near : List Entry) : 
   pub left : All (λ e. e.area.x2 ≤ℤ lo) before
   pub right : All (λ e. hi ≤ℤ e.area.x1) after_it
 
+-- the entries in front of this position end at x or to the left of it
+abbrev pub EndUpTo : List Entry → ℕ → ℤ → Type 0
+EndUpTo entries n x = (k : ℕ) (d : Entry) → k < n → k < length entries → (slice_index_or entries k d).area.x2 ≤ℤ x
+
 -- the entries of all other cells
 abbrev pub others_in : List Entry → ℕ → List Entry
 others_in entries own = filter (λ e. not (e.own == own)) entries

@@ -65,6 +65,14 @@ pub record IsOther (o : Occupied) (id : CellId) (own : ℕ) (box : Rect) : Type 
 abbrev pub IsClearOfOthers : Occupied → CellId → Rect → Type 0
 IsClearOfOthers o id rect = (own : ℕ) (box : Rect) → IsOther o id own box → SharesPoint rect box → ⊥
 
+-- the cell at this position has a box, which, widened by the padding, shares no point with another
+-- cell's box
+pub record OverlapsNoBox (boxes : List (Option Rect)) (padding : ℤ) (own : ℕ) : Type 0 where
+  pub box : Rect
+  pub is : cell_box boxes own ≡ Some box
+  pub clear : (other : ℕ) (near : Rect) → other ≢ own → cell_box boxes other ≡ Some near
+      → SharesPoint (wider padding box) near → ⊥
+
 -- the strip is of this row and team
 pub record IsStripOf (row team : ℕ) (g : Strip) : Type 0 where
   pub in_row : g.row ≡ row

@@ -29,6 +29,8 @@
 //! - `marked_strips`: strips together with their marks and the boxes that they mark
 //! - `marking`: marks of a cell added to and removed from all strips that its box reaches
 //! - `queries`: overlaps and free spans in several strips
+//! - `nearest_gap`: the nearest place between the marks of strips
+//! - `apart`: the cells of a row that keep the padding from all others
 //! - `build`: the marks of all strips, made from a table of cells
 //! - `strip_counts`: counts of boxes for each strip
 //! - `occupancy_view`: the strips together with the boxes that they mark
@@ -44,12 +46,14 @@
 //! ```
 #![tactic(auto)]
 
+mod apart;
 mod boxes;
 mod build;
 mod free_spans;
 mod laws;
 mod marked_strips;
 mod marking;
+mod nearest_gap;
 mod occupancy;
 mod occupancy_view;
 mod queries;

@@ -1,16 +1,20 @@
 //! The strips of a frame together with the boxes of a table's cells.
 
-ghost use Rattle.std.specs.Prelude.{◌≡◌, ◌≤ℤ◌, IfOk, Option, negsuc, pos};
-ghost use Rattle.lf_occupancy.specs.Views.{reach, AreFreeSpans, IsFirstOverlappingCell, IsFreeInRow, IsPaddingOf};
+ghost use Rattle.std.specs.Prelude.{◌≡◌, ◌≤ℤ◌, All, IfOk, Option, negsuc, pos};
+ghost use Rattle.lf_gaps.specs.Gaps.{FindsGap};
+ghost use Rattle.lf_occupancy.specs.Views.{boxes_of, reach, AreFreeSpans, OverlapsNoBox, IsFirstOverlappingCell, IsFreeInRow, IsPaddingOf};
 ghost use Rattle.lf_occupancy.specs.Strips.{MarksBoxes, with_boxes};
 
+use crate::apart::apart_in_strips;
 use crate::boxes::Boxes;
 use crate::marked_strips::{CellPadding, MarkedStrips};
+use crate::nearest_gap::nearest_in_strips;
 use crate::occupancy::Occupancy;
 use crate::queries::{free_in_one, free_in_strips, least_overlapped};
 use crate::widened::WidenedStrips;
 use lf_cells::CellId;
 use lf_frame_index::FrameIndex;
+use lf_gaps::GapTarget;
 use lf_units::{Rect, Span};
 use std::alloc::{AllocError, Global};
 use std::marker::Model;
@@ -98,6 +102,39 @@ impl<'a> OccupancyView<'a> {
         free_in_strips(alloc, &marked, row, &id, window, &length)
     }
 
+    /// The number nearest to the target, on the grid, from which on the width lies in one of the
+    /// spans of a row within a window that are free for a cell, as `free_in_row` lists them. The
+    /// lesser of two that are equally near. `None` if the width lies in none of them.
+    ///
+    /// The window begins at -2^62 or above. The padding is a length from 0 to 16 core sites. Only
+    /// cells near the window are searched. Does not allocate.
+    pub fn nearest_in_row(
+        &self,
+        row: usize,
+        id: CellId,
+        window: &Span,
+        padding: i64,
+        wanted: &GapTarget,
+    ) -> Option<i64>
+        requires window { negsuc 4611686018427387903 ≤ℤ window.now.lo }
+        requires padding { IsPaddingOf self.now padding }
+        ensures { FindsGap (IsFreeInRow self.now row id window.now padding) wanted.now result }
+    {
+        let occupancy = self.occupancy;
+        occupancy.index.strips_are_placed();
+        let strips = WidenedStrips {
+            index: &occupancy.index,
+            site: &occupancy.site,
+        };
+        let marked = MarkedStrips {
+            strips: &strips,
+            mark_lists: &occupancy.mark_lists,
+            boxes: &self.boxes,
+        };
+        let length = CellPadding { length: padding };
+        nearest_in_strips(&marked, row, &id, window, &length, wanted)
+    }
+
     /// The free spans of the strip of segment number `segment`, in database units.
     ///
     /// They are the parts that the cells of its team leave free with the padding around each,
@@ -151,5 +188,34 @@ impl<'a> OccupancyView<'a> {
             boxes: &self.boxes,
         };
         least_overlapped(&marked, &id, rect)
+    }
+
+    /// Positions of cells of the team whose boxes, widened by the padding, overlap no other cell of
+    /// the team. The cells lie in the team's strips of this row, and are listed from left to right.
+    /// A cell that does not lie in one strip, as one of several rows, is not listed.
+    ///
+    /// The padding is a length from 0 to 16 core sites. `Err` if an allocation fails.
+    pub fn apart_in_row(
+        &self,
+        alloc: Global,
+        row: usize,
+        team: usize,
+        padding: i64,
+    ) -> Result<Vec<u32>, AllocError>
+        requires { IsPaddingOf self.now padding }
+        ensures { IfOk result (λ apart. All (OverlapsNoBox (boxes_of self.now team) padding) apart.items) }
+    {
+        let occupancy = self.occupancy;
+        let strips = WidenedStrips {
+            index: &occupancy.index,
+            site: &occupancy.site,
+        };
+        let marked = MarkedStrips {
+            strips: &strips,
+            mark_lists: &occupancy.mark_lists,
+            boxes: &self.boxes,
+        };
+        let length = CellPadding { length: padding };
+        apart_in_strips(alloc, &marked, row, team, &length)
     }
 }

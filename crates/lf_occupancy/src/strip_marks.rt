@@ -115,7 +115,7 @@ fn entry_at(strip: &MarkedStrip<'_>, mark: &Mark) -> Entry
 }
 
 /// The x range of the entry of a mark in the strip.
-fn range_at(strip: &MarkedStrip<'_>, mark: &Mark) -> Span
+pub(crate) fn range_at(strip: &MarkedStrip<'_>, mark: &Mark) -> Span
     requires { MarkIsOf (entry_in strip.now mark.now) mark.now }
     ensures { result ≡ x_range (entry_in strip.now mark.now).area }
 {
@@ -133,8 +133,15 @@ fn is_beyond(mark: &Mark, left: &i64) -> bool
     i64::from(mark.left) > *left
 }
 
+/// Whether the mark begins to the left of x.
+fn begins_before(mark: &Mark, x: &i64) -> bool
+    ensures { IsTrue result ↔ (mark.now.left <ℤ x.now) }
+{
+    i64::from(mark.left) < *x
+}
+
 /// The number of marks whose left edge is below x. One comparison suffices if all are below x.
-/// Otherwise they are found by binary search.
+/// Otherwise they are found by binary search, in steps without a jump that depends on the marks.
 pub(crate) fn count_before(marks: &[Mark], x: &i64) -> usize
     requires { AreRising marks.now }
     ensures within { result ≤ length marks.now }
@@ -143,10 +150,19 @@ pub(crate) fn count_before(marks: &[Mark], x: &i64) -> usize
         → x.now ≤ℤ (slice_index_or marks.now k d).left }
 {
     let many = marks.len();
-    if 0 < many && i64::from(marks[many - 1].left) < *x {
+    if 0 < many && begins_before(&marks[many - 1], x) {
         return many;
     }
-    marks.partition_point(|mark| i64::from(mark.left) < *x)
+    let mut from = 0;
+    let mut rest = many;
+    while 0 < rest {
+        let half = rest - rest / 2;
+        if begins_before(&marks[from + half - 1], x) {
+            from += half;
+        }
+        rest /= 2;
+    }
+    from
 }
 
 /// The marks of the entries near a range of x. They are found by binary search.
@@ -236,7 +252,7 @@ pub(crate) fn least_in_mark_list(
 }
 
 /// The range widened by the padding on its left and on its right.
-fn padded_range(range: &Span, padding: &CellPadding) -> Span
+pub(crate) fn padded_range(range: &Span, padding: &CellPadding) -> Span
     requires low { negsuc 4611686018427387903 ≤ℤ range.now.lo }
     requires high { range.now.hi ≤ℤ pos 4611686018427387904 }
     ensures { result ≡ wider_range padding.now.length range.now }

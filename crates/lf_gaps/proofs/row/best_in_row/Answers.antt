@@ -4,7 +4,8 @@ use Rattle.std.proofs.lemmas.Int.{ints}
 use Rattle.lf_spans.specs.declared.span.Span.{Span}
 use Rattle.lf_spans.specs.Grids.{FindsNearest, IsBoundedSpan}
 use Rattle.lf_spans.specs.Spans.{IsMeetAll, IsRising}
-use Rattle.lf_gaps.specs.Steps.{FitsOne, IsWanted}
+use Rattle.lf_gaps.specs.Gaps.{FitsOne}
+use Rattle.lf_gaps.specs.Steps.{IsWanted}
 use Rattle.lf_gaps.proofs.Nearest.{near_overlapped_of, found_in_rows, meet_of_one, one_list}
 use Rattle.lf_gaps.proofs.row.best_in_row.Goals as goal
 

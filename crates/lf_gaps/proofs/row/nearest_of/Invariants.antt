@@ -1,6 +1,6 @@
 use Rattle.std.proofs.Common.{◌≤◌, length, drop}
 use Rattle.lf_spans.specs.Grids.{FindsNearest}
-use Rattle.lf_gaps.specs.Steps.{FitsOne}
+use Rattle.lf_gaps.specs.Gaps.{FitsOne}
 use Rattle.lf_gaps.proofs.row.nearest_of.Given as goal
 
 -- The nearest number in the spans from here on.

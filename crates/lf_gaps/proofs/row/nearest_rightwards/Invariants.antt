@@ -1,6 +1,6 @@
 use Rattle.std.proofs.Common.{take}
 use Rattle.lf_spans.specs.Grids.{FindsNearest}
-use Rattle.lf_gaps.specs.Steps.{FitsOne}
+use Rattle.lf_gaps.specs.Gaps.{FitsOne}
 use Rattle.lf_gaps.proofs.row.nearest_rightwards.Given as goal
 
 -- The nearest number in the spans read so far.

@@ -1,9 +1,14 @@
-use Rattle.std.proofs.Common.{◌≡◌, List, Vec, Global, length, map, sym, subst, rules}
+use Rattle.std.proofs.Common.{◌≡◌, ℕ, List, [], Vec, Global, get_or, length, map, refl, sym, subst, rules}
+use Rattle.lf_frame_index.specs.Indexes.{FrameIndexView}
 use Rattle.lf_spans.specs.declared.span.Span.{Span}
 use Rattle.lf_legalize.specs.Levels.{AreLevels, HasBareLevel}
 use Rattle.lf_legalize.proofs.LevelLemmas.{bare_bottom, one_level}
 use Rattle.lf_legalize.proofs.RowChoice.{none_bare}
 use Rattle.lf_legalize.proofs.on_row.best_of_one.Goals as goal
+
+pub best_in_gap-requires-clause-bare : goal.best_in_gap-requires-clause-bare
+best_in_gap-requires-clause-bare c =
+    subst (λ (g : FrameIndexView). (k : ℕ) → get_or g.soft k [] ≡ []) c.index.ensures (c.if-has_no_soft.ensures refl)
 
 pub returns-then-is_empty : goal.returns-then-is_empty
 returns-then-is_empty c p on may =
