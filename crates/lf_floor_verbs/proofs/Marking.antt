@@ -9,22 +9,24 @@ use Rattle.lf_floorplan.specs.declared.frame.Frame.{Frame}
 use Rattle.lf_floorplan.specs.declared.place.Place.{Place}
 use Rattle.lf_floorplan.specs.Boxes.{IsSized, macro_of}
 use Rattle.lf_rules.specs.declared.rule.Broken.{Broken}
+use Rattle.lf_rules.specs.declared.rule.Rule.{Rule}
 use Rattle.lf_rules.specs.Choice.{IsLegalAt, spot_of}
 use Rattle.lf_rules.specs.Legality.{IsTeamLegal}
-use Rattle.lf_rules.specs.Legalizer.{VerdictIsUnique}
+use Rattle.lf_rules.specs.Legalizer.{Legalizer, VerdictIsUnique}
 use Rattle.lf_rules.specs.Team.{IsLegalCell}
 use Rattle.lf_rules.specs.Tidy.{Going, TidyKeepsLegal, point_of, target_of, tidy_cell}
 use Rattle.lf_cells.specs.declared.cell.Cell.{Cell}
 use Rattle.lf_cells.specs.declared.cell.CellId.{CellId}
-use Rattle.lf_cells.specs.Cells.{id_in, id_of, working_at}
+use Rattle.lf_cells.specs.Cells.{cells_of, id_in, id_of, working_at}
 use Rattle.lf_legalize.specs.Members.{IsSizedCell, member_of}
-use Rattle.lf_floor_model.specs.Teams.{TeamRules, query_of_cell}
+use Rattle.lf_placement.specs.Placements.{IsBrokenFrameRule, OverlapsNoCell, Placing}
+use Rattle.lf_floor_model.specs.Teams.{TeamRules, broken_at, query_of_cell, team_rules}
 use Rattle.lf_floor_model.specs.Changes.{broken_where}
 use Rattle.lf_floor_model.proofs.Forms.{broken_by, candidate_of_cell}
 use Rattle.lf_floor_model.proofs.LegalPlaces.{some_one, is_placed_where}
 use Rattle.lf_floor_verbs.specs.Marking.{AreMarked}
 use Rattle.lf_floor_verbs.specs.Tidying.{tidy_target_at}
-use Rattle.lf_floor_verbs.proofs.BrokenRules.{sized_there}
+use Rattle.lf_floor_verbs.proofs.BrokenRules.{broken_there, sized_there}
 
 -- ---- marks
 
@@ -117,3 +119,20 @@ id_is cells number own id is = go (slice_get cells own) is where
   go : (o : Option Cell) → Some id ≡ option_map (λ (c : Cell). id_of number own) o → id ≡ id_of number own
   go None e = absurd cc
   go (Some c) e = some_one e
+
+-- ---- a cell that overlaps no other is legal if it breaks no other rule
+
+no_rule_left : (alone : Option Rule) → is_none alone ≡ true → alone ≡ None
+no_rule_left None e = refl
+no_rule_left (Some r) e = absurd cc
+
+pub apart_is_legal : (l : Legalizer) (p : Placing) (padding : ℕ) (id : CellId) (place : Place) (alone : Option Rule) → VerdictIsUnique →
+    All (IsSizedCell p.frame) (cells_of p.cells id.team) → working_at (cells_of p.cells id.team) id.own ≡ Some place → IsBrokenFrameRule p id place alone →
+    is_none alone ≡ true → OverlapsNoCell p padding id → IsLegalCell p.frame id.team padding (map member_of (cells_of p.cells id.team)) id.own
+apart_is_legal l p padding id place alone one sized at verdict none apart =
+    let t = team_rules l p.frame id.team padding in
+    let cells = cells_of p.cells id.team in
+    let held = subst (λ (o : Option Rule). IsBrokenFrameRule p id place o) (no_rule_left alone none) verdict in
+    let unbroken = broken_there l p padding id place None one sized (apart place at held) in
+    is_placed_where t cells id.own place sized at
+    (ap (λ (o : Option Place). option_and_then (λ (q : Place). broken_at t cells id.own q) o) at ∙ sym unbroken)

@@ -16,7 +16,6 @@
 //! - `dispatch`: from a command to the method of its verb
 //! - `sessions`: `open`, `close` and `sync`
 //! - `cell_queries`: broken rules and best places of a team's own cells
-//! - `by_place`: cells sorted by place
 //! - `team_legality`: which of a team's cells are legal, and the first that is not
 //! - `report`: the report of a team's cells
 //! - `queries`: `where`, `check`, `def` and `find`
@@ -34,7 +33,6 @@
 //! ```
 #![tactic(auto)]
 
-mod by_place;
 mod cell_queries;
 mod context;
 mod dispatch;

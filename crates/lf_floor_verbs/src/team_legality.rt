@@ -3,14 +3,14 @@
 ghost use Rattle.std.specs.Prelude.{◌≡◌, ◌<◌, IfOk, IsTrue, Some, length, map, slice_get, slice_set, true};
 ghost use Rattle.lf_rules.specs.Legalizer.{Legalizer};
 ghost use Rattle.lf_rules.specs.Team.{IsLegalCell};
-ghost use Rattle.lf_cells.specs.Cells.{cells_of};
+ghost use Rattle.lf_cells.specs.Cells.{cells_of, id_of};
 ghost use Rattle.lf_legalize.specs.Members.{member_of};
+ghost use Rattle.lf_placement.specs.Placements.{OverlapsNoCell};
 ghost use Rattle.lf_floor_model.specs.Teams.{team_rules};
 ghost use Rattle.lf_floor_model.specs.Changes.{broken_cells, broken_where};
 ghost use Rattle.lf_floor_verbs.specs.Marking.{AreMarked};
 ghost use Rattle.lf_floor_verbs.specs.Tables.{table_cells, frame_of, context_in};
 
-use crate::by_place::by_place;
 use crate::cell_queries::{broken_where, is_unplaced};
 use crate::context::TeamContext;
 use crate::tables::Tables;
@@ -19,10 +19,6 @@ use lf_placement::Placement;
 use lf_reports::BrokenCell;
 use lf_rules::{Broken, Padding, legalizer_exists, verdict_is_unique};
 use std::alloc::AllocError;
-
-/// Cells are sorted by place in batches of this size. The list of a batch is small next to the cell
-/// table. In a million cells, successive cells of a batch are still close to each other.
-const BATCH: usize = 65536;
 
 /// Returns true if the cell is placed and breaks no rule at its working place, among the other
 /// cells of its team with this padding. False if there is no such cell. Does not allocate.
@@ -53,8 +49,31 @@ fn mark(marks: &mut Vec<bool>, own: usize)
     marks[own] = true;
 }
 
-/// Marks the team's cell at that position if it is placed and breaks no rule at its working place.
-fn mark_legal<S>(around: &TeamContext<'_, S>, tables: &Tables, own: usize, marks: &mut Vec<bool>)
+/// Returns true if the cell is placed and breaks no rule except overlap at its working place. So it
+/// breaks no rule if it overlaps no other cell of its team. Does not allocate.
+fn is_legal_apart(placement: &Placement, id: CellId, padding: Padding) -> bool
+    requires { OverlapsNoCell placement.now padding.sites id }
+    ensures { IsTrue result → IsLegalCell placement.now.frame id.team padding.sites
+        (map member_of (cells_of placement.now.cells id.team)) id.own }
+{
+    legalizer_exists();
+    verdict_is_unique();
+    placement.cells_are_sized();
+    let Some(place) = placement.cells().working(id) else {
+        return false;
+    };
+    placement.broken_frame_rule(id, &place).is_none()
+}
+
+/// Marks the team's cell at that position, which overlaps no other cell of the team, if it is
+/// placed and breaks no rule at its working place.
+fn mark_legal_apart<S>(
+    around: &TeamContext<'_, S>,
+    tables: &Tables,
+    own: usize,
+    marks: &mut Vec<bool>,
+)
+    requires { OverlapsNoCell tables.now.placement around.now.padding.sites (id_of around.now.number own) }
     ensures { AreMarked (frame_of tables.now) around.now.number around.now.padding.sites
         (table_cells around.now.number tables.now) marks.old.items
         → AreMarked (frame_of tables.now) around.now.number around.now.padding.sites
@@ -66,20 +85,20 @@ fn mark_legal<S>(around: &TeamContext<'_, S>, tables: &Tables, own: usize, marks
     if own >= marks.len() {
         return;
     }
-    if !is_cell_legal(&tables.placement, id, around.padding) {
+    if !is_legal_apart(&tables.placement, id, around.padding) {
         return;
     }
     mark(marks, own);
 }
 
-/// Marks those of the team's cells with these ids that are placed and team-legal. They are tested
-/// in the order of their places.
+/// Marks cells of the team in the row with this number that are team-legal: those that the strips
+/// of the row show to overlap no other cell, and that break no other rule.
 ///
 /// `Err` if an allocation fails.
-fn mark_batch<S>(
+fn mark_row<S>(
     around: &TeamContext<'_, S>,
     tables: &Tables,
-    ids: &[CellId],
+    row: usize,
     marks: &mut Vec<bool>,
 ) -> Result<(), AllocError>
     ensures { AreMarked (frame_of tables.now) around.now.number around.now.padding.sites
@@ -87,15 +106,60 @@ fn mark_batch<S>(
         → AreMarked (frame_of tables.now) around.now.number around.now.padding.sites
         (table_cells around.now.number tables.now) marks.new.items }
 {
-    let order = by_place(around.alloc, tables.placement.cells(), ids)?;
-    for cell in &order {
-        mark_legal(around, tables, cell.own as usize, marks);
+    let apart = tables
+        .placement
+        .apart_in_row(around.alloc, row, around.number, around.padding)?;
+    for own in &apart {
+        mark_legal_apart(around, tables, *own as usize, marks);
     }
     Ok(())
 }
 
+/// Marks cells of the team that are team-legal, row by row, as `mark_row` does. A team with no more
+/// cells than the frame has rows is left to the tests of single cells.
+fn mark_rows<S>(
+    around: &TeamContext<'_, S>,
+    tables: &Tables,
+    marks: &mut Vec<bool>,
+) -> Result<(), AllocError>
+    ensures { AreMarked (frame_of tables.now) around.now.number around.now.padding.sites
+        (table_cells around.now.number tables.now) marks.old.items
+        → AreMarked (frame_of tables.now) around.now.number around.now.padding.sites
+        (table_cells around.now.number tables.now) marks.new.items }
+{
+    let rows = tables.placement.frame().rows.len();
+    if marks.len() <= rows {
+        return Ok(());
+    }
+    for row in 0..rows {
+        mark_row(around, tables, row, marks)?;
+    }
+    Ok(())
+}
+
+/// Marks the team's cell at that position if it is placed and breaks no rule at its working place.
+/// Does not test a cell whose mark is set.
+fn mark_legal<S>(around: &TeamContext<'_, S>, tables: &Tables, own: usize, marks: &mut Vec<bool>)
+    ensures { AreMarked (frame_of tables.now) around.now.number around.now.padding.sites
+        (table_cells around.now.number tables.now) marks.old.items
+        → AreMarked (frame_of tables.now) around.now.number around.now.padding.sites
+        (table_cells around.now.number tables.now) marks.new.items }
+{
+    let Some(id) = tables.cell_at(around.number, own) else {
+        return;
+    };
+    if own >= marks.len() || is_marked(marks.as_slice(), own) {
+        return;
+    }
+    if !is_cell_legal(&tables.placement, id, around.padding) {
+        return;
+    }
+    mark(marks, own);
+}
+
 /// Returns a mark for each of the team's cells, in loading order: true if the cell is placed and
-/// team-legal.
+/// team-legal. Cells that overlap no other are found row by row; only the remaining ones are tested
+/// for overlap one by one.
 ///
 /// `Err` if an allocation fails.
 pub(crate) fn legal_marks<S>(
@@ -107,8 +171,9 @@ pub(crate) fn legal_marks<S>(
 {
     let ids = tables.placement.cells().cells_of(around.number);
     let mut marks = vec![in around.alloc; false; ids.len()]?;
-    for batch in ids.chunks(BATCH) {
-        mark_batch(around, tables, batch, &mut marks)?;
+    mark_rows(around, tables, &mut marks)?;
+    for own in 0..ids.len() {
+        mark_legal(around, tables, own, &mut marks);
     }
     Ok(marks)
 }

@@ -1,9 +1,10 @@
 -- What the tests of a cell at a place say about it.
-use Rattle.std.proofs.Common.{◌≡◌, ◌≤◌, ℕ, zero, suc, [], ◌∷◌, List, get_or, map, Option, Some, None, refl, ap, subst, ◌∙◌}
-use Rattle.std.specs.Prelude.{All, MatchOption, slice_get}
+use Rattle.std.proofs.Common.{◌≡◌, ◌≤◌, ◌≤ℤ◌, ◌*ℤ◌, ℕ, ℤ, pos, zero, suc, [], ◌∷◌, List, get_or, map, Option, Some, None, refl, ap, subst, sym, ◌∙◌}
+use Rattle.std.specs.Prelude.{All, MatchOption, option_and_then, slice_get}
 use Rattle.std.specs.Option.{option_map}
 use Rattle.std.proofs.lemmas.Option.{get_or_from_slice_get, slice_get_within}
 use Rattle.lf_units.specs.declared.geometry.Rect.{Rect}
+use Rattle.lf_units.specs.Area.{SharesPoint}
 use Rattle.lf_floorplan.specs.declared.frame.Frame.{Frame}
 use Rattle.lf_floorplan.specs.declared.macros.Macro.{Macro}
 use Rattle.lf_floorplan.specs.declared.place.Place.{Place}
@@ -13,18 +14,22 @@ use Rattle.lf_rtree.specs.declared.placed.Placed.{Placed}
 use Rattle.lf_rules.specs.declared.rule.Broken.{Broken}
 use Rattle.lf_rules.specs.declared.rule.Rule.{Rule}
 use Rattle.lf_rules.specs.declared.rule.Rule.TheVariants.{Overlap}
-use Rattle.lf_rules.specs.Legality.{padded_box, candidate_of}
+use Rattle.lf_rules.specs.Choice.{spot_of}
+use Rattle.lf_rules.specs.Legality.{Candidate, padded_box, candidate_of}
 use Rattle.lf_rules.specs.Legalizer.{IsVerdict}
-use Rattle.lf_rules.specs.Team.{boxes_beside}
+use Rattle.lf_rules.specs.Padding.{length_of, wider}
+use Rattle.lf_rules.proofs.WiderLemmas.{length_least, length_upto}
+use Rattle.lf_rules.specs.Team.{box_in, boxes_beside}
 use Rattle.lf_rules.specs.Legality.{IsFrameRuleVerdict}
 use Rattle.lf_cells.specs.declared.cell.Cell.{Cell}
 use Rattle.lf_cells.specs.declared.cell.CellId.{CellId}
 use Rattle.lf_cells.specs.declared.cell.CellPlacement.{CellPlacement}
-use Rattle.lf_cells.specs.Cells.{cell_at, cells_of, placement_of}
+use Rattle.lf_cells.specs.Cells.{cell_at, cells_of, placement_of, working_at}
 use Rattle.lf_legalize.specs.Members.{IsSizedCell, member_of}
-use Rattle.lf_occupancy.specs.Views.{IsFirstOverlappingCell}
-use Rattle.lf_occupancy.specs.Floorplans.{IsOccupancyOf, WidenedStripsCover}
-use Rattle.lf_placement.specs.Placements.{IsBrokenFrameRule, IsBrokenAt, Placing}
+use Rattle.lf_occupancy.specs.Views.{IsFirstOverlappingCell, IsPaddingOf, OverlapsInStrips, OverlapsNoBox, boxes_of, cell_box}
+use Rattle.lf_occupancy.specs.Floorplans.{IsOccupancyOf, WidenedStripsCover, working_box_of}
+use Rattle.lf_occupancy.proofs.Lists.{made_at}
+use Rattle.lf_placement.specs.Placements.{IsBrokenFrameRule, IsBrokenAt, OverlapsNoCell, Placing}
 use Rattle.lf_placement.specs.Laws.{SameMacros}
 use Rattle.lf_placement.proofs.Overlapping.{overlapped_decides}
 
@@ -96,6 +101,57 @@ overlapped_at p padding id place cell_placement mac rect overlapping_one sized f
         overlapped_decides (candidate_of p.frame id.team padding (macro_of p.frame c.mac) place others) p.cells p.held id rect overlapping_one follows widened_cover few
         (macro_sized p.frame (cells_of p.cells id.team) id.own c sized there) refl refl
         (subst (λ (m : Macro). rect ≡ padded_box (candidate_of p.frame id.team padding m place others)) same box) (those padding others) first
+
+-- ---- cells that keep the padding from all others
+
+-- the box of a placed cell
+box_is : (f : Frame) (cells : List Cell) (boxes : List (Option Rect)) (own : ℕ) (c : Cell) (place : Place) → boxes ≡ map (working_box_of f) cells →
+    slice_get cells own ≡ Some c → working_at cells own ≡ Some place → cell_box boxes own ≡ Some (box_in f c.mac (spot_of place))
+box_is f cells boxes own c place are there at =
+    let working : c.working ≡ Some place = sym (ap (λ (o : Option Cell). option_and_then (λ (x : Cell). x.working) o) there) ∙ at in
+    ap (λ (bs : List (Option Rect)). cell_box bs own) are
+    ∙ ap (λ (o : Option (Option Rect)). option_and_then (λ (box : Option Rect). box) o) (made_at (working_box_of f) cells own c there)
+    ∙ ap (λ (o : Option Place). option_map (λ p. box_in f c.mac (spot_of p)) o) working
+
+-- the length of a padding is from 0 to the greatest one
+pub padding_fits : (p : Placing) (padding : ℕ) → IsOccupancyOf p.frame p.cells p.held → padding ≤ 16 → IsPaddingOf p.held (length_of p.frame padding)
+padding_fits p padding follows few = record {
+  least = length_least p.frame padding;
+  most = subst (λ (w : ℤ). length_of p.frame padding ≤ℤ (pos 16 *ℤ w)) (sym follows.site) (length_upto p.frame padding 16 few);
+}
+
+-- a cell that is apart in the strips overlaps none
+pub apart_overlaps_none : (p : Placing) (padding : ℕ) (id : CellId) → All (λ d. IsSizedCell p.frame d) (cells_of p.cells id.team) →
+    IsOccupancyOf p.frame p.cells p.held → WidenedStripsCover → padding ≤ 16 → OverlapsNoBox (boxes_of p.held id.team) (length_of p.frame padding) id.own →
+    OverlapsNoCell p padding id
+apart_overlaps_none p padding id sized follows widened_cover few apart place at holds = go (cell_at p.cells id) refl holds
+  where
+    others : List Placed
+    others = boxes_beside p.frame (map member_of (cells_of p.cells id.team)) id.own
+
+    one : (a b : Rect) → ◌≡◌ {A = Option Rect} (Some a) (Some b) → a ≡ b
+    one a b e = cc
+
+    go : (o : Option Cell) → cell_at p.cells id ≡ o
+        → MatchOption o (no_rule ≡ no_rule)
+        (λ c. (sites : ℕ) (those : List Placed) → IsFrameRuleVerdict (candidate_of p.frame id.team sites (macro_of p.frame c.mac) place those) no_rule)
+        → MatchOption o (no_broken ≡ no_broken)
+        (λ c. IsVerdict (candidate_of p.frame id.team padding (macro_of p.frame c.mac) place others) no_broken)
+    go None there those = refl
+    go (Some c) there those =
+        overlapped_decides t p.cells p.held id (padded_box t) None follows widened_cover few
+        (macro_sized p.frame (cells_of p.cells id.team) id.own c sized there) refl refl refl (those padding others) none
+      where
+        t : Candidate
+        t = candidate_of p.frame id.team padding (macro_of p.frame c.mac) place others
+
+        box : apart.box ≡ box_in p.frame c.mac (spot_of place)
+        box = one _ _ (sym apart.is ∙ box_is p.frame (cells_of p.cells id.team) (boxes_of p.held id.team) id.own c place (follows.boxes id.team) there at)
+
+        none : (own : ℕ) → OverlapsInStrips p.held id (padded_box t) own → ⊥
+        none own m = apart.clear own m.box m.is.other m.is.is_in_place
+            (subst (λ (b : Rect). SharesPoint (wider (length_of p.frame padding) b) m.box) (sym box)
+            record { x = m.x; y = m.y; in_first = m.in_rect; in_second = m.in_box })
 
 -- ---- what stays true while cells keep their macros
 

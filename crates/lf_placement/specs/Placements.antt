@@ -1,5 +1,5 @@
 -- The placement of all teams' cells on a frame, and how moves change it.
-use Rattle.std.specs.Prelude.{◌≡◌, ◌≢◌, ◌≤◌, ℕ, All, List, [], ◌∷◌, map, length, MatchOption, Option, None}
+use Rattle.std.specs.Prelude.{◌≡◌, ◌≢◌, ◌≤◌, ℕ, All, List, [], ◌∷◌, map, length, MatchOption, Option, None, Some}
 use Rattle.std.specs.Option.{option_map}
 use Rattle.lf_units.specs.declared.geometry.Rect.{Rect}
 use Rattle.lf_floorplan.specs.declared.frame.Frame.{Frame}
@@ -14,7 +14,7 @@ use Rattle.lf_rules.specs.Legalizer.{IsVerdict}
 use Rattle.lf_rules.specs.Team.{box_in, boxes_beside}
 use Rattle.lf_cells.specs.declared.cell.Cell.{Cell}
 use Rattle.lf_cells.specs.declared.cell.CellId.{CellId}
-use Rattle.lf_cells.specs.Cells.{Cells, cell_at, cells_of, moved}
+use Rattle.lf_cells.specs.Cells.{Cells, cell_at, cells_of, moved, working_at}
 use Rattle.lf_occupancy.specs.Views.{Bounds, FitIn, KeepsCapacities, Occupied}
 use Rattle.lf_occupancy.specs.Floorplans.{IsOccupancyOf, boxes_in}
 use Rattle.lf_occupancy.specs.Strips.{MarksBoxes, Marked, with_boxes}
@@ -142,3 +142,10 @@ IsBrokenFrameRule p id place broken =
     MatchOption (cell_at p.cells id) (broken ≡ None)
     (λ c. (padding : ℕ) (others : List Placed)
     → IsFrameRuleVerdict (candidate_of p.frame id.team padding (macro_of p.frame c.mac) place others) broken)
+
+-- the cell overlaps no other cell of its team, which has this padding: if it breaks no rule except
+-- overlap at its working place, it breaks no rule there
+abbrev pub OverlapsNoCell : Placing → ℕ → CellId → Type 0
+OverlapsNoCell p padding id =
+    (place : Place) → working_at (cells_of p.cells id.team) id.own ≡ Some place → IsBrokenFrameRule p id place None
+    → IsBrokenAt p padding id place None

@@ -5,12 +5,12 @@ ghost use Rattle.lf_rules.specs.declared.rule.Rule.TheVariants.{Overlap};
 ghost use Rattle.lf_rules.specs.Choice.{spot_of};
 ghost use Rattle.lf_rules.specs.Legalizer.{Legalizer};
 ghost use Rattle.lf_cells.specs.declared.cell.Cell.{Cell};
-ghost use Rattle.lf_cells.specs.Cells.{as_committed, cells_of};
+ghost use Rattle.lf_cells.specs.Cells.{as_committed, cells_of, id_of};
 ghost use Rattle.lf_cells.specs.Initial.{initial_cells, initial_components};
 ghost use Rattle.lf_legalize.specs.Members.{best_of};
 ghost use Rattle.lf_occupancy.specs.Views.{KeepsCapacities};
 ghost use Rattle.lf_undo.specs.Entries.{Places, moves_taken_back};
-ghost use Rattle.lf_placement.specs.Placements.{AreSized, BoundsAt, Fits, HaveMoved, IsBrokenFrameRule, IsBrokenAt, KeepsRest, OtherCellsStay, SameButRooms};
+ghost use Rattle.lf_placement.specs.Placements.{AreSized, BoundsAt, Fits, HaveMoved, IsBrokenFrameRule, IsBrokenAt, KeepsRest, OtherCellsStay, OverlapsNoCell, SameButRooms};
 ghost use Rattle.lf_placement.specs.Placements.{committed_of, moves_applied, working_places_of};
 
 use crate::apply::{apply_moves, commit_places, revert_moves};
@@ -154,6 +154,26 @@ impl Placement {
         self.occupancy
             .with_boxes(&self.frame, &self.cells)
             .first_overlapping(id, &rect)
+    }
+
+    /// Positions of cells of the team that overlap no other cell of the team, which has this
+    /// padding. The cells lie in the team's strips of the row with this number, and are listed from
+    /// left to right. A cell that does not lie in one strip, as one of several rows, is not listed.
+    /// `Err` if an allocation fails.
+    pub fn apart_in_row(
+        &self,
+        alloc: Global,
+        row: usize,
+        team: usize,
+        padding: Padding,
+    ) -> Result<Vec<u32>, AllocError>
+        ensures { IfOk result
+            (λ apart. All (λ own. OverlapsNoCell self.now padding.sites (id_of team own)) apart.items) }
+    {
+        widened_strips_cover();
+        self.occupancy
+            .with_boxes(&self.frame, &self.cells)
+            .apart_in_row(alloc, row, team, padding.length(&self.frame))
     }
 
     /// The first rule that the cell breaks at the place with the other cells of its team, which has

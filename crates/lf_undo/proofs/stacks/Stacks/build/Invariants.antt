@@ -1,7 +1,7 @@
 use Rattle.std.proofs.Common.{◌≡◌, ◌≤◌, [], map, replicate, All, deque_items, deque_capacity}
 use Rattle.lf_undo.proofs.stacks.Stacks.build.Given as goal
 
--- So many queues, each empty and with room for the keys.
+-- Queues in this number, each empty and with room for the keys.
 abbrev pub invariant-loop : goal.invariant-loop
 invariant-loop g l =
     (map deque_items l.keys.items ≡ replicate l.counter [])

@@ -1,9 +1,9 @@
 use Rattle.lf_floor_verbs.specs.Tables.{table_cells, frame_of}
 use Rattle.lf_floor_verbs.specs.Marking.{AreMarked}
-use Rattle.lf_floor_verbs.proofs.team_legality.mark_batch.Given as goal
+use Rattle.lf_floor_verbs.proofs.team_legality.mark_rows.Given as goal
 
 -- each mark so far is right, if the earlier marks were
-abbrev pub invariant-loop-cell : goal.invariant-loop-cell
-invariant-loop-cell g l =
+abbrev pub invariant-loop-row : goal.invariant-loop-row
+invariant-loop-row g l =
     AreMarked (frame_of l.tables) l.around.number l.around.padding.sites (table_cells l.around.number l.tables) l.initial.marks.items
     → AreMarked (frame_of l.tables) l.around.number l.around.padding.sites (table_cells l.around.number l.tables) l.marks.items
