@@ -228,7 +228,8 @@ fn all_displacements(
     Ok(displacements)
 }
 
-/// The displacement that 99.9 % of the cells do not exceed.
+/// The displacement that only the longest exceed: a thousandth of all, or eight if that is more, but
+/// at most an eighth of all.
 pub(crate) fn long_displacement(
     alloc: Global,
     given: &PlannerInput,
@@ -237,7 +238,8 @@ pub(crate) fn long_displacement(
     let mut ways = all_displacements(alloc, given, board)?;
     ways.sort_unstable();
     let last = ways.len().saturating_sub(1);
-    let place = last - last / 1000;
+    let longest = (last / 1000).max(8).min(last / 8);
+    let place = last.saturating_sub(longest);
     match ways.get(place) {
         Some(way) => Ok(*way),
         None => Ok(0),
