@@ -1,5 +1,5 @@
 -- The design of files: what is loaded from their texts, and why loading fails.
-use Rattle.std.specs.Prelude.{◌≡◌, ◌⊎◌, ℕ, List, [], ◌∷◌, Option, Some, None, Ok, map}
+use Rattle.std.specs.Prelude.{◌≡◌, ◌⊎◌, ℕ, List, [], ◌∷◌, Bool, IfSome, Option, Some, None, Ok, is_some, map}
 use Rattle.lf_lex.specs.declared.fault.LoadFault.{LoadFault}
 use Rattle.lf_lex.specs.declared.fault.ReadError.TheVariants.{Memory}
 use Rattle.lf_lex.specs.Faults.{load_fault_of}
@@ -17,7 +17,9 @@ use Rattle.lf_task_faults.specs.declared.faults.Fault.{Fault}
 use Rattle.lf_task_faults.specs.declared.faults.Fault.TheVariants.{Refused, File, SetupOutOfMemory}
 use Rattle.lf_task_faults.specs.declared.faults.TextKind.{TextKind}
 use Rattle.lf_task_faults.specs.declared.faults.TextKind.TheVariants.{Lef, Def}
+use Rattle.lf_task_designs.specs.declared.opening.DesignWithText.{DesignWithText}
 use Rattle.lf_task_designs.specs.declared.opening.OpenedDesign.{OpenedDesign}
+use Rattle.lf_task_designs.specs.declared.opening.SourceText.{SourceText}
 use Rattle.lf_task_faults.specs.Faults.{IsFile}
 use Rattle.lf_task_faults.specs.Refusals.{ReportsFault}
 
@@ -112,12 +114,27 @@ pub record IsOpened (limits : Limits) (gives : ReadsFile) (path : List ℕ) (lef
   pub read : def.document_of text ≡ Ok document
   pub loads : IsLoadedIn limits library document loaded
 
--- The design of a DEF file over LEF files is opened, and its text is kept with the clauses of its
+-- The design of a DEF file over LEF files is opened with its DEF text and the clauses of its
 -- components.
-abbrev pub IsOpenedOf : Limits → ReadsFile → List ℕ → List (List ℕ) → OpenedDesign → Type 0
-IsOpenedOf limits gives path lefs opened =
+abbrev pub IsOpenedWithText : Limits → ReadsFile → List ℕ → List (List ℕ) → DesignWithText → Type 0
+IsOpenedWithText limits gives path lefs opened =
     (document : def.Document) × IsOpened limits gives path lefs opened.original.text.items document opened.loaded
     × (opened.original.clauses ≡ map (clause_of opened.original.text.items) document.components)
+
+-- If a DEF text is kept, it has these bytes and this document.
+abbrev pub AreKept : Option SourceText → List ℕ → def.Document → Type 0
+AreKept original text document =
+    IfSome original
+    (λ original. (original.text.items ≡ text) × (original.clauses ≡ map (clause_of text) document.components))
+
+-- The design of a DEF file over LEF files is opened, and its DEF text is kept if this is requested.
+pub record IsOpenedOf (limits : Limits) (gives : ReadsFile) (path : List ℕ) (lefs : List (List ℕ))
+    (is_text_kept : Bool) (design : OpenedDesign) : Type 0 where
+  pub text : List ℕ
+  pub document : def.Document
+  pub opened : IsOpened limits gives path lefs text document design.loaded
+  pub are : AreKept design.original text document
+  pub kept : is_some design.original ≡ is_text_kept
 
 -- The design of a DEF text over a LEF text.
 abbrev pub IsTextDesign : Limits → List ℕ → List ℕ → Loaded → Type 0

@@ -2,7 +2,7 @@
 //!
 //! `load_files` reads the LEF files in the order of their paths, then the DEF file, and loads the
 //! design, up to the first fault. `open_design` also keeps the DEF text and the positions of its
-//! components' placement clauses. `report_design` writes the report of a check. Texts are read
+//! components' placement clauses, if this is requested. `report_design` writes the report of a check. Texts are read
 //! through the trait `InputFiles`. Contracts know nothing of the files of a runtime
 //! (`FsInputFiles`). Faults are those of `lf_task_faults`.
 //!

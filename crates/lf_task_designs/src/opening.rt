@@ -1,4 +1,4 @@
-//! The design of a DEF file, with what an export needs.
+//! The design of a DEF file, with what an export needs if one is requested.
 //!
 //! No function owns more than one of a library, a text, a document and a design: the proof handles
 //! every drop at every return separately.
@@ -8,10 +8,12 @@ ghost use Rattle.lf_task_faults.specs.declared.faults.TextKind.TheVariants.{Def}
 ghost use Rattle.lf_def.specs.Contents.{contents};
 ghost use Rattle.lf_def.specs.Document.{Document};
 ghost use Rattle.lf_write.specs.Export.{clause_of};
-ghost use Rattle.lf_task_designs.specs.Designs.{IsDefRefusal, IsDesignFault, IsFileFault, IsLoadedText, IsLoadRefusal, IsLoadedIn, IsOpenedOf, IsRefusedText};
+ghost use Rattle.lf_task_designs.specs.Designs.{IsDefRefusal, IsDesignFault, IsFileFault, IsLoadedText, IsLoadRefusal, IsLoadedIn, IsOpenedOf, IsOpenedWithText, IsRefusedText};
 
 use crate::input_files::InputFiles;
-use crate::loading::{def_file, library_of, load_document, read_document, read_text, text_refusal};
+use crate::loading::{
+    def_file, library_of, load_document, load_files, read_document, read_text, text_refusal,
+};
 use lf_def::DefDoc;
 use lf_frame::{Limits, Loaded};
 use lf_lef::Library;
@@ -80,11 +82,9 @@ pub struct SourceText {
 
 /// The design of a DEF text, and the text.
 #[derive(Drop)]
-pub struct OpenedDesign {
-    /// The design, each cell at its place in the text.
-    pub loaded: Loaded,
-    /// The text. It is a separate field, so that a floor can take the design.
-    pub original: SourceText,
+struct DesignWithText {
+    loaded: Loaded,
+    original: SourceText,
 }
 
 /// Loads the design of a DEF text, of the file `path`, over the library, and keeps the text.
@@ -94,7 +94,7 @@ fn open_kept<'a>(
     library: &Library,
     path: &'a str,
     text: Vec<u8>,
-) -> Result<OpenedDesign, Fault<'a>>
+) -> Result<DesignWithText, Fault<'a>>
     ensures text { IfOk result (λ opened. opened.original.text.items ≡ text.items) }
     ensures ok { IfOk result (λ opened. (document : Document)
         × IsLoadedText limits text.items library.now document opened.original.clauses opened.loaded) }
@@ -102,7 +102,7 @@ fn open_kept<'a>(
 {
     let LoadedDocument { loaded, clauses } = open_text(alloc, limits, library, path, &text)?;
     let original = SourceText { text, clauses };
-    Ok(OpenedDesign { loaded, original })
+    Ok(DesignWithText { loaded, original })
 }
 
 /// Opens a DEF file over the library: loads its design, and keeps the text.
@@ -112,7 +112,7 @@ fn open_file<'a, T: InputFiles>(
     texts: &T,
     library: &Library,
     path: &'a str,
-) -> Result<OpenedDesign, Fault<'a>>
+) -> Result<DesignWithText, Fault<'a>>
     ensures given { IfOk result (λ opened. T.gives texts.now path.now (Some opened.original.text.items)) }
     ensures ok { IfOk result (λ opened. (document : Document)
         × IsLoadedText limits opened.original.text.items library.now document opened.original.clauses opened.loaded) }
@@ -123,17 +123,52 @@ fn open_file<'a, T: InputFiles>(
 }
 
 /// Opens a DEF file over LEF files, given by their paths: loads the design, and keeps the DEF text.
-/// The DEF file is opened after all LEF files.
+fn open_with_text<'a, T: InputFiles>(
+    alloc: Global,
+    limits: Limits,
+    texts: &T,
+    def: &'a str,
+    lefs: &[&'a str],
+) -> Result<DesignWithText, Fault<'a>>
+    ensures ok { IfOk result (IsOpenedWithText limits (T.gives texts.now) def.now (map (λ lef. lef.now) lefs.now)) }
+    ensures err { IfErr result (IsDesignFault limits (T.gives texts.now) def.now (map (λ lef. lef.now) lefs.now)) }
+{
+    let library = library_of(alloc, texts, lefs)?;
+    open_file(alloc, limits, texts, &library, def)
+}
+
+/// The design of a DEF text, and the text if it is kept.
+#[derive(Drop)]
+pub struct OpenedDesign {
+    /// The design, each cell at its place in the text.
+    pub loaded: Loaded,
+    /// The text. It is a separate field, so that a floor can take the design.
+    pub original: Option<SourceText>,
+}
+
+/// Opens a DEF file over LEF files, given by their paths: loads the design, and keeps the DEF text
+/// if this is requested. The DEF file is opened after all LEF files.
 pub fn open_design<'a, T: InputFiles>(
     alloc: Global,
     limits: Limits,
     texts: &T,
     def: &'a str,
     lefs: &[&'a str],
+    is_text_kept: bool,
 ) -> Result<OpenedDesign, Fault<'a>>
-    ensures ok { IfOk result (IsOpenedOf limits (T.gives texts.now) def.now (map (λ lef. lef.now) lefs.now)) }
+    ensures ok { IfOk result (IsOpenedOf limits (T.gives texts.now) def.now (map (λ lef. lef.now) lefs.now)
+        is_text_kept) }
     ensures err { IfErr result (IsDesignFault limits (T.gives texts.now) def.now (map (λ lef. lef.now) lefs.now)) }
 {
-    let library = library_of(alloc, texts, lefs)?;
-    open_file(alloc, limits, texts, &library, def)
+    if is_text_kept {
+        let DesignWithText { loaded, original } = open_with_text(alloc, limits, texts, def, lefs)?;
+        return Ok(OpenedDesign {
+            loaded,
+            original: Some(original),
+        });
+    }
+    Ok(OpenedDesign {
+        loaded: load_files(alloc, limits, texts, def, lefs)?,
+        original: None,
+    })
 }

@@ -4,4 +4,5 @@ pub mod DesignSteps
 mod CommittedVerdicts
 mod Looking
 pub mod WorkSteps
+pub mod KeptTexts
 pub mod Measuring

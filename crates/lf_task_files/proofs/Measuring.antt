@@ -1,5 +1,5 @@
 -- The floor with which a repair begins, from the text of a state that is held in memory.
-use Rattle.std.proofs.Common.{◌≡◌, ◌⊎◌, ◌∙◌, inl, inr, zero, suc, ℕ, ◌+◌, Bool, true, false, cond, List, [], ◌∷◌, length, map, None, Option, Some, is_some, refl, ap, ap₂, sym, subst}
+use Rattle.std.proofs.Common.{◌≡◌, ◌∙◌, inl, inr, zero, suc, ℕ, ◌+◌, Bool, true, false, cond, List, [], ◌∷◌, length, map, None, Option, Some, is_some, refl, ap, ap₂, sym, subst}
 use Rattle.std.specs.Prelude.{◌==◌, filter, unwrap_or}
 use Rattle.std.specs.List.{range_with_len}
 use Rattle.std.proofs.lemmas.Bool.{false≢true}

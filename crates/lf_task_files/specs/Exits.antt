@@ -1,12 +1,12 @@
 -- What is written of a design, or why it is not written.
-use Rattle.std.specs.Prelude.{◌≡◌, ◌⊎◌, ℕ, false, List, Option, Some, None, IfSome, map, take}
+use Rattle.std.specs.Prelude.{◌≡◌, ◌⊎◌, ℕ, false, List, Option, Some, None, IfSome, take}
 use Rattle.std.specs.Io.KnownBytes.{Appends}
 use Rattle.lf_floorplan.specs.declared.limits.Limits.{Limits}
 use Rattle.lf_floorplan.specs.declared.loaded.Loaded.{Loaded}
 use Rattle.lf_floorplan.specs.declared.place.Place.{Place}
 use Rattle.lf_rules.specs.Legalizer.{Legalizer}
 use Rattle.lf_def.specs.Document.{Document}
-use Rattle.lf_write.specs.Export.{CanBeRenewed, clause_of, exported}
+use Rattle.lf_write.specs.Export.{CanBeRenewed, exported}
 use Rattle.lf_io_files.specs.Shelf.{Put, PutsFile}
 use Rattle.lf_describe.specs.Description.{description}
 use Rattle.lf_floor_model.specs.States.{FloorState}
@@ -25,12 +25,6 @@ pub record IsReported (loaded : Loaded) (old new : Option (List ℕ)) (status : 
   pub text : (l : Legalizer) → Appends old new (report_line l loaded)
   pub legal : status ≡ 0 → IsLegalDesign loaded
   pub illegal : status ≡ 4 → ¬ IsLegalDesign loaded
-
--- If a DEF text is kept for the export, it has these bytes and this document.
-abbrev pub AreKept : Option SourceText → List ℕ → Document → Type 0
-AreKept original text document =
-    IfSome original
-    (λ original. (original.text.items ≡ text) × (original.clauses ≡ map (clause_of text) document.components))
 
 -- If a DEF text is kept, these places can be written into it.
 abbrev pub CanBePut : Option SourceText → List (ℕ × Option Place) → Type 0

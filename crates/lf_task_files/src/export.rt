@@ -1,12 +1,14 @@
 //! The exported text: that of the design, with the committed places of a floor.
 
-ghost use Rattle.std.specs.Prelude.{◌≡◌, ℕ, List, None, Option, IfErr, OnErr, OnOk, map, option_map};
+ghost use Rattle.std.specs.Prelude.{◌≡◌, ℕ, List, None, Option, IfErr, OnErr, OnOk, option_copied};
 ghost use Rattle.lf_def.specs.Document.{Document};
 ghost use Rattle.lf_floorplan.specs.declared.place.Place.{Place};
 ghost use Rattle.lf_floor_model.specs.Places.{AreCommittedPlaces};
-ghost use Rattle.lf_write.specs.Export.{CanBeRenewed, clause_of, renewed};
-ghost use Rattle.lf_task_files.specs.Exits.{IsExported};
+ghost use Rattle.lf_write.specs.Export.{CanBeRenewed, renewed};
+ghost use Rattle.lf_task_designs.specs.Designs.{AreKept};
+ghost use Rattle.lf_task_files.specs.Exits.{CanBePut, IsExported};
 ghost use Rattle.lf_task_files.specs.Faults.{ExportFails, IsOutputFault};
+ghost use Rattle.lf_task_files.specs.Inputs.{path_of};
 
 use crate::output_file::put_file;
 use lf_floor::{CommittedPlaces, Floor};
@@ -81,27 +83,27 @@ fn exported_text<'a>(
     }
 }
 
-/// Writes the exported text to the file of this path, if one is given.
+/// Writes the exported text to the file of this path, if one is given. `original` is the DEF text.
 pub fn save_export<'a, E: OutputFiles>(
     floor: &Floor<IndexSeeker>,
-    original: &SourceText,
+    original: Option<&SourceText>,
     path: Option<&'a str>,
     exports: &mut E,
 ) -> Result<(), Fault<'a>>
+    requires kept { original ≡ None → path_of path ≡ None }
     requires fits { (places : List (ℕ × Option Place)) → AreCommittedPlaces floor.now places
-        → CanBeRenewed original.now.text.items original.now.clauses places }
-    ensures ok { (document : Document)
-        → original.now.clauses ≡ map (clause_of original.now.text.items) document.components
-        → OnOk result (IsExported (option_map (λ path. path.now) path.entry) original.now.text.items document floor.now
-        (E.puts exports.old) (E.puts exports.new)) }
-    ensures err { IfErr result (IsOutputFault OutputKind.Export (option_map (λ path. path.now) path.entry)) }
+        → CanBePut (option_copied original) places }
+    ensures ok { (text : List ℕ) (document : Document) → AreKept (option_copied original.entry) text document
+        → OnOk result (IsExported (path_of path.entry) text document floor.now (E.puts exports.old)
+        (E.puts exports.new)) }
+    ensures err { IfErr result (IsOutputFault OutputKind.Export (path_of path.entry)) }
     ensures fails { IfErr result (λ fault. ExportFails fault (E.has_failed exports.old) (E.has_failed exports.new)) }
     ensures sound { OnOk result (E.has_failed exports.new ≡ E.has_failed exports.old) }
     ensures unput { OnErr result (E.puts exports.new ≡ E.puts exports.old) }
-    ensures unasked { option_map (λ path. path.now) path.entry ≡ None → exports.new ≡ exports.old }
+    ensures unasked { path_of path.entry ≡ None → exports.new ≡ exports.old }
 {
     kept_clauses_suffice();
-    let Some(path) = path else {
+    let (Some(original), Some(path)) = (original, path) else {
         return Ok(());
     };
     let exported = exported_text(floor, &original.text, &original.clauses);

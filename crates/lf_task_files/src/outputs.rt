@@ -5,7 +5,8 @@ ghost use Rattle.lf_def.specs.Document.{Document};
 ghost use Rattle.lf_io_files.specs.Shelf.{Put};
 ghost use Rattle.lf_floorplan.specs.declared.place.Place.{Place};
 ghost use Rattle.lf_floor_model.specs.Places.{AreCommittedPlaces};
-ghost use Rattle.lf_task_files.specs.Exits.{AreKept, CanBePut, IsExported};
+ghost use Rattle.lf_task_designs.specs.Designs.{AreKept};
+ghost use Rattle.lf_task_files.specs.Exits.{CanBePut, IsExported};
 ghost use Rattle.lf_task_files.specs.Faults.{ExportFails, IsOutputFault};
 ghost use Rattle.lf_task_files.specs.States.{IsSaved};
 ghost use Rattle.lf_task_files.specs.Inputs.{path_of};
@@ -72,8 +73,6 @@ pub fn write_outputs<'a, E: OutputFiles>(
     ensures unasked { path_of outputs.entry.save ≡ None → path_of outputs.entry.export
         ≡ None → exports.new ≡ exports.old }
 {
-    if let Some(original) = original {
-        save_export(floor, original, outputs.export, exports)?;
-    }
+    save_export(floor, original, outputs.export, exports)?;
     save_to(floor, outputs.save, exports)
 }

@@ -1,13 +1,15 @@
 //! The text of the design with the working places of a floor, committed or not.
 
-ghost use Rattle.std.specs.Prelude.{◌≡◌, ℕ, List, None, Option, IfErr, OnErr, OnOk, map, option_map};
+ghost use Rattle.std.specs.Prelude.{◌≡◌, ℕ, List, None, Option, IfErr, OnErr, OnOk, option_copied};
 ghost use Rattle.lf_def.specs.Document.{Document};
 ghost use Rattle.lf_floorplan.specs.declared.place.Place.{Place};
 ghost use Rattle.lf_floor.specs.Working.{with_working};
 ghost use Rattle.lf_floor_model.specs.Places.{AreCommittedPlaces};
-ghost use Rattle.lf_write.specs.Export.{CanBeRenewed, clause_of, renewed};
-ghost use Rattle.lf_task_files.specs.Exits.{IsExported};
+ghost use Rattle.lf_write.specs.Export.{CanBeRenewed, renewed};
+ghost use Rattle.lf_task_designs.specs.Designs.{AreKept};
+ghost use Rattle.lf_task_files.specs.Exits.{CanBePut, IsExported};
 ghost use Rattle.lf_task_files.specs.Faults.{ExportFails, IsOutputFault};
+ghost use Rattle.lf_task_files.specs.Inputs.{path_of};
 
 use crate::output_file::put_file;
 use lf_floor::{Floor, WorkingPlaces};
@@ -82,27 +84,27 @@ fn working_text<'a>(
 }
 
 /// Writes the text with the working places to the file of this path, if one is given. It is the
-/// exported text of the floor in which they are committed.
+/// exported text of the floor in which they are committed. `original` is the DEF text.
 pub fn save_working<'a, E: OutputFiles>(
     floor: &Floor<IndexSeeker>,
-    original: &SourceText,
+    original: Option<&SourceText>,
     path: Option<&'a str>,
     exports: &mut E,
 ) -> Result<(), Fault<'a>>
+    requires kept { original ≡ None → path_of path ≡ None }
     requires fits { (places : List (ℕ × Option Place)) → AreCommittedPlaces (with_working floor.now) places
-        → CanBeRenewed original.now.text.items original.now.clauses places }
-    ensures ok { (document : Document)
-        → original.now.clauses ≡ map (clause_of original.now.text.items) document.components
-        → OnOk result (IsExported (option_map (λ path. path.now) path.entry) original.now.text.items document
-        (with_working floor.now) (E.puts exports.old) (E.puts exports.new)) }
-    ensures err { IfErr result (IsOutputFault OutputKind.Working (option_map (λ path. path.now) path.entry)) }
+        → CanBePut (option_copied original) places }
+    ensures ok { (text : List ℕ) (document : Document) → AreKept (option_copied original.entry) text document
+        → OnOk result (IsExported (path_of path.entry) text document (with_working floor.now) (E.puts exports.old)
+        (E.puts exports.new)) }
+    ensures err { IfErr result (IsOutputFault OutputKind.Working (path_of path.entry)) }
     ensures fails { IfErr result (λ fault. ExportFails fault (E.has_failed exports.old) (E.has_failed exports.new)) }
     ensures sound { OnOk result (E.has_failed exports.new ≡ E.has_failed exports.old) }
     ensures unput { OnErr result (E.puts exports.new ≡ E.puts exports.old) }
-    ensures unasked { option_map (λ path. path.now) path.entry ≡ None → exports.new ≡ exports.old }
+    ensures unasked { path_of path.entry ≡ None → exports.new ≡ exports.old }
 {
     kept_clauses_suffice();
-    let Some(path) = path else {
+    let (Some(original), Some(path)) = (original, path) else {
         return Ok(());
     };
     let text = working_text(floor, &original.text, &original.clauses);

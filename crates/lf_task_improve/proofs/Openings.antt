@@ -1,6 +1,6 @@
 -- Designs with nets, step by step.
-use Rattle.std.proofs.Common.{◌≡◌, ◌∙◌, ◌⊎◌, ◌+◌, ◌<◌, ◌^◌, inl, inr, ℕ, List, [], ◌∷◌, ◌++◌, Option, None, Some, Ok, Err, length, map, take, get_or, ap, subst, sym, arith}
-use Rattle.std.specs.Prelude.{IfOk, OnOk, Result, option_map, slice_get}
+use Rattle.std.proofs.Common.{◌≡◌, ◌∙◌, ◌⊎◌, ◌+◌, ◌<◌, ◌^◌, inl, inr, ℕ, List, [], ◌∷◌, ◌++◌, Bool, false, true, cond, Option, None, Some, Ok, Err, is_some, length, map, take, get_or, ap, refl, subst, sym, arith}
+use Rattle.std.specs.Prelude.{IfOk, IfSome, OnOk, Result, option_map, slice_get}
 use Rattle.std.proofs.lemmas.List.{take_more}
 use Rattle.std.proofs.lemmas.Option.{get_or_from_slice_get, slice_get-map, slice_get_within}
 use Rattle.lf_lef.specs.Contents.{Contents}
@@ -17,12 +17,15 @@ use Rattle.lf_floor_model.proofs.Openings.{opening_whole}
 use Rattle.lf_task_faults.specs.declared.faults.Fault.{Fault}
 use Rattle.lf_task_faults.specs.declared.faults.Fault.TheVariants.{SetupOutOfMemory}
 use Rattle.lf_task_faults.specs.declared.faults.TextKind.TheVariants.{Def}
-use Rattle.lf_task_designs.specs.Designs.{IsDefRefusal, IsFileFault, IsLoadRefusal, IsRefusedText, ReadsFile, no_library}
+use Rattle.lf_task_designs.specs.Designs.{AreKept, IsDefRefusal, IsFileFault, IsLoadRefusal, IsRefusedText, ReadsFile, no_library}
 use Rattle.lf_task_designs.proofs.DesignSteps.{text_refused}
 use Rattle.lf_task_wires.specs.Readings.{IsKeptLibrary}
-use Rattle.lf_write.specs.Export.{clause_of}
-use Rattle.lf_task_wires.specs.Wirelengths.{AreNetsOfTexts, IsFilesFault, IsWireFault}
-use Rattle.lf_task_improve.specs.Openings.{IsNettedDesign, IsNettedText, teams_of_cells}
+use Rattle.lf_cli.specs.Command.{RepairPaths}
+use Rattle.lf_task_designs.specs.declared.opening.SourceText.{SourceText}
+use Rattle.lf_task_repair.specs.Repairs.{is_text_requested}
+use Rattle.lf_write.specs.Export.{ClauseFacts, clause_of}
+use Rattle.lf_task_wires.specs.Wirelengths.{IsFilesFault, IsWireFault}
+use Rattle.lf_task_improve.specs.Openings.{IsNettedDesign, IsNettedText, requested_clauses, teams_of_cells}
 use Rattle.lf_task_improve.specs.declared.opening.NettedDesign.{NettedDesign}
 use Rattle.lf_task_wires.proofs.Steps.{library_of_kept}
 
@@ -48,27 +51,41 @@ file_fails limits gives library def lefs texts fault kept (inl file) = inl (inl 
 file_fails limits gives library def lefs texts fault kept (inr (text, given, wire)) = inr (texts, library, text, kept, given, wire)
 
 -- a design of a DEF text with its nets is one of the files
-pub design_netted : (limits : Limits) (gives : ReadsFile) (def : List ℕ) (lefs texts : List (List ℕ)) (library : Contents) (text : List ℕ) (design : NettedDesign)
-    → IsKeptLibrary gives no_library lefs texts library → gives def (Some text) → IsNettedText limits library texts text design → IsNettedDesign limits gives def lefs design
-design_netted limits gives def lefs texts library text design kept given is = record {
+pub design_netted : (limits : Limits) (gives : ReadsFile) (def : List ℕ) (lefs texts : List (List ℕ)) (files : RepairPaths) (library : Contents) (text : List ℕ) (design : NettedDesign)
+    → IsKeptLibrary gives no_library lefs texts library → gives def (Some text) → IsNettedText limits files library texts text design → IsNettedDesign limits gives def lefs files design
+design_netted limits gives def lefs texts files library text design kept given is = record {
+  text = text;
   document = is.document;
-  opened = record {
-    texts = texts;
-    library = library;
-    lefs_are = kept;
-    given = subst (λ (bytes : List ℕ). gives def (Some bytes)) (sym is.kept) given;
-    read = subst (λ (bytes : List ℕ). document_of bytes ≡ Ok is.document) (sym is.kept) is.read;
-    loads = is.loads;
-    nets_are = subst (λ (bytes : List ℕ). AreNetsOfTexts texts bytes is.document design.loaded design.netlist.nets) (sym is.kept) is.nets_are;
-  };
-  clauses_are = subst (λ (bytes : List ℕ). design.original.clauses ≡ map (clause_of bytes) is.document.components) (sym is.kept) is.clauses_are;
+  opened = record { texts = texts; library = library; lefs_are = kept; given = given; read = is.read; loads = is.loads; nets_are = is.nets_are };
+  are = is.are;
+  kept = is.kept;
 }
 
+-- a text with the requested clauses is kept as requested
+pub text_kept : (original : Option SourceText) (files : RepairPaths) (text : List ℕ) (document : Document) → IfSome original (λ original. original.text.items ≡ text)
+    → option_map (λ original. original.clauses) original ≡ requested_clauses files text document
+    → AreKept original text document × (is_some original ≡ is_text_requested files)
+text_kept original files text document same are = by_request original (is_text_requested files) same are where
+  some_one : (a b : List ClauseFacts) → Some a ≡ Some b → a ≡ b
+  some_one a b is = cc
+
+  by_request : (o : Option SourceText) (requested : Bool) → IfSome o (λ original. original.text.items ≡ text)
+      → option_map (λ original. original.clauses) o ≡ cond requested (Some (map (clause_of text) document.components)) None
+      → AreKept o text document × (is_some o ≡ requested)
+  by_request None false same are = (tt, refl)
+  by_request None true same are = absurd (clash are) where
+    clash : {A : Type 0} {x : A} → None ≡ Some x → ⊥
+    clash e = cc
+  by_request (Some o) false same are = absurd (clash are) where
+    clash : {A : Type 0} {x : A} → Some x ≡ None → ⊥
+    clash e = cc
+  by_request (Some o) true same are = ((same, some_one _ _ are), refl)
+
 -- after the design is opened, memory can run out
-pub memory_fails : (limits : Limits) (gives : ReadsFile) (def : List ℕ) (lefs : List (List ℕ)) (design : NettedDesign) (fault : Fault) → IsNettedDesign limits gives def lefs design
-    → fault ≡ SetupOutOfMemory → IsFilesFault limits gives def lefs None fault
-memory_fails limits gives def lefs design fault is none =
-    inr (is.opened.texts, is.opened.library, design.original.text.items, is.opened.lefs_are, is.opened.given, inr (inr none))
+pub memory_fails : (limits : Limits) (gives : ReadsFile) (def : List ℕ) (lefs : List (List ℕ)) (files : RepairPaths) (design : NettedDesign) (fault : Fault)
+    → IsNettedDesign limits gives def lefs files design → fault ≡ SetupOutOfMemory → IsFilesFault limits gives def lefs None fault
+memory_fails limits gives def lefs files design fault is none =
+    inr (is.opened.texts, is.opened.library, is.text, is.opened.lefs_are, is.opened.given, inr (inr none))
 
 -- two facts of a value give what is to be shown of it
 pub ok_and : {A E : Type 0} (r : Result A E) (P R : A → Type 0) (Q : Type 0) → IfOk r P → OnOk r Q → ((value : A) → P value → Q → R value) → IfOk r R

@@ -1,13 +1,14 @@
 //! Improves the teams of a design of files.
 
-ghost use Rattle.std.specs.Prelude.{◌≡◌, ◌+◌, ℕ, List, Option, IfErr, IfOk, OnErr, length, map};
+ghost use Rattle.std.specs.Prelude.{◌≡◌, ◌+◌, ℕ, List, None, Option, IfErr, IfOk, OnErr, length, map};
 ghost use Rattle.lf_cli.specs.Command.{repair_paths};
 ghost use Rattle.lf_def.specs.Document.{Document};
 ghost use Rattle.lf_floorplan.specs.declared.place.Place.{Place};
 ghost use Rattle.lf_floor_model.specs.Places.{AreCommittedPlaces};
 ghost use Rattle.lf_floor_model.specs.States.{FloorState};
-ghost use Rattle.lf_write.specs.Export.{CanBeRenewed, clause_of};
-ghost use Rattle.lf_task_repair.specs.Repairs.{BlamesOutputs, WritesExportAlone, WritesNoFile};
+ghost use Rattle.lf_task_designs.specs.Designs.{AreKept};
+ghost use Rattle.lf_task_files.specs.Exits.{CanBePut};
+ghost use Rattle.lf_task_repair.specs.Repairs.{BlamesOutputs, WritesExportAlone, WritesNoFile, WritesNoText};
 ghost use Rattle.lf_task_improve.specs.Exits.{IsImproved, IsNotImproved, IsOpenImproved, IsUnimproved};
 
 use crate::improve_job::ImproveJob;
@@ -29,8 +30,8 @@ use std::alloc::Global;
 #[derive(Drop)]
 struct ImproveContext<'p, P> {
     wires: DesignWires,
-    /// The DEF text.
-    original: SourceText,
+    /// The DEF text, if a requested file is made from it.
+    original: Option<SourceText>,
     /// The receiver of progress reports.
     progress: &'p mut P,
 }
@@ -46,19 +47,17 @@ fn improve_on_floor<'a, E: OutputFiles, W: Sink, P: Progress>(
     writer: &mut W,
 ) -> Result<u8, Fault<'a>>
     requires teams { length floor.old.teams ≡ length floor.old.frame.teams + 1 }
+    requires kept { before.old.original ≡ None → WritesNoText (repair_paths requested.now.files) }
     requires fits { (s : FloorState) (places : List (ℕ × Option Place)) → s.components ≡ floor.old.components
-        → AreCommittedPlaces s places
-        → CanBeRenewed before.old.original.text.items before.old.original.clauses places }
-    ensures ok { (document : Document)
-        → before.old.original.clauses ≡ map (clause_of before.old.original.text.items) document.components
+        → AreCommittedPlaces s places → CanBePut before.old.original places }
+    ensures ok { (text : List ℕ) (document : Document) → AreKept before.old.original text document
         → IfOk result (IsImproved (map (λ team. team.now) requested.now.teams.now) requested.now.within
-        (repair_paths requested.now.files) before.old.original.text.items document before.old.wires.teams.items
+        (repair_paths requested.now.files) text document before.old.wires.teams.items
         before.old.wires.netlist.nets floor.old (W.contents writer.old) (W.contents writer.new) (E.puts exports.old)
         (E.puts exports.new)) }
-    ensures err { (document : Document)
-        → before.old.original.clauses ≡ map (clause_of before.old.original.text.items) document.components
+    ensures err { (text : List ℕ) (document : Document) → AreKept before.old.original text document
         → IfErr result (IsUnimproved (map (λ team. team.now) requested.now.teams.now) requested.now.within
-        (repair_paths requested.now.files) before.old.original.text.items document before.old.wires.teams.items
+        (repair_paths requested.now.files) text document before.old.wires.teams.items
         before.old.wires.netlist.nets floor.old (W.contents writer.old) (W.contents writer.new) (E.puts exports.old)
         (E.puts exports.new)) }
     ensures blames { IfErr result
@@ -74,7 +73,7 @@ fn improve_on_floor<'a, E: OutputFiles, W: Sink, P: Progress>(
     let done = improve_selected(alloc, floor, &before.wires, requested, before.progress)?;
     put_results(
         floor,
-        &before.original,
+        before.original.as_ref(),
         &done,
         &requested.files,
         exports,
@@ -92,18 +91,17 @@ fn improve_ready<'a, E: OutputFiles, W: Sink, P: Progress>(
     progress: &mut P,
 ) -> Result<u8, Fault<'a>>
     requires teams { length ready.floor.teams ≡ length ready.floor.frame.teams + 1 }
+    requires kept { ready.original ≡ None → WritesNoText (repair_paths requested.now.files) }
     requires fits { (s : FloorState) (places : List (ℕ × Option Place)) → s.components ≡ ready.floor.components
-        → AreCommittedPlaces s places → CanBeRenewed ready.original.text.items ready.original.clauses places }
-    ensures ok { (document : Document)
-        → ready.original.clauses ≡ map (clause_of ready.original.text.items) document.components
+        → AreCommittedPlaces s places → CanBePut ready.original places }
+    ensures ok { (text : List ℕ) (document : Document) → AreKept ready.original text document
         → IfOk result (IsImproved (map (λ team. team.now) requested.now.teams.now) requested.now.within
-        (repair_paths requested.now.files) ready.original.text.items document ready.wires.teams.items
+        (repair_paths requested.now.files) text document ready.wires.teams.items
         ready.wires.netlist.nets ready.floor (W.contents writer.old) (W.contents writer.new) (E.puts exports.old)
         (E.puts exports.new)) }
-    ensures err { (document : Document)
-        → ready.original.clauses ≡ map (clause_of ready.original.text.items) document.components
+    ensures err { (text : List ℕ) (document : Document) → AreKept ready.original text document
         → IfErr result (IsUnimproved (map (λ team. team.now) requested.now.teams.now) requested.now.within
-        (repair_paths requested.now.files) ready.original.text.items document ready.wires.teams.items
+        (repair_paths requested.now.files) text document ready.wires.teams.items
         ready.wires.netlist.nets ready.floor (W.contents writer.old) (W.contents writer.new) (E.puts exports.old)
         (E.puts exports.new)) }
     ensures blames { IfErr result

@@ -2,16 +2,18 @@
 //!
 //! The LEF texts, the document and its nets are dropped before the floor is made.
 
-ghost use Rattle.std.specs.Prelude.{◌≡◌, ◌≤◌, ◌<◌, ◌⊎◌, ℕ, List, None, Ok, Some, IfErr, IfOk, length, map, slice_get};
+ghost use Rattle.std.specs.Prelude.{◌≡◌, ◌≤◌, ◌<◌, ◌⊎◌, ℕ, List, None, Ok, Some, IfErr, IfOk, IfSome, length, map, option_map, slice_get};
+ghost use Rattle.lf_cli.specs.Command.{repair_paths};
 ghost use Rattle.lf_def.specs.Contents.{contents};
 ghost use Rattle.lf_def.specs.Document.{Document, document_of};
 ghost use Rattle.lf_task_faults.specs.declared.faults.Fault.TheVariants.{SetupOutOfMemory};
 ghost use Rattle.lf_task_faults.specs.declared.faults.TextKind.TheVariants.{Def};
 ghost use Rattle.lf_task_designs.specs.Designs.{IsDefRefusal, IsFileFault, IsLoadRefusal, IsLoadedIn, IsRefusedText};
 ghost use Rattle.lf_task_wires.specs.Wirelengths.{AreNetsOfTexts, IsFilesFault, IsWireFault};
-ghost use Rattle.lf_task_improve.specs.Openings.{HasDesignParts, IsNettedDesign, IsNettedText, IsReadyImprovement, teams_of_cells};
+ghost use Rattle.lf_task_improve.specs.Openings.{HasDesignParts, IsNettedDesign, IsNettedText, IsReadyImprovement, requested_clauses, teams_of_cells};
 
 use crate::improve_job::ImproveJob;
+use lf_cli::RepairFiles;
 use lf_def::DefDoc;
 use lf_floor::Floor;
 use lf_floorplan::Loaded;
@@ -21,6 +23,7 @@ use lf_legalize::IndexSeeker;
 use lf_task_designs::{InputFiles, SourceText, def_file, load_document, read_document, read_text};
 use lf_task_faults::Fault;
 use lf_task_files::start_floor;
+use lf_task_repair::is_text_requested;
 use lf_task_wires::{kept_library, nets_in, pins_of};
 use lf_wire_binding::{BoundNets, DesignTexts, bind_nets};
 use lf_wire_length::Netlist;
@@ -64,8 +67,24 @@ fn nets_over_texts<'a>(
 pub(crate) struct DesignParts {
     loaded: Loaded,
     netlist: Netlist,
-    /// What an export needs of the components.
-    clauses: KeptClauses,
+    /// What an export needs of the components, if one is requested.
+    clauses: Option<KeptClauses>,
+}
+
+/// Returns the placement clauses of the document's components, if a requested file is made from its
+/// text.
+fn clauses_for(
+    alloc: Global,
+    files: &RepairFiles<'_>,
+    document: &DefDoc<'_>,
+) -> Result<Option<KeptClauses>, AllocError>
+    ensures { IfOk result (λ clauses. clauses
+        ≡ requested_clauses (repair_paths files.now) document.now.text.now (contents document.now)) }
+{
+    if is_text_requested(files) {
+        return Ok(Some(clauses_of(alloc, document)?));
+    }
+    Ok(None)
 }
 
 /// Loads the design of the document and its nets over the LEF texts.
@@ -79,8 +98,8 @@ fn parts_of_document<'a>(
 ) -> Result<DesignParts, Fault<'a>>
     requires kept { length kept.now ≤ length requested.now.lefs.now }
     requires text { document.now.text.now ≡ text.now }
-    ensures ok { IfOk result (HasDesignParts requested.now.limits library.now (map (λ t. t.items) kept.now) text.now
-        (contents document.now)) }
+    ensures ok { IfOk result (HasDesignParts requested.now.limits (repair_paths requested.now.files) library.now
+        (map (λ t. t.items) kept.now) text.now (contents document.now)) }
     ensures err { IfErr result (λ fault. IsRefusedText Def requested.now.def.now text.now
         (IsLoadRefusal requested.now.limits library.now (contents document.now)) fault
         ⊎ IsWireFault (map (λ lef. lef.now) requested.now.lefs.now) (map (λ t. t.items) kept.now)
@@ -95,7 +114,7 @@ fn parts_of_document<'a>(
         document,
     )?;
     let netlist = nets_over_texts(alloc, requested, kept, text, document, &loaded)?;
-    let clauses = clauses_of(alloc, document)?;
+    let clauses = clauses_for(alloc, &requested.files, document)?;
     Ok(DesignParts {
         loaded,
         netlist,
@@ -113,7 +132,8 @@ fn parts_of_text<'a>(
 ) -> Result<DesignParts, Fault<'a>>
     requires { length kept.now ≤ length requested.now.lefs.now }
     ensures ok { IfOk result (λ parts. (document : Document) × (document_of text.now ≡ Ok document)
-        × HasDesignParts requested.now.limits library.now (map (λ t. t.items) kept.now) text.now document parts) }
+        × HasDesignParts requested.now.limits (repair_paths requested.now.files) library.now
+        (map (λ t. t.items) kept.now) text.now document parts) }
     ensures err { IfErr result (λ fault. IsRefusedText Def requested.now.def.now text.now
         (IsDefRefusal requested.now.limits library.now text.now) fault
         ⊎ IsWireFault (map (λ lef. lef.now) requested.now.lefs.now) (map (λ t. t.items) kept.now)
@@ -128,11 +148,23 @@ fn parts_of_text<'a>(
 pub(crate) struct NettedDesign {
     loaded: Loaded,
     netlist: Netlist,
-    /// The DEF text.
-    original: SourceText,
+    /// The DEF text, if a requested file is made from it.
+    original: Option<SourceText>,
 }
 
-/// Loads the design of the DEF text and its nets over the LEF texts, and keeps the text.
+/// Returns the text, if its clauses are kept.
+fn with_clauses(text: Vec<u8>, clauses: Option<KeptClauses>) -> Option<SourceText>
+    ensures text { IfSome result (λ original. original.text.items ≡ text.items) }
+    ensures clauses { option_map (λ original. original.clauses) result ≡ clauses }
+{
+    match clauses {
+        Some(clauses) => Some(SourceText { text, clauses }),
+        None => None,
+    }
+}
+
+/// Loads the design of the DEF text and its nets over the LEF texts. The text is kept if a requested
+/// file is made from it.
 fn netted_text<'a>(
     alloc: Global,
     requested: &ImproveJob<'a>,
@@ -142,7 +174,8 @@ fn netted_text<'a>(
 ) -> Result<NettedDesign, Fault<'a>>
     requires { length kept.now ≤ length requested.now.lefs.now }
     ensures ok { IfOk result
-        (IsNettedText requested.now.limits library.now (map (λ t. t.items) kept.now) text.items) }
+        (IsNettedText requested.now.limits (repair_paths requested.now.files) library.now
+        (map (λ t. t.items) kept.now) text.items) }
     ensures err { IfErr result (λ fault. IsRefusedText Def requested.now.def.now text.items
         (IsDefRefusal requested.now.limits library.now text.items) fault
         ⊎ IsWireFault (map (λ lef. lef.now) requested.now.lefs.now) (map (λ t. t.items) kept.now)
@@ -153,11 +186,10 @@ fn netted_text<'a>(
         netlist,
         clauses,
     } = parts_of_text(alloc, requested, library, kept, &text)?;
-    let original = SourceText { text, clauses };
     Ok(NettedDesign {
         loaded,
         netlist,
-        original,
+        original: with_clauses(text, clauses),
     })
 }
 
@@ -171,7 +203,8 @@ fn netted_file<'a, T: InputFiles>(
 ) -> Result<NettedDesign, Fault<'a>>
     requires { length kept.now ≤ length requested.now.lefs.now }
     ensures ok { IfOk result (λ design. (text : List ℕ) × T.gives texts.now requested.now.def.now (Some text)
-        × IsNettedText requested.now.limits library.now (map (λ t. t.items) kept.now) text design) }
+        × IsNettedText requested.now.limits (repair_paths requested.now.files) library.now
+        (map (λ t. t.items) kept.now) text design) }
     ensures err { IfErr result (λ fault.
         IsFileFault (T.gives texts.now) Def requested.now.def.now (IsDefRefusal requested.now.limits library.now) fault
         ⊎ ((text : List ℕ) × T.gives texts.now requested.now.def.now (Some text)
@@ -189,7 +222,7 @@ fn netted_design<'a, T: InputFiles>(
     requested: &ImproveJob<'a>,
 ) -> Result<NettedDesign, Fault<'a>>
     ensures ok { IfOk result (IsNettedDesign requested.now.limits (T.gives texts.now) requested.now.def.now
-        (map (λ lef. lef.now) requested.now.lefs.now)) }
+        (map (λ lef. lef.now) requested.now.lefs.now) (repair_paths requested.now.files)) }
     ensures err { IfErr result (IsFilesFault requested.now.limits (T.gives texts.now) requested.now.def.now
         (map (λ lef. lef.now) requested.now.lefs.now) None) }
 {
@@ -232,8 +265,8 @@ pub(crate) struct DesignWires {
 pub(crate) struct ReadyImprovement {
     pub(crate) floor: Floor<IndexSeeker>,
     pub(crate) wires: DesignWires,
-    /// The DEF text.
-    pub(crate) original: SourceText,
+    /// The DEF text, if a requested file is made from it.
+    pub(crate) original: Option<SourceText>,
 }
 
 /// Opens the design of the files with its nets, and makes its floor.
@@ -243,7 +276,7 @@ pub(crate) fn ready_improvement<'a, T: InputFiles>(
     requested: &ImproveJob<'a>,
 ) -> Result<ReadyImprovement, Fault<'a>>
     ensures ok { IfOk result (IsReadyImprovement requested.now.limits (T.gives texts.now) requested.now.def.now
-        (map (λ lef. lef.now) requested.now.lefs.now)) }
+        (map (λ lef. lef.now) requested.now.lefs.now) (repair_paths requested.now.files)) }
     ensures err { IfErr result (IsFilesFault requested.now.limits (T.gives texts.now) requested.now.def.now
         (map (λ lef. lef.now) requested.now.lefs.now) None) }
 {

@@ -37,7 +37,9 @@ use Rattle.lf_task_faults.specs.declared.faults.Fault.TheVariants.{Refused, File
 use Rattle.lf_task_faults.specs.Faults.{BlamesDevices, IsEarly, IsOfWriter}
 use Rattle.lf_task_faults.specs.declared.faults.OutputKind.{OutputKind}
 use Rattle.lf_task_files.specs.Faults.{IsOutputFault}
-use Rattle.lf_task_repair.specs.Repairs.{KeepsAllLegalPlaces, IsKeptRun, IsPlainIfNamed, IsUnknown, OnlySelectedChange, is_selected}
+use Rattle.lf_task_designs.specs.declared.opening.SourceText.{SourceText}
+use Rattle.lf_cli.specs.Command.{RepairPaths}
+use Rattle.lf_task_repair.specs.Repairs.{KeepsAllLegalPlaces, IsKeptRun, IsPlainIfNamed, IsUnknown, OnlySelectedChange, WritesNoText, is_selected, is_text_requested}
 
 -- ---- runs
 
@@ -256,6 +258,21 @@ as_many l teams old new before after run only many =
 -- a file that is not requested cannot fail
 pub none_fails : (kind : OutputKind) (path : Option (List ℕ)) (fault : Fault) → path ≡ None → IsOutputFault kind path fault → ⊥
 none_fails kind path fault none is = subst (λ (p : Option (List ℕ)). IsOutputFault kind p fault) none is
+
+neither : (a b : Option (List ℕ)) → false ≡ (is_some a || is_some b) → (a ≡ None) × (b ≡ None)
+neither None None requested = (refl, refl)
+neither (Some a) b requested = absurd (clash requested) where
+  clash : false ≡ true → ⊥
+  clash e = cc
+neither None (Some b) requested = absurd (clash requested) where
+  clash : false ≡ true → ⊥
+  clash e = cc
+
+-- if no text is kept, but one is kept if it is requested, none is requested
+pub no_text : (original : Option SourceText) (files : RepairPaths) → is_some original ≡ is_text_requested files → original ≡ None → WritesNoText files
+no_text original files kept none =
+    let both = neither files.export files.working (sym (ap is_some none) ∙ kept) in
+    record { export = both.0; working = both.1 }
 
 -- an unknown name is reported when nothing is written yet
 pub unknown_early : (f : Frame) (teams : List (List ℕ)) (fault : Fault) → IsUnknown f teams fault → IsEarly fault

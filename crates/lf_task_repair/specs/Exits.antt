@@ -1,5 +1,5 @@
 -- The results of repairs.
-use Rattle.std.specs.Prelude.{◌≡◌, ◌⊎◌, ℕ, List, map, Option, take}
+use Rattle.std.specs.Prelude.{◌≡◌, ◌⊎◌, ℕ, List, Option, is_some, take}
 use Rattle.std.specs.Io.KnownBytes.{Appends}
 use Rattle.lf_floorplan.specs.declared.limits.Limits.{Limits}
 use Rattle.lf_floorplan.specs.declared.loaded.Loaded.{Loaded}
@@ -12,16 +12,15 @@ use Rattle.lf_cli.specs.declared.parse.LegalCells.{LegalCells}
 use Rattle.lf_cli.specs.declared.parse.LegalCells.TheVariants.{KeepLegal}
 use Rattle.lf_task_faults.specs.declared.faults.Fault.{Fault}
 use Rattle.lf_task_faults.specs.declared.faults.Fault.TheVariants.{Output}
-use Rattle.lf_task_designs.specs.Designs.{ReadsFile, IsOpened}
+use Rattle.lf_task_designs.specs.Designs.{AreKept, ReadsFile, IsOpened}
 use Rattle.lf_task_faults.specs.declared.faults.OutputKind.TheVariants.{Export, Lines, Save, Working}
 use Rattle.lf_floor.specs.Working.{with_working}
 use Rattle.lf_task_files.specs.Exits.{IsExported}
 use Rattle.lf_task_files.specs.Faults.{IsOutputFault}
-use Rattle.lf_write.specs.Export.{clause_of}
 use Rattle.lf_task_files.specs.Measured.{IsMeasuredFloor}
 use Rattle.lf_task_repair.specs.declared.repair_task.ReadyRepair.{ReadyRepair}
 use Rattle.lf_task_files.specs.States.{IsFloorFault, IsSaved}
-use Rattle.lf_task_repair.specs.Repairs.{KeepsAllLegalPlaces, AreKnown, IsStatusOf, IsKeptRun, WritesLines, IsRepairFault, OnlySelectedChange, first_file, initial_lines, three_files, two_files}
+use Rattle.lf_task_repair.specs.Repairs.{KeepsAllLegalPlaces, AreKnown, IsStatusOf, IsKeptRun, WritesLines, IsRepairFault, OnlySelectedChange, first_file, initial_lines, is_text_requested, three_files, two_files}
 use Rattle.lf_task_files.specs.declared.measured.RepairLimits.{RepairLimits}
 use Rattle.lf_task_repair.specs.Reports.{IsReport}
 
@@ -84,13 +83,16 @@ pub record IsOpenRepaired (limits : Limits) (gives : ReadsFile) (def : List ℕ)
   pub measured : IsMeasuredFloor gives state loaded begin known
   pub repaired : IsRepaired teams legal files text document known begin before after old_puts new_puts status
 
--- the design is opened, and its floor is in the given state
+-- the design is opened, and its floor is in the given state; its DEF text is kept if and only if a
+-- requested file is made from it
 pub record IsReadyRepair (limits : Limits) (gives : ReadsFile) (def : List ℕ) (lefs : List (List ℕ))
-    (state : Option (List ℕ)) (ready : ReadyRepair) : Type 0 where
+    (state : Option (List ℕ)) (files : RepairPaths) (ready : ReadyRepair) : Type 0 where
+  pub text : List ℕ
   pub document : Document
   pub loaded : Loaded
-  pub opened : IsOpened limits gives def lefs ready.original.text.items document loaded
-  pub clauses : ready.original.clauses ≡ map (clause_of ready.original.text.items) document.components
+  pub opened : IsOpened limits gives def lefs text document loaded
+  pub are : AreKept ready.original text document
+  pub kept : is_some ready.original ≡ is_text_requested files
   pub measured : IsMeasuredFloor gives state loaded ready.measured.floor ready.measured.limits
 
 -- ---- faults

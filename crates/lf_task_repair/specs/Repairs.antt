@@ -116,6 +116,15 @@ pub record WritesNoFile (files : RepairPaths) : Type 0 where
   pub lines : files.lines ≡ None
   pub save : files.save ≡ None
 
+-- no file is requested that is made from the DEF text
+pub record WritesNoText (files : RepairPaths) : Type 0 where
+  pub export : files.export ≡ None
+  pub working : files.working ≡ None
+
+-- a file is requested that is made from the DEF text
+abbrev pub is_text_requested : RepairPaths → Bool
+is_text_requested files = is_some files.export || is_some files.working
+
 -- no file is requested but that of the exported text
 pub record WritesExportAlone (files : RepairPaths) : Type 0 where
   pub working : files.working ≡ None

@@ -32,6 +32,6 @@ mod repair_task;
 pub use command_log::CommandLog;
 pub use progress::{NoProgress, Progress, ProgressSink, TimedProgress};
 pub use repair_task::{
-    FinishedTask, RepairJob, all_known, announce_team, is_selected, put_results, repair, status_by,
-    try_files,
+    FinishedTask, RepairJob, all_known, announce_team, is_selected, is_text_requested, put_results,
+    repair, status_by, try_files,
 };

@@ -1,7 +1,7 @@
 //! Repairs the teams of a design: the floor's own commands give their cells legal places.
 
 ghost use Rattle.std.specs.Prelude.{◌≡◌, ◌≢◌, ◌⊎◌, ◌+◌, ℕ, List, None, Option, Some, IfErr, IfOk, IsTrue, OnErr, OnOk};
-ghost use Rattle.std.specs.Prelude.{bytes_eq, is_some, length, map, position, take, true};
+ghost use Rattle.std.specs.Prelude.{bytes_eq, is_some, length, map, option_copied, position, take, true};
 ghost use Rattle.std.specs.Io.KnownBytes.{Appends};
 ghost use Rattle.lf_cli.specs.Command.{repair_paths};
 ghost use Rattle.lf_cli.specs.declared.parse.LegalCells.TheVariants.{KeepLegal};
@@ -11,18 +11,19 @@ ghost use Rattle.lf_rules.specs.Legalizer.{Legalizer};
 ghost use Rattle.lf_floor_model.specs.Places.{AreCommittedPlaces};
 ghost use Rattle.lf_floor_model.specs.States.{FloorState};
 ghost use Rattle.lf_floor_model.specs.Teams.{state_of, team_number};
-ghost use Rattle.lf_write.specs.Export.{CanBeRenewed, clause_of};
 ghost use Rattle.lf_repair_strategy.specs.declared.pass.MovePolicy.TheVariants.{KeepLegal as Keep};
 ghost use Rattle.lf_repair_team.specs.TeamRepairs.{ChangesOnly, KeepsLegalPlaces};
 ghost use Rattle.lf_repair_strategy.specs.declared.stats.RepairStats.{RepairStats};
 ghost use Rattle.lf_repair_report.specs.RepairReports.{IsOneMore};
 ghost use Rattle.lf_task_faults.specs.declared.faults.Fault.TheVariants.{SetupOutOfMemory, Output};
+ghost use Rattle.lf_task_designs.specs.Designs.{AreKept};
+ghost use Rattle.lf_task_files.specs.Exits.{CanBePut};
 ghost use Rattle.lf_task_files.specs.Faults.{ExportFails, IsDone};
 ghost use Rattle.lf_task_files.specs.States.{IsFloorFault};
 ghost use Rattle.lf_task_files.specs.Inputs.{path_of};
 ghost use Rattle.lf_task_repair.specs.Exits.{AreNotPut, AreWritten, IsNotPut, IsNotRepaired, IsOpenRepaired, IsPut, IsReadyRepair, IsRepaired, IsUnrepaired};
-ghost use Rattle.lf_task_repair.specs.Repairs.{KeepsAllLegalPlaces, AreKnown, BlamesOutputs, IsStatusOf, IsFileOutputFault, IsKeptRun, IsUnknown, OnlySelectedChange, WritesExportAlone, WritesNoFile};
-ghost use Rattle.lf_task_repair.specs.Repairs.{initial_lines, how_of, is_selected, kept_text};
+ghost use Rattle.lf_task_repair.specs.Repairs.{KeepsAllLegalPlaces, AreKnown, BlamesOutputs, IsStatusOf, IsFileOutputFault, IsKeptRun, IsUnknown, OnlySelectedChange, WritesExportAlone, WritesNoFile, WritesNoText};
+ghost use Rattle.lf_task_repair.specs.Repairs.{initial_lines, how_of, is_selected, is_text_requested, kept_text};
 ghost use Rattle.lf_task_repair.specs.Reports.{AddsTeamLines, IsRepairOf, IsReport, AddsTotalLine, selected_at, selected_names};
 
 use crate::command_log::{CommandLog, save_lines};
@@ -321,21 +322,20 @@ pub fn try_files<'a, E: OutputFiles>(
 /// places, the command lines, and the state.
 fn put_files<'a, E: OutputFiles>(
     floor: &Floor<IndexSeeker>,
-    original: &SourceText,
+    original: Option<&SourceText>,
     lines: &CommandLog,
     files: &RepairFiles<'a>,
     exports: &mut E,
 ) -> Result<(), Fault<'a>>
+    requires kept { original ≡ None → WritesNoText (repair_paths files.now) }
     requires fits { (s : FloorState) (places : List (ℕ × Option Place)) → s.components ≡ floor.now.components
         → AreCommittedPlaces s places
-        → CanBeRenewed original.now.text.items original.now.clauses places }
-    ensures ok { (document : Document)
-        → original.now.clauses ≡ map (clause_of original.now.text.items) document.components
-        → OnOk result (AreWritten (repair_paths files.now) original.now.text.items document floor.now
+        → CanBePut (option_copied original) places }
+    ensures ok { (text : List ℕ) (document : Document) → AreKept (option_copied original.entry) text document
+        → OnOk result (AreWritten (repair_paths files.now) text document floor.now
         (kept_text lines.now) (E.puts exports.old) (E.puts exports.new)) }
-    ensures err { (document : Document)
-        → original.now.clauses ≡ map (clause_of original.now.text.items) document.components
-        → IfErr result (AreNotPut (repair_paths files.now) original.now.text.items document floor.now
+    ensures err { (text : List ℕ) (document : Document) → AreKept (option_copied original.entry) text document
+        → IfErr result (AreNotPut (repair_paths files.now) text document floor.now
         (kept_text lines.now) (E.puts exports.old) (E.puts exports.new)) }
     ensures fails { IfErr result (λ fault. ExportFails fault (E.has_failed exports.old) (E.has_failed exports.new)) }
     ensures sound { OnOk result (E.has_failed exports.new ≡ E.has_failed exports.old) }
@@ -355,25 +355,24 @@ fn put_files<'a, E: OutputFiles>(
 /// faults the report and the files in front of the one at fault are written.
 pub fn put_results<'a, E: OutputFiles, W: Sink>(
     floor: &Floor<IndexSeeker>,
-    original: &SourceText,
+    original: Option<&SourceText>,
     done: &FinishedTask,
     files: &RepairFiles<'a>,
     exports: &mut E,
     writer: &mut W,
 ) -> Result<u8, Fault<'a>>
+    requires kept { original ≡ None → WritesNoText (repair_paths files.now) }
     requires fits { (s : FloorState) (places : List (ℕ × Option Place)) → s.components ≡ floor.now.components
         → AreCommittedPlaces s places
-        → CanBeRenewed original.now.text.items original.now.clauses places }
+        → CanBePut (option_copied original) places }
     ensures status { IfOk result (λ status. status ≡ done.now.status) }
-    ensures ok { (document : Document)
-        → original.now.clauses ≡ map (clause_of original.now.text.items) document.components
-        → OnOk result (IsPut (repair_paths files.now) original.now.text.items document floor.now
+    ensures ok { (text : List ℕ) (document : Document) → AreKept (option_copied original.entry) text document
+        → OnOk result (IsPut (repair_paths files.now) text document floor.now
         (kept_text done.now.lines)
         done.now.report.items (W.contents writer.old) (W.contents writer.new) (E.puts exports.old)
         (E.puts exports.new)) }
-    ensures err { (document : Document)
-        → original.now.clauses ≡ map (clause_of original.now.text.items) document.components
-        → IfErr result (IsNotPut (repair_paths files.now) original.now.text.items document floor.now
+    ensures err { (text : List ℕ) (document : Document) → AreKept (option_copied original.entry) text document
+        → IfErr result (IsNotPut (repair_paths files.now) text document floor.now
         (kept_text done.now.lines)
         done.now.report.items (W.contents writer.old) (W.contents writer.new) (E.puts exports.old)
         (E.puts exports.new)) }
@@ -420,7 +419,8 @@ fn note_uncommitted<P: Progress>(
 /// What a repair needs besides the floor of a design. It is built first.
 #[derive(Drop)]
 struct RepairContext<'p, P> {
-    original: SourceText,
+    /// The DEF text, if it is kept.
+    original: Option<SourceText>,
     limits: RepairLimits,
     /// The receiver of progress reports.
     progress: &'p mut P,
@@ -437,20 +437,19 @@ fn repair_on_floor<'a, E: OutputFiles, W: Sink, P: Progress>(
     writer: &mut W,
 ) -> Result<u8, Fault<'a>>
     requires teams { length floor.old.teams ≡ length floor.old.frame.teams + 1 }
+    requires kept { before.old.original ≡ None → WritesNoText (repair_paths requested.now.files) }
     requires fits { (s : FloorState) (places : List (ℕ × Option Place)) → s.components ≡ floor.old.components
         → AreCommittedPlaces s places
-        → CanBeRenewed before.old.original.text.items before.old.original.clauses places }
-    ensures ok { (document : Document)
-        → before.old.original.clauses ≡ map (clause_of before.old.original.text.items) document.components
+        → CanBePut before.old.original places }
+    ensures ok { (text : List ℕ) (document : Document) → AreKept before.old.original text document
         → IfOk result (IsRepaired (map (λ team. team.now) requested.now.teams.now) requested.now.legal
         (repair_paths requested.now.files)
-        before.old.original.text.items document before.old.limits floor.old
+        text document before.old.limits floor.old
         (W.contents writer.old) (W.contents writer.new) (E.puts exports.old) (E.puts exports.new)) }
-    ensures err { (document : Document)
-        → before.old.original.clauses ≡ map (clause_of before.old.original.text.items) document.components
+    ensures err { (text : List ℕ) (document : Document) → AreKept before.old.original text document
         → IfErr result (IsUnrepaired (map (λ team. team.now) requested.now.teams.now) requested.now.legal
         (repair_paths requested.now.files)
-        before.old.original.text.items document before.old.limits floor.old
+        text document before.old.limits floor.old
         (W.contents writer.old) (W.contents writer.new) (E.puts exports.old) (E.puts exports.new)) }
     ensures blames { IfErr result
         (λ fault. BlamesOutputs fault (writer.new ≡ writer.old) (W.has_failed writer.old) (W.has_failed writer.new)
@@ -465,7 +464,7 @@ fn repair_on_floor<'a, E: OutputFiles, W: Sink, P: Progress>(
     let done = repair_selected(alloc, floor, requested, &before.limits, before.progress)?;
     let status = put_results(
         floor,
-        &before.original,
+        before.original.as_ref(),
         &done,
         &requested.files,
         exports,
@@ -479,17 +478,27 @@ fn repair_on_floor<'a, E: OutputFiles, W: Sink, P: Progress>(
 #[derive(Drop)]
 struct ReadyRepair {
     measured: MeasuredFloor,
-    original: SourceText,
+    /// The DEF text, if one of the requested files is made from it.
+    original: Option<SourceText>,
 }
 
-/// Opens the design of the files, and the floor with which its repair begins.
+/// Returns whether one of the requested files is made from the DEF text.
+pub fn is_text_requested(files: &RepairFiles<'_>) -> bool
+    ensures { result ≡ is_text_requested (repair_paths files.now) }
+{
+    files.export.is_some() || files.working.is_some()
+}
+
+/// Opens the design of the files, and the floor with which its repair begins. Its DEF text is kept
+/// if one of the requested files is made from it.
 fn ready_repair<'a, T: InputFiles>(
     alloc: Global,
     texts: &T,
     requested: &RepairJob<'a>,
 ) -> Result<ReadyRepair, Fault<'a>>
     ensures ok { IfOk result (IsReadyRepair requested.now.limits (T.gives texts.now) requested.now.def.now
-        (map (λ lef. lef.now) requested.now.lefs.now) (path_of requested.now.state)) }
+        (map (λ lef. lef.now) requested.now.lefs.now) (path_of requested.now.state)
+        (repair_paths requested.now.files)) }
     ensures err { IfErr result (IsFloorFault requested.now.limits (T.gives texts.now) requested.now.def.now
         (map (λ lef. lef.now) requested.now.lefs.now) (path_of requested.now.state)) }
 {
@@ -499,6 +508,7 @@ fn ready_repair<'a, T: InputFiles>(
         texts,
         requested.def,
         requested.lefs,
+        is_text_requested(&requested.files),
     )?;
     let OpenedDesign { loaded, original } = opened;
     let measured = open_measured(alloc, texts, loaded, requested.state)?;
@@ -515,21 +525,20 @@ fn repair_opened<'a, E: OutputFiles, W: Sink, P: Progress>(
     progress: &mut P,
 ) -> Result<u8, Fault<'a>>
     requires teams { length ready.measured.floor.teams ≡ length ready.measured.floor.frame.teams + 1 }
+    requires kept { ready.original ≡ None → WritesNoText (repair_paths requested.now.files) }
     requires fits { (s : FloorState) (places : List (ℕ × Option Place)) → s.components
         ≡ ready.measured.floor.components
         → AreCommittedPlaces s places
-        → CanBeRenewed ready.original.text.items ready.original.clauses places }
-    ensures ok { (document : Document)
-        → ready.original.clauses ≡ map (clause_of ready.original.text.items) document.components
+        → CanBePut ready.original places }
+    ensures ok { (text : List ℕ) (document : Document) → AreKept ready.original text document
         → IfOk result (IsRepaired (map (λ team. team.now) requested.now.teams.now) requested.now.legal
         (repair_paths requested.now.files)
-        ready.original.text.items document ready.measured.limits ready.measured.floor
+        text document ready.measured.limits ready.measured.floor
         (W.contents writer.old) (W.contents writer.new) (E.puts exports.old) (E.puts exports.new)) }
-    ensures err { (document : Document)
-        → ready.original.clauses ≡ map (clause_of ready.original.text.items) document.components
+    ensures err { (text : List ℕ) (document : Document) → AreKept ready.original text document
         → IfErr result (IsUnrepaired (map (λ team. team.now) requested.now.teams.now) requested.now.legal
         (repair_paths requested.now.files)
-        ready.original.text.items document ready.measured.limits ready.measured.floor
+        text document ready.measured.limits ready.measured.floor
         (W.contents writer.old) (W.contents writer.new) (E.puts exports.old) (E.puts exports.new)) }
     ensures blames { IfErr result
         (λ fault. BlamesOutputs fault (writer.new ≡ writer.old) (W.has_failed writer.old) (W.has_failed writer.new)

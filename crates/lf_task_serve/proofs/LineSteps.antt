@@ -1,25 +1,20 @@
 -- Steps of work on lines.
-use Rattle.std.proofs.Common.{◌≡◌, ◌⊎◌, ap, inl, inr, map, refl, subst, sym, Bool, ℕ, List, None, Ok, Option, Some}
-use Rattle.lf_def.specs.Document.{Document, document_of}
-use Rattle.lf_lef.specs.Contents.{Contents}
+use Rattle.std.proofs.Common.{◌≡◌, ◌⊎◌, inl, inr, refl, Bool, ℕ, List, Option}
+use Rattle.lf_def.specs.Document.{Document}
 use Rattle.lf_io_files.specs.Shelf.{Put}
 use Rattle.lf_server.specs.Connections.{Accepted}
 use Rattle.lf_floorplan.specs.declared.limits.Limits.{Limits}
 use Rattle.lf_floorplan.specs.declared.loaded.Loaded.{Loaded}
 use Rattle.lf_task_faults.specs.declared.faults.Fault.{Fault}
-use Rattle.lf_task_designs.specs.declared.opening.SourceText.{SourceText}
-use Rattle.lf_task_designs.specs.Designs.{ReadsFile, IsLoadedIn, IsOpened}
-use Rattle.lf_floorplan.specs.declared.place.Place.{Place}
-use Rattle.lf_write.specs.Export.{CanBeRenewed, ClauseFacts, clause_of}
+use Rattle.lf_task_designs.specs.Designs.{ReadsFile, IsOpened}
 use Rattle.lf_floor_model.specs.States.{FloorState}
 use Rattle.lf_task_faults.specs.declared.faults.OutputKind.TheVariants.{Export, Save}
-use Rattle.lf_task_files.specs.Exits.{CanBePut, IsExported}
+use Rattle.lf_task_files.specs.Exits.{IsExported}
 use Rattle.lf_task_files.specs.Faults.{IsOutputFault}
-use Rattle.lf_task_files.specs.States.{IsOpenedFloor}
 use Rattle.lf_task_files.proofs.WorkSteps.{design_opened}
 use Rattle.lf_task_serve.specs.Exits.{IsUndone, Streams, streams}
 use Rattle.lf_task_serve.specs.Surroundings.{IsSound}
-use Rattle.lf_task_serve.specs.Work.{AreAnswered, IsServingFault, IsOfOriginal, IsUnfinished, IsNotServedDesign}
+use Rattle.lf_task_serve.specs.Work.{AreAnswered, IsServingFault, IsUnfinished, IsNotServedDesign}
 use Rattle.lf_task_serve.specs.declared.environment.Environment.{Environment}
 use Rattle.lf_task_serve.specs.declared.line_source.LineSource.{LineSource}
 use Rattle.lf_task_serve.specs.declared.line_source.LineSource.TheVariants.{Reader, Port}
@@ -61,23 +56,6 @@ outputs_unfinished save export lines begin floor text document fault io done (in
     inl (inr (inr (unexported.0, (floor, done))), unexported.1)
 outputs_unfinished save export lines begin floor text document fault io done (inr unsaved) =
     inr (unsaved.0, record { floor = floor; work = done; between = io.new_puts; exports = unsaved.1; saves = refl })
-
--- The cells of a floor with which work begins are those of its design.
-pub begun_components : (gives : ReadsFile) (state : Option (List ℕ)) (opened begin : FloorState) → IsOpenedFloor gives state opened begin
-    → begin.components ≡ opened.components
-begun_components gives None opened begin is = ap (λ (f : FloorState). f.components) is
-begun_components gives (Some path) opened begin is = ap (λ (f : FloorState). f.components) is.2.2
-
--- Places can be written into the kept DEF text if they can be written into any text from which the
--- design was loaded.
-pub can_be_put : (original : Option SourceText) (loaded : Loaded) (places : List (ℕ × Option Place)) → IsOfOriginal original loaded
-    → ((text : List ℕ) (limits : Limits) (library : Contents) (document : Document) → document_of text ≡ Ok document
-    → IsLoadedIn limits library document loaded → CanBeRenewed text (map (clause_of text) document.components) places)
-    → CanBePut original places
-can_be_put None loaded places of can = tt
-can_be_put (Some original) loaded places (limits, library, document, kept) can =
-    subst (λ (clauses : List ClauseFacts). CanBeRenewed original.text.items clauses places) (sym kept.clauses_are)
-    (can original.text.items limits library document kept.read kept.loads)
 
 -- If nothing changes, nothing fails.
 pub still_sound : {T E V R W F P : Type 0} (e : E → Bool) (v : V → Bool) (r : R → Bool) (w : W → Bool) (around : Environment T E V R W F P)

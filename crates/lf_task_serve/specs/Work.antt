@@ -1,7 +1,7 @@
 -- Work on a design: lines that are answered, or connections that are served.
-use Rattle.std.specs.Prelude.{◌≡◌, ◌⊎◌, ℕ, Bool, IfSome, List, None, OnErr, OnOk, Option, Result, true}
+use Rattle.std.specs.Prelude.{◌≡◌, ◌⊎◌, ℕ, Bool, List, None, Ok, OnErr, OnOk, Option, Result, true}
 use Rattle.lf_lef.specs.Contents.{Contents}
-use Rattle.lf_def.specs.Document.{Document}
+use Rattle.lf_def.specs.Document.{Document, document_of}
 use Rattle.lf_io_files.specs.Shelf.{Put}
 use Rattle.lf_floorplan.specs.declared.limits.Limits.{Limits}
 use Rattle.lf_floorplan.specs.declared.loaded.Loaded.{Loaded}
@@ -10,15 +10,13 @@ use Rattle.lf_floor_model.specs.States.{FloorState}
 use Rattle.lf_floor_model.specs.Designs.{initial_floor}
 use Rattle.lf_task_faults.specs.declared.faults.Fault.{Fault}
 use Rattle.lf_task_designs.specs.declared.opening.SourceText.{SourceText}
-use Rattle.lf_task_designs.specs.Designs.{ReadsFile, IsLoadedText, IsOpened}
+use Rattle.lf_task_designs.specs.Designs.{AreKept, ReadsFile, IsLoadedIn}
 use Rattle.lf_task_faults.specs.Faults.{BlamesDevices}
 use Rattle.lf_task_faults.specs.declared.faults.OutputKind.TheVariants.{Save}
-use Rattle.lf_task_files.specs.Exits.{AreKept}
 use Rattle.lf_task_files.specs.Faults.{IsOutputFault}
 use Rattle.lf_task_files.specs.States.{IsOpenedFloor, IsNotOpened}
 use Rattle.lf_task_serve.specs.declared.environment.Environment.{Environment}
 use Rattle.lf_task_serve.specs.declared.line_source.LineSource.{LineSource}
-use Rattle.lf_task_serve.specs.declared.serve_task.OpenDesign.{OpenDesign}
 use Rattle.lf_task_serve.specs.declared.line_source.LineSource.TheVariants.{Reader, Port}
 use Rattle.lf_task_serve.specs.Exits.{AnswersInput, EndsWithFault, IsFinished, IsOffered, IsServiceFault, IsServeFault, IsUntouched, Streams}
 use Rattle.lf_task_serve.specs.Lines.{ReadsFail}
@@ -37,21 +35,15 @@ IsServingFault (Reader limit) begin fault io = EndsWithFault limit begin fault i
 IsServingFault (Port port connections) begin fault io =
     IsServiceFault port connections begin fault io.before io.after io.old_accepted io.new_accepted
 
--- If a DEF text is kept, the design was loaded from it.
-abbrev pub IsOfOriginal : Option SourceText → Loaded → Type 0
-IsOfOriginal original loaded =
-    IfSome original (λ original. (limits : Limits) × (library : Contents) × (document : Document)
-    × IsLoadedText limits original.text.items library document original.clauses loaded)
-
--- The design to work on is that of the files, with its DEF text if an export is requested.
-pub record IsDesignFor (limits : Limits) (gives : ReadsFile) (def : List ℕ) (lefs : List (List ℕ))
-    (export : Option (List ℕ)) (design : OpenDesign) : Type 0 where
+-- The design was loaded from a DEF text. If a text is kept, it is this one.
+pub record IsOfOriginal (original : Option SourceText) (loaded : Loaded) : Type 0 where
+  pub limits : Limits
+  pub library : Contents
   pub text : List ℕ
   pub document : Document
-  pub opened : IsOpened limits gives def lefs text document design.loaded
-  pub are : AreKept design.original text document
-  pub of : IsOfOriginal design.original design.loaded
-  pub kept : design.original ≡ None → export ≡ None
+  pub are : AreKept original text document
+  pub read : document_of text ≡ Ok document
+  pub loads : IsLoadedIn limits library document loaded
 
 -- Why the work on a floor is not finished: it stopped, and no file is written; or everything is
 -- done except that the state is not saved.

@@ -7,15 +7,15 @@ ghost use Rattle.lf_floorplan.specs.declared.place.Place.{Place};
 ghost use Rattle.lf_floor_model.specs.Designs.{initial_floor};
 ghost use Rattle.lf_floor_model.specs.Places.{AreCommittedPlaces};
 ghost use Rattle.lf_floor_model.specs.States.{FloorState};
-ghost use Rattle.lf_task_designs.specs.Designs.{IsDesignFault};
-ghost use Rattle.lf_task_files.specs.Exits.{AreKept, CanBePut};
+ghost use Rattle.lf_task_designs.specs.Designs.{AreKept};
+ghost use Rattle.lf_task_files.specs.Exits.{CanBePut};
 ghost use Rattle.lf_task_files.specs.States.{IsOpenedFloor};
 ghost use Rattle.lf_task_files.specs.Inputs.{path_of};
 ghost use Rattle.lf_task_serve.specs.Exits.{AnswersInput, IsFinished, IsLinesFault, IsUndone, IsServedDesign};
 ghost use Rattle.lf_task_serve.specs.Faults.{BlamesStreams};
 ghost use Rattle.lf_task_serve.specs.Lines.{default_most_lines};
 ghost use Rattle.lf_task_serve.specs.Surroundings.{IsReady, KeepsDevices, io_of};
-ghost use Rattle.lf_task_serve.specs.Work.{AreAnswered, BlamesIn, IsDesignFor, IsServingFault, IsOfOriginal, IsUnfinished, IsNotServedDesign, LeavesDevices};
+ghost use Rattle.lf_task_serve.specs.Work.{AreAnswered, BlamesIn, IsServingFault, IsOfOriginal, IsUnfinished, IsNotServedDesign, LeavesDevices};
 
 use crate::environment::Environment;
 use crate::line_source::{LineSource, serve_reader, serve_source};
@@ -28,55 +28,13 @@ use lf_io::{Sink, Source};
 use lf_io_files::OutputFiles;
 use lf_laws_roundtrip::loaded_cells_are_exportable;
 use lf_legalize::IndexSeeker;
-use lf_task_designs::{InputFiles, OpenedDesign, SourceText, load_files, open_design};
+use lf_task_designs::{InputFiles, OpenedDesign, SourceText, open_design};
 use lf_task_faults::Fault;
 use lf_task_files::{
     DesignInput, OutputPaths, check_outputs, open_floor, start_floor, write_outputs,
 };
 use lf_write::kept_clauses_suffice;
 use std::alloc::Global;
-
-/// The design to work on.
-#[derive(Drop)]
-struct OpenDesign {
-    loaded: Loaded,
-    /// Its DEF text, if it is to be exported.
-    original: Option<SourceText>,
-}
-
-/// Loads the design of the files. Its DEF text is kept if an export is requested.
-fn design_for<'a, T: InputFiles>(
-    alloc: Global,
-    texts: &T,
-    inputs: DesignInput<'a>,
-    export: Option<&str>,
-) -> Result<OpenDesign, Fault<'a>>
-    ensures ok { IfOk result (λ design. IsDesignFor inputs.entry.limits (T.gives texts.now) inputs.entry.def.now
-        (map (λ lef. lef.now) inputs.entry.lefs.now)
-        (path_of export.entry) design) }
-    ensures err { IfErr result (IsDesignFault inputs.entry.limits (T.gives texts.now) inputs.entry.def.now
-        (map (λ lef. lef.now) inputs.entry.lefs.now)) }
-{
-    let DesignInput {
-        def,
-        lefs,
-        limits,
-        ..
-    } = inputs;
-    match export {
-        Some(_) => {
-            let OpenedDesign { loaded, original } = open_design(alloc, limits, texts, def, lefs)?;
-            Ok(OpenDesign {
-                loaded,
-                original: Some(original),
-            })
-        }
-        None => Ok(OpenDesign {
-            loaded: load_files(alloc, limits, texts, def, lefs)?,
-            original: None,
-        }),
-    }
-}
 
 /// Works on a floor of the design: answers its lines, and then writes the requested files. No line
 /// is read if the files cannot be written, as far as this can be known in advance. `original` is
@@ -118,7 +76,7 @@ fn serve_floor<'a, T, E: OutputFiles, V: PortListener, R: Source, W: Sink, F, P>
 fn serve_design<'a, T: InputFiles, E: OutputFiles, V: PortListener, R: Source, W: Sink, F, P>(
     alloc: Global,
     around: &mut Environment<T, E, V, R, W, F, P>,
-    design: OpenDesign,
+    design: OpenedDesign,
     state: Option<&'a str>,
     lines: LineSource,
     outputs: OutputPaths<'a>,
@@ -144,7 +102,7 @@ fn serve_design<'a, T: InputFiles, E: OutputFiles, V: PortListener, R: Source, W
     kept_clauses_suffice();
     loaded_cells_are_exportable();
     places_follow_design();
-    let OpenDesign { loaded, original } = design;
+    let OpenedDesign { loaded, original } = design;
     let mut floor = open_floor(alloc, &around.texts, loaded, state)?;
     serve_floor(alloc, around, original.as_ref(), &mut floor, lines, outputs)
 }
@@ -179,8 +137,15 @@ pub fn serve_files<'a, T: InputFiles, E: OutputFiles, V: PortListener, R: Source
     ensures silent { around.new.progress ≡ around.old.progress }
     ensures keeps { KeepsDevices R.holds W.holds around.old around.new }
 {
-    let design = design_for(alloc, &around.texts, inputs, outputs.export)?;
-    serve_design(alloc, around, design, inputs.state, lines, outputs)
+    let DesignInput {
+        def,
+        lefs,
+        state,
+        limits,
+    } = inputs;
+    let is_text_kept = outputs.export.is_some();
+    let design = open_design(alloc, limits, &around.texts, def, lefs, is_text_kept)?;
+    serve_design(alloc, around, design, state, lines, outputs)
 }
 
 /// Answers the lines of the reader over the design, at most 1,000,000, and exports nothing. Returns

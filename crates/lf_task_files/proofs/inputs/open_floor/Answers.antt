@@ -1,4 +1,4 @@
-use Rattle.std.proofs.Common.{◌≡◌, ◌+◌, ap, length, subst, sym}
+use Rattle.std.proofs.Common.{◌≡◌, ◌+◌, length, subst, sym}
 use Rattle.lf_floor_model.specs.States.{FloorState}
 use Rattle.lf_floor_model.proofs.Openings.{opening_whole}
 use Rattle.lf_task_files.proofs.inputs.open_floor.Goals as goal

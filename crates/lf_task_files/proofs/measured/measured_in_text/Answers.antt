@@ -1,4 +1,4 @@
-use Rattle.std.proofs.Common.{◌≡◌, ◌∙◌, ◌+◌, ap, inl, length, refl, Some, sym}
+use Rattle.std.proofs.Common.{◌∙◌, ◌+◌, ap, inl, length, refl, Some, sym}
 use Rattle.std.proofs.lemmas.Result.{err_from_is_err_and}
 use Rattle.lf_floorplan.specs.declared.frame.Frame.{Frame}
 use Rattle.lf_floor_model.specs.Designs.{initial_floor}

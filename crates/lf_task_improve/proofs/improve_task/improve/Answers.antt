@@ -1,10 +1,11 @@
-use Rattle.std.proofs.Common.{◌∙◌, List, ap, inl, inr, map, None, refl, subst, sym}
+use Rattle.std.proofs.Common.{◌∙◌, ap, inl, inr, map, None, refl}
 use Rattle.std.proofs.lemmas.Result.{IfOk-weaker, err_from_is_err_and}
+use Rattle.lf_cli.specs.Command.{repair_paths}
 use Rattle.lf_floor_model.specs.States.{FloorState}
-use Rattle.lf_write.specs.Export.{CanBeRenewed, ClauseFacts}
+use Rattle.lf_task_files.proofs.KeptTexts.{can_be_put}
 use Rattle.lf_task_files.proofs.WorkSteps.{early_blames}
 use Rattle.lf_task_wires.proofs.Steps.{files_early}
-use Rattle.lf_task_repair.proofs.Repairing.{err_and}
+use Rattle.lf_task_repair.proofs.Repairing.{err_and, no_text}
 use Rattle.lf_task_improve.proofs.Openings.{begun_many}
 use Rattle.lf_task_improve.proofs.improve_task.improve.Goals as goal
 
@@ -14,9 +15,10 @@ improve_ready-requires g c =
     let ready = c.in_ok-ready.ready in
     record {
       teams = begun_many is.loaded ready.floor is.begins;
+      kept = no_text ready.original (repair_paths c.args.requested.now.files) is.kept;
       fits = λ s places same are.
-          subst (λ (clauses : List ClauseFacts). CanBeRenewed ready.original.text.items clauses places) (sym is.clauses_are)
-          (c.kept_clauses_suffice.ensures.ready ready.original.text.items is.document places is.opened.read
+          can_be_put ready.original is.text is.document places is.are
+          (c.kept_clauses_suffice.ensures.ready is.text is.document places is.opened.read
           (c.loaded_cells_are_exportable.ensures _ is.loaded places is.opened.loads
           (c.places_follow_design.ensures is.loaded s places (same ∙ ap (λ (f : FloorState). f.components) is.begins) are)));
     }
@@ -26,22 +28,22 @@ returns-clause-ok g c =
     let is = c.in_ok-ready.ensures.ok in
     IfOk-weaker c.improve_ready.result _ _
     (λ status improved. record {
-      text = c.in_ok-ready.ready.original.text.items;
+      text = is.text;
       document = is.document;
       loaded = is.loaded;
       nets = c.in_ok-ready.ready.wires.netlist.nets;
       opened = is.opened;
       improved = rw is.begins at (rw is.teams at improved);
     })
-    (c.improve_ready.ensures.ok is.document is.clauses_are)
+    (c.improve_ready.ensures.ok is.text is.document is.are)
 
 pub returns-clause-err : goal.returns-clause-err
 returns-clause-err g c =
     let is = c.in_ok-ready.ensures.ok in
-    err_and c.improve_ready.result _ _ _ (c.improve_ready.ensures.err is.document is.clauses_are) c.improve_ready.ensures.blames
+    err_and c.improve_ready.result _ _ _ (c.improve_ready.ensures.err is.text is.document is.are) c.improve_ready.ensures.blames
     (λ fault why blames. (
       inr (record {
-        text = c.in_ok-ready.ready.original.text.items;
+        text = is.text;
         document = is.document;
         loaded = is.loaded;
         nets = c.in_ok-ready.ready.wires.netlist.nets;

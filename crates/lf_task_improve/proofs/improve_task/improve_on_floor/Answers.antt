@@ -1,6 +1,10 @@
-use Rattle.std.proofs.Common.{◌∙◌, ℕ, List, Option, inl, inr, map, refl, subst, sym}
+use Rattle.std.proofs.Common.{◌∙◌, ℕ, List, Option, ap, inl, inr, map, refl, subst, sym}
 use Rattle.std.proofs.lemmas.Result.{IfErr-weaker, err_from_is_err_and}
+use Rattle.std.specs.Prelude.{option_copied}
 use Rattle.lf_cli.specs.Command.{repair_paths}
+use Rattle.lf_task_designs.specs.declared.opening.SourceText.{SourceText}
+use Rattle.lf_task_designs.specs.Designs.{AreKept}
+use Rattle.lf_task_files.specs.Exits.{CanBePut}
 use Rattle.lf_io_files.specs.Shelf.{Put}
 use Rattle.lf_task_files.proofs.WorkSteps.{blames_as, early_blames, export_blames}
 use Rattle.lf_task_repair.specs.Exits.{IsNotPut, IsPut}
@@ -10,16 +14,22 @@ use Rattle.lf_task_improve.proofs.Openings.{ok_and}
 use Rattle.lf_task_improve.proofs.improve_task.improve_on_floor.Goals as goal
 
 pub put_results-requires : goal.put_results-requires
-put_results-requires g c = record { fits = λ s places same are. c.requires.fits s places (same ∙ c.in_ok-done.ensures.only.components) are }
+put_results-requires g c =
+    let value = c.as_ref.ensures.value in
+    record {
+      kept = λ none. c.requires.kept (sym value ∙ ap option_copied none);
+      fits = λ s places same are.
+          subst (λ (original : Option SourceText). CanBePut original places) (sym value) (c.requires.fits s places (same ∙ c.in_ok-done.ensures.only.components) are);
+    }
 
 pub returns-clause-ok : goal.returns-clause-ok
-returns-clause-ok g c = λ document kept.
+returns-clause-ok g c = λ text document kept.
     let floor = c.improve_selected.new.floor in
     let lines = kept_text c.in_ok-done.done.lines in
     let report = c.in_ok-done.done.report.items in
     let requested = c.args.requested.now in
     ok_and c.put_results.result _ _ _ c.put_results.ensures.status
-    (c.put_results.ensures.ok document kept)
+    (c.put_results.ensures.ok text document (subst (λ (original : Option SourceText). AreKept original text document) (sym c.as_ref.ensures.value) kept))
     (λ status same put. record {
       floor = floor;
       kept = lines;
@@ -30,13 +40,13 @@ returns-clause-ok g c = λ document kept.
         only = c.in_ok-done.ensures.only;
         decides = c.in_ok-done.ensures.reported;
       };
-      put = subst (λ (puts : Option (List Put)). IsPut (repair_paths requested.files) c.args.before.now.original.text.items document floor lines
+      put = subst (λ (puts : Option (List Put)). IsPut (repair_paths requested.files) text document floor lines
           report (g.W.Sink.contents c.args.writer.now) (g.W.Sink.contents c.put_results.new.writer) puts (g.E.OutputFiles.puts c.put_results.new.exports)) c.try_files.ensures.unput put;
       committed_checked = subst (λ (n : ℕ). IsStatusOf floor n) (sym same) c.in_ok-done.ensures.committed_checked;
     })
 
 pub returns-clause-err : goal.returns-clause-err
-returns-clause-err g c = λ document kept.
+returns-clause-err g c = λ text document kept.
     let floor = c.improve_selected.new.floor in
     let lines = kept_text c.in_ok-done.done.lines in
     let report = c.in_ok-done.done.report.items in
@@ -52,11 +62,11 @@ returns-clause-err g c = λ document kept.
         only = c.in_ok-done.ensures.only;
         decides = c.in_ok-done.ensures.reported;
       },
-      subst (λ (puts : Option (List Put)). IsNotPut (repair_paths requested.files) c.args.before.now.original.text.items document floor lines
+      subst (λ (puts : Option (List Put)). IsNotPut (repair_paths requested.files) text document floor lines
           report (g.W.Sink.contents c.args.writer.now) (g.W.Sink.contents c.put_results.new.writer) puts (g.E.OutputFiles.puts c.put_results.new.exports) fault)
           c.try_files.ensures.unput not_put,
     ))
-    (c.put_results.ensures.err document kept)
+    (c.put_results.ensures.err text document (subst (λ (original : Option SourceText). AreKept original text document) (sym c.as_ref.ensures.value) kept))
 
 pub returns-clause-blames : goal.returns-clause-blames
 returns-clause-blames g c =
@@ -66,7 +76,7 @@ returns-clause-blames g c =
     c.put_results.ensures.blames
 
 pub returns-in_err-all_known-clause-err : goal.returns-in_err-all_known-clause-err
-returns-in_err-all_known-clause-err g c = λ document kept.
+returns-in_err-all_known-clause-err g c = λ text document kept.
     let p = err_from_is_err_and c.from_residual.result c.from_residual.ensures.1 in
     rw (p.1, p.2) (inl (inl c.in_err-all_known.ensures.err, refl, refl))
 
@@ -79,7 +89,7 @@ returns-in_err-all_known-clause-blames g c =
     )
 
 pub returns-in_err-try_files-clause-err : goal.returns-in_err-try_files-clause-err
-returns-in_err-try_files-clause-err g c = λ document kept.
+returns-in_err-try_files-clause-err g c = λ text document kept.
     let p = err_from_is_err_and c.from_residual-in_err-try_files.result c.from_residual-in_err-try_files.ensures.1 in
     rw (p.1, p.2) (inl (inr (inl c.in_err-try_files.ensures.err), refl, c.try_files.ensures.unput))
 
@@ -89,7 +99,7 @@ returns-in_err-try_files-clause-blames g c =
     rw (p.1, p.2) (export_blames _ _ _ _ _ _ _ _ _ c.in_err-try_files.ensures.fails (λ fails. fails) (λ same. (refl, same)))
 
 pub returns-in_err-done-clause-err : goal.returns-in_err-done-clause-err
-returns-in_err-done-clause-err g c = λ document kept.
+returns-in_err-done-clause-err g c = λ text document kept.
     let p = err_from_is_err_and c.from_residual-in_err-done.result c.from_residual-in_err-done.ensures.1 in
     rw (p.1, p.2) (inl (inr (inr c.in_err-done.ensures.err), refl, c.try_files.ensures.unput))
 

@@ -1,6 +1,7 @@
 use Rattle.std.proofs.Common.{map, arith}
 use Rattle.std.proofs.lemmas.List.{length-map}
 use Rattle.std.proofs.lemmas.Result.{IfErr-weaker, IfOk-weaker}
+use Rattle.lf_cli.specs.Command.{repair_paths}
 use Rattle.lf_task_designs.specs.Designs.{no_library}
 use Rattle.lf_task_wires.proofs.Keeping.{kept_many}
 use Rattle.lf_task_improve.proofs.Openings.{design_netted, file_fails}
@@ -19,7 +20,7 @@ returns-clause-ok g c =
     let requested = c.args.requested.now in
     IfOk-weaker c.netted_file.result _ _
     (λ design is. design_netted requested.limits (g.T.InputFiles.gives c.args.texts.now) requested.def.now (map (λ lef. lef.now) requested.lefs.now)
-    (map (λ t. t.items) c.kept_library.new.kept.items) c.in_ok-library.library is.0 design c.in_ok-library.ensures.ok is.1 is.2) (rw c.deref.ensures.value at c.netted_file.ensures.ok)
+    (map (λ t. t.items) c.kept_library.new.kept.items) (repair_paths requested.files) c.in_ok-library.library is.0 design c.in_ok-library.ensures.ok is.1 is.2) (rw c.deref.ensures.value at c.netted_file.ensures.ok)
 
 pub returns-clause-err : goal.returns-clause-err
 returns-clause-err g c =

@@ -8,19 +8,19 @@ use Rattle.lf_task_files.proofs.WorkSteps.{fails_and, never_fails}
 use Rattle.lf_task_repair.proofs.repair_task.put_files.Goals as goal
 
 pub save_export-requires : goal.save_export-requires
-save_export-requires g c = record { fits = λ places are. c.requires.fits c.args.floor.now places refl are }
+save_export-requires g c = record { kept = λ none. (c.requires.kept none).export; fits = λ places are. c.requires.fits c.args.floor.now places refl are }
 
 pub save_working-requires : goal.save_working-requires
-save_working-requires g c = record { fits = λ places are. c.requires.fits (with_working c.args.floor.now) places refl are }
+save_working-requires g c = record { kept = λ none. (c.requires.kept none).working; fits = λ places are. c.requires.fits (with_working c.args.floor.now) places refl are }
 
 pub returns-clause-ok : goal.returns-clause-ok
-returns-clause-ok g c = λ document kept.
+returns-clause-ok g c = λ text document kept.
     on_ok_weaker c.save_to.result
     (λ saved. record {
       exported = _;
-      exports = c.in_ok-save_export.ensures.ok document kept;
+      exports = c.in_ok-save_export.ensures.ok text document kept;
       worked = _;
-      works = c.in_ok-save_working.ensures.ok document kept;
+      works = c.in_ok-save_working.ensures.ok text document kept;
       listed = _;
       lists = c.in_ok-save_lines.ensures.ok;
       saves = saved;
@@ -28,15 +28,15 @@ returns-clause-ok g c = λ document kept.
     c.save_to.ensures.ok
 
 pub returns-clause-err : goal.returns-clause-err
-returns-clause-err g c = λ document kept.
+returns-clause-err g c = λ text document kept.
     fails_and c.save_to.result _ _ _ c.save_to.ensures.err c.save_to.ensures.unput
     (λ fault why same. inr (inr (inr (
       why,
       record {
         exported = _;
-        exports = c.in_ok-save_export.ensures.ok document kept;
+        exports = c.in_ok-save_export.ensures.ok text document kept;
         worked = _;
-        works = c.in_ok-save_working.ensures.ok document kept;
+        works = c.in_ok-save_working.ensures.ok text document kept;
         listed = _;
         lists = c.in_ok-save_lines.ensures.ok;
         saves = same;
@@ -49,18 +49,18 @@ returns-clause-unput g c = λ alone.
     (λ fault is. none_fails Save (repair_paths c.args.files.now).save fault alone.save is)
 
 pub returns-in_err-save_export-clause-err : goal.returns-in_err-save_export-clause-err
-returns-in_err-save_export-clause-err g c = λ document kept.
+returns-in_err-save_export-clause-err g c = λ text document kept.
     let p = err_from_is_err_and c.from_residual.result c.from_residual.ensures.1 in
     rw (p.1, p.2) (inl (c.in_err-save_export.ensures.err, c.in_err-save_export.ensures.unput))
 
 pub returns-in_err-save_working-clause-err : goal.returns-in_err-save_working-clause-err
-returns-in_err-save_working-clause-err g c = λ document kept.
+returns-in_err-save_working-clause-err g c = λ text document kept.
     let p = err_from_is_err_and c.from_residual-in_err-save_working.result c.from_residual-in_err-save_working.ensures.1 in
     rw (p.1, p.2) (inr (inl (
       c.in_err-save_working.ensures.err,
       record {
         exported = _;
-        exports = c.in_ok-save_export.ensures.ok document kept;
+        exports = c.in_ok-save_export.ensures.ok text document kept;
         worked = _;
         works = c.in_err-save_working.ensures.unput;
         listed = _;
@@ -74,15 +74,15 @@ returns-in_err-save_working-clause-unput g c = λ alone.
     absurd (none_fails Working (repair_paths c.args.files.now).working _ alone.working c.in_err-save_working.ensures.err)
 
 pub returns-in_err-save_lines-clause-err : goal.returns-in_err-save_lines-clause-err
-returns-in_err-save_lines-clause-err g c = λ document kept.
+returns-in_err-save_lines-clause-err g c = λ text document kept.
     let p = err_from_is_err_and c.from_residual-in_err-save_lines.result c.from_residual-in_err-save_lines.ensures.1 in
     rw (p.1, p.2) (inr (inr (inl (
       c.in_err-save_lines.ensures.err,
       record {
         exported = _;
-        exports = c.in_ok-save_export.ensures.ok document kept;
+        exports = c.in_ok-save_export.ensures.ok text document kept;
         worked = _;
-        works = c.in_ok-save_working.ensures.ok document kept;
+        works = c.in_ok-save_working.ensures.ok text document kept;
         listed = _;
         lists = c.in_err-save_lines.ensures.unput;
         saves = refl;

@@ -1,11 +1,12 @@
-use Rattle.std.proofs.Common.{◌∙◌, inl, inr, List, map, refl, subst, sym}
+use Rattle.std.proofs.Common.{◌∙◌, inl, inr, map, refl}
 use Rattle.std.proofs.lemmas.Result.{IfOk-weaker, err_from_is_err_and}
+use Rattle.lf_cli.specs.Command.{repair_paths}
 use Rattle.lf_floor_model.specs.Designs.{initial_floor}
-use Rattle.lf_write.specs.Export.{CanBeRenewed, ClauseFacts}
 use Rattle.lf_task_files.specs.Inputs.{path_of}
+use Rattle.lf_task_files.proofs.KeptTexts.{can_be_put}
 use Rattle.lf_task_files.proofs.Measuring.{begun_components}
 use Rattle.lf_task_files.proofs.WorkSteps.{early_blames, floor_early}
-use Rattle.lf_task_repair.proofs.Repairing.{err_and}
+use Rattle.lf_task_repair.proofs.Repairing.{err_and, no_text}
 use Rattle.lf_task_repair.proofs.repair_task.repair.Goals as goal
 
 pub repair_opened-requires : goal.repair_opened-requires
@@ -14,9 +15,10 @@ repair_opened-requires g c =
     let ready = c.in_ok-ready.ready in
     record {
       teams = is.measured.whole;
+      kept = no_text ready.original (repair_paths c.args.requested.now.files) is.kept;
       fits = λ s places same are.
-          subst (λ (clauses : List ClauseFacts). CanBeRenewed ready.original.text.items clauses places) (sym is.clauses)
-          (c.kept_clauses_suffice.ensures.ready ready.original.text.items is.document places is.opened.read
+          can_be_put ready.original is.text is.document places is.are
+          (c.kept_clauses_suffice.ensures.ready is.text is.document places is.opened.read
           (c.loaded_cells_are_exportable.ensures _ is.loaded places is.opened.loads
           (c.places_follow_design.ensures is.loaded s places
           (same ∙ begun_components (g.T.InputFiles.gives c.args.texts.now) (path_of c.args.requested.now.state) (initial_floor is.loaded)
@@ -29,7 +31,7 @@ returns-clause-ok g c =
     let ready = c.in_ok-ready.ready in
     IfOk-weaker c.repair_opened.result _ _
     (λ status repaired. record {
-      text = ready.original.text.items;
+      text = is.text;
       document = is.document;
       loaded = is.loaded;
       opened = is.opened;
@@ -38,16 +40,16 @@ returns-clause-ok g c =
       measured = is.measured;
       repaired = repaired;
     })
-    (c.repair_opened.ensures.ok is.document is.clauses)
+    (c.repair_opened.ensures.ok is.text is.document is.are)
 
 pub returns-clause-err : goal.returns-clause-err
 returns-clause-err g c =
     let is = c.in_ok-ready.ensures.ok in
     let ready = c.in_ok-ready.ready in
-    err_and c.repair_opened.result _ _ _ (c.repair_opened.ensures.err is.document is.clauses) c.repair_opened.ensures.blames
+    err_and c.repair_opened.result _ _ _ (c.repair_opened.ensures.err is.text is.document is.are) c.repair_opened.ensures.blames
     (λ fault why blames. (
       inr (record {
-        text = ready.original.text.items;
+        text = is.text;
         document = is.document;
         loaded = is.loaded;
         opened = is.opened;

@@ -2,23 +2,27 @@ use Rattle.std.proofs.Common.{◌∙◌, ap, inl, inr, refl, subst, sym, Option}
 use Rattle.std.proofs.lemmas.Result.{IfErr-weaker, err_from_is_err_and}
 use Rattle.std.specs.Prelude.{option_copied}
 use Rattle.lf_task_designs.specs.declared.opening.SourceText.{SourceText}
+use Rattle.lf_task_designs.specs.Designs.{AreKept}
 use Rattle.lf_floor_model.specs.Designs.{initial_floor}
-use Rattle.lf_task_files.specs.Exits.{AreKept, CanBePut}
+use Rattle.lf_task_files.specs.Exits.{CanBePut}
 use Rattle.lf_task_files.specs.Inputs.{path_of}
+use Rattle.lf_task_files.proofs.KeptTexts.{can_be_put}
+use Rattle.lf_task_files.proofs.Measuring.{begun_components}
 use Rattle.lf_task_files.proofs.WorkSteps.{early_blames, unbegun_early, weaker_ok}
-use Rattle.lf_task_serve.proofs.LineSteps.{begun_components, can_be_put, still_sound}
+use Rattle.lf_task_serve.proofs.LineSteps.{still_sound}
 use Rattle.lf_task_serve.proofs.serve_task.serve_design.Goals as goal
 
 pub serve_floor-requires : goal.serve_floor-requires
 serve_floor-requires g c =
     let design = c.args.design in
+    let of = c.requires.loads in
     record {
       ready = c.requires.ready;
       kept = λ none. c.requires.kept (sym c.as_ref.ensures.value ∙ ap option_copied none);
       fits = λ s places same are.
           subst (λ (original : Option SourceText). CanBePut original places) (sym c.as_ref.ensures.value)
-          (can_be_put design.original design.loaded places c.requires.loads (λ text limits library document read loads.
-          c.kept_clauses_suffice.ensures.ready text document places read (c.loaded_cells_are_exportable.ensures _ design.loaded places loads
+          (can_be_put design.original of.text of.document places of.are
+          (c.kept_clauses_suffice.ensures.ready of.text of.document places of.read (c.loaded_cells_are_exportable.ensures _ design.loaded places of.loads
           (c.places_follow_design.ensures design.loaded s places
           (same ∙ begun_components (g.T.InputFiles.gives c.args.around.now.texts) (path_of c.args.state) (initial_floor design.loaded) c.in_ok-floor.floor c.in_ok-floor.ensures.ok) are))));
     }

@@ -1,10 +1,11 @@
-use Rattle.std.proofs.Common.{◌≡◌, inl, map, refl}
+use Rattle.std.proofs.Common.{◌≡◌, ◌∙◌, inl, map, refl, sym}
 use Rattle.std.proofs.lemmas.Result.{err_from_is_err_and}
 use Rattle.lf_task_designs.specs.Designs.{IsDesignFault}
 use Rattle.lf_task_serve.specs.Exits.{IsUndone}
 use Rattle.lf_task_serve.specs.Surroundings.{io_of}
 use Rattle.lf_task_serve.specs.Work.{AreAnswered, IsServingFault}
 use Rattle.lf_task_files.specs.Inputs.{path_of}
+use Rattle.lf_task_files.proofs.KeptTexts.{is_given, not_requested}
 use Rattle.lf_task_files.proofs.WorkSteps.{design_early, first_fails, step_fails, weaker_ok}
 use Rattle.lf_task_serve.proofs.LineSteps.{still_sound, undone}
 use Rattle.lf_task_serve.proofs.serve_task.serve_files.Goals as goal
@@ -12,7 +13,11 @@ use Rattle.lf_task_serve.proofs.serve_task.serve_files.Goals as goal
 pub serve_design-requires : goal.serve_design-requires
 serve_design-requires g c =
     let is = c.in_ok-design.ensures.ok in
-    record { ready = c.requires.ready; kept = is.kept; loads = is.of }
+    record {
+      ready = c.requires.ready;
+      kept = not_requested c.in_ok-design.design.original (path_of c.args.outputs.export) (is.kept ∙ c.is_some-is_text_kept.ensures ∙ sym (is_given c.args.outputs.export));
+      loads = record { limits = c.args.inputs.limits; library = is.opened.library; text = is.text; document = is.document; are = is.are; read = is.opened.read; loads = is.opened.loads };
+    }
 
 pub returns-clause-ok : goal.returns-clause-ok
 returns-clause-ok g c =

@@ -1,5 +1,5 @@
 use Rattle.lf_task_designs.proofs.OpenedTexts.{both_ok}
-use Rattle.lf_task_designs.proofs.opening.open_design.Goals as goal
+use Rattle.lf_task_designs.proofs.opening.open_with_text.Goals as goal
 
 pub returns-clause-ok : goal.returns-clause-ok
 returns-clause-ok g c =
