@@ -106,7 +106,7 @@ class Backups(HubCase):
 
     def test_a_copy_that_the_program_answers_otherwise_is_removed(self) -> None:
         self.hub.end()
-        self.start("--tail-bytes", "100000", "--tail-seconds", "0")
+        self.start("--tail-bytes", "100000", "--tail-seconds", "1000")
         self.talker = self.talk("operator")
         self.talker.ask("open f0")
         self.change(0, 3)
