@@ -1,6 +1,6 @@
 //! Lists of spans, numbers of a grid, and where a width fits.
 
-use lf_gaps::best_in_row;
+use lf_gaps::{GapTarget, best_in_row, nearer_in_gap, nearer_of};
 use lf_spans::{HasSpan, SiteGrid, free_in};
 use lf_units::{Span, nearest_on_grid, spans_join, spans_meet, spans_minus};
 use std::test::Fail;
@@ -118,4 +118,22 @@ fn a_width_fits_in_both_rows(rt: HostRuntime) -> Result<(), Fail> {
     let wide = best_in_row(rt.alloc(), rows.as_slice(), &sites, 800, 0)?;
     assert_eq!(rt; wide, None);
     Ok(())
+}
+
+#[test]
+fn nearest_place_in_a_gap(rt: HostRuntime) {
+    let wanted = GapTarget {
+        grid: SiteGrid {
+            origin: 0,
+            step: 200,
+        },
+        width: 400,
+        target: 500,
+    };
+    let gap = Span { lo: 900, hi: 2000 };
+    assert_eq!(rt; nearer_in_gap(None, &gap, &wanted), Some(1000));
+    assert_eq!(rt; nearer_in_gap(Some(0), &gap, &wanted), Some(0));
+    let narrow = Span { lo: 400, hi: 700 };
+    assert_eq!(rt; nearer_in_gap(None, &narrow, &wanted), None);
+    assert_eq!(rt; nearer_of(&Some(200), &Some(600), &500), Some(600));
 }

@@ -9,10 +9,12 @@ use lf_cells::{CellId, CellTable};
 use lf_def::DEMO_DEF;
 use lf_frame::{Frame, Loaded, Place};
 use lf_frame_index::FrameIndex;
+use lf_gaps::GapTarget;
 use lf_occupancy::{Occupancy, OccupancyView};
 use lf_orient::Orient;
 use lf_placement::Placement;
 use lf_rules::Padding;
+use lf_spans::SiteGrid;
 use lf_tests_support::with_line;
 use lf_undo::{Move, Moves};
 use lf_units::{Rect, Span};
@@ -115,8 +117,8 @@ fn shows_what_is_free(
     Ok(is_left(alloc, strips, 10, a1, 0, &[])?)
 }
 
-/// Whether a window has the spans that a1 leaves free with a padding, and a box that overlaps a1 is
-/// found to overlap it.
+/// Whether a window has the spans that a1 leaves free with a padding, the nearest place is in one of
+/// them, and a box that overlaps a1 is found to overlap it.
 fn shows_what_is_near(
     alloc: Global,
     strips: &OccupancyView<'_>,
@@ -127,6 +129,17 @@ fn shows_what_is_near(
     let padding = padding_of(strips, 100);
     let near = strips.free_in_row(alloc, 0, *a2, &window, padding)?;
     if !are(&near, &[(200, 300), (900, 1000)]) {
+        return Ok(false);
+    }
+    let wanted = GapTarget {
+        grid: SiteGrid {
+            origin: 0,
+            step: 100,
+        },
+        width: 100,
+        target: 650,
+    };
+    if strips.nearest_in_row(0, *a2, &window, padding, &wanted) != Some(900) {
         return Ok(false);
     }
     let overlapping = inverter(600, 0);
@@ -245,6 +258,38 @@ fn follows_a_cell(alloc: Global, placement: &mut Placement) -> Result<bool, Fail
     Ok(!none && moves.as_slice().len() == 1 && away.as_slice().len() == 1)
 }
 
+/// Whether these cells of A overlap no other cell in the lowest row, with a padding of this many
+/// sites.
+fn are_apart(
+    alloc: Global,
+    placement: &Placement,
+    sites: u32,
+    wanted: &[u32],
+) -> Result<bool, AllocError> {
+    let Some(padding) = Padding::new(sites) else {
+        return Ok(false);
+    };
+    let apart = placement.apart_in_row(alloc, 0, 0, padding)?;
+    Ok(apart.as_slice() == wanted)
+}
+
+/// Whether a1 and a2 are apart if there is a site between them and the padding is a site, and not
+/// if the padding is more or they overlap.
+fn lists_cells_apart(alloc: Global, placement: &mut Placement) -> Result<bool, Fail> {
+    let Some(a1) = cell_of(placement.cells(), b"a1") else {
+        return Ok(false);
+    };
+    let Some(a2) = cell_of(placement.cells(), b"a2") else {
+        return Ok(false);
+    };
+    let moves = moved(alloc, placement, a2, Some(place(1000, false)))?;
+    let with_padding = are_apart(alloc, placement, 1, &[a1.own, a2.own])?;
+    let with_more = are_apart(alloc, placement, 2, &[])?;
+    let back = moved(alloc, placement, a2, Some(place(600, false)))?;
+    let overlapping = are_apart(alloc, placement, 0, &[])?;
+    Ok(with_padding && with_more && overlapping && moves.as_slice().len() == back.as_slice().len())
+}
+
 #[test]
 fn strips_show_what_is_free(rt: HostRuntime) -> Result<(), Fail> {
     let def = def_with_placed(rt.alloc())?;
@@ -257,5 +302,13 @@ fn strips_follow_a_cell(rt: HostRuntime) -> Result<(), Fail> {
     let def = def_with_placed(rt.alloc())?;
     let mut placement = placement_of(rt.alloc(), &def)?;
     assert!(rt; follows_a_cell(rt.alloc(), &mut placement)?);
+    Ok(())
+}
+
+#[test]
+fn strips_list_cells_apart(rt: HostRuntime) -> Result<(), Fail> {
+    let def = def_with_placed(rt.alloc())?;
+    let mut placement = placement_of(rt.alloc(), &def)?;
+    assert!(rt; lists_cells_apart(rt.alloc(), &mut placement)?);
     Ok(())
 }
