@@ -49,7 +49,18 @@ fn nearest_in(gap: &Span, wanted: &GapTarget) -> Option<i64>
 }
 
 /// Returns the nearer to the target of this number and the grid number nearest to it at which the
+/// width lies in the gap. Few gaps are wide enough to come here, so walks do not hold this code.
+#[inline(never)]
+fn nearer_in_wide_gap(best: &Option<i64>, gap: &Span, wanted: &GapTarget) -> Option<i64>
+    requires { IsBoundedSpan gap.now }
+    ensures { AddsGap gap.now wanted.now best.now result }
+{
+    nearer_of(best, &nearest_in(gap, wanted), &wanted.target)
+}
+
+/// Returns the nearer to the target of this number and the grid number nearest to it at which the
 /// width lies in the gap. A gap that holds a number is within 2^40 of 0.
+#[inline(always)]
 pub fn nearer_in_gap(best: Option<i64>, gap: &Span, wanted: &GapTarget) -> Option<i64>
     requires { IsFilled gap.now → IsBoundedSpan gap.now }
     ensures { AddsGap gap.now wanted.now best result }
@@ -60,5 +71,5 @@ pub fn nearer_in_gap(best: Option<i64>, gap: &Span, wanted: &GapTarget) -> Optio
     if gap.hi - gap.lo < wanted.width {
         return best;
     }
-    nearer_of(&best, &nearest_in(gap, wanted), &wanted.target)
+    nearer_in_wide_gap(&best, gap, wanted)
 }

@@ -1,4 +1,4 @@
--- Entries near a range, found by binary search.
+-- Entries near a range: the first found by binary search, the last by a walk.
 use Rattle.std.proofs.Common.{◌≡◌, ◌⊎◌, inl, inr, ℕ, ◌+◌, ◌-◌, ◌/◌, ◌<◌, ◌≤◌, ℤ, ◌-ℤ◌, ◌≤ℤ◌, ◌<ℤ◌, true, List, ◌++◌, length, get_or, take}
 use Rattle.std.proofs.Common.{drop, map, eqb, sym, ap, subst, ◌∙◌, arith}
 use Rattle.std.specs.Prelude.{All, AllPairs, Contains, not}
@@ -76,7 +76,28 @@ below_last xs x pairs e some here k d less =
     let later = rises xs k (length xs - 1) d pairs (omega arith) (omega arith) in
     omega (arith, ints, there, later)
 
--- two binary searches find the entries near a range
+-- one more mark is below x
+pub below_more : (xs : List Mark) (x : ℤ) (n : ℕ) (e : Mark) → n < length xs →
+    ((k : ℕ) (d : Mark) → k < n → (get_or xs k d).left <ℤ x) → (get_or xs n e).left <ℤ x → (k : ℕ) (d : Mark) → k < n + 1 →
+    (get_or xs k d).left <ℤ x
+below_more xs x n e inside before here k d less = elim two [
+  | inl below ↦ before k d below
+  | inr same ↦
+      subst (λ (m : ℕ). (get_or xs m d).left <ℤ x) (sym same) (subst (λ (m : Mark). m.left <ℤ x) (get_or_default xs n e d inside) here)
+]
+  where
+    two : (k < n) ⊎ (k ≡ n)
+    two = grind arith
+
+-- if a mark is not below x, none from it on is
+pub not_below_from : (xs : List Mark) (x : ℤ) → AreRising xs → (n : ℕ) (e : Mark) → n < length xs → x ≤ℤ (get_or xs n e).left →
+    (k : ℕ) (d : Mark) → n ≤ k → k < length xs → x ≤ℤ (get_or xs k d).left
+not_below_from xs x pairs n e inside here k d from within =
+    let there = subst (λ (m : Mark). x ≤ℤ m.left) (get_or_default xs n e d inside) here in
+    let later = rises xs n k d pairs from within in
+    omega (arith, ints, there, later)
+
+-- a binary search and a walk find the entries near a range
 pub near_run : (xs ys : List Entry) (lo hi widest : ℤ) (f c : ℕ) → f ≤ length xs → ys ≡ drop f xs → All (λ e. (e.area.x2 -ℤ e.area.x1) ≤ℤ widest) xs →
     ((k : ℕ) (d : Entry) → k < f → (get_or xs k d).area.x1 <ℤ (lo -ℤ widest)) →
     ((k : ℕ) (d : Entry) → c ≤ k → k < length ys → hi ≤ℤ (get_or ys k d).area.x1) → IsNearRun xs lo hi (take c ys)

@@ -95,7 +95,7 @@ pub rest_reported : (cells : List (Option Rect)) (area : Rect) (l : StripMarks) 
 rest_reported cells area l rest f marked same =
     subst (MarksAreOf cells area) (sym same) (All-drop (λ m. MarkIsOf (marked_entry cells area m) m) f l.marks.items marked.reported)
 
--- the entries of the marks that two binary searches find
+-- the entries of the marks between the two positions
 pub near_marked : (cells : List (Option Rect)) (area : Rect) (l : StripMarks) (rest : List Mark) (lo hi : ℤ) (f n : ℕ) → IsMarked cells area l →
     f ≤ length l.marks.items → rest ≡ drop f l.marks.items →
     ((k : ℕ) (d : Mark) → k < f → (get_or l.marks.items k d).left <ℤ (lo -ℤ l.widest)) →

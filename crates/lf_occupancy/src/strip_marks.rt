@@ -165,7 +165,24 @@ pub(crate) fn count_before(marks: &[Mark], x: &i64) -> usize
     from
 }
 
-/// The marks of the entries near a range of x. They are found by binary search.
+/// The number of marks in front of the first one whose left edge is not below x. They are passed
+/// one by one: whoever asks for them visits each.
+fn count_front(marks: &[Mark], x: &i64) -> usize
+    requires { AreRising marks.now }
+    ensures within { result ≤ length marks.now }
+    ensures below { (k : ℕ) → (d : Mark) → k < result → (slice_index_or marks.now k d).left <ℤ x.now }
+    ensures rest { (k : ℕ) → (d : Mark) → result ≤ k → k < length marks.now
+        → x.now ≤ℤ (slice_index_or marks.now k d).left }
+{
+    for n in 0..marks.len() {
+        if !begins_before(&marks[n], x) {
+            return n;
+        }
+    }
+    marks.len()
+}
+
+/// The marks of the entries near a range of x. The first is found by binary search.
 pub(crate) fn near_marks<'a>(mark_list: &'a StripMarks, lo: &i64, hi: &i64) -> &'a [Mark]
     requires rising { AreRising mark_list.now.marks.items }
     requires some { pos 0 ≤ℤ mark_list.now.widest }
@@ -180,7 +197,7 @@ pub(crate) fn near_marks<'a>(mark_list: &'a StripMarks, lo: &i64, hi: &i64) -> &
     let marks = mark_list.marks.as_slice();
     let from = *lo - mark_list.widest;
     let rest = &marks[count_before(marks, &from)..];
-    &rest[..count_before(rest, hi)]
+    &rest[..count_front(rest, hi)]
 }
 
 /// Whether the range and the x range of the rectangle have no number in common.

@@ -13,8 +13,5 @@ returns-then-gap-wanted c =
     let narrow : ((c.args.gap.now.hi -ℤ c.args.gap.now.lo) <ℤ c.args.wanted.now.width) = search rules in
     narrow_gap c.args.gap.now c.args.wanted.now c.args.best (inr narrow)
 
-pub nearest_in-requires : goal.nearest_in-requires
-nearest_in-requires c = c.requires (omega (arith, ints, c.if-gap.false))
-
-pub returns : goal.returns
-returns c = record { next = c.nearest_in.result; nearest = c.nearest_in.ensures; nearer = c.nearer_of.ensures }
+pub nearer_in_wide_gap-requires : goal.nearer_in_wide_gap-requires
+nearer_in_wide_gap-requires c = c.requires (omega (arith, ints, c.if-gap.false))

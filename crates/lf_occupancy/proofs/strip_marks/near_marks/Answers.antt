@@ -14,7 +14,7 @@ returns-clause-near c = λ cells area marked.
     let hi = c.args.hi.now in
     let ms = c.as_slice-marks.result.now in
     let f = c.count_before.result in
-    let n = c.count_before-2.result in
+    let n = c.count_front.result in
     let rest = take (length ms - f) (drop f ms) in
     let same : ms ≡ l.marks.items = c.as_slice-marks.ensures.value in
     let bound = c.count_before.ensures.within in
@@ -24,7 +24,7 @@ returns-clause-near c = λ cells area marked.
     let h = c.count_before.ensures.below k d less in
     let there : (get_or ms k d).left ≡ (get_or l.marks.items k d).left = ap (λ (xs : List Mark). (get_or xs k d).left) same in
     omega (arith, ints, h, there))
-    c.count_before-2.ensures.rest
+    c.count_front.ensures.rest
 
 pub returns-clause-reported : goal.returns-clause-reported
 returns-clause-reported c = λ cells area marked.
@@ -33,5 +33,5 @@ returns-clause-reported c = λ cells area marked.
     let f = c.count_before.result in
     let rest = take (length ms - f) (drop f ms) in
     let same : ms ≡ l.marks.items = c.as_slice-marks.ensures.value in
-    All-take (λ m. MarkIsOf (marked_entry cells area m) m) c.count_before-2.result rest
+    All-take (λ m. MarkIsOf (marked_entry cells area m) m) c.count_front.result rest
     (rest_reported cells area l rest f marked (rest_from ms f ∙ ap (λ (xs : List Mark). drop f xs) same))
