@@ -7,7 +7,7 @@
 //! `lf_floor_model` defines, and no other team's rows change. `lf_floor` finds teams by name, runs
 //! many commands, saves and restores.
 //!
-//! Used by `lf_floor`.
+//! Used by `lf_floor` and `lf_task_files`.
 //!
 //! Modules, in reading order:
 //!
