@@ -156,9 +156,8 @@ fn best_within(
 }
 
 /// The best place of the cell, provided that no allowed place is farther from the target than
-/// `farthest`. The first round considers places less than a row's height away, which are on the row
-/// at the target's y if there is one. Each further round doubles the distance, until a place is
-/// found.
+/// `farthest`. The first round considers places less than two rows' heights away. Each further
+/// round doubles the distance, until a place is found.
 pub(crate) fn nearest(
     alloc: Global,
     search: &RowSearch<'_>,
@@ -170,7 +169,7 @@ pub(crate) fn nearest(
     ensures { IfOk result
         (λ found. IsChoice (query_of_search search.now) search.now.target.now (option_map spot_of found)) }
 {
-    let mut reach = (search.frame.pitch.y as u64).max(2) - 1;
+    let mut reach = (search.frame.pitch.y as u64).saturating_mul(2).max(2) - 1;
     while reach < farthest {
         let best = best_within(alloc, search, reach)?;
         if best.is_some() {
