@@ -1,8 +1,9 @@
 -- Whether the committed places of each team are legal, by the verdicts of its listed cells.
 use Rattle.std.proofs.Common.{◌≡◌, ◌⊎◌, inl, inr, ℕ, zero, suc, ◌+◌, ◌<◌, List, [], ◌∷◌, length, map, Option, Some, refl, ap, sym, ◌∙◌, subst, arith}
-use Rattle.std.specs.Prelude.{◌↔◌, All, Bool, IfOk, IsTrue, Result, count_by, is_none, is_some, slice_get}
+use Rattle.std.specs.Prelude.{◌↔◌, ◌≤◌, All, Bool, IfOk, IsTrue, Result, count_by, is_none, is_some, option_and_then, option_map, slice_get}
 use Rattle.std.specs.declared.alloc.AllocError.{AllocError}
 use Rattle.std.specs.Borrow.{Bor}
+use Rattle.std.proofs.lemmas.Option.{slice_get_within}
 use Rattle.std.proofs.lemmas.Result.{IfOk-weaker}
 use Rattle.std.proofs.lemmas.List.Elements.{All-cons, All-nil, All-head, All-tail}
 use Rattle.lf_floorplan.specs.declared.frame.Frame.{Frame}
@@ -13,17 +14,21 @@ use Rattle.lf_rules.specs.declared.rule.Broken.{Broken}
 use Rattle.lf_rules.specs.FullyLegal.{IsFullyLegal, DesignCell, design_cells_from, with_team}
 use Rattle.lf_rules.specs.Legalizer.{Legalizer}
 use Rattle.lf_rules.specs.Team.{Member, IsLegalCell}
+use Rattle.lf_rules.specs.Choice.{spot_of}
 use Rattle.lf_rules.proofs.DesignLemmas.{teams_legal}
 use Rattle.lf_reports.specs.Reports.{AreVerdicts, IsListed, with_byte_name, design_cell_of, violations_in}
 use Rattle.lf_reports.proofs.CleanLemmas.{all_named, clean_is_legal}
 use Rattle.lf_reports.proofs.LegalVerdicts.{illegal_are}
+use Rattle.lf_floorplan.specs.declared.place.Place.{Place}
 use Rattle.lf_cells.specs.declared.cell.Cell.{Cell}
-use Rattle.lf_legalize.specs.Members.{IsSizedCell}
+use Rattle.lf_cells.specs.declared.cell.CellId.{CellId}
+use Rattle.lf_cells.specs.Cells.{Cells, cells_of, committed_at, id_of, working_at}
+use Rattle.lf_legalize.specs.Members.{IsSizedCell, member_of}
 use Rattle.lf_floor_model.specs.Committed.{AreCommittedLegal, committed_member, committed_members}
 use Rattle.lf_floor_model.specs.States.{TeamState}
 use Rattle.lf_floor_model.proofs.Parts.{legal_teams}
 use Rattle.lf_floor_model.proofs.LegalPlaces.{some_one}
-use Rattle.lf_task_files.specs.CommittedLegality.{committed_listed}
+use Rattle.lf_task_files.specs.CommittedLegality.{AreAllLegal, committed_listed}
 
 -- ---- the cells of a list
 
@@ -139,3 +144,62 @@ pub there_is : {X : Type 0} (xs : List X) (k : ℕ) → k < length xs → (x : X
 there_is [] k less = absurd (omega (arith, less))
 there_is (x ∷ xs) zero less = (x, refl)
 there_is (x ∷ xs) (suc k) less = there_is xs k (omega (arith, less))
+
+-- ---- cells that work at their committed places
+
+-- Cells with the same working and committed places are the same to the rules.
+pub same_members : (cells : List Cell) → ((k : ℕ) (c : Cell) → slice_get cells k ≡ Some c → c.working ≡ c.committed)
+    → map member_of cells ≡ map committed_member cells
+same_members [] same = refl
+same_members (c ∷ cells) same =
+    let first : member_of c ≡ committed_member c =
+    ap (λ (p : Option Place). let m : Member = record { mac = c.mac; place = option_map spot_of p } in m) (same 0 c refl) in
+    ap (λ (m : Member). m ∷ map member_of cells) first
+    ∙ ap (λ (ms : List Member). committed_member c ∷ ms) (same_members cells (λ k d there. same (suc k) d there))
+
+-- One more cell works at its committed place.
+pub same_so_far : (cells : List Cell) (n : ℕ) → ((k : ℕ) (c : Cell) → k < n → slice_get cells k ≡ Some c → c.working ≡ c.committed)
+    → working_at cells n ≡ committed_at cells n → (k : ℕ) (c : Cell) → k < n + 1 → slice_get cells k ≡ Some c → c.working ≡ c.committed
+same_so_far cells n before here k c less there = elim two [
+  | inl below ↦ before k c below there
+  | inr same ↦
+      let at : slice_get cells n ≡ Some c = subst (λ (i : ℕ). slice_get cells i ≡ Some c) same there in
+      ap (λ (o : Option Cell). option_and_then (λ x. x.working) o) (sym at) ∙ here ∙ ap (λ (o : Option Cell). option_and_then (λ x. x.committed) o) at
+]
+  where
+    two : (k < n) ⊎ (k ≡ n)
+    two = grind arith
+
+-- One more cell is legal.
+pub legal_so_far : (f : Frame) (team : ℕ) (cells : List Member) (n : ℕ) → ((own : ℕ) → own < n → IsLegalCell f team 0 cells own)
+    → IsLegalCell f team 0 cells n → (own : ℕ) → own < n + 1 → IsLegalCell f team 0 cells own
+legal_so_far f team cells n before here own less = elim two [
+  | inl below ↦ before own below
+  | inr same ↦ subst (λ (i : ℕ). IsLegalCell f team 0 cells i) (sym same) here
+]
+  where
+    two : (own < n) ⊎ (own ≡ n)
+    two = grind arith
+
+-- The cell with this id is legal.
+pub legal_at : (f : Frame) (table : Cells) (team k n : ℕ) (i : CellId) → i ≡ id_of team k → n ≡ 0
+    → IsLegalCell f i.team n (map member_of (cells_of table i.team)) i.own → IsLegalCell f team 0 (map member_of (cells_of table team)) k
+legal_at f table team k n i id none legal =
+    subst (λ (m : ℕ). IsLegalCell f team m (map member_of (cells_of table team)) k) none
+    (subst (λ (j : CellId). IsLegalCell f j.team n (map member_of (cells_of table j.team)) j.own) id legal)
+
+-- What follows if the cell with this id is legal.
+pub follows_at : (f : Frame) (table : Cells) (team k n : ℕ) (i : CellId) (Then : Type 0) → i ≡ id_of team k → n ≡ 0
+    → (i.own < length (cells_of table i.team) → IsLegalCell f i.team n (map member_of (cells_of table i.team)) i.own → Then)
+    → k < length (cells_of table team) → IsLegalCell f team 0 (map member_of (cells_of table team)) k → Then
+follows_at f table team k n i Then id none follows within legal =
+    follows (subst (λ (j : CellId). j.own < length (cells_of table j.team)) (sym id) within)
+    (subst (λ (j : CellId). IsLegalCell f j.team n (map member_of (cells_of table j.team)) j.own) (sym id)
+    (subst (λ (m : ℕ). IsLegalCell f team m (map member_of (cells_of table team)) k) (sym none) legal))
+
+-- All cells are legal, since each in the list is.
+pub legal_within : (f : Frame) (team : ℕ) (cells : List Member) (n : ℕ) → length cells ≤ n → ((own : ℕ) → own < n → IsLegalCell f team 0 cells own)
+    → AreAllLegal f team cells
+legal_within f team cells n long each own m there =
+    let within = slice_get_within cells own m there in
+    each own (omega (arith, long, within)) m there

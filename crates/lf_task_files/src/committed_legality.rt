@@ -5,14 +5,18 @@ ghost use Rattle.lf_cells.specs.declared.cell.Cell.{Cell};
 ghost use Rattle.lf_cells.specs.Cells.{cell_at, cells_of};
 ghost use Rattle.lf_rules.specs.FullyLegal.{IsFullyLegal};
 ghost use Rattle.lf_reports.specs.Reports.{IsListed, with_byte_name, design_cell_of};
-ghost use Rattle.lf_floor_model.specs.Committed.{AreCommittedLegal, IsCommittedLegal};
+ghost use Rattle.lf_legalize.specs.Members.{member_of};
+ghost use Rattle.lf_floor_model.specs.Committed.{AreCommittedLegal, IsCommittedLegal, committed_member};
 ghost use Rattle.lf_floor_model.specs.States.{TeamState};
-ghost use Rattle.lf_task_files.specs.CommittedLegality.{committed_listed};
+ghost use Rattle.lf_task_files.specs.CommittedLegality.{AreAllLegal, committed_listed};
 
 use lf_cells::{CellId, CellTable};
 use lf_floor::Floor;
+use lf_floor_verbs::is_cell_legal;
+use lf_floorplan::same_place;
 use lf_frame_index::IndexedFrame;
 use lf_legalize::IndexSeeker;
+use lf_placement::Placement;
 use lf_reports::{Listed, verdicts_with_plan};
 use lf_rules::{Padding, legalizer_exists};
 use lf_task_designs::illegal_in;
@@ -95,8 +99,33 @@ fn are_legal(
     Ok(are_none(unplaced_in(cells), illegal_in(&verdicts)))
 }
 
+/// Returns true only if each of the team's cells works at its committed place.
+fn works_as_committed(cells: &CellTable, team: usize) -> bool
+    ensures { IsTrue result → map member_of (cells_of cells.now team) ≡ map committed_member (cells_of cells.now team) }
+{
+    for id in cells.cells_of(team) {
+        if !same_place(cells.working(*id), cells.committed(*id)) {
+            return false;
+        }
+    }
+    true
+}
+
+/// Returns whether each of the team's cells is placed and breaks no rule at its working place.
+/// Padding is ignored. Does not allocate.
+fn are_working_legal(placement: &Placement, team: usize) -> bool
+    ensures { IsTrue result ↔ AreAllLegal placement.now.frame team (map member_of (cells_of placement.now.cells team)) }
+{
+    for id in placement.cells().cells_of(team) {
+        if !is_cell_legal(placement, *id, Padding::none()) {
+            return false;
+        }
+    }
+    true
+}
+
 /// Returns whether each cell of the team of this number has a committed place that is team-legal.
-/// `Err` if an allocation fails.
+/// Only a team with other working places needs memory for it. `Err` if an allocation fails.
 fn is_team_legal(
     alloc: Global,
     floor: &Floor<IndexSeeker>,
@@ -108,6 +137,9 @@ fn is_team_legal(
 {
     floor.teams_match_frame();
     let placement = floor.placement();
+    if works_as_committed(placement.cells(), number) {
+        return Ok(are_working_legal(placement, number));
+    }
     let cells = listed_team(alloc, placement.cells(), number)?;
     are_legal(alloc, &placement.indexed_frame(), &cells)
 }
