@@ -16,7 +16,7 @@ import time
 from collections.abc import Iterator
 from pathlib import Path
 
-PATIENCE = 60
+PATIENCE = 180
 _CONFIGURATION = """ClusterName=lefence
 SlurmctldHost={host}(127.0.0.1)
 SlurmUser=root

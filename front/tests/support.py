@@ -27,7 +27,7 @@ PROGRAM = os.environ.get("LEFENCE", str(FRONT.parent / "crates/lefence/out/lefen
 SEED = int(os.environ.get("SEED", "1"))
 TURNS = int(os.environ.get("TURNS", "3"))
 # Seconds after which a test gives up.
-PATIENCE = 60
+PATIENCE = 180
 # The number of fences, of sites in a fence's row, and of cells in a team.
 TEAMS, SITES, CELLS = 8, 40, 10
 WIDTH = SITES * 200
