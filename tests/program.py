@@ -23,7 +23,7 @@ LEF = TESTS / "data/w.lef"
 # The paths of the small design, as words of a command line.
 DESIGN = [str(DEF), str(LEF)]
 # Seconds after which a test stops waiting.
-PATIENCE = 30
+PATIENCE = 90
 
 
 @dataclass(frozen=True)
