@@ -31,7 +31,7 @@ SLOW = """import os, sys, time
 sys.path.insert(0, sys.argv.pop(1))
 real = os.fdatasync
 os.fdatasync = lambda descriptor: (real(descriptor), time.sleep(0.005))
-from lefence.tools.hub import main
+from lefence.hub.main import main
 sys.exit(main())"""
 
 

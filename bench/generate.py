@@ -6,13 +6,15 @@ usage: generate.py lef MACROS [SEED] > x.lef
        generate.py starred COMPONENTS [FENCES] [ROWS] [SEED] > x.def    (on the same)
        generate.py placed COMPONENTS [FENCES] [BLOCKAGES] [SEED] > x.def    (on those of one of 200 macros and seed 1)
        generate.py tall > x.lef
+       generate.py light > x.lef
        generate.py packed COMPONENTS [FENCES] [PERCENT] [ILLEGAL] [SEED] > x.def    (on the macros of `tall`)
 
 `def` places its cells anywhere; its fences are bands of rows over the left half. `starred` is `def` with cells in
 blocks, and each group names one block with a star. `placed` is a fully legal design. Its fences are the left halves of
 tiles. Every cell is on its rows within its fence, or outside all fences, next to blockages of two sites. Groups name
 their cells one by one. `packed` is a design of cells of one to four rows that take about PERCENT percent of the sites;
-ILLEGAL percent of its cells are half a site off their places.
+ILLEGAL percent of its cells are half a site off their places. `light` has macros of the same sizes as `tall`, but nine
+in ten of them are one row high.
 """
 
 from __future__ import annotations
@@ -190,13 +192,16 @@ def placed(components: int, fences: int, blockages: int, seed: int) -> Iterator[
     yield "END GROUPS\nEND DESIGN\n"
 
 
-TALL = [(sites, rows) for rows in (1, 1, 1, 1, 1, 2, 2, 3, 4) for sites in range(2, 12)]
+# Sizes of macros in sites and rows.
+Sizes = list[tuple[int, int]]
+TALL: Sizes = [(sites, rows) for rows in (1, 1, 1, 1, 1, 2, 2, 3, 4) for sites in range(2, 12)]
+LIGHT: Sizes = [(sites, rows) for rows in [1] * 45 + [2] * 3 + [3, 4] for sites in range(2, 12)]
 
 
-def tall() -> Iterator[str]:
-    """The LEF text of macros of one to four rows."""
+def tall(macros: Sizes = TALL) -> Iterator[str]:
+    """The LEF text of macros of these sizes."""
     yield "VERSION 5.8 ;\nUNITS\n  DATABASE MICRONS 1000 ;\nEND UNITS\n" + SITE
-    for number, (sites, rows) in enumerate(TALL):
+    for number, (sites, rows) in enumerate(macros):
         width = f"{sites * 0.2:.1f}"
         yield (f"MACRO T{number}\n  CLASS CORE ;\n  SIZE {width} BY {rows * 2.0:.1f} ;\n"
                f"  SYMMETRY X Y ;\n  SITE core ;\n"
@@ -204,14 +209,16 @@ def tall() -> Iterator[str]:
     yield "END LIBRARY\n"
 
 
-def stacked(left: int, right: int, percent: int, rng: random.Random) -> list[tuple[int, int, int]]:
+def stacked(
+    left: int, right: int, percent: int, rng: random.Random, macros: Sizes = TALL
+) -> list[tuple[int, int, int]]:
     """Cells (macro, x in sites, row) next to each other in four rows from left to right. Keeps `percent` percent of
     them."""
     ends = [left] * 4
     cells: list[tuple[int, int, int]] = []
 
     def put(mac: int, bottom: int) -> None:
-        sites, rows = TALL[mac]
+        sites, rows = macros[mac]
         if rng.random() * 100 < percent:
             cells.append((mac, ends[bottom], bottom))
         ends[bottom:bottom + rows] = [ends[bottom] + sites] * rows
@@ -222,7 +229,7 @@ def stacked(left: int, right: int, percent: int, rng: random.Random) -> list[tup
         ends[row] = x
 
     while True:
-        sites, rows = TALL[mac := rng.randrange(len(TALL))]
+        sites, rows = macros[mac := rng.randrange(len(macros))]
         bottom = min(
             [b for b in range(5 - rows) if rows % 2 == 1 or b % 2 == 0], key=lambda low: max(ends[low:low + rows])
         )
@@ -237,9 +244,11 @@ def stacked(left: int, right: int, percent: int, rng: random.Random) -> list[tup
     return cells
 
 
-def packed(components: int, fences: int, percent: int, illegal: int, seed: int) -> Iterator[str]:
+def packed(
+    components: int, fences: int, percent: int, illegal: int, seed: int, macros: Sizes = TALL
+) -> Iterator[str]:
     rng = random.Random(seed)
-    area = sum(sites * rows for sites, rows in TALL) / len(TALL) * components * 100 / percent
+    area = sum(sites * rows for sites, rows in macros) / len(macros) * components * 100 / percent
     across = max(1, round(fences ** 0.5))
     down = -(-fences // across)
     quads = max(down, int((area / 10) ** 0.5) // 4 // down * down)
@@ -253,7 +262,8 @@ def packed(components: int, fences: int, percent: int, illegal: int, seed: int) 
                 parts = [(begin, middle, fence), (middle, end, None)] if fence < fences else [(begin, end, None)]
                 for left, right, team in parts:
                     cells += [
-                        (mac, x, quad * 4 + bottom, team) for mac, x, bottom in stacked(left, right, percent, rng)
+                        (mac, x, quad * 4 + bottom, team)
+                        for mac, x, bottom in stacked(left, right, percent, rng, macros)
                     ]
         if len(cells) >= components:
             break
@@ -282,10 +292,11 @@ def main() -> None:
     kind, numbers = sys.argv[1], [int(word) for word in sys.argv[2:]]
     if kind == "lef":
         parts = lef(numbers[0], numbers[1] if len(numbers) > 1 else 1)
-    elif kind == "tall":
-        parts = tall()
+    elif kind in ("tall", "light"):
+        parts = tall(TALL if kind == "tall" else LIGHT)
     elif kind == "packed":
-        parts = packed(*(numbers + [10, 60, 0, 1][len(numbers) - 1:]))
+        components, fences, percent, illegal, seed = numbers + [10, 60, 0, 1][len(numbers) - 1:]
+        parts = packed(components, fences, percent, illegal, seed)
     elif kind == "placed":
         parts = placed(*(numbers + [10, 0, 1][len(numbers) - 1:]))
     else:

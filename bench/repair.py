@@ -4,6 +4,7 @@ displacements.
 
 usage: bench/repair.py [--program PATH] [--reference COMMAND] [COUNT ...]               (100000)
        bench/repair.py [--program PATH] [--reference COMMAND] --design DEF LEF [--shift N]
+       bench/repair.py [--program PATH] --yardsticks NAME [..] [--seed N] [--real DEF LEF] [--tries ..]
 
 The program is that of crates/lefence, which is built first (rt run there). The designs of COUNT cells are `generate.py
 packed` with 10 fences, and cells that take 60 or 90 percent of the sites. The cells are displaced as follows:
@@ -21,6 +22,11 @@ DEF text, is never below that of this script, about 17 MB. Displacements are in 
 sum, the mean of those that moved, and the largest. For a repair it prints the unrepaired cells, and a lower bound of
 the largest displacement in any repair. A team whose `tidy` is refused moves no cell. The reference is a command with
 its options; DEF and LEF are inserted after its first word, and --export FILE is appended.
+
+With --yardsticks it prints how good the places are. `yardsticks.py` says which designs the names m77, l92, r80 and the
+like stand for. There is a line for the program, for each number of --tries for a cell of the model in
+`models/recreate.cpp`, and for the bound of `models/bound.cpp`: no legal placement has a smaller total. The models are
+built first, by g++ or $CXX. The percentage is relative to the first line.
 """
 
 from __future__ import annotations
@@ -39,6 +45,8 @@ from collections.abc import Callable, Iterator
 from dataclasses import dataclass
 from pathlib import Path
 from typing import TypeVar
+
+import yardsticks
 
 TOP = Path(__file__).resolve().parents[1]
 SITE, ROW = 200, 2000
@@ -176,8 +184,17 @@ def main() -> int:
     words.add_argument("--reference")
     words.add_argument("--design", type=Path, nargs=2)
     words.add_argument("--shift", type=int, default=0)
+    words.add_argument("--yardsticks", nargs="+", metavar="NAME")
+    words.add_argument("--seed", type=int, default=1)
+    words.add_argument("--real", type=Path, nargs=2)
+    words.add_argument("--tries", nargs="*", default=["2", "20"])
+    words.add_argument("--no-bound", action="store_true")
     words.add_argument("counts", type=int, nargs="*", default=[100_000])
     given = words.parse_args()
+    if given.yardsticks:
+        names, has_bound = given.yardsticks, not given.no_bound
+        yardsticks.run(given.program, names, given.seed, given.real, given.tries, has_bound)
+        return 0
     print(f"{'':>34} | {'time':>10} {'peak':>11} {'by DEF':>7} {'total':>14} {'mean':>8} {'largest':>8}")
     with tempfile.TemporaryDirectory() as name:
         folder = Path(name)
