@@ -4,7 +4,16 @@ use lf_app::{Help, Subcommand};
 
 /// What is printed after the message about a wrong command line.
 pub(crate) const HINT: &str = "  lefence --help                all subcommands and their options
-  lefence demo --help           what a subcommand does, with an example (so for each of them)
+";
+
+/// What is printed next if the words name no subcommand.
+pub(crate) const SUBCOMMAND_HINT: &str =
+    "  lefence demo --help           what a subcommand does, with an example (so for each of them)
+";
+
+/// What is printed on a terminal when the program waits for lines over the built-in design.
+pub(crate) const WAITING: &str =
+    "lefence: waiting for lines over the built-in design, for example: open A (end with Ctrl-D; lefence --help lists the subcommands)
 ";
 
 /// The usage: all subcommands and their options.
@@ -28,7 +37,7 @@ const USAGE: &str =
   lefence improve DEF LEF... [--team NAME]... [--within ROWS] [--rounds N] [--export FILE] [--lines FILE]
               [--sessions N]
                                 moves legal cells so that the nets become shorter
-  (put -- before a path that begins with '-'; docs/PROTOCOL.md says more)
+  (put -- before a path that begins with '-'; docs/CLI.md says more)
 ";
 
 /// The text after the usage, if help was requested.

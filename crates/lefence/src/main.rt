@@ -17,7 +17,7 @@ mod closed_pipe;
 mod help;
 
 use crate::closed_pipe::{MessageWriter, WatchedWriter};
-use crate::help::{HINT, texts_of};
+use crate::help::{HINT, SUBCOMMAND_HINT, WAITING, texts_of};
 use lf_app::{
     Environment, FromRead, FsInputFiles, FsOutputFiles, Help, NetListener, Task, TaskExit,
     TimedProgress, ToWrite, UsageFault, perform_over,
@@ -25,7 +25,7 @@ use lf_app::{
 use std::alloc::{AllocError, Global};
 use std::cell::Cell;
 use std::io;
-use std::io::Write;
+use std::io::{IsTerminal, Write};
 use std::process::ExitCode;
 use std::time::Duration;
 
@@ -115,8 +115,26 @@ fn answer(rt: &HostRuntime, words: &[&str], fault: UsageFault) -> u8 {
     }
 }
 
-/// The seconds between progress messages of a repair or an improvement.
-const PAUSE: u64 = 2;
+/// The seconds between progress messages of a repair or an improvement on a terminal.
+const PAUSE_ON_A_TERMINAL: u64 = 2;
+
+/// The seconds between progress messages in a file or a pipe.
+const PAUSE: u64 = 10;
+
+/// The time between progress messages.
+fn pause(rt: &HostRuntime) -> Duration {
+    if rt.stderr().is_terminal() {
+        return Duration::from_secs(PAUSE_ON_A_TERMINAL);
+    }
+    Duration::from_secs(PAUSE)
+}
+
+/// Says on a terminal that the program waits for lines: somebody may have typed its name alone.
+fn say_what_is_awaited(rt: &HostRuntime, task: &Task<'_>) {
+    if matches!(task, Task::Demo) && rt.stdin().is_terminal() {
+        let _ = eprint!(rt; "{WAITING}");
+    }
+}
 
 /// Whether the task only writes to standard output. If nobody reads that any more, nothing is lost.
 fn only_writes(task: &Task<'_>) -> bool {
@@ -146,7 +164,7 @@ fn perform(rt: &HostRuntime, task: &Task<'_>) -> TaskExit {
         reader: FromRead::new(&mut reader),
         writer: ToWrite::new(&mut writer),
         faults: ToWrite::new(&mut faults),
-        progress: TimedProgress::new(rt.alloc(), rt, Duration::from_secs(PAUSE), rt.stderr()),
+        progress: TimedProgress::new(rt.alloc(), rt, pause(rt), rt.stderr()),
     };
     perform_over(rt.alloc(), &mut around, task)
 }
@@ -159,7 +177,22 @@ fn run(rt: &HostRuntime) -> Result<u8, UsageFault> {
         Ok(task) => task,
         Err(fault) => return Ok(answer(rt, texts.as_slice(), fault)),
     };
+    say_what_is_awaited(rt, &task);
     Ok(perform(rt, &task).status)
+}
+
+/// Prints how to get help: for the subcommand that the words name, if there is one.
+fn hint(rt: &HostRuntime, words: &[&str]) {
+    let _ = eprint!(rt; "{HINT}");
+    let word = words.get(1).copied().unwrap_or("");
+    match lf_app::help_of(&["lefence", word, "--help"]) {
+        Some(_) => {
+            let _ = eprintln!(rt; "  lefence {word} --help   what it does, with an example");
+        }
+        None => {
+            let _ = eprint!(rt; "{SUBCOMMAND_HINT}");
+        }
+    }
 }
 
 /// Prints a usage fault of these words, and how to get help. A failure to write it is no further
@@ -168,7 +201,7 @@ fn report_it(rt: &HostRuntime, fault: &UsageFault, words: &[&str]) {
     let _ = eprintln!(rt; "lefence: {fault}");
     if matches!(fault, UsageFault::Usage) {
         complain(rt, words);
-        let _ = eprint!(rt; "{HINT}");
+        hint(rt, words);
     }
 }
 

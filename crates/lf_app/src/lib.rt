@@ -30,8 +30,8 @@
 //! commands of repair or improve (`--lines`), and the state (`--save`). No other file is ever
 //! written.
 //!
-//! Status 1 or 3: there is one fault (`Fault`), which determines the status. It is the first one,
-//! in this order:
+//! Status 1 or 3: there is one fault (`Fault`), which determines the status. The program looks in
+//! this order, and reports the first one that it meets:
 //!
 //! 1. the LEF files and their texts, then the DEF file and its text
 //! 2. loading

@@ -1,7 +1,7 @@
 //! Requests for help and for the version.
 
 ghost use Rattle.std.specs.Prelude.{◌≡◌, ◌∷◌, [], map};
-ghost use Rattle.lf_cli.specs.Help.{help_requested};
+ghost use Rattle.lf_cli.specs.Help.{help_requested, is_help};
 
 use crate::subcommand::{Subcommand, subcommand_named};
 
@@ -16,29 +16,39 @@ pub enum Help {
     Of(Subcommand),
 }
 
+/// Returns whether the word requests help.
+fn is_help(word: &str) -> bool
+    ensures { result ≡ is_help word.now }
+{
+    word == "--help" || word == "-h"
+}
+
 /// Returns the help that the only word after the program's name requests.
 fn program_topic(word: &str) -> Option<Help>
     ensures { result ≡ help_requested ([] ∷ word.now ∷ []) }
 {
-    match word {
-        "--help" => Some(Help::Program),
-        "--version" => Some(Help::Version),
-        _ => None,
+    if is_help(word) {
+        return Some(Help::Program);
     }
+    if word == "--version" {
+        return Some(Help::Version);
+    }
+    None
 }
 
 /// Returns the help that the two words after the program's name request.
 fn subcommand_topic(subcommand: &str, word: &str) -> Option<Help>
     ensures { result ≡ help_requested ([] ∷ subcommand.now ∷ word.now ∷ []) }
 {
-    if word == "--help" {
+    if is_help(word) {
         return Some(Help::Of(subcommand_named(subcommand)?));
     }
     None
 }
 
 /// Returns the help that the words request. The first word is the program's name. It is followed by
-/// `--help` or `--version` alone, or by a subcommand and `--help`. `None` for all other words.
+/// `--help`, `-h` or `--version` alone, or by a subcommand and `--help` or `-h`. `None` for all
+/// other words.
 pub fn help_of(words: &[&str]) -> Option<Help>
     ensures { result ≡ help_requested (map (λ word. word.now) words.now) }
 {

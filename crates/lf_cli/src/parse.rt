@@ -15,10 +15,11 @@ use crate::session_slots::{MOST_SLOTS, Slots};
 use crate::subcommand::{
     MOST_CONNECTIONS, MOST_ROUNDS, MOST_ROWS, Subcommand, command_line, subcommand_named,
 };
-use clap::ArgMatches;
 use clap::error::ErrorKind;
+use clap::{ArgMatches, Command};
 use lf_units::Sequence;
 use std::alloc::{AllocError, Global};
+use strsim::jaro;
 use thiserror::Error;
 
 /// The most lines that are answered if the option is absent.
@@ -26,6 +27,9 @@ const USUAL_LINES: u32 = 1_000_000;
 
 /// The most rounds of an improvement if the option is absent.
 const USUAL_ROUNDS: u32 = 4;
+
+/// Two names are alike if their Jaro similarity is greater, as for `clap`'s own tips.
+const LIKENESS: f64 = 0.7;
 
 /// The highest port.
 const MOST_PORT: u32 = 65_535;
@@ -54,7 +58,7 @@ pub struct RepairFiles<'a> {
     pub save: Option<&'a str>,
 }
 
-/// What the program is to do. A design is given by the path of a DEF file and by the paths of one
+/// A parsed command line: what the program is to do. A design is given by the path of a DEF file and by the paths of one
 /// or more LEF files, in order.
 #[derive(Drop)]
 pub enum Task<'a> {
@@ -802,13 +806,89 @@ pub fn command_of<'a>(alloc: Global, words: &'a [&'a str]) -> Result<Task<'a>, U
     }
 }
 
+/// Returns the option of any subcommand that is most like the name, or `None` if none is alike.
+fn similar_option<'a>(
+    alloc: Global,
+    command: &Command<'a>,
+    name: &str,
+) -> Result<Option<&'a str>, AllocError> {
+    let mut best = None;
+    let mut most = LIKENESS;
+    for subcommand in command.get_subcommands() {
+        for option in subcommand.get_arguments() {
+            let Some(long) = option.get_long() else {
+                continue;
+            };
+            let likeness = jaro(alloc, name, long)?;
+            if likeness > most {
+                most = likeness;
+                best = Some(long);
+            }
+        }
+    }
+    Ok(best)
+}
+
+/// Returns whether the subcommand has the option.
+fn has_option(subcommand: &Command<'_>, name: &str) -> bool {
+    let mut options = subcommand.get_arguments().iter();
+    options.any(|option| option.get_long() == Some(name))
+}
+
+/// Returns the names of the subcommands that have the option, with commas between them.
+fn owners_of(alloc: Global, command: &Command<'_>, option: &str) -> Result<String, AllocError> {
+    let mut names = String::new(alloc);
+    for subcommand in command.get_subcommands() {
+        if has_option(subcommand, option) {
+            if !names.is_empty() {
+                names.push_str(", ")?;
+            }
+            names.push_str(subcommand.get_name())?;
+        }
+    }
+    Ok(names)
+}
+
+/// Returns the name of the option that the parser's message says to be unknown.
+fn unknown_option(message: &str) -> Option<&str> {
+    let (_, rest) = message.split_once("unexpected argument '--")?;
+    let (word, _) = rest.split_once("'")?;
+    match word.split_once("=") {
+        Some((name, _)) => Some(name),
+        None => Some(word),
+    }
+}
+
+/// Returns a message about an option that its subcommand does not have, but another one. `None` if
+/// there is no such option, or if the parser's message names a similar one of the subcommand.
+fn elsewhere_text(alloc: Global, message: &str) -> Result<Option<String>, AllocError> {
+    if message.contains("a similar argument exists") {
+        return Ok(None);
+    }
+    let Some(name) = unknown_option(message) else {
+        return Ok(None);
+    };
+    let command = command_line(alloc)?;
+    let Some(option) = similar_option(alloc, &command, name)? else {
+        return Ok(None);
+    };
+    let owners = owners_of(alloc, &command, option)?;
+    let text = format!(in alloc;
+        "error: unexpected argument '--{name}' found\n\n  tip: '--{option}' is an option of: {owners}\n"
+    )?;
+    Ok(Some(text))
+}
+
 /// Returns the text of the error, or `None` if it is the requested help or version.
 fn usage_text(alloc: Global, error: &clap::Error) -> Result<Option<String>, AllocError> {
     if !error.use_stderr() {
         return Ok(None);
     }
     let text = format!(in alloc; "{error}")?;
-    Ok(Some(text))
+    match elsewhere_text(alloc, text.as_str())? {
+        Some(text) => Ok(Some(text)),
+        None => Ok(Some(text)),
+    }
 }
 
 /// Returns a message if one option of the task would overwrite another of its files, or `None`.

@@ -18,7 +18,7 @@ use Rattle.lf_rules.specs.declared.report_types.Listed.{Listed}
 use Rattle.lf_reports.specs.Reports.{verdict_at}
 use Rattle.lf_describe.specs.declared.described.DescribedDesign.{DescribedDesign}
 use Rattle.lf_describe.specs.declared.line_kinds.Part.{Part}
-use Rattle.lf_describe.specs.declared.line_kinds.Part.TheVariants.{Design, Rows, Fences, Obstacles, Soft, Cells, Total}
+use Rattle.lf_describe.specs.declared.line_kinds.Part.TheVariants.{Design, Rows, Fences, Obstacles, Soft, Cells, Density, Total}
 use Rattle.lf_describe.specs.Description.{box_data, cell_data, design_data, orientation_data, fence_data, obstacle_data, other_of, rect_data, row_data, rule_data, soft_data, described_team_name, text_data, text_or_null, whole_data}
 use Rattle.lf_describe.specs.Parts.{described_cells, fixed_component_names, part_lines}
 
@@ -106,4 +106,5 @@ no_float reported Fences i d at = each fence_data fence _ i d at
 no_float reported Obstacles i d at = each _ (λ e. obstacle (slice_get (fixed_component_names reported) e.0) e.1) _ i d at
 no_float reported Soft i d at = each soft_data soft _ i d at
 no_float reported Cells i d at = each _ (λ e. cell reported.frame.now (described_cells reported) e.1 (verdict_at reported.verdicts.now e.0)) _ i d at
+no_float reported Density i d at = only _ refl i d at
 no_float reported Total i d at = only _ refl i d at

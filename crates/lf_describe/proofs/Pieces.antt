@@ -1,9 +1,14 @@
 -- A text that is written in chunks through a buffer.
-use Rattle.std.proofs.Common.{◌≡◌, ℕ, zero, suc, ◌+◌, List, [], ◌∷◌, ◌++◌, length, take, drop, Option, Some, Result, Ok, Err, ◌<◌, refl, sym, ◌∙◌, ap, subst, arith, slice_get}
+use Rattle.std.proofs.Common.{inl, ◌≡◌, ℕ, zero, suc, ◌+◌, List, [], ◌∷◌, ◌++◌, length, take, drop, Option, Some, Result, Ok, Err, ◌<◌, refl, sym, ◌∙◌, ap, subst, arith, slice_get}
 use Rattle.std.specs.Prelude.{flat_map, OnErr, OnOk}
 use Rattle.std.specs.Io.KnownBytes.{Appends, Keeps}
 use Rattle.std.proofs.lemmas.List.{append_assoc, append-nil, take-append-drop}
 use Rattle.std.proofs.KnownBytes.{Appends-nil, Appends-trans, Appends-kept}
+use Rattle.lf_floorplan.specs.declared.frame.Frame.{Frame}
+use Rattle.lf_rules.specs.declared.report_types.Listed.{Listed}
+use Rattle.lf_rules.specs.Legalizer.{Legalizer}
+use Rattle.lf_density.specs.Density.{no_density}
+use Rattle.lf_describe.specs.Description.{AppendsFirst}
 use Rattle.lf_describe.specs.Written.{AppendsFront, WritesFrontOf}
 
 -- Nothing is written, and all bytes wait.
@@ -12,6 +17,10 @@ nothing a text = ([], refl, Appends-nil a)
 
 pub unwritten : (a : Option (List ℕ)) (text : List ℕ) → AppendsFront a a text
 unwritten a text = (text, nothing a text)
+
+-- Nothing of a description is written.
+pub none_first : (l : Legalizer) (f : Frame) (names : List (List ℕ)) (cells : List (Listed (List ℕ))) (a : Option (List ℕ)) → AppendsFirst l f names cells a a
+none_first l f names cells a = record { density = no_density; many = 0; measured = inl refl; text = Appends-nil a }
 
 pub written : (a b : Option (List ℕ)) (text rest : List ℕ) → rest ≡ [] → WritesFrontOf a b text rest → Appends a b text
 written a b text rest none (front, e, p) =

@@ -16,7 +16,7 @@ use Rattle.std.specs.Io.KnownBytes.{Appends}
 use Rattle.lf_describe.specs.Written.{AppendsFront}
 use Rattle.lf_describe.specs.declared.described.DescribedDesign.{DescribedDesign}
 use Rattle.lf_describe.specs.declared.line_kinds.TheConstants.{PARTS}
-use Rattle.lf_describe.specs.Description.{cell_data, cell_lines, design_data, fence_data, line_text, described_lines, lines_text, obstacle_lines, row_data, soft_data, total_data}
+use Rattle.lf_describe.specs.Description.{cell_data, cell_lines, density_data, design_data, fence_data, line_text, described_lines, lines_text, obstacle_lines, row_data, soft_data, total_data}
 use Rattle.lf_describe.specs.Parts.{Counts, described_cells, fixed_component_names, part_lines, part_text, parts_text}
 
 -- ---- lines
@@ -45,7 +45,7 @@ text_of_parts reported = refl
 
 -- The text of all parts is the text of all lines.
 pub parts_are : (l : Legalizer) (reported : DescribedDesign) → AreVerdicts l reported.frame.now 0 (described_cells reported) reported.verdicts.now →
-    parts_text reported ≡ lines_text l reported.frame.now (fixed_component_names reported) (described_cells reported)
+    parts_text reported ≡ lines_text l reported.density reported.frame.now (fixed_component_names reported) (described_cells reported)
 unfolding parts_text lines_text
 parts_are l reported are = fused line_text (part_lines reported) PARTS ∙ ap (flat_map line_text) (lines (cells_are l f cells verdicts are) (illegal_are l f cells verdicts are))
   where
@@ -61,10 +61,10 @@ parts_are l reported are = fused line_text (part_lines reported) PARTS ∙ ap (f
     all : List Data → ℕ → List Data
     all reported_cells illegal =
         design_data f ∷ (map (row_data f) f.rows ++ (map fence_data f.teams ++ (obstacle_lines (fixed_component_names reported) f.obstacles ++ (map soft_data f.soft
-        ++ (reported_cells ++ total_data f (length cells) illegal (count_by (λ c. is_none c.place) cells) ∷ [])))))
+        ++ (reported_cells ++ density_data reported.density ∷ total_data f (length cells) illegal (count_by (λ c. is_none c.place) cells) ∷ [])))))
 
     lines : map (λ e. cell_data f cells e.1 (verdict_at verdicts e.0)) (enumerate_from 0 cells) ≡ cell_lines l f cells →
-        count_by is_some verdicts ≡ length (violations_in l f 0 cells) → flat_map (part_lines reported) PARTS ≡ described_lines l f (fixed_component_names reported) cells
+        count_by is_some verdicts ≡ length (violations_in l f 0 cells) → flat_map (part_lines reported) PARTS ≡ described_lines l reported.density f (fixed_component_names reported) cells
     lines same_cells same_count = ap (λ (cs : List Data). all cs (count_by is_some verdicts)) same_cells ∙ ap (all (cell_lines l f cells)) same_count
 
 -- The counts are those of the report.
@@ -74,11 +74,11 @@ counts_are l reported are = record { illegal = illegal_are l reported.frame.now 
 -- ---- what was written
 
 pub text_is : {T E : Type 0} (reported : DescribedDesign) (l : Legalizer) (r : Result T E) (a b : Option (List ℕ)) → OnOk r (Appends a b (parts_text reported)) →
-    AreVerdicts l reported.frame.now 0 (described_cells reported) reported.verdicts.now → OnOk r (Appends a b (lines_text l reported.frame.now (fixed_component_names reported) (described_cells reported)))
+    AreVerdicts l reported.frame.now 0 (described_cells reported) reported.verdicts.now → OnOk r (Appends a b (lines_text l reported.density reported.frame.now (fixed_component_names reported) (described_cells reported)))
 text_is reported l r a b written are = subst (λ (t : List ℕ). OnOk r (Appends a b t)) (parts_are l reported are) written
 
 pub cut_is : {T E : Type 0} (reported : DescribedDesign) (l : Legalizer) (r : Result T E) (a b : Option (List ℕ)) → OnErr r (AppendsFront a b (parts_text reported)) →
-    AreVerdicts l reported.frame.now 0 (described_cells reported) reported.verdicts.now → OnErr r (AppendsFront a b (lines_text l reported.frame.now (fixed_component_names reported) (described_cells reported)))
+    AreVerdicts l reported.frame.now 0 (described_cells reported) reported.verdicts.now → OnErr r (AppendsFront a b (lines_text l reported.density reported.frame.now (fixed_component_names reported) (described_cells reported)))
 cut_is reported l r a b written are = subst (λ (t : List ℕ). OnErr r (AppendsFront a b t)) (parts_are l reported are) written
 
 pub clean_is : {E : Type 0} (reported : DescribedDesign) (l : Legalizer) (r : Result Bool E) →

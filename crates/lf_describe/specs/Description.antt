@@ -1,6 +1,7 @@
 -- The description of a design: lines, each a JSON object. Lengths are in database units, and a box
 -- is [left, bottom, right, top].
-use Rattle.std.specs.Prelude.{◌≡◌, ℕ, ℤ, if◌then◌else◌, List, [], ◌∷◌, ◌++◌, Option, length, map, filter, flat_map, slice_get, codes}
+use Rattle.std.specs.Prelude.{◌≡◌, ◌⊎◌, ℕ, ℤ, if◌then◌else◌, List, [], ◌∷◌, ◌++◌, Option, length, map, filter, flat_map, slice_get, take, codes}
+use Rattle.std.specs.Io.KnownBytes.{Appends}
 use Rattle.std.specs.List.{enumerate_from}
 use Rattle.std.specs.Option.{option_map_or, option_and_then}
 use Rattle.std.specs.Str.{is_utf8}
@@ -9,6 +10,8 @@ use Rattle.serde_json.specs.Find.{of_integer}
 use Rattle.serde_json.specs.View.{items_of}
 use Rattle.serde_json.specs.Written.{compact_text}
 use Rattle.lf_units.specs.declared.geometry.Rect.{Rect}
+use Rattle.lf_density.specs.declared.density.Density.{Density}
+use Rattle.lf_density.specs.Density.{IsDensityOf}
 use Rattle.lf_orient.specs.declared.Orient.{Orient}
 use Rattle.lf_orient.specs.Words.{orient_word}
 use Rattle.lf_floorplan.specs.declared.frame.Frame.{Frame}
@@ -136,6 +139,18 @@ cell_data f cells c broken =
     (member (codes "team") (text_data (described_team_name f c.team))
     (member (codes "width") (whole_data (size_of f (macro_of f c.mac)).x) no_members))))))))))
 
+-- How full the fullest bins are: the number of bins that count, the mean utilization of the fullest
+-- 2, 5, 10 and 20 % of them in thousandths, and the side of a bin.
+abbrev pub density_data : Density → Data
+density_data d =
+    object (member (codes "bins") (count_data d.bins)
+    (member (codes "fullest_10") (count_data d.fullest_10)
+    (member (codes "fullest_2") (count_data d.fullest_2)
+    (member (codes "fullest_20") (count_data d.fullest_20)
+    (member (codes "fullest_5") (count_data d.fullest_5)
+    (member (codes "kind") (string (codes "density"))
+    (member (codes "side") (count_data d.side) no_members)))))))
+
 -- The counts of each kind, of cells that break a rule, and of unplaced cells.
 abbrev pub total_data : Frame → ℕ → ℕ → ℕ → Data
 total_data f cells illegal unplaced =
@@ -174,21 +189,51 @@ obstacle_lines names obstacles = map (λ e. obstacle_data (slice_get names e.0) 
 abbrev pub cell_lines : Legalizer → Frame → List (Listed (List ℕ)) → List Data
 cell_lines l f cells = map (λ e. cell_data f cells e.1 (broken_among l f 0 cells e.0 e.1)) (enumerate_from 0 cells)
 
--- The design, its rows, fences, obstacles, soft blockages and movable cells, and the totals.
-abbrev pub described_lines : Legalizer → Frame → List (List ℕ) → List (Listed (List ℕ)) → List Data
-described_lines l f names cells =
+-- The box of a cell at its place; none if it is unplaced.
+abbrev pub placed_box : Frame → Listed (List ℕ) → List Rect
+placed_box f c = option_map_or (λ p. box_at (turned (size_of f (macro_of f c.mac)) p.orient) p.x p.y ∷ []) c.place []
+
+-- The boxes of the placed cells.
+abbrev pub placed_boxes : Frame → List (Listed (List ℕ)) → List Rect
+placed_boxes f cells = flat_map (placed_box f) cells
+
+-- The design, its rows, fences, obstacles, soft blockages and movable cells, its density, and the
+-- totals.
+abbrev pub described_lines : Legalizer → Density → Frame → List (List ℕ) → List (Listed (List ℕ)) → List Data
+described_lines l d f names cells =
     design_data f
     ∷ (map (row_data f) f.rows ++ (map fence_data f.teams ++ (obstacle_lines names f.obstacles ++ (map soft_data f.soft
-    ++ (cell_lines l f cells ++ report_total f (report_of l f 0 cells) ∷ [])))))
+    ++ (cell_lines l f cells ++ density_data d ∷ report_total f (report_of l f 0 cells) ∷ [])))))
 
 -- A line: JSON without spaces, and a line feed.
 abbrev pub line_text : Data → List ℕ
 line_text d = compact_text d ++ 10 ∷ []
 
 -- The text of all lines.
-unfoldable pub lines_text : Legalizer → Frame → List (List ℕ) → List (Listed (List ℕ)) → List ℕ
-lines_text l f names cells = flat_map line_text (described_lines l f names cells)
+unfoldable pub lines_text : Legalizer → Density → Frame → List (List ℕ) → List (Listed (List ℕ)) → List ℕ
+lines_text l d f names cells = flat_map line_text (described_lines l d f names cells)
 
--- The description of a loaded design and the document from which it was loaded.
-abbrev pub description : Legalizer → Loaded → Document → List ℕ
-description l loaded document = lines_text l loaded.frame (fixed_names document.components) (listed_movables loaded)
+-- The text of all lines is appended. The density is that of the placed cells.
+pub record AppendsLines (l : Legalizer) (f : Frame) (names : List (List ℕ)) (cells : List (Listed (List ℕ)))
+    (old new : Option (List ℕ)) : Type 0 where
+  pub density : Density
+  pub measured : IsDensityOf f (placed_boxes f cells) density
+  pub text : Appends old new (lines_text l density f names cells)
+
+-- The first bytes of this text are appended, or none.
+pub record AppendsFirst (l : Legalizer) (f : Frame) (names : List (List ℕ)) (cells : List (Listed (List ℕ)))
+    (old new : Option (List ℕ)) : Type 0 where
+  pub density : Density
+  pub many : ℕ
+  pub measured : (many ≡ 0) ⊎ IsDensityOf f (placed_boxes f cells) density
+  pub text : Appends old new (take many (lines_text l density f names cells))
+
+-- The description of a loaded design and the document from which it was loaded is appended.
+abbrev pub AppendsDescription : Legalizer → Loaded → Document → Option (List ℕ) → Option (List ℕ) → Type 0
+AppendsDescription l loaded document old new =
+    AppendsLines l loaded.frame (fixed_names document.components) (listed_movables loaded) old new
+
+-- The first bytes of the description are appended, or none.
+abbrev pub AppendsDescriptionFirst : Legalizer → Loaded → Document → Option (List ℕ) → Option (List ℕ) → Type 0
+AppendsDescriptionFirst l loaded document old new =
+    AppendsFirst l loaded.frame (fixed_names document.components) (listed_movables loaded) old new

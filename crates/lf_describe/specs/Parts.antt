@@ -8,8 +8,8 @@ use Rattle.lf_reports.specs.Reports.{with_byte_name, verdict_at}
 use Rattle.lf_describe.specs.declared.described.DescribedDesign.{DescribedDesign}
 use Rattle.lf_describe.specs.declared.line_kinds.TheConstants.{PARTS}
 use Rattle.lf_describe.specs.declared.line_kinds.Part.{Part}
-use Rattle.lf_describe.specs.declared.line_kinds.Part.TheVariants.{Design, Rows, Fences, Obstacles, Soft, Cells, Total}
-use Rattle.lf_describe.specs.Description.{cell_data, design_data, fence_data, line_text, obstacle_lines, row_data, soft_data, total_data}
+use Rattle.lf_describe.specs.declared.line_kinds.Part.TheVariants.{Design, Rows, Fences, Obstacles, Soft, Cells, Density, Total}
+use Rattle.lf_describe.specs.Description.{cell_data, density_data, design_data, fence_data, line_text, obstacle_lines, row_data, soft_data, total_data}
 
 -- The names of the FIXED components.
 abbrev pub fixed_component_names : DescribedDesign → List (List ℕ)
@@ -28,6 +28,7 @@ part_lines reported Obstacles = obstacle_lines (fixed_component_names reported) 
 part_lines reported Soft = map soft_data reported.frame.now.soft
 part_lines reported Cells = map (λ e. cell_data reported.frame.now (described_cells reported) e.1
     (verdict_at reported.verdicts.now e.0)) (enumerate_from 0 (described_cells reported))
+part_lines reported Density = density_data reported.density ∷ []
 part_lines reported Total = total_data reported.frame.now (length (described_cells reported))
     (count_by is_some reported.verdicts.now) (count_by (λ c. is_none c.place) (described_cells reported)) ∷ []
 

@@ -8,16 +8,17 @@ ghost use Rattle.lf_rules.specs.FullyLegal.{IsFullyLegal, design_cells_at};
 ghost use Rattle.lf_rules.specs.Legalizer.{Legalizer};
 ghost use Rattle.lf_rules.specs.Reports.{IsClean};
 ghost use Rattle.lf_reports.specs.Reports.{IsListed, with_byte_name, report_of};
-ghost use Rattle.lf_describe.specs.Description.{description, fixed_names as names_of, lines_text, places_in_text};
+ghost use Rattle.lf_describe.specs.Description.{AppendsDescription, AppendsDescriptionFirst, AppendsFirst, AppendsLines, fixed_names as names_of, places_in_text};
 ghost use Rattle.lf_describe.specs.Parts.{Counts, parts_text};
 ghost use Rattle.lf_describe.specs.Written.{AppendsFront, is_line_writers, is_output, is_writers};
 
-use crate::counts::{is_clean, listed, verdicts_of};
+use crate::counts::{density_in, is_clean, listed, verdicts_of};
 use crate::described::DescribedDesign;
 use crate::line_kinds::{counts_in, put_parts};
 use crate::line_output::LineFault;
 use lf_def::{Component, DefDoc, is_fixed};
 use lf_floorplan::{Frame, Loaded, cell_is_sized};
+use lf_frame_index::FrameIndex;
 use lf_io::Sink;
 use lf_rules::{Listed, legalizer_exists};
 use std::alloc::{AllocError, Global};
@@ -93,17 +94,23 @@ fn describe_cells<W: Sink>(
 ) -> Result<bool, DescribeFailure>
     requires listed { All (λ c. IsListed frame.now (with_byte_name c)) cells.now }
     requires few { length cells.now ≤ 4000000 }
-    ensures text { (l : Legalizer) → OnOk result (Appends (W.contents writer.old) (W.contents writer.new)
-        (lines_text l frame.now (map (λ n. n.now) names.now) (map with_byte_name cells.now))) }
+    ensures text { (l : Legalizer) → OnOk result (AppendsLines l frame.now (map (λ n. n.now) names.now)
+        (map with_byte_name cells.now) (W.contents writer.old) (W.contents writer.new)) }
     ensures clean { (l : Legalizer)
         → IfOk result (λ clean. IsTrue clean ↔ IsClean (report_of l frame.now 0 (map with_byte_name cells.now))) }
-    ensures cut { (l : Legalizer) → OnErr result (AppendsFront (W.contents writer.old) (W.contents writer.new)
-        (lines_text l frame.now (map (λ n. n.now) names.now) (map with_byte_name cells.now))) }
+    ensures cut { (l : Legalizer) → OnErr result (AppendsFirst l frame.now (map (λ n. n.now) names.now)
+        (map with_byte_name cells.now) (W.contents writer.old) (W.contents writer.new)) }
     ensures unwritten { IfErr result (λ fault. fault ≡ DescribeFailure.OutOfMemory → writer.new ≡ writer.old) }
     ensures failed { W.has_failed writer.new ≡ (is_output result || W.has_failed writer.old) }
     ensures held { W.holds writer.new ≡ W.holds writer.old }
 {
-    let Ok(verdicts) = verdicts_of(alloc, frame, cells) else {
+    let Ok(index) = FrameIndex::build(alloc, frame) else {
+        return Err(DescribeFailure::OutOfMemory);
+    };
+    let Ok(verdicts) = verdicts_of(alloc, frame, &index, cells) else {
+        return Err(DescribeFailure::OutOfMemory);
+    };
+    let Ok(density) = density_in(alloc, frame, &index, cells) else {
         return Err(DescribeFailure::OutOfMemory);
     };
     let reported = DescribedDesign {
@@ -111,14 +118,15 @@ fn describe_cells<W: Sink>(
         names,
         cells,
         verdicts: verdicts.as_slice(),
+        density,
     };
     write_description(alloc, &reported, writer)
 }
 
 /// Writes the description of a design as JSON Lines, one object on each line, with each cell at its
 /// place in the DEF text. The design comes first, then its rows, fences, obstacles, soft blockages
-/// and movable cells, and finally the totals. The text is appended to what the writer holds, and
-/// flushed. Returns whether the design is fully legal at these places.
+/// and movable cells, then its density, and finally the totals. The text is appended to what the
+/// writer holds, and flushed. Returns whether the design is fully legal at these places.
 ///
 /// `document` is the document from which the design was loaded. It names the FIXED components,
 /// whose boxes are the first obstacles. The obstacle of a number therefore has the name of the
@@ -133,13 +141,12 @@ pub fn describe<W: Sink>(
     document: &DefDoc<'_>,
     writer: &mut W,
 ) -> Result<bool, DescribeFailure>
-    ensures text { (l : Legalizer) → OnOk result
-        (Appends (W.contents writer.old) (W.contents writer.new) (description l loaded.now (contents document.now))) }
+    ensures text { (l : Legalizer) → OnOk result (AppendsDescription l loaded.now (contents document.now)
+        (W.contents writer.old) (W.contents writer.new)) }
     ensures legal { IfOk result (λ legal. IsTrue legal
         ↔ IsFullyLegal loaded.now.frame (design_cells_at loaded.now.cells (places_in_text loaded.now.cells))) }
-    ensures cut { (l : Legalizer) → OnErr result ((n : ℕ)
-        × Appends (W.contents writer.old) (W.contents writer.new)
-        (take n (description l loaded.now (contents document.now)))) }
+    ensures cut { (l : Legalizer) → OnErr result (AppendsDescriptionFirst l loaded.now (contents document.now)
+        (W.contents writer.old) (W.contents writer.new)) }
     ensures unwritten { IfErr result (λ fault. fault ≡ DescribeFailure.OutOfMemory → writer.new ≡ writer.old) }
     ensures failed { W.has_failed writer.new ≡ (is_output result || W.has_failed writer.old) }
     ensures held { W.holds writer.new ≡ W.holds writer.old }

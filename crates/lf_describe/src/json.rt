@@ -8,9 +8,10 @@ ghost use Rattle.lf_floorplan.specs.Rows.{IsCoreRow};
 ghost use Rattle.lf_reports.specs.Reports.{IsListed, with_byte_name};
 ghost use Rattle.lf_describe.specs.Description.{box_data, cell_data, design_data, orientation_data, fence_data, obstacle_data};
 ghost use Rattle.lf_describe.specs.Description.{orient_data, other_of, rect_data, row_data, rule_data, soft_data};
-ghost use Rattle.lf_describe.specs.Description.{described_team_name as name_of_team, text_data, text_or_null as named_or_null, total_data};
+ghost use Rattle.lf_describe.specs.Description.{density_data, described_team_name as name_of_team, text_data, text_or_null as named_or_null, total_data};
 
 use crate::counts::Counts;
+use lf_density::Density;
 use lf_floorplan::{Frame, Place, Row, Team, mac_at, size_in_units};
 use lf_orient::{Orient, orient_word};
 use lf_rules::{Broken, Listed, box_of};
@@ -225,6 +226,20 @@ pub(crate) fn cell_value(
     json!(in alloc; {
         "box": rect, "height": height, "kind": "cell", "macro": mac, "name": name, "orient": orient,
         "other": other, "rule": rule, "team": team, "width": width
+    })
+}
+
+/// Makes the line of the density.
+pub(crate) fn density_value(alloc: Global, density: &Density) -> Result<Value, AllocError>
+    ensures { IfOk result (λ v. view v ≡ density_data density.now) }
+{
+    let bins = density.bins;
+    let side = density.side;
+    let (two, five) = (density.fullest_2, density.fullest_5);
+    let (ten, twenty) = (density.fullest_10, density.fullest_20);
+    json!(in alloc; {
+        "bins": bins, "fullest_10": ten, "fullest_2": two, "fullest_20": twenty, "fullest_5": five, "kind": "density",
+        "side": side
     })
 }
 

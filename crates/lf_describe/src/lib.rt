@@ -2,7 +2,7 @@
 //!
 //! The design comes first, then its rows, fences, obstacles, soft blockages and movable cells, and
 //! finally the totals. Each cell is shown at its place in the DEF text, with the first rule that it
-//! breaks there. `docs/PROTOCOL.md` lists the keys. Each line is compact JSON. The whole text is a
+//! breaks there. `docs/CLI.md` lists the keys. Each line is compact JSON. The whole text is a
 //! definition (`description`) over the loaded design and the document of the DEF text.
 //!
 //! Used by `lf_wire_report`, `lf_repair_report`, `lf_improve_report` and `lf_task_files`.

@@ -5,16 +5,18 @@ ghost use Rattle.std.specs.Io.KnownBytes.{Appends};
 ghost use Rattle.serde_json.specs.Data.{Data};
 ghost use Rattle.serde_json.specs.View.{view};
 ghost use Rattle.lf_reports.specs.Reports.{IsListed, with_byte_name, verdict_at};
-ghost use Rattle.lf_describe.specs.Description.{design_data, fence_data, line_text, obstacle_lines, row_data, soft_data};
+ghost use Rattle.lf_describe.specs.Description.{density_data, design_data, fence_data, line_text, obstacle_lines, row_data, soft_data};
 ghost use Rattle.lf_describe.specs.Parts.{described_cells, part_lines, part_text, parts_text};
 ghost use Rattle.lf_describe.specs.Written.{AppendsFront, WritesFrontOf, is_line_output};
 
 use crate::counts::{Counts, counts_of};
 use crate::described::DescribedDesign;
 use crate::json::{
-    cell_value, design_value, fence_value, obstacle_value, row_value, soft_value, total_value,
+    cell_value, density_value, design_value, fence_value, obstacle_value, row_value, soft_value,
+    total_value,
 };
 use crate::line_output::{LineFault, put_last, put_line};
+use lf_density::Density;
 use lf_floorplan::Frame;
 use lf_io::Sink;
 use lf_rules::{Broken, Listed};
@@ -31,17 +33,19 @@ pub(crate) enum Part {
     Obstacles,
     Soft,
     Cells,
+    Density,
     Total,
 }
 
 /// The kinds of lines, in order.
-const PARTS: [Part; 7] = [
+const PARTS: [Part; 8] = [
     Part::Design,
     Part::Rows,
     Part::Fences,
     Part::Obstacles,
     Part::Soft,
     Part::Cells,
+    Part::Density,
     Part::Total,
 ];
 
@@ -165,6 +169,7 @@ fn count_in(reported: &DescribedDesign<'_>, part: Part) -> usize
         Part::Obstacles => reported.frame.obstacles.len(),
         Part::Soft => reported.frame.soft.len(),
         Part::Cells => reported.cells.len(),
+        Part::Density => 1,
         Part::Total => 1,
     }
 }
@@ -177,6 +182,20 @@ fn design_line(alloc: Global, frame: &Frame, number: usize) -> Result<Option<Val
         return Ok(None);
     }
     Ok(Some(design_value(alloc, frame)?))
+}
+
+/// Makes the line of the density, which has the number 0. `Ok(None)` for another number.
+fn density_line(
+    alloc: Global,
+    density: &Density,
+    number: usize,
+) -> Result<Option<Value>, AllocError>
+    ensures { IfOk result (λ line. option_map view line ≡ slice_get (density_data density.now ∷ []) number) }
+{
+    if number > 0 {
+        return Ok(None);
+    }
+    Ok(Some(density_value(alloc, density)?))
 }
 
 /// Makes the line of the totals, which has the number 0. `Ok(None)` for another number.
@@ -209,6 +228,7 @@ fn line_in(
         Part::Obstacles => obstacle_line(alloc, reported.frame, reported.names, number),
         Part::Soft => soft_line(alloc, reported.frame, number),
         Part::Cells => cell_line(alloc, reported, number),
+        Part::Density => density_line(alloc, &reported.density, number),
         Part::Total => total_line(alloc, reported, number),
     }
 }

@@ -114,7 +114,7 @@ pub fn verb_keeps_team()
     ensures { VerbKeepsTeam }
 {}
 
-/// The outcomes of verbs on a team of three cells, given what the legalizer finds.
+/// A law: the outcomes of verbs on a team of three cells, given what the legalizer finds.
 pub fn verb_rows()
     ensures { VerbRows }
 {}

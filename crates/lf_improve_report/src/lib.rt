@@ -1,6 +1,6 @@
 //! Prints the report of an improvement: a line of JSON for each selected team, and one for all.
 //!
-//! Each line is compact JSON; `docs/PROTOCOL.md` has the keys. Lengths are in database units,
+//! Each line is compact JSON; `docs/CLI.md` has the keys. Lengths are in database units,
 //! rounded down, except that `doubled` is the exact length in half database units. The whole text is
 //! a definition (`improve_report`) over the results of the teams and the measured lengths.
 //!

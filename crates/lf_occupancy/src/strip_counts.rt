@@ -16,8 +16,8 @@ use lf_units::Rect;
 use std::alloc::{AllocError, Global};
 use std::marker::Model;
 
-/// For each strip of a frame the number of boxes placed in it, or that would be in it if some cells
-/// were at other places. Contracts see the numbers.
+/// How many boxes each strip of a frame holds, for a real or a planned placement. Contracts see the
+/// numbers.
 #[derive(Drop)]
 pub struct StripCounts {
     pub(crate) counts: Vec<usize>,

@@ -1,6 +1,6 @@
 //! Prints the report of a repair: a line of JSON for each team, and one for all.
 //!
-//! Each line is compact JSON; `docs/PROTOCOL.md` has the keys. The text so far is exactly the lines
+//! Each line is compact JSON; `docs/CLI.md` has the keys. The text so far is exactly the lines
 //! of the teams that were added (`team_line`). The last line is that of their sums (`all_line`).
 //! `least_largest` of a line is the number for that team with which the report was created, and
 //! `impossible` has the reasons of the list with which it was created.

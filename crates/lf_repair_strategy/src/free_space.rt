@@ -95,6 +95,22 @@ pub(crate) fn take_soft(
     Ok(())
 }
 
+/// Whether the team has a soft blockage in the row at `y`, in the range of x from `lo` on and below
+/// `hi`.
+pub(crate) fn is_soft_at(plan: &IndexedFrame<'_>, team: usize, y: i64, lo: i64, hi: i64) -> bool {
+    let index = plan.index();
+    for entry in plan.rows_at(y) {
+        let strips = index.strips_overlapping(entry.row, team, &lo, &hi);
+        for strip in strips.start..strips.end {
+            let mut spans = plan.soft_of(strip).iter();
+            if spans.any(|span| span.lo < hi && lo < span.hi) {
+                return true;
+            }
+        }
+    }
+    false
+}
+
 /// The number limited to the range of 32 bits.
 fn clipped(number: i64) -> u32 {
     number.clamp(0, 4_294_967_295) as u32

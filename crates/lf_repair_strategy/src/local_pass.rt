@@ -3,7 +3,7 @@
 
 use crate::edit::{CellEdit, Edit};
 use crate::free_space::coordinate;
-use crate::pass::{Pass, RepairInput, copied, is_tall, working_places};
+use crate::pass::{MovePolicy, Pass, RepairInput, copied, stays_if_legal, working_places};
 use crate::rounds::width_of;
 use lf_cells::CellId;
 use lf_floorplan::{Frame, Place, same_place};
@@ -25,16 +25,20 @@ pub enum Neighborhood {
     Near { rows: i64, sites: i64 },
     /// All cells, if a cell has no place.
     All,
+    /// All cells, under `MoveAll` if a cell was not legal. The total displacement decides whether this
+    /// improves anything.
+    Whole,
 }
 
 /// A local pass, with the places of all cells at its start. It has also the numbers of cells
-/// without a place and of problem cells at that time.
+/// without a place and of problem cells at that time, and the total displacement if that decides.
 #[derive(Drop)]
 pub struct LocalPass {
     pub pass: Pass,
     before: Vec<Option<Place>>,
     left: usize,
     needy: usize,
+    total: Option<i64>,
 }
 
 /// The problem cells, which have no place or are far from their targets. `left` is the number of
@@ -278,8 +282,8 @@ fn is_near(place: &Place, wanted: &Point, near: &NearRegion) -> bool {
         || is_among(tiles.as_slice(), &tile_of(wanted, &near.size))
 }
 
-/// Whether a local pass locks the cell: it has a place, and it was legal and covers several rows,
-/// or it is not near.
+/// Whether a local pass locks the cell: it has a place, and it was legal and covers several rows or
+/// is on a soft blockage, or it is not near.
 fn is_locked(
     placement: &Placement,
     id: CellId,
@@ -290,7 +294,7 @@ fn is_locked(
     let Some(place) = placement.cells().working(id) else {
         return false;
     };
-    (legal && is_tall(placement, id)) || !is_near(&place, wanted, near)
+    (legal && stays_if_legal(placement, id)) || !is_near(&place, wanted, near)
 }
 
 /// Whether each cell of the team with this number is locked.
@@ -349,10 +353,43 @@ fn all_wanted(
 }
 
 /// Whether a local pass with this reach has nothing to improve.
-fn has_no_work(need: &ProblemCells, reach: &Neighborhood) -> bool {
+fn has_no_work(start: &RepairInput, need: &ProblemCells, reach: &Neighborhood) -> bool {
     match reach {
         Neighborhood::Near { .. } => need.points.len() == 0,
         Neighborhood::All => need.left == 0,
+        Neighborhood::Whole => {
+            !matches!(start.how, MovePolicy::MoveAll) || !start.legal.contains(&false)
+        }
+    }
+}
+
+/// The sum of the displacements of all cells that had a place and have one.
+fn total_displacement(placement: &Placement, number: usize, targets: &[Option<Place>]) -> i64 {
+    let mut total = 0i64;
+    let ids = placement.cells().cells_of(number);
+    for (id, target) in ids.iter().zip(targets.iter()) {
+        if let (Some(place), Some(target)) = (placement.cells().working(*id), *target) {
+            let point = Point {
+                x: target.x as i64,
+                y: target.y as i64,
+            };
+            total = total.saturating_add(displacement(&place, &point));
+        }
+    }
+    total
+}
+
+/// The total displacement at the start of a pass with this reach, if it decides whether the pass
+/// improves anything.
+fn deciding_total(
+    placement: &Placement,
+    number: usize,
+    targets: &[Option<Place>],
+    reach: &Neighborhood,
+) -> Option<i64> {
+    match reach {
+        Neighborhood::Whole => Some(total_displacement(placement, number, targets)),
+        _ => None,
     }
 }
 
@@ -377,7 +414,7 @@ pub fn plan_local_pass(
 ) -> Result<Option<LocalPass>, AllocError> {
     let bounds = bounds_of(placement, number);
     let need = problem_cells(alloc, placement, number, &start.pass, &bounds)?;
-    if has_no_work(&need, reach) {
+    if has_no_work(start, &need, reach) {
         return Ok(None);
     }
     let near = near_of(alloc, placement.frame(), &need, reach)?;
@@ -396,19 +433,35 @@ pub fn plan_local_pass(
         before,
         left: need.left,
         needy: need.points.len(),
+        total: deciding_total(placement, number, start.pass.targets.as_slice(), reach),
     }))
 }
 
-/// Whether there are fewer problem cells than at the start of the local pass. Cells without a place
-/// count first.
-fn is_better(need: &ProblemCells, local_plan: &LocalPass) -> bool {
-    need.left < local_plan.left
-        || (need.left == local_plan.left && need.points.len() < local_plan.needy)
+/// Whether a cell that was legal has no place.
+fn has_lost_legal(placement: &Placement, number: usize, legal: &[bool]) -> bool {
+    for (id, legal) in placement.cells().cells_of(number).iter().zip(legal.iter()) {
+        if *legal && placement.cells().working(*id).is_none() {
+            return true;
+        }
+    }
+    false
 }
 
-/// The edits that undo a local pass which has improved nothing. All cells that it moved are
-/// unplaced, and then placed at their old places. No edits if it has improved something. `Err` if
-/// an allocation fails.
+/// Whether there are fewer problem cells than at the start of the local pass. Cells without a place
+/// count first. If the total displacement decides, it counts in place of the other problem cells.
+fn is_better(need: &ProblemCells, total: i64, local_plan: &LocalPass) -> bool {
+    if need.left != local_plan.left {
+        return need.left < local_plan.left;
+    }
+    match local_plan.total {
+        Some(before) => total < before,
+        None => need.points.len() < local_plan.needy,
+    }
+}
+
+/// The edits that undo a local pass which has improved nothing, or left a legal cell without a
+/// place. All cells that it moved are unplaced, and then placed at their old places. No edits if it
+/// has improved something. `Err` if an allocation fails.
 pub fn undo_edits(
     alloc: Global,
     placement: &Placement,
@@ -419,7 +472,9 @@ pub fn undo_edits(
     let mut cell_edits = Vec::new(alloc);
     let bounds = bounds_of(placement, number);
     let need = problem_cells(alloc, placement, number, &start.pass, &bounds)?;
-    if is_better(&need, local_plan) {
+    let has_lost = has_lost_legal(placement, number, start.legal.as_slice());
+    let total = total_displacement(placement, number, start.pass.targets.as_slice());
+    if !has_lost && is_better(&need, total, local_plan) {
         return Ok(cell_edits);
     }
     let mut places = Vec::new(alloc);

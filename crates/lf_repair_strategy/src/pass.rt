@@ -3,8 +3,9 @@
 ghost use Rattle.std.specs.Prelude.{◌≡◌, IfOk};
 ghost use Rattle.lf_cells.specs.Cells.{cells_of};
 ghost use Rattle.lf_repair_strategy.specs.Targets.{AreWorkingPlaces};
-ghost use Rattle.lf_repair_strategy.specs.declared.pass.MovePolicy.TheVariants.{KeepLegal};
 
+use crate::free_space::is_soft_at;
+use crate::rounds::width_of;
 use lf_cells::CellId;
 use lf_floorplan::Place;
 use lf_placement::Placement;
@@ -18,7 +19,8 @@ pub enum MovePolicy {
     /// Those that break a rule or have no place. Other cells of one row's height may move if one of
     /// the former would otherwise have no place or a long displacement.
     MoveAsNeeded,
-    /// Those that break a rule or have no place, and all others of one row's height.
+    /// Those that break a rule or have no place. In the end also all other cells of one row's
+    /// height, if that makes the total displacement less.
     MoveAll,
 }
 
@@ -64,6 +66,26 @@ pub(crate) fn is_tall(placement: &Placement, id: CellId) -> bool {
     }
 }
 
+/// Whether the cell, of one row's height, has a place on a soft blockage. No search puts it back
+/// there, so a legal one stays.
+pub(crate) fn is_on_soft(placement: &Placement, id: CellId) -> bool {
+    let plan = placement.indexed_frame();
+    if plan.index().has_no_soft() {
+        return false;
+    }
+    let Some(place) = placement.cells().working(id) else {
+        return false;
+    };
+    let lo = place.x as i64;
+    let hi = lo.saturating_add(width_of(placement, id));
+    is_soft_at(&plan, id.team as usize, place.y as i64, lo, hi)
+}
+
+/// Whether the cell stays if it is legal: it covers several rows, or it is on a soft blockage.
+pub(crate) fn stays_if_legal(placement: &Placement, id: CellId) -> bool {
+    is_tall(placement, id) || is_on_soft(placement, id)
+}
+
 /// A copy of the flags.
 pub(crate) fn copied(alloc: Global, marks: &[bool]) -> Result<Vec<bool>, AllocError>
     ensures { IfOk result (λ copy. copy.items ≡ marks.now) }
@@ -73,38 +95,11 @@ pub(crate) fn copied(alloc: Global, marks: &[bool]) -> Result<Vec<bool>, AllocEr
     Ok(copy)
 }
 
-/// Marks the legal cells that cover several rows.
-fn tall_of(
-    alloc: Global,
-    placement: &Placement,
-    number: usize,
-    legal: &[bool],
-) -> Result<Vec<bool>, AllocError> {
-    let mut marks = Vec::with_capacity(alloc, legal.len())?;
-    for (id, is_in_place) in placement.cells().cells_of(number).iter().zip(legal.iter()) {
-        marks.push(*is_in_place && is_tall(placement, *id))?;
-    }
-    Ok(marks)
-}
-
-/// The cells locked in the first pass. `KeepLegal`, `MoveAsNeeded`: all legal cells. `MoveAll`: the
-/// legal cells that cover several rows, or every cell if all are legal. `Err` if an allocation
-/// fails.
-pub fn initial_locks(
-    alloc: Global,
-    placement: &Placement,
-    number: usize,
-    legal: &[bool],
-    how: MovePolicy,
-) -> Result<Vec<bool>, AllocError>
-    ensures { how ≡ KeepLegal → IfOk result (λ marks. marks.items ≡ legal.now) }
+/// The cells locked in the first pass: all legal cells. `Err` if an allocation fails.
+pub fn initial_locks(alloc: Global, legal: &[bool]) -> Result<Vec<bool>, AllocError>
+    ensures { IfOk result (λ marks. marks.items ≡ legal.now) }
 {
-    match how {
-        MovePolicy::KeepLegal => copied(alloc, legal),
-        MovePolicy::MoveAsNeeded => copied(alloc, legal),
-        MovePolicy::MoveAll if legal.contains(&false) => tall_of(alloc, placement, number, legal),
-        MovePolicy::MoveAll => copied(alloc, legal),
-    }
+    copied(alloc, legal)
 }
 
 /// The working places of the cells of the team with this number. `Err` if an allocation fails.

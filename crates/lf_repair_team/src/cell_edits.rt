@@ -216,7 +216,7 @@ pub(crate) fn run_edit<S: Seeker + Drop, K: Sink>(
     }
 }
 
-/// Whether the cell at position `own` is marked.
+/// Whether the cell at position `own` is locked.
 pub(crate) fn is_locked(marks: &[bool], own: usize) -> bool
     ensures { IsTrue result ↔ slice_get marks.now own ≡ Some true }
 {

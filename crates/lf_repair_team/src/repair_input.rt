@@ -134,7 +134,7 @@ pub fn team_input<S: Seeker + Drop>(
     ensures how { IfOk result (λ start. start.how ≡ how) }
 {
     let legal = legal_of(alloc, floor, number)?;
-    let marks = initial_locks(alloc, floor.placement(), number, legal.as_slice(), how)?;
+    let marks = initial_locks(alloc, legal.as_slice())?;
     let flags = listed_of(alloc, floor, team, number, impossible)?;
     let targets = working_places(alloc, floor.placement(), number)?;
     Ok(RepairInput {

@@ -164,7 +164,7 @@ fn run_pass<S: Seeker + Drop, K: Sink>(
 }
 
 /// The local passes, each over a larger region than the previous one.
-const REACHES: [Neighborhood; 4] = [
+const REACHES: [Neighborhood; 5] = [
     Neighborhood::Near { rows: 2, sites: 16 },
     Neighborhood::Near { rows: 8, sites: 64 },
     Neighborhood::Near {
@@ -172,6 +172,7 @@ const REACHES: [Neighborhood; 4] = [
         sites: 256,
     },
     Neighborhood::All,
+    Neighborhood::Whole,
 ];
 
 /// Runs a local pass, in which legal cells may move too: its cells are unplaced and planned again.
@@ -215,17 +216,17 @@ fn run_local_pass<S: Seeker + Drop, K: Sink>(
     )
 }
 
-/// Whether legal cells may move as needed.
-fn is_as_needed(how: MovePolicy) -> bool
+/// Whether legal cells may move.
+fn may_legal_move(how: MovePolicy) -> bool
     ensures { how ≡ KeepLegal → result ≡ false }
 {
     match how {
-        MovePolicy::MoveAsNeeded => true,
-        _ => false,
+        MovePolicy::KeepLegal => false,
+        _ => true,
     }
 }
 
-/// Runs the local passes if legal cells may move as needed; otherwise sends no command.
+/// Runs the local passes if legal cells may move; otherwise sends no command.
 fn run_local_passes<S: Seeker + Drop, K: Sink>(
     alloc: Global,
     floor: &mut Floor<S>,
@@ -242,7 +243,7 @@ fn run_local_passes<S: Seeker + Drop, K: Sink>(
     ensures kept { start.now.how ≡ KeepLegal → floor.new ≡ floor.old }
     ensures committed { KeepsCommittedAndSlots seat.now.team.now seat.now.session floor.old floor.new }
 {
-    if !is_as_needed(start.how) {
+    if !may_legal_move(start.how) {
         return Ok(());
     }
     for reach in &REACHES {

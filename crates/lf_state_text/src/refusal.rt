@@ -10,8 +10,8 @@ use crate::cursor_steps::append;
 use crate::fault::{StateFault, StateFaultNumber, line_feeds};
 use std::alloc::AllocError;
 
-/// The fault of a refused text in chunks, and the end of the text. The end starts at the start of a
-/// line: that of the fault or an earlier one.
+/// Why a state text was refused, and the rest of the text from the start of a line at or before the
+/// fault.
 #[derive(Debug, Drop)]
 pub struct StateRefused {
     pub fault: StateFault,

@@ -237,7 +237,7 @@ impl TextRefusal {
         TextRefusal::with_conflict(alloc, kind, text, fault, &none)
     }
 
-    /// Does the same as `new`, with the fences in conflict.
+    /// Like `new`, but also reports the two conflicting fences.
     pub fn with_conflict(
         alloc: Global,
         kind: TextKind,

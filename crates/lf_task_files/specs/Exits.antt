@@ -1,5 +1,5 @@
 -- What is written of a design, or why it is not written.
-use Rattle.std.specs.Prelude.{◌≡◌, ◌⊎◌, ℕ, false, List, Option, Some, None, IfSome, take}
+use Rattle.std.specs.Prelude.{◌≡◌, ◌⊎◌, ℕ, false, List, Option, Some, None, IfSome}
 use Rattle.std.specs.Io.KnownBytes.{Appends}
 use Rattle.lf_floorplan.specs.declared.limits.Limits.{Limits}
 use Rattle.lf_floorplan.specs.declared.loaded.Loaded.{Loaded}
@@ -8,7 +8,7 @@ use Rattle.lf_rules.specs.Legalizer.{Legalizer}
 use Rattle.lf_def.specs.Document.{Document}
 use Rattle.lf_write.specs.Export.{CanBeRenewed, exported}
 use Rattle.lf_io_files.specs.Shelf.{Put, PutsFile}
-use Rattle.lf_describe.specs.Description.{description}
+use Rattle.lf_describe.specs.Description.{AppendsDescription, AppendsDescriptionFirst}
 use Rattle.lf_floor_model.specs.States.{FloorState}
 use Rattle.lf_floor_model.specs.Places.{AreCommittedPlaces}
 use Rattle.lf_task_faults.specs.declared.faults.Fault.{Fault}
@@ -43,7 +43,7 @@ IsExported (Some path) text document floor old new =
 -- fully legal.
 pub record IsDescribed (document : Document) (loaded : Loaded) (old new : Option (List ℕ)) (status : ℕ) : Type 0 where
   pub done : IsDone status
-  pub text : (l : Legalizer) → Appends old new (description l loaded document)
+  pub text : (l : Legalizer) → AppendsDescription l loaded document old new
   pub legal : status ≡ 0 → IsLegalDesign loaded
   pub illegal : status ≡ 4 → ¬ IsLegalDesign loaded
 
@@ -70,7 +70,7 @@ pub record IsOpenDescribed (limits : Limits) (gives : ReadsFile) (def : List ℕ
 pub record IsUndescribed (document : Document) (loaded : Loaded) (before after : Option (List ℕ))
     (fault : Fault) : Type 0 where
   pub why : IsDescriptionFault fault
-  pub front : (l : Legalizer) → ((n : ℕ) × Appends before after (take n (description l loaded document)))
+  pub front : (l : Legalizer) → AppendsDescriptionFirst l loaded document before after
 
 -- Why the loaded design of the document is not described: it could not be brought into the given
 -- state; or the description is not written, or only a front of it.

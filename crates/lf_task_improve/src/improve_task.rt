@@ -138,8 +138,7 @@ fn improve_ready<'a, E: OutputFiles, W: Sink, P: Progress>(
 /// - the paths of the requested files
 /// - memory
 /// - the writer
-/// - the requested files: the texts with the committed and with the working places, the command
-///   lines, and the state
+/// - the requested files: the text with the committed places, then the command lines
 ///
 /// If a file is at fault after the improvement, those in front of it and all of the report are
 /// written. At other faults no file is written. If the writer is at fault, a prefix of the report is

@@ -101,7 +101,7 @@ fn is_known(floor: &Floor<IndexSeeker>, name: &[u8]) -> bool
     floor.team_number(name).is_some()
 }
 
-/// Tests that each of the names is that of a team. `Err(NoTeam)` with the first that is not.
+/// Checks that every name is a team's. `Err(NoTeam)` with the first one that is not.
 pub fn all_known<'a>(floor: &Floor<IndexSeeker>, teams: &'a [&'a str]) -> Result<(), Fault<'a>>
     ensures ok { OnOk result (AreKnown floor.now.frame (map (λ team. team.now) teams.now)) }
     ensures err { IfErr result (IsUnknown floor.now.frame (map (λ team. team.now) teams.now)) }
@@ -114,8 +114,9 @@ pub fn all_known<'a>(floor: &Floor<IndexSeeker>, teams: &'a [&'a str]) -> Result
     Ok(())
 }
 
-/// Repairs the team with this name, and adds its line to the report. `Err` only if an allocation
-/// fails: the team exists, its floor has a free session slot, and lines are kept in memory.
+/// Repairs the team with this name, and adds its line to the report. `Err` if an allocation fails, or
+/// if the floor refuses a command: a restored state may have no free session slot, or no revision
+/// left.
 fn repair_named<'f, P: Progress>(
     alloc: Global,
     floor: &mut Floor<IndexSeeker>,
@@ -238,7 +239,7 @@ fn close_report<'f>(
     Ok(status_by(legal))
 }
 
-/// A finished task whose results are not written yet.
+/// What a task writes at its end: the command lines, the report and the exit status.
 #[derive(Drop)]
 pub struct FinishedTask {
     pub lines: CommandLog,

@@ -665,6 +665,7 @@ const DESCRIPTION: &str = "\
     {\"box\":null,\"height\":4000,\"kind\":\"cell\",\"macro\":\"DBL\",\"name\":\"a3\",\"orient\":null,\"other\":null,\"rule\":null,\"team\":\"A\",\"width\":600}\n\
     {\"box\":null,\"height\":2000,\"kind\":\"cell\",\"macro\":\"INV\",\"name\":\"b1\",\"orient\":null,\"other\":null,\"rule\":null,\"team\":\"B\",\"width\":400}\n\
     {\"box\":null,\"height\":2000,\"kind\":\"cell\",\"macro\":\"INV\",\"name\":\"g1\",\"orient\":null,\"other\":null,\"rule\":null,\"team\":\"-\",\"width\":400}\n\
+    {\"bins\":1,\"fullest_10\":0,\"fullest_2\":0,\"fullest_20\":0,\"fullest_5\":0,\"kind\":\"density\",\"side\":10000}\n\
     {\"cells\":5,\"fences\":2,\"illegal\":0,\"kind\":\"total\",\"obstacles\":1,\"rows\":4,\"soft\":0,\"unplaced\":5}\n";
 
 #[test]

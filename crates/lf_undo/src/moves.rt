@@ -8,8 +8,8 @@ use lf_floorplan::{PackedPlace, Place};
 use std::alloc::{AllocError, Allocator, Global};
 use std::marker::Model;
 
-/// A cell of a team, by its position among the team's cells, and its place prior to a command;
-/// `None` if it was unplaced.
+/// A move of one cell: its position among the team's cells, and a place, `None` if unplaced. Before
+/// the move is applied this is the cell's new place, and afterwards its previous one.
 #[derive(Clone, Copy, Debug, PartialEq, Eq)]
 pub struct Move {
     pub own: u32,

@@ -109,13 +109,13 @@ fn bind_all(
     Ok(supplies)
 }
 
-/// Binds the nets of a design that are no supplies to its cells.
+/// Binds the pins of all signal nets of a design to its cells. Power and ground nets are skipped.
 ///
 /// A term of a net names a component or a pin of the design, and several entries may have one name.
 ///
-/// - The first cell with the component's name counts. Without one, the first FIXED or COVER
-///   component counts.
-/// - Of macros and pins the first with their names count.
+/// - If several cells have the component's name, the first is used. If none has it, the first FIXED
+///   or COVER component with that name is used.
+/// - If several macros or pins have one name, the first is used.
 /// - A pin is unknown if the texts have no such component, no such pin of its macro, no rectangle
 ///   of that pin, or no such pin of the design.
 /// - A pin of the design without a placement is unplaced.

@@ -78,7 +78,7 @@ fn others_of(wires: &Wires, net: u32, cell: u32) -> Bounds {
     bounds
 }
 
-/// A range of coordinates in half database units.
+/// The range in which a cell's nets are shortest, in half database units.
 #[derive(Clone, Copy)]
 pub struct WantedRange {
     low: i64,

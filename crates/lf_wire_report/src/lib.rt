@@ -1,6 +1,6 @@
 //! Prints the wire lengths of a design: a line of JSON for each team, and one for all.
 //!
-//! Each line is compact JSON; `docs/PROTOCOL.md` has the keys. Lengths are in database units,
+//! Each line is compact JSON; `docs/CLI.md` has the keys. Lengths are in database units,
 //! rounded down, except that `doubled` is the exact length in half database units. The whole text is
 //! a definition (`wire_report`) over the measured lengths.
 //!

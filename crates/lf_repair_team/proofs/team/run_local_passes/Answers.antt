@@ -5,11 +5,11 @@ use Rattle.lf_repair_team.proofs.team.run_local_passes.Goals as goal
 true_false : true ≡ false → ⊥
 true_false e = cc
 
-pub returns-then-not-is_as_needed-clause-run : goal.returns-then-not-is_as_needed-clause-run
-returns-then-not-is_as_needed-clause-run g c = λ l. nothing l c.args.seat.now.team.now c.args.floor.now (g.K.Sink.contents c.args.lines.now)
+pub returns-then-not-may_legal_move-clause-run : goal.returns-then-not-may_legal_move-clause-run
+returns-then-not-may_legal_move-clause-run g c = λ l. nothing l c.args.seat.now.team.now c.args.floor.now (g.K.Sink.contents c.args.lines.now)
 
-pub returns-then-not-is_as_needed-clause-only : goal.returns-then-not-is_as_needed-clause-only
-returns-then-not-is_as_needed-clause-only g c = unchanged c.args.seat.now.team.now c.args.floor.now
+pub returns-then-not-may_legal_move-clause-only : goal.returns-then-not-may_legal_move-clause-only
+returns-then-not-may_legal_move-clause-only g c = unchanged c.args.seat.now.team.now c.args.floor.now
 
 pub loop-reach-init : goal.loop-reach-init
 loop-reach-init g c = record {
@@ -32,13 +32,13 @@ returns-in-Err-clause-flagged g c =
     then_stay c.args.seat.now.team.now c.args.seat.now.impossible.now c.args.floor.now c.loop-reach.floor c.run_local_pass.new.floor c.loop-reach.invariant.flagged c.in-Err.ensures.flagged
 
 pub returns-in-Err-clause-kept : goal.returns-in-Err-clause-kept
-returns-in-Err-clause-kept g c = λ keep. absurd (true_false (sym c.if-not-is_as_needed.false ∙ c.is_as_needed.ensures keep))
+returns-in-Err-clause-kept g c = λ keep. absurd (true_false (sym c.if-not-may_legal_move.false ∙ c.may_legal_move.ensures keep))
 
 pub returns-in-Err-clause-committed : goal.returns-in-Err-clause-committed
 returns-in-Err-clause-committed g c = c.in-Err.ensures.committed ∙ c.loop-reach.invariant.committed
 
 pub returns-clause-kept : goal.returns-clause-kept
-returns-clause-kept g c = λ keep. absurd (true_false (sym c.if-not-is_as_needed.false ∙ c.is_as_needed.ensures keep))
+returns-clause-kept g c = λ keep. absurd (true_false (sym c.if-not-may_legal_move.false ∙ c.may_legal_move.ensures keep))
 
 pub loop-reach-preserved : goal.loop-reach-preserved
 loop-reach-preserved g c = record {

@@ -1,0 +1,2 @@
+pub mod BinLists
+pub mod Bins

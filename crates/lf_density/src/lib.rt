@@ -1,0 +1,32 @@
+//! Measures how full the core is: the utilization of the fullest bins.
+//!
+//! A *bin* is a square of five rows' height. The bins are a grid from the lower left corner of the
+//! least box around all core rows (`BinGrid`). The *usable area* of a bin is that of the usable
+//! spans of rows in it. Its *utilization* is the area of placed cells in it by its usable area, in
+//! thousandths. A bin whose usable area is less than a fifth of its area does not count.
+//!
+//! `density_of` returns the mean utilization of the fullest 2, 5, 10 and 20 % of the bins that
+//! count, as the average bin utilization of the ISPD 2015 contest.
+//!
+//! Used by `lf_describe`.
+//!
+//! Modules, in reading order:
+//!
+//! - `grid`: the bins of a frame
+//! - `areas`: the areas of boxes in bins
+//! - `fullest`: the utilization of the fullest bins
+//! - `density`: the density of a design
+//!
+//! From `crates/lf_describe/src/counts.rt`:
+//!
+//! ```
+//! density_of(alloc, frame, index, boxes.as_slice())
+//! ```
+#![tactic(auto)]
+
+mod areas;
+mod density;
+mod fullest;
+mod grid;
+
+pub use density::{Density, density_of};
