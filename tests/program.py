@@ -17,7 +17,7 @@ from pathlib import Path
 from typing import IO
 
 TESTS = Path(__file__).resolve().parent
-PROGRAM = TESTS.parent / "crates/lefence/out/lefence"
+PROGRAM = Path(os.environ.get("LEFENCE") or TESTS.parent / "crates/lefence/out/lefence")
 DEF = TESTS / "data/w.def"
 LEF = TESTS / "data/w.lef"
 # The paths of the small design, as words of a command line.

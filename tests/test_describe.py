@@ -18,6 +18,7 @@ KEYS: dict[str, list[str]] = {
     "obstacle": ["box", "kind", "name"],
     "soft": ["box", "kind"],
     "cell": ["box", "height", "kind", "macro", "name", "orient", "other", "rule", "team", "width"],
+    "density": ["bins", "fullest_10", "fullest_2", "fullest_20", "fullest_5", "kind", "side"],
     "total": ["cells", "fences", "illegal", "kind", "obstacles", "rows", "soft", "unplaced"],
 }
 SITE = (200, 2000)
@@ -41,6 +42,7 @@ SMALL = """\
 "team":"B","width":400}
 {"box":null,"height":2000,"kind":"cell","macro":"INV","name":"g1","orient":null,"other":null,"rule":null,\
 "team":"-","width":400}
+{"bins":1,"fullest_10":0,"fullest_2":0,"fullest_20":0,"fullest_5":0,"kind":"density","side":10000}
 {"cells":5,"fences":2,"illegal":0,"kind":"total","obstacles":1,"rows":4,"soft":0,"unplaced":5}
 """
 # Four rows. The third begins further left.
@@ -113,6 +115,75 @@ def sizes(lef: str) -> dict[str, tuple[int, int]]:
     return {name: (round(float(width) * 1000), round(float(height) * 1000)) for name, width, height in found}
 
 
+def cuts(rects: list[list[int]], low: int, high: int, at: int) -> list[tuple[int, int]]:
+    """The parts from `low` to `high` between the edges of the rectangles, along x (`at` 0) or y (`at` 1)."""
+    edges = sorted({low, high, *(edge for rect in rects for edge in rect[at::2] if low < edge < high)})
+    return list(zip(edges, edges[1:]))
+
+
+def usable_rects(lines: list[Line]) -> list[list[int]]:
+    """The parts of rows that a team may use: in no obstacle, and over their whole height in one fence, or in none."""
+    found: list[list[int]] = []
+    boxes: dict[str, list[list[int]]] = {"row": [], "obstacle": []}
+    fences: list[list[list[int]]] = []
+    for line in lines:
+        if line["kind"] == "fence":
+            fences.append(line["rects"])  # type: ignore[arg-type]
+        elif line["kind"] in boxes:
+            boxes[str(line["kind"])].append(line["box"])  # type: ignore[arg-type]
+    edges = boxes["obstacle"] + [rect for rects in fences for rect in rects]
+    for left, bottom, right, top in boxes["row"]:
+        for x, end in cuts(edges, left, right, 0):
+            owners = set()
+            for y, _ in cuts(edges, bottom, top, 1):
+                if any(x1 <= x < x2 and y1 <= y < y2 for x1, y1, x2, y2 in boxes["obstacle"]):
+                    owners |= {-2, -1}
+                owners.add(
+                    next(
+                        (
+                            number
+                            for number, rects in enumerate(fences)
+                            if any(x1 <= x < x2 and y1 <= y < y2 for x1, y1, x2, y2 in rects)
+                        ),
+                        len(fences),
+                    )
+                )
+            if len(owners) == 1:
+                found.append([x, bottom, end, top])
+    return found
+
+
+def area_in(rects: list[list[int]], left: int, bottom: int, side: int) -> int:
+    """The area of the rectangles in a bin."""
+    return sum(
+        max(0, min(x2, left + side) - max(x1, left)) * max(0, min(y2, bottom + side) - max(y1, bottom))
+        for x1, y1, x2, y2 in rects
+    )
+
+
+def density_of(lines: list[Line]) -> Line:
+    """The line of the density, by its definition: bins of five rows, of which each has a fifth of usable area."""
+    rows: list[list[int]] = [line["box"] for line in lines if line["kind"] == "row"]  # type: ignore[misc]
+    placed: list[list[int]] = [
+        line["box"] for line in lines if line["kind"] == "cell" and line["box"]  # type: ignore[misc]
+    ]
+    usable = usable_rects(lines)
+    side = 5 * SITE[1]
+    left, bottom = min(row[0] for row in rows), min(row[1] for row in rows)
+    found = []
+    for x in range(left, max(row[2] for row in rows), side):
+        for y in range(bottom, max(row[3] for row in rows), side):
+            room = area_in(usable, x, y, side)
+            if 5 * room >= side * side:
+                found.append(area_in(placed, x, y, side) * 1000 // room)
+    found.sort(reverse=True)
+    density: Line = {"kind": "density", "bins": len(found), "side": side}
+    for percent in (2, 5, 10, 20):
+        fullest = found[: max(1, len(found) * percent // 100)]
+        density[f"fullest_{percent}"] = sum(fullest) // len(fullest) if fullest else 0
+    return density
+
+
 def reported_of(text: str, lef: str) -> list[Line]:
     """The lines of a DEF text of the forms above, except the rules that cells break, and the totals."""
     name = re.search(r"^DESIGN (\S+) ;$", text, re.MULTILINE)
@@ -178,9 +249,10 @@ class Describe(InFolder):
         words = self.design(text)
         lines = self.described(words, status)
         without_rules = [
-            {key: value for key, value in line.items() if key not in ("rule", "other")} for line in lines[:-1]
+            {key: value for key, value in line.items() if key not in ("rule", "other")} for line in lines[:-2]
         ]
         self.assertEqual(without_rules, reported_of(text, LEF.read_text()))
+        self.assertEqual(lines[-2], density_of(lines))
         checked, report, said = run(["check", *words])
         self.assertEqual((checked, said), (status, ""))
         found = json.loads(report)
@@ -222,6 +294,14 @@ class Describe(InFolder):
     def test_a_design_without_cells(self) -> None:
         text = re.sub(r"COMPONENTS.*END COMPONENTS\n", "", LARGE, flags=re.DOTALL)
         self.assertEqual(self.compared(text, 0)[-1]["cells"], 0)
+
+    def test_how_full_the_fullest_bins_are(self) -> None:
+        # Of each bin of 10,000 by 10,000 the row is a fifth. The cells take all of it in the first bin, and 4,800 of
+        # 10,000 in the second one.
+        entries = "".join(f"- u{number} INV + PLACED ( {400 * number} 0 ) N ;\n" for number in range(37))
+        text = LARGE[: LARGE.index("COMPONENTS")] + f"COMPONENTS 37 ;\n{entries}END COMPONENTS\nEND DESIGN\n"
+        density = self.compared(text, 0)[-2]
+        self.assertEqual((density["bins"], density["fullest_2"], density["fullest_5"]), (200, 370, 148))
 
     def test_a_description_that_cannot_be_written(self) -> None:
         with open("/dev/full", "wb") as full:

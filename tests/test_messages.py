@@ -9,15 +9,20 @@ import tempfile
 import unittest
 from pathlib import Path
 
-from program import DEF, DESIGN, LEF, TESTS, Start, free_port, run
+from program import DEF, DESIGN, LEF, PROGRAM, TESTS, Start, free_port, run
 
 W_DEF, W_LEF = DESIGN
 USAGE = "lefence: usage"
-# The last lines of a usage fault.
-HINT = """\
-  lefence --help                all subcommands and their options
-  lefence demo --help           what a subcommand does, with an example (so for each of them)
-"""
+VERBS = ("demo", "check", "describe", "wirelength", "replay", "serve", "repair", "improve")
+
+
+def hint_after(words: list[str]) -> str:
+    """The last lines of a usage fault of these words."""
+    all_of_them = "  lefence --help                all subcommands and their options\n"
+    if words and words[0] in VERBS:
+        return f"{all_of_them}  lefence {words[0]} --help   what it does, with an example\n"
+    each = "what a subcommand does, with an example (so for each of them)"
+    return f"{all_of_them}  lefence demo --help           {each}\n"
 
 
 def line_of(text: str, entry: str) -> int:
@@ -54,6 +59,13 @@ class Mistakes(unittest.TestCase):
             (
                 ["replay", *DESIGN, "--exprot", "x"],
                 ["unexpected argument '--exprot' found", "tip: a similar argument exists: '--export'"],
+            ),
+            (
+                ["check", *DESIGN, "--exprot=x"],
+                [
+                    "unexpected argument '--exprot' found",
+                    "tip: '--export' is an option of: replay, serve, repair, improve",
+                ],
             ),
             (
                 ["serve", *DESIGN, "--port", "99999", "--connections", "1"],
@@ -105,7 +117,8 @@ class Mistakes(unittest.TestCase):
             with self.subTest(" ".join(words)):
                 status, written, said = run(words)
                 self.assertEqual((status, written), (2, ""))
-                self.assertEqual(said, "\n".join([USAGE, *(f"lefence: {line}" for line in messages), HINT]))
+                lines = [f"lefence: {line}" for line in messages]
+                self.assertEqual(said, "\n".join([USAGE, *lines, hint_after(words)]))
 
     def test_a_text_that_is_read_is_not_written_over(self) -> None:
         with tempfile.TemporaryDirectory() as folder:
@@ -368,8 +381,8 @@ class Help(unittest.TestCase):
     """The help of the program, on standard output."""
 
     def test_the_usage(self) -> None:
-        self.assertEqual(run(["help"]), (2, "", f"{USAGE}\n{HINT}"))
         status, written, said = run(["--help"])
+        self.assertEqual(run(["-h"]), (status, written, said))
         self.assertEqual((status, said), (0, ""))
         self.assertTrue(written.startswith("  lefence [demo] "), written)
         for verb in ("check", "describe", "wirelength", "replay", "serve", "repair", "improve"):
@@ -380,6 +393,7 @@ class Help(unittest.TestCase):
             with self.subTest(verb):
                 status, written, said = run([verb, "--help"])
                 self.assertEqual((status, said), (0, ""))
+                self.assertEqual(run([verb, "-h"]), (status, written, said))
                 self.assertTrue(written.startswith(("lefence [demo]\n", f"lefence {verb} ")), written)
                 self.assertIn(f"lefence {verb}".removesuffix(" demo"), written.split("\nexample:\n  ")[1])
 
@@ -387,13 +401,34 @@ class Help(unittest.TestCase):
         self.assertEqual(run(["--version"]), (0, "lefence 0.1.0 for LEF and DEF 5.8\n", ""))
 
     def test_words_that_are_no_help(self) -> None:
-        for words in (["--help", "check"], ["check", "--help", W_LEF], ["--version", "1"], ["chek", "--help"]):
+        self.assertEqual(run(["help"]), (2, "", f"{USAGE}\n{hint_after([])}"))
+        for words in (["--help", "check"], ["check", "-h", W_LEF], ["--version", "1"], ["chek", "--help"], ["-hh"]):
             status, written, said = run(words)
             self.assertEqual((status, written, said.split("\n")[0]), (2, "", USAGE))
 
     def test_help_that_cannot_be_written(self) -> None:
         with open("/dev/full", "wb") as full:
             self.assertEqual(run(["--help"], start=Start(stdout=full)), (3, "", "lefence: Output\n"))
+
+
+class Terminal(unittest.TestCase):
+    """What somebody who types the program's name sees."""
+
+    def test_the_demo_says_what_it_waits_for(self) -> None:
+        waiting = (
+            "lefence: waiting for lines over the built-in design, for example: open A"
+            " (end with Ctrl-D; lefence --help lists the subcommands)\n"
+        )
+        cases: list[tuple[list[str], str]] = [([], waiting), (["demo"], waiting), (["replay", *DESIGN], "")]
+        for words, said in cases:
+            control, terminal = os.openpty()
+            with open(control, "r+b", buffering=0) as keyboard, open(terminal, "rb", buffering=0) as lines:
+                keyboard.write(b"\x04")
+                done = subprocess.run([PROGRAM, *words], stdin=lines, capture_output=True, text=True)
+            self.assertEqual((done.returncode, done.stderr), (0, said), words)
+
+    def test_the_demo_says_nothing_if_lines_come_from_elsewhere(self) -> None:
+        self.assertEqual(run([], "open A\n"), (0, "ok 0 0\n", ""))
 
 
 class Wrapper(unittest.TestCase):

@@ -1,6 +1,7 @@
 """What `repair` writes: the report, the exported text, the commands, the status and the message.
 
-No contract knows the contents of files, or what the report counts.
+Contracts fix the numbers of the report. They do not see the contents of real files, and do not say which places a
+repair finds.
 """
 
 from __future__ import annotations
@@ -114,18 +115,19 @@ class Repairs(InFolder):
     def test_one_that_takes_its_time_says_how_far_it_is(self) -> None:
         self.text.write_text(design({}))
         words = ["repair", str(self.text), str(LEF), "--lines", str(self.lines)]
-        slowly = run(words, start=Start(environment=preloading("hasten.c", self.folder)))
+        hastened = {**preloading("hasten.c", self.folder), "HASTEN": "15000"}
+        slowly = run(words, start=Start(environment=hastened))
         teams = [line.split()[1] for line in self.lines.read_text().splitlines()]
         progress = 'lefence: repairing "{}", team {} of 3: {} commands so far\n'.format
         begun = progress("A", 1, 0) + progress("B", 2, teams.count("A"))
         begun += progress("-", 3, teams.count("A") + teams.count("B"))
         self.assertEqual(slowly, (0, run(words)[1], begun))
 
-    def test_one_of_a_large_team_says_how_far_it_is_every_two_seconds(self) -> None:
-        # The clock is read once in 1,024 commands. It is then half a second later, or a little more if the test's
+    def test_one_of_a_large_team_says_how_far_it_is_every_ten_seconds(self) -> None:
+        # The clock is read once in 1,024 commands. It is then 2.5 seconds later, or a little more if the test's
         # program reads it for itself.
         self.text.write_text(half_a_site_off(4_400))
-        hastened = {**preloading("hasten.c", self.folder), "HASTEN": "500"}
+        hastened = {**preloading("hasten.c", self.folder), "HASTEN": "2500"}
         words = ["repair", str(self.text), str(LEF), "--lines", str(self.lines)]
         status, written, said = run(words, start=Start(environment=hastened))
         self.assertEqual((status, json.loads(written.splitlines()[0])["cells"]), (0, 4_400))

@@ -1,0 +1,162 @@
+"""What docs/CLI.md promises of repairs, improvements and wire lengths, and no contract says."""
+
+from __future__ import annotations
+
+import json
+import random
+import re
+import unittest
+from pathlib import Path
+from typing import Any
+
+from program import InFolder, run
+
+# Cells that are 1, 2 and 6 sites wide, each with a pin.
+MACROS = "".join(
+    f"MACRO w{width} CLASS CORE ; SIZE {0.2 * width:.1f} BY 2.0 ; SYMMETRY X Y ; SITE core ;"
+    f" PIN A PORT LAYER m1 ; RECT 0.0 0.9 0.2 1.1 ; END END A END w{width}\n"
+    for width in (1, 2, 6)
+)
+LEF = f"SITE core CLASS CORE ; SYMMETRY Y ; SIZE 0.2 BY 2.0 ; END core\n{MACROS}END LIBRARY\n"
+
+
+def design(sites: int, cells: dict[str, str], rest: str = "", rows: int = 1) -> str:
+    """A DEF text without fences: rows of so many sites from y 0 on, cells with their macros and placement clauses, and
+    the rest of the text."""
+    lines = ["VERSION 5.8 ;", "DESIGN w ;", "UNITS DISTANCE MICRONS 1000 ;"]
+    for row in range(rows):
+        lines.append(f"ROW r{row} core 0 {2000 * row} {'FS' if row % 2 else 'N'} DO {sites} BY 1 STEP 200 0 ;")
+    lines += [f"COMPONENTS {len(cells)} ;", *(f"- {name} {cell} ;" for name, cell in cells.items()), "END COMPONENTS"]
+    return "\n".join([*lines, f"{rest}END DESIGN\n"])
+
+
+def random_design(generator: random.Random) -> str:
+    """A design of three rows, with up to three soft blockages; some cells are unplaced, and some break rules."""
+    sites = generator.randrange(12, 40)
+    cells = {}
+    for cell in range(generator.randrange(4, sites)):
+        place = (200 * generator.randrange(sites), 2000 * generator.randrange(3))
+        off = generator.choice((0, 0, 0, 70))
+        clause = f" + PLACED ( {place[0] + off} {place[1] + off} ) N" if generator.random() < 0.9 else " + UNPLACED"
+        cells[f"c{cell}"] = f"w{generator.choice((1, 2, 2, 6))}{clause}"
+    rects = []
+    for _ in range(generator.randrange(4)):
+        left, bottom = 200 * generator.randrange(sites), 2000 * generator.randrange(3)
+        right = left + 200 * generator.randrange(1, 9)
+        rects.append(f"- PLACEMENT + SOFT RECT ( {left} {bottom} ) ( {right} {bottom + 2000} ) ;\n")
+    rest = f"BLOCKAGES {len(rects)} ;\n{''.join(rects)}END BLOCKAGES\n" if rects else ""
+    return design(sites, cells, rest, rows=3)
+
+
+class Promises(InFolder):
+    """Each design in its own folder."""
+
+    def setUp(self) -> None:
+        super().setUp()
+        self.lef, self.old, self.new = (self.folder / name for name in ("cells.lef", "old.def", "new.def"))
+        self.begin, self.end = self.folder / "begin.state", self.folder / "end.state"
+        self.lef.write_text(LEF)
+        self.texts = [str(self.old), str(self.lef)]
+
+    def repair(self, *words: str) -> dict[str, Any]:
+        """Repairs the design. Returns the line of its only team."""
+        status, written, _ = run(["repair", *self.texts, *words])
+        self.assertIn(status, (0, 4))
+        line: dict[str, Any] = json.loads(written.splitlines()[0])
+        return line
+
+    def repair_after(self, lines: str) -> dict[str, Any]:
+        """Repairs the design from the state after these lines of a session, and saves the state at the end."""
+        done = run(["replay", *self.texts, "--save", str(self.begin)], f"open -\n{lines}close - 0\n")
+        self.assertEqual((done[0], done[2]), (0, ""))
+        return self.repair("--state", str(self.begin), "--save", str(self.end))
+
+    def test_a_repair_keeps_the_padding(self) -> None:
+        self.old.write_text(design(30, {"a": "w2 + PLACED ( 0 0 ) N", "b": "w2 + PLACED ( 800 0 ) N", "c": "w2"}))
+        self.repair_after("pad - 0 2\n")
+        self.assertRegex(self.end.read_text(), r"(?m)^team - \d+ 2 ")
+
+    def test_a_repair_keeps_legal_places_that_are_not_committed(self) -> None:
+        self.old.write_text(design(30, {"a": "w2 + PLACED ( 0 0 ) N", "b": "w2 + PLACED ( 2000 100 ) N"}, rows=2))
+        line = self.repair_after("place - 0 a 4000 0 N\n")
+        self.assertEqual((line["kept"], line["moved"]), (1, 1))
+        self.assertIn("\na 4000,0,N 4000,0,N\n", self.end.read_text())
+
+    def test_legal_cells_move_if_all_may(self) -> None:
+        # The four cells are below the middle of the wide one, which is in their way.
+        cells = {"l": "w6 + PLACED ( 1200 0 ) N", **{f"x{cell}": "w1 + PLACED ( 1600 -2000 ) N" for cell in range(4)}}
+        self.old.write_text(design(24, cells))
+        keep, usual, all_may = self.repair("--keep"), self.repair(), self.repair("--all")
+        self.assertEqual((usual["pushed"], usual["total"]), (0, keep["total"]))
+        self.assertEqual(all_may["pushed"], 1)
+        self.assertLess(all_may["total"], keep["total"])
+
+    def test_legal_cells_move_if_another_would_go_far(self) -> None:
+        # The row has room for one cell more, at its other end. Eight rows are 16,000 high.
+        full = {f"l{cell}": f"w2 + PLACED ( {400 * cell} 0 ) N" for cell in range(49)}
+        self.old.write_text(design(100, {**full, "x": "w2 + PLACED ( 0 -2000 ) N"}))
+        self.assertGreater(self.repair("--keep")["largest"], 16_000)
+        line = self.repair()
+        self.assertTrue(line["pushed"])
+        self.assertLessEqual(line["largest"], 18_000)
+
+    def test_no_legal_cell_is_left(self) -> None:
+        # x can only be where the legal cells are.
+        cells = {"wide": "w6 + PLACED ( 0 0 ) N", "x": "w1 + PLACED ( 0 -2000 ) N", "y": "w2 + PLACED ( 0 -2000 ) N"}
+        self.old.write_text(design(7, cells))
+        for options in ((), ("--keep",), ("--all",)):
+            line = self.repair(*options)
+            self.assertEqual((line["kept"], line["left"]), (1, ["y"]), options)
+
+    def test_legal_cells_stay_on_soft_blockages(self) -> None:
+        cells = {name: f"w2 + PLACED ( {left} 0 ) N" for name, left in (("a", 0), ("b", 800), ("c", 1200), ("d", 1600))}
+        rest = "BLOCKAGES 1 ;\n- PLACEMENT + SOFT RECT ( 800 0 ) ( 2000 2000 ) ;\nEND BLOCKAGES\n"
+        self.old.write_text(design(10, {**cells, "x": "w2 + PLACED ( 400 100 ) N"}, rest))
+        for options in ((), ("--keep",), ("--all",)):
+            line = self.repair(*options)
+            self.assertEqual((line["kept"], line["moved"], line["total"], line["left"]), (4, 1, 100, []), options)
+
+    def test_repairs_of_random_designs_lose_no_legal_cell_and_more_freedom_is_not_worse(self) -> None:
+        generator = random.Random(7)
+        for turn in range(60):
+            with self.subTest(turn):
+                self.old.write_text(random_design(generator))
+                legal = self.legal_cells(self.old)
+                outcomes: list[tuple[int, int]] = []
+                for options in (("--keep",), (), ("--all",)):
+                    line = self.repair(*options, "--export-working", str(self.new))
+                    self.assertLessEqual(legal, self.legal_cells(self.new), options)
+                    outcomes.append((len(line["left"]), line["total"]))
+                self.assertLessEqual(outcomes[1][0], outcomes[0][0])
+                self.assertLessEqual(outcomes[2], outcomes[1])
+
+    def legal_cells(self, text: Path) -> set[str]:
+        """The names of the cells of a DEF text that are placed and break no rule."""
+        report = json.loads(run(["check", str(text), str(self.lef)])[1])
+        placed = set(re.findall(r"(?m)^- (\w+) W\d \+ PLACED", text.read_text()))
+        return placed - {violation["cell"] for violation in report["violations"]}
+
+    def test_an_improvement_stays_off_soft_blockages(self) -> None:
+        rest = (
+            "PINS 1 ;\n- p + NET n + PLACED ( 5200 1000 ) N ;\nEND PINS\nBLOCKAGES 1 ;\n"
+            "- PLACEMENT + SOFT RECT ( 3000 0 ) ( 6000 4000 ) ;\nEND BLOCKAGES\n"
+            "NETS 1 ;\n- n ( a A ) ( PIN p ) ;\nEND NETS\n"
+        )
+        cells = {"a": "w2 + PLACED ( 0 0 ) N", "b": "w2 + PLACED ( 400 0 ) N"}
+        self.old.write_text(design(30, cells, rest, rows=2))
+        self.assertEqual(run(["improve", *self.texts, "--export", str(self.new)])[0], 0)
+        [left] = re.findall(r"- a w2 \+ PLACED \( (\d+) ", self.new.read_text())
+        self.assertGreater(int(left), 0)
+        self.assertLessEqual(int(left) + 400, 3000)
+
+    def test_a_fault_of_the_design_comes_before_one_of_pins_and_that_before_one_of_nets(self) -> None:
+        self.lef.write_text(LEF.replace("RECT 0.0 0.9 0.2 1.1 ; END END A END w6", "POLYGON 0 0 x ; END END A END w6"))
+        for macro, first in (("NONE", "lefence: 14 NoMacro NONE\n"), ("w2", "lefence: 4 BadNumber line 4\n")):
+            self.old.write_text(design(30, {"a": f"{macro} + PLACED ( 0 0 ) N"}, "NETS 1 ;\n- n x ;\nEND NETS\n"))
+            for verb in ("wirelength", "improve"):
+                status, written, said = run([verb, *self.texts])
+                self.assertEqual((status, written, said.splitlines(True)[0]), (1, "", first))
+
+
+if __name__ == "__main__":
+    unittest.main()
