@@ -6,9 +6,12 @@ the declaration, the conditions (`requires`) and the comment. What an item ensur
 usage: tools/contracts.py            (from the top) prints all crates, as Markdown, in the order of crates.txt
        tools/contracts.py NAME..     prints these crates
        tools/contracts.py --list     prints each crate with its first sentence, sorted by name
-       tools/contracts.py --check    prints what lacks a comment, and names in the example of a crate's first lines that
-                                     no source declares; finally 'N items of M crates'; status 1 if anything else is
-                                     printed
+       tools/contracts.py --check    prints what lacks a comment, and what is wrong with the first lines of a crate;
+                                     finally 'N items of M crates'; status 1 if anything else is printed
+
+The first lines (`//!`) of a crate's root file, `lib.rt` or `main.rt`, begin with a paragraph of one sentence. After
+`Modules, in reading order:` a list names each module of the file once; it is missing if there is no module. The
+examples name only what some crate declares.
 """
 
 from __future__ import annotations
@@ -16,6 +19,7 @@ from __future__ import annotations
 import re
 import signal
 import sys
+from collections.abc import Iterator
 from pathlib import Path
 from typing import NamedTuple
 
@@ -40,6 +44,10 @@ CLAUSE = re.compile(r"\s*(requires|ensures)\b")
 SEEN = re.compile(r"ghost (Value|invariant) = \{ (.*?) \};", re.S)
 SAYS = {"Value": "Model", "invariant": "It keeps"}
 ENDS = ("{", "{}")
+# The modules of a crate's root file, and its list of them.
+MODULE = re.compile(r"^(?:pub )?mod (\w+);", re.M)
+LIST = "Modules, in reading order:"
+ENTRY = re.compile(r"^- `(\w+)`: ", re.M)
 # The names in the example of a crate's first lines: functions, types, variants, fields.
 CODE = re.compile(r"^```\n(.*?)^```", re.M | re.S)
 QUOTED = re.compile(r'b?"[^"]*"|//.*')
@@ -59,10 +67,11 @@ class Item(NamedTuple):
 
 
 class Source(NamedTuple):
-    """The root of a crate: its first lines, its public names, each with the file or library that declares it, and its
-    files."""
+    """The root of a crate: its first lines, its modules, its public names, each with the file or library that declares
+    it, and its files, of which the first is the root file."""
 
     head: list[str]
+    modules: list[str]
     exported: dict[str, Path | str]
     files: list[Path]
 
@@ -83,7 +92,7 @@ def source_of(crate: str) -> Source:
         names = re.findall(r"\w+", several) if several else [renamed or named.rpartition("::")[2]]
         module = named.split("::")[0]
         exported |= {name: path if (path := folder / f"{module}.rt") in modules else module for name in names}
-    return Source(head, exported, [root, *modules])
+    return Source(head, MODULE.findall(text), exported, [root, *modules])
 
 
 def comment(lines: list[str], at: int) -> list[str]:
@@ -232,14 +241,25 @@ def print_list(crates: list[str]) -> int:
     return 0
 
 
+def wrong_head(source: Source) -> Iterator[str]:
+    """What is wrong with the first lines of a crate."""
+    text = "\n".join(source.head)
+    first = " ".join(text.split("\n\n")[0].split())
+    if not re.fullmatch(r"[A-Z`].*\.", first) or re.search(r"\.\s", first):
+        yield "the first paragraph is not one sentence"
+    entries = ENTRY.findall(text.partition(f"{LIST}\n\n")[2].split("\n\n")[0])
+    yield from (f"the list of modules lacks `{module}`" for module in source.modules if module not in entries)
+    yield from (f"the list has `{entry}`, which is not a module" for entry in entries if entry not in source.modules)
+    yield from (f"the list has `{entry}` twice" for entry in sorted(set(entries)) if entries.count(entry) > 1)
+
+
 def lacking(crates: list[str]) -> list[str]:
-    """Items that lack a comment, and public names that are not found."""
+    """First lines that are wrong, items that lack a comment, and public names that are not found."""
     said: list[str] = []
     for crate in crates:
         source = source_of(crate)
         items = items_of(crate, source)
-        if not any(source.head):
-            said.append(f"crates/{crate}/src: no first lines (//!)")
+        said += [f"{source.files[0]}:1: {text}" for text in wrong_head(source)]
         said += [f"{item.place}: {item.name} has no comment" for item in items if not any(item.said)]
         said += [f"{item.place}: {what} has no comment" for item in items for what in methods_without(item)]
         missing = {name for name, of in source.exported.items() if isinstance(of, Path)} - {item.name for item in items}
@@ -270,7 +290,7 @@ def methods_without(item: Item) -> list[str]:
 
 
 def check(crates: list[str]) -> int:
-    """Prints what lacks a comment, and names that no source declares. Returns the status."""
+    """Prints what is wrong with first lines, and what lacks a comment. Returns the status."""
     said = [*lacking(crates), *unknown(crates)]
     count = sum(len(items_of(crate, source_of(crate))) for crate in crates)
     print("\n".join([*said, f"{count} items of {len(crates)} crates"]))

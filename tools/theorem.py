@@ -1,5 +1,6 @@
 #!/usr/bin/env python3
-"""Compares the quotes of docs/THEOREM.md, and its table of depth, with the sources that they name.
+"""Compares the quotes of docs/THEOREM.md and docs/THEOREM-TASKS.md, and the table of depth, with the sources that they
+name.
 
 usage: tools/theorem.py            (from the top) prints each quote that differs, and whether the table does; status 1
                                    if anything differs
@@ -15,9 +16,9 @@ A quote is a comment that names what is quoted, and the fenced block after it:
     <!-- crates/lf_floor_model/specs/Runs.antt: own_replies, own_state -->    definitions, with the comments above them
 
 A row of the table says how many definitions a statement depends on, how many types of the code and names of the kit's
-libraries and of ported crates these use, and how many of them the page quotes. A comment
-above the table names the statement's definitions, one comment for each row. After a + the definitions of the row above
-are included:
+libraries and of ported crates these use, how many of the definitions the pages quote, and how long it takes to read the
+text that `--read` prints for the row. A comment above the table names the statement's definitions, one comment for each
+row. After a + the definitions of the row above are included:
 
     <!-- depth: one command: lf_floor_model.Steps.Step -->
     <!-- depth: the headline: + lf_floor_model.Runs.Run, lf_floor_model.Runs.IsIsolated -->
@@ -27,12 +28,13 @@ from __future__ import annotations
 
 import re
 import sys
+from collections.abc import Iterable
 from dataclasses import dataclass
 from pathlib import Path
 
 from depth import Depth, Name, depth_of, lines_of, module, text_of
 
-PAGE = Path("docs/THEOREM.md")
+PAGES = (Path("docs/THEOREM.md"), Path("docs/THEOREM-TASKS.md"))
 QUOTE = re.compile(r"<!-- (crates/\S+?):? (.*?) ?-->")
 FENCE = "```"
 # The head of a definition in a .antt file, and a comment of one. A line of dashes begins a part of the file.
@@ -44,9 +46,11 @@ FIELD = re.compile(r"\s*pub (?:ghost )?(\w+):")
 # The comment of a row of the table of depth, and the head of the table.
 ROW = re.compile(r"<!-- depth: (.*?): (\+ )?(.*) -->")
 HEADING = [
-    "| what it rests on | definitions | their lines | types of the code | names of the kit | quoted here |",
-    "|---|---|---|---|---|---|",
+    "| what it rests on | definitions | their lines | types of the code | names of the kit | quoted | hours to read |",
+    "|---|---|---|---|---|---|---|",
 ]
+# How many words of definitions a reader understands in an hour.
+WORDS_PER_HOUR = 60 * 60
 
 
 class NotThere(Exception):
@@ -55,7 +59,7 @@ class NotThere(Exception):
 
 @dataclass(frozen=True)
 class Quote:
-    """A quote of the page: the line number of its comment, what it names, and the lines of its block, which may be
+    """A quote of a page: the line number of its comment, what it names, and the lines of its block, which may be
     empty."""
 
     number: int
@@ -157,12 +161,18 @@ def depths_in(page: list[str]) -> dict[str, Depth]:
     return found
 
 
+def readable(title: str, depth: Depth) -> list[str]:
+    """The lines that `--read` prints for a row."""
+    return [f"-- {title}: {len(depth.definitions):,} definitions of {depth.lines:,} lines", *text_of(depth)]
+
+
 def row_of(title: str, depth: Depth, quoted: set[Name]) -> str:
-    """A row of the table of depth. `quoted` are the definitions that the page quotes."""
+    """A row of the table of depth. `quoted` are the definitions that the pages quote."""
     here = depth.definitions & quoted
     counts = [len(depth.definitions), depth.lines, len(depth.types), len(depth.borrowed)]
+    words = sum(len(line.split()) for line in readable(title, depth))
     cells = [title, *(f"{count:,}" for count in counts), f"{len(here):,} ({sum(map(lines_of, here)):,} lines)"]
-    return f"| {' | '.join(cells)} |"
+    return f"| {' | '.join([*cells, f'{words / WORDS_PER_HOUR:.1f}'])} |"
 
 
 def quoted_on(page: list[str]) -> set[Name]:
@@ -175,38 +185,31 @@ def quoted_on(page: list[str]) -> set[Name]:
     return quoted
 
 
-def tabled(page: list[str]) -> list[str]:
-    """The page with the correct table of depth."""
+def tabled(page: list[str], quoted: set[Name]) -> list[str]:
+    """The page with the correct table of depth, if it has one. `quoted` are the definitions that the pages quote."""
     rows = [at for at, line in enumerate(page) if ROW.match(line)]
     if not rows:
         return page
     start = stop = rows[-1] + 1
     while stop < len(page) and page[stop].startswith("|"):
         stop += 1
-    quoted = quoted_on(page)
     made = [row_of(title, depth, quoted) for title, depth in depths_in(page).items()]
     return [*page[:start], *HEADING, *made, *page[stop:]]
 
 
-def read(page: list[str], title: str) -> int:
+def read(pages: Iterable[list[str]], title: str) -> int:
     """Prints the definitions of this row. Returns the exit status."""
-    depths = depths_in(page)
+    depths = {row: depth for page in pages for row, depth in depths_in(page).items()}
     if title not in depths:
-        print(f"{PAGE}: its rows are: {', '.join(depths)}", file=sys.stderr)
+        print(f"the rows are: {', '.join(depths)}", file=sys.stderr)
         return 1
-    depth = depths[title]
-    print(f"-- {title}: {len(depth.definitions):,} definitions of {depth.lines:,} lines")
-    print("\n".join(text_of(depth)))
+    print("\n".join(readable(title, depths[title])))
     return 0
 
 
-def main(words: list[str]) -> int:
-    page = PAGE.read_text(encoding="utf-8").split("\n")
-    if len(words) == 2 and words[0] == "--read":
-        return read(page, words[1])
-    if words not in ([], ["--write"]):
-        print(__doc__, file=sys.stderr)
-        return 2
+def with_quotes(path: Path, page: list[str], is_writing: bool) -> tuple[list[str], int, int]:
+    """The page with the texts of the sources in its quotes if `is_writing`, and as it is otherwise. Prints each quote
+    that differs. Returns the page, how many quotes agree, and how many differ."""
     written: list[str] = []
     done = agree = differ = 0
     for quote in quotes_in(page):
@@ -218,25 +221,41 @@ def main(words: list[str]) -> int:
         except NotThere:
             block, said = had, "names nothing of"
         else:
-            said = "" if words or had == block else "differs from"
-        written += block
+            said = "" if is_writing or had == block else "differs from"
+        written += block if is_writing else had
         if said:
             differ += 1
-            print(f"{PAGE}:{quote.number}: {said} {quote.file}: {quote.name}")
+            print(f"{path}:{quote.number}: {said} {quote.file}: {quote.name}")
         else:
             agree += 1
-    written += page[done:]
-    try:
-        whole = tabled(written)
-    except NotThere:
-        whole = written
-        differ += 1
-        print(f"{PAGE}: the table of depth names a definition that is not there")
-    if words:
-        PAGE.write_text("\n".join(whole), encoding="utf-8")
-    elif whole != written:
-        differ += 1
-        print(f"{PAGE}: the table of depth differs from the sources")
+    return [*written, *page[done:]], agree, differ
+
+
+def main(words: list[str]) -> int:
+    pages = {path: path.read_text(encoding="utf-8").split("\n") for path in PAGES}
+    if len(words) == 2 and words[0] == "--read":
+        return read(pages.values(), words[1])
+    if words not in ([], ["--write"]):
+        print(__doc__, file=sys.stderr)
+        return 2
+    is_writing = bool(words)
+    quoted = {name for page in pages.values() for name in quoted_on(page)}
+    agree = differ = 0
+    for path, page in pages.items():
+        written, agreeing, differing = with_quotes(path, page, is_writing)
+        agree += agreeing
+        differ += differing
+        try:
+            whole = tabled(written, quoted)
+        except NotThere:
+            whole = written
+            differ += 1
+            print(f"{path}: the table of depth names a definition that is not there")
+        if is_writing:
+            path.write_text("\n".join(whole), encoding="utf-8")
+        elif whole != written:
+            differ += 1
+            print(f"{path}: the table of depth differs from the sources")
     print(f"{agree} quotes agree, {differ} differ")
     return 1 if differ else 0
 

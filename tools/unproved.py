@@ -3,104 +3,126 @@
 
 usage: tools/unproved.py
 
-The kit compiles and runs a program before any proof (`rt try`), with tests of indices and sums in place of proofs. It
-is copied while it runs. That takes one to three minutes. Nothing is claimed of this program: only the other one is
-proved.
+It takes three to six minutes. The program tests each index and each sum where the proved program has a proof, so it is
+somewhat slower. Nothing is proved of it: `./lefence` proves and builds the other one.
+
+The kit compiles a program before any proof when it tries one (`rt try`), but then with a sanitizer that makes it a
+hundred times slower. So `rt try` runs in a folder of links to the kit in which `bin/clang` keeps the module and fails.
+The kit's own clang then compiles this module with optimization and without the sanitizer.
 """
 
 from __future__ import annotations
 
-import json
 import os
-import socket
+import shlex
+import shutil
+import signal
 import subprocess
 import sys
-import time
+import tempfile
+from collections.abc import Sequence
 from pathlib import Path
 
 TOP = Path(__file__).resolve().parent.parent
 FOLDER = TOP / "crates/lefence/out/unproved"
 # The most seconds of a build.
 PATIENCE = 1_800
+TARGET = "x86_64-unknown-linux-gnu"
+# How the kit compiles a proved program, and with what it links it.
+FLAGS = (
+    *(f"--target={TARGET}", "-march=x86-64-v2", "-ffunction-sections", "-fdata-sections", "--no-default-config"),
+    *("-no-canonical-prefixes", "-Wno-everything", "-fPIE", "-O2"),
+)
+ARCHIVES = ("c/libos_c.a", "c/liblibc_c.a")
+# Parts of the kit that are copied: each finds the kit by its own place.
+COPIED = ("rt", "rtlib.py")
+# Keeps a large module and fails. The small one, by which the kit tests that the sanitizer starts, is compiled. The kit
+# starts clang without an environment, so the paths are here.
+STAND_IN = """#!/bin/sh
+for word in "$@"; do
+  case $word in
+  *.bc) if [ -f "$word" ] && [ "$(/usr/bin/wc -c < "$word")" -gt 100000 ]; then
+    /bin/cp "$word" {module}
+    exit 1
+  fi ;;
+  esac
+done
+exec {clang} "$@"
+"""
 
 
-def free_port() -> int:
-    with socket.socket() as free:
-        free.bind(("127.0.0.1", 0))
-        return int(free.getsockname()[1])
+def kit_folder() -> Path:
+    """Returns the folder of the kit whose `rt` is on the PATH."""
+    found = shutil.which("rt")
+    if found is None:
+        sys.exit("lefence: to build the program takes rt, the command of the Rattle kit, which is not on the PATH")
+    return Path(found).resolve().parent.parent
 
 
-def words_of_program(folder: Path) -> list[str] | None:
-    """The command line of a running program that is in the folder, up to the program's own path."""
-    for path in Path("/proc").glob("[0-9]*/cmdline"):
-        try:
-            words = [word.decode() for word in path.read_bytes().split(b"\0")]
-        except (OSError, UnicodeDecodeError):
-            continue
-        for at, word in enumerate(words):
-            if word.startswith(str(folder)) and word.endswith("/program"):
-                return words[: at + 1]
-    return None
-
-
-def launcher(words: list[str], target: Path) -> None:
-    """Makes a program that runs these words followed by its own arguments. Unlike a shell it needs no descriptor."""
-    source = target.with_suffix(".c")
-    listed = ", ".join(map(json.dumps, words))
-    source.write_text(
-        "#include <stdlib.h>\n#include <string.h>\n#include <unistd.h>\n"
-        f"static char *front[] = {{{listed}}};\n"
-        "int main(int count, char **own) {\n"
-        "    size_t known = sizeof front / sizeof *front;\n"
-        "    char **all = calloc(known + count, sizeof *all);\n"
-        "    memcpy(all, front, sizeof front);\n"
-        "    memcpy(all + known, own + 1, count * sizeof *all);\n"
-        "    execv(all[0], all);\n    return 127;\n}\n"
-    )
-    subprocess.run(["cc", "-o", str(target), str(source)], check=True)
+def make_kit(kit: Path, copy: Path, module: Path) -> None:
+    """Makes a folder of links to the kit. Its `bin/clang` keeps the module of a program in a file, and fails."""
+    (copy / "bin").mkdir(parents=True)
+    (copy / "toolchain/bin").mkdir(parents=True)
+    folders = ((kit, copy), (kit / "bin", copy / "bin"), (kit / "toolchain", copy / "toolchain"))
+    for source, target in (*folders, (kit / "toolchain/bin", copy / "toolchain/bin")):
+        for path in source.iterdir():
+            if path.name in COPIED:
+                shutil.copy(path, target / path.name)
+            elif path.name != "clang" and not (target / path.name).exists():
+                (target / path.name).symlink_to(path)
+    clang = copy / "toolchain/bin/clang"
+    words = {"module": shlex.quote(str(module)), "clang": shlex.quote(str(kit / "toolchain/bin/clang"))}
+    clang.write_text(STAND_IN.format(**words))
+    clang.chmod(0o755)
 
 
 def build(room: Path, folder: Path, target: Path) -> None:
-    """Builds the program of the repository in `room` unproved, and puts it at `target`, with its files in `folder`. It
-    is copied while it serves a connection."""
-    port = free_port()
-    data = [word for name in ("w.def", "w.lef") for word in ("--data", f"{name}={room}/tests/data/{name}")]
-    words = [
-        "rt", "try", "--seconds", "600", *data, "--", "serve", "w.def", "w.lef", "--port", str(port),
-        "--connections", "1",
-    ]
-    with open(folder / "built", "wb") as said:
-        environment = {**os.environ, "TMPDIR": str(folder)}
-        trying = subprocess.Popen(words, cwd=room / "crates/lefence", stdout=said, stderr=said, env=environment)
-    try:
-        keep_program(trying, folder, target)
-    finally:
-        # (it ends when this tool ends, for any reason)
-        trying.terminate()
-        trying.wait()
+    """Builds the program of the repository in `room` unproved, and puts it at `target`. Its files go to `folder`."""
+    kit = kit_folder()
+    with tempfile.TemporaryDirectory(dir=folder) as name:
+        work = Path(name)
+        module, compiled, linked = work / "module.bc", work / "program.o", work / "program"
+        make_kit(kit, work / "kit", module)
+        environment = {**os.environ, "TMPDIR": name}
+        output = run([work / "kit/bin/rt", "try", "--"], cwd=room / "crates/lefence", environment=environment)
+        refuse_missing(module, output)
+        sysroot = f"--sysroot={kit / 'toolchain'}"
+        output = run([kit / "toolchain/bin/clang", *FLAGS, sysroot, "-c", "-x", "ir", module, "-o", compiled])
+        refuse_missing(compiled, output)
+        archives = [kit / archive for archive in ARCHIVES]
+        link, toolchain = kit / "bin/rattle-link", kit / "toolchain"
+        output = run([link, "--target", TARGET, "--toolchain", toolchain, "-o", linked, compiled, *archives])
+        refuse_missing(linked, output)
+        target.parent.mkdir(parents=True, exist_ok=True)
+        linked.rename(target)
 
 
-def keep_program(trying: subprocess.Popen[bytes], folder: Path, target: Path) -> None:
-    """Waits for the built program to serve, and puts it at the target."""
-    end = time.monotonic() + PATIENCE
-    while (found := words_of_program(folder)) is None:
-        if trying.poll() is not None or time.monotonic() > end:
-            trying.kill()
-            sys.exit(f"the program cannot be built:\n{(folder / 'built').read_text()}")
-        time.sleep(0.2)
-    target.parent.mkdir(parents=True, exist_ok=True)
-    kept = folder / "program"
-    kept.unlink(missing_ok=True)
-    kept.write_bytes(Path(found[-1]).read_bytes())
-    kept.chmod(0o755)
-    launcher([*found[:-1], str(kept)], target)
+def refuse_missing(file: Path, output: str) -> None:
+    """Ends this tool with the output of the command that has not made the file."""
+    if not file.exists():
+        sys.exit(f"lefence: the program cannot be built:\n{output}")
+
+
+def run(command: Sequence[str | Path], cwd: Path | None = None, environment: dict[str, str] | None = None) -> str:
+    """Runs a command to its end, or until this tool is ended; returns what it prints."""
+    nothing, pipe = subprocess.DEVNULL, subprocess.PIPE
+    with subprocess.Popen(
+        command, cwd=cwd, env=environment, stdin=nothing, stdout=pipe, stderr=subprocess.STDOUT
+    ) as process:
+        try:
+            return process.communicate(timeout=PATIENCE)[0].decode(errors="replace")
+        except BaseException:
+            process.terminate()
+            raise
 
 
 def main() -> int:
     if len(sys.argv) > 1:
         print(__doc__, file=sys.stderr)
         return 2
-    print("lefence: building the program without proofs, which takes one to three minutes", file=sys.stderr)
+    print("lefence: building the program without proofs, which takes three to six minutes", file=sys.stderr)
+    # (so that files are removed, and the command at work is ended)
+    signal.signal(signal.SIGTERM, lambda number, _: sys.exit(128 + number))
     FOLDER.mkdir(parents=True, exist_ok=True)
     build(TOP, FOLDER, FOLDER / "lefence")
     return 0
