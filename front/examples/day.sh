@@ -2,7 +2,7 @@
 # A day of two teams: from a DEF file of another tool to a fully legal one. Run it in an empty folder.
 # The output of a command, on both streams, follows it after `#> `. front/tests/test_day.py runs the script and compares
 # the output.
-# Two steps need KLayout (`apt install klayout`).
+# Three steps need KLayout (`apt install klayout`).
 front=$(cd -- "$(dirname -- "$0")/.." && pwd)
 data=$front/examples
 if [ -d "$front/bin" ]; then
@@ -18,16 +18,13 @@ lefence-prepare day.def day.lef.gz --look | fmt -sw 110
 #> LEF file day.lef.gz, line 3: core written as CORE and 5 more like it would help: the program reads words
 #> in capitals only; --lef-output FOLDER writes LEF files without this
 #> 1 FIXED component has a HALO, which the program skips: ram; --halos adds placement blockages
-#> no ROW; a run with --output adds rows
+#> no ROW; a run with --output adds rows, --floorplan FP.def takes those of another DEF file
 #> it does not load: 3 Unexpected line 3; LEF file day.lef.gz, line 3: SITE core CLASS core ; SYMMETRY y ;
 #> SIZE 0.2 BY 2.0 ; END core
 teams=(--fence A 0 0 4 8 --group A 'ua/*' --fence B 8 0 12 8 --group B 'ub/*')
 lefence-prepare day.def day.lef.gz --lef-output lef -o in.def --fillers FILL --halos "${teams[@]}"
-#> lefence-prepare: LEF file day.lef.gz, line 3: core written as CORE
+#> lefence-prepare: LEF file day.lef.gz, line 3: core written as CORE, and 3 more like it
 #> lefence-prepare: LEF file day.lef.gz, line 3: y written as Y
-#> lefence-prepare: LEF file day.lef.gz, line 4: core written as CORE
-#> lefence-prepare: LEF file day.lef.gz, line 5: core written as CORE
-#> lefence-prepare: LEF file day.lef.gz, line 6: core written as CORE
 #> lefence-prepare: LEF file day.lef.gz, line 7: block written as BLOCK
 #> lefence-prepare: 4 rows of site core added: 60 sites each, the first at 0 0 is N
 #> lefence-prepare: the rows follow the 11 placed cells: 9 fit along x, 11 along y, 11 have their row's orientation
@@ -38,6 +35,11 @@ lefence-prepare day.def day.lef.gz --lef-output lef -o in.def --fillers FILL --h
 #> lefence-prepare: team A has 4 cells
 #> lefence-prepare: team B has 4 cells
 #> lefence-prepare: it loads: 10 cells, 1 unplaced, 5 illegal (2 by rule 2 Row, 1 by rule 6 Fence, 2 by rule 8 Overlap)
+#> lefence-prepare: team  cells  utilization  unplaced  illegal  by rule
+#> lefence-prepare: A         4        12.5%         0        3  2 Row 1, 8 Overlap 2
+#> lefence-prepare: B         4        12.5%         0        2  2 Row 1, 6 Fence 1
+#> lefence-prepare: -         2         7.2%         1        0
+#> lefence-prepare: all      10        10.9%         1        5  2 Row 2, 6 Fence 1, 8 Overlap 2
 
 # Five cells break a rule. `klayout -nn day.lyt in.def -m day.lyrdb` shows them as markers; a script prints their
 # contents.
@@ -102,6 +104,11 @@ lefence-repair new.def lef/day.lef -o done.def
 #> lefence-repair: team -: 0 moved, 0 turned, 1 newly placed, 1 unmoved, 0 unrepaired
 #> lefence-repair: team all: 2 moved, 0 turned, 1 newly placed, 7 unmoved, 0 unrepaired
 #> lefence-repair: team all: displacement in microns: mean 0.225, largest 0.400 (at least 0.400 in any repair)
+#> lefence-repair: team  cells  utilization  unplaced  illegal  by rule
+#> lefence-repair: A         4        12.5%         0        0
+#> lefence-repair: B         4        12.5%         0        0
+#> lefence-repair: -         2         7.2%         0        0
+#> lefence-repair: all      10        10.9%         0        0
 #> lefence-repair: every cell is legal
 lefence check done.def lef/day.lef
 #> {"cells":10,"unplaced":0,"violations":[]}
@@ -158,3 +165,7 @@ lefence-fill next_new.def lef/day.lef --masters FILL -o filled.def
 #> lefence-fill: team -: 48 fillers (48 FILL)
 lefence check filled.def lef/day.lef
 #> {"cells":198,"unplaced":0,"violations":[]}
+
+# A picture ends the day. Without --snapshot, lefence-view shows the design in a browser, or that of a running hub.
+lefence-view filled.def lef/day.lef --snapshot day.png 2> view.log; head -c 4 day.png | tail -c 3; echo
+#> PNG

@@ -1,10 +1,13 @@
-"""Clients and tools for the lefence program. docs/FRONT.md of the repository describes them.
+"""Clients and tools for the lefence program. Of the repository's documents, docs/CLIENTS.md describes the library,
+docs/TOOLS.md the tools, and docs/HUB.md the hub.
 
 `connect` opens a connection, `lefence.aio.connect` one for asyncio. The exceptions are the refusals of
 docs/PROTOCOL.md, `ConnectionLost` and `ProtocolError`.
 
-The sub-packages are `client`, the client library; `hub`, the server of many clients; `journal`, its record of changes;
-`tools`, the command-line tools; and `base`, what all of these use.
+Four sub-packages are libraries: `base`, which all others use; `client`, the client library; `journal`, the record of
+changes; and `hub`, the server of many clients. Every other sub-package is a command-line tool, named after it. The tool
+lefence-NAME is the function `main` of `lefence.NAME.main`, with two exceptions: `journal_tool` is lefence-journal, and
+`view` has the four tools that show or compare designs.
 """
 
 from __future__ import annotations
@@ -17,7 +20,7 @@ from types import ModuleType
 from typing import TYPE_CHECKING
 
 from .base.protocol import ProtocolError
-from .client.blocking import Connection, ConnectionLost, Pending, Pipeline, Session, connect
+from .client.blocking import Connection, Pending, Pipeline, Session, connect
 from .client.cells import Cell
 from .client.refusals import (
     BadRequest,
@@ -38,6 +41,7 @@ from .client.refusals import (
     Unplaced,
 )
 from .client.verbs import Legalized, Place, Report, Tidied, Violation
+from .client.wire import ConnectionLost
 
 if TYPE_CHECKING:
     from . import aio

@@ -15,9 +15,18 @@ package require Tcl 8.6-
 package provide lefence 0.1.0
 
 namespace eval lefence {
-    # A command that connects to a Unix socket, which Tcl cannot do. The path is its last word.
+    # A command that connects to a Unix socket, which Tcl cannot do. The path is its last word. It is next to this folder
+    # in a checkout, and two folders higher in an installation; elsewhere the search path has it.
     variable top [file dirname [file dirname [file normalize [info script]]]]
-    variable client [list [file join $top bin lefence-shell] --raw]
+    variable client [apply {{top} {
+        foreach folder [list $top [file dirname [file dirname $top]]] {
+            set shell [file join $folder bin lefence-shell]
+            if {[file executable $shell]} {
+                return [list $shell --raw]
+            }
+        }
+        return {lefence-shell --raw}
+    }} $top]
     # The orientations of OpenAccess, each with that of DEF. Replies use the first spelling of each.
     variable ORIENTS {R0 N R90 W R180 S R270 E MY FN MXR90 FW MX FS MYR90 FE MX90 FW MY90 FE}
     # For each connection: the database units per micron, or 0 if unknown.

@@ -27,7 +27,8 @@ _FLAGS = (
 class Browser:
     """A tab of Chromium; `events` are its messages besides replies. A block closes it."""
 
-    def __init__(self, folder: Path) -> None:
+    def __init__(self, folder: Path, *flags: str) -> None:
+        """Starts Chromium with a folder of its own, and more flags."""
         assert CHROMIUM
         self.events: list[dict[str, Any]] = []
         self._numbers = itertools.count(1)
@@ -36,7 +37,7 @@ class Browser:
         requests, self._requests = os.pipe()
         self._replies, replies = os.pipe()
         mine = [fcntl.fcntl(end, fcntl.F_DUPFD_CLOEXEC, 10) for end in (requests, replies)]
-        words = [CHROMIUM, *_FLAGS, f"--user-data-dir={folder}", "about:blank"]
+        words = [CHROMIUM, *_FLAGS, *flags, f"--user-data-dir={folder}", "about:blank"]
         ends: dict[str, Any] = {name: subprocess.DEVNULL for name in ("stdin", "stdout", "stderr")}
 
         def place() -> None:

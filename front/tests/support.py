@@ -1,27 +1,37 @@
-"""Shared parts of the front's tests: a design, random lines of its teams, and hubs on the proved program.
+"""Shared parts of the front's tests: a design, random lines of its teams, a clock, and hubs on the proved program.
 
 LEFENCE names another program, SEED another seed, and TURNS the number of crashes of each kind.
 """
 
 from __future__ import annotations
 
+import asyncio
 import contextlib
+import fcntl
+import heapq
 import itertools
 import os
 import random
+import re
+import select
 import shutil
 import socket
+import struct
 import subprocess
 import sys
 import tempfile
+import termios
 import threading
 import time
 import unittest
-from collections.abc import Iterator
+from collections.abc import Callable, Iterator
 from pathlib import Path
+from typing import Any
 
 FRONT = Path(__file__).resolve().parents[1]
 sys.path.insert(0, str(FRONT))
+
+from lefence.base.clock import Clock
 
 PROGRAM = os.environ.get("LEFENCE", str(FRONT.parent / "crates/lefence/out/lefence"))
 SEED = int(os.environ.get("SEED", "1"))
@@ -41,6 +51,12 @@ END LIBRARY
 
 KLAYOUT = shutil.which("klayout")
 with_klayout = unittest.skipIf(KLAYOUT is None, "klayout is not here; Debian has it as the package klayout")
+
+
+def page_blocks(page: str, language: str = "") -> list[str]:
+    """The fenced blocks of a page of docs that have this language, or none."""
+    text = (FRONT.parent / "docs" / page).read_text()
+    return [block for kind, block in re.findall(r"^```(\w*)\n(.*?)^```$", text, re.M | re.S) if kind == language]
 
 
 def tool_words(name: str) -> list[str]:
@@ -158,6 +174,18 @@ class Talker:
         self.socket.sendall("".join(f"{line}\n" for line in lines).encode())
         return [self.replies.readline().decode().rstrip("\n") for _ in lines]
 
+    def wait_read(self) -> None:
+        """Waits until the hub has read all that was sent. A signal that is sent then comes after these lines."""
+
+        def unread() -> int:
+            return int(struct.unpack("i", fcntl.ioctl(self.socket.fileno(), termios.TIOCOUTQ, bytes(4)))[0])
+
+        wait_until(lambda: unread() == 0)
+
+    def has_reply(self) -> bool:
+        """Whether bytes have come that were not read."""
+        return bool(select.select([self.socket], [], [], 0)[0])
+
     def all_replies(self) -> bytes:
         """All replies until the hub closes the connection or is gone."""
         found = b""
@@ -186,6 +214,77 @@ class Talker:
         self.socket.close()
 
 
+class _Call:
+    """A call in the future, unless it is cancelled."""
+
+    def __init__(self, callback: Callable[..., object], words: tuple[Any, ...]) -> None:
+        self._callback = callback
+        self._words = words
+        self._is_cancelled = False
+
+    def make(self) -> None:
+        if not self._is_cancelled:
+            self._callback(*self._words)
+
+    def cancel(self) -> None:
+        self._is_cancelled = True
+
+
+class SettableClock(Clock):
+    """A clock that stands still until a test lets seconds pass, for a hub in the test's own process."""
+
+    def __init__(self) -> None:
+        # (no moment is 0, so that a missing time is noticed)
+        self._now = 1000.0
+        self._calls: list[tuple[float, int, _Call]] = []
+        self._numbers = itertools.count()
+
+    def now(self) -> float:
+        return self._now
+
+    def date(self) -> float:
+        return 1_800_000_000 + self._now
+
+    def call_later(self, seconds: float, callback: Callable[..., object], *words: Any) -> _Call:
+        call = _Call(callback, words)
+        heapq.heappush(self._calls, (self._now + seconds, next(self._numbers), call))
+        return call
+
+    async def sleep(self, seconds: float) -> None:
+        woken = asyncio.Event()
+        call = self.call_later(seconds, woken.set)
+        try:
+            await woken.wait()
+        finally:
+            call.cancel()
+
+    def advance(self, seconds: float) -> None:
+        """Lets seconds pass, and makes the calls that are due, each at its time. Tasks that they wake run later."""
+        end = self._now + seconds
+        while self._calls and self._calls[0][0] <= end:
+            self._now, _, call = heapq.heappop(self._calls)
+            call.make()
+        self._now = end
+
+
+def wait_until(condition: Callable[[], object], what: Callable[[], object] = str) -> None:
+    """Waits until the condition holds. If it does not within PATIENCE, the failure shows `what`."""
+    last = time.monotonic() + PATIENCE
+    while not condition():
+        if time.monotonic() > last:
+            raise AssertionError(f"the condition does not hold after {PATIENCE} seconds: {what()}")
+        time.sleep(0.01)
+
+
+async def run_until(condition: Callable[[], object]) -> None:
+    """Lets the other tasks of the event loop run until the condition holds."""
+    last = time.monotonic() + PATIENCE
+    while not condition():
+        if time.monotonic() > last:
+            raise AssertionError(f"the condition does not hold after {PATIENCE} seconds")
+        await asyncio.sleep(0.001)
+
+
 def slow_program(folder: Path, program: str, start: bytes, wait: str) -> str:
     """The path of a program like this one, which runs this Python before each line of `replay` that starts so."""
     script = folder / "slow"
@@ -212,6 +311,11 @@ def waiting_program(folder: Path, program: str, start: bytes) -> tuple[str, Path
 def converse(talker: Talker, text: bytes) -> bytes:
     """All replies of a client to the text, which is sent in pieces of odd sizes."""
     return talker.converse(text, 1, 7, 60, 1000)
+
+
+def without_table(output: str) -> str:
+    """What lefence-prepare prints, without the table of teams at its end."""
+    return re.sub(r"^team +cells  utilization .*\Z", "", output, flags=re.M | re.S)
 
 
 class FrontCase(unittest.TestCase):
@@ -341,11 +445,7 @@ class Hub:
 
     def wait_for(self, text: str) -> None:
         """Waits until the hub has printed this."""
-        last = time.monotonic() + PATIENCE
-        while text not in self.log_text():
-            if time.monotonic() > last:
-                raise AssertionError(f"not printed: {text}; but: {self.log_text()}")
-            time.sleep(0.01)
+        wait_until(lambda: text in self.log_text(), lambda: f"not printed: {text}; but: {self.log_text()}")
 
     def kill(self) -> None:
         """Kills it, and waits for its programs, which may write until they end."""
@@ -390,6 +490,17 @@ class HubCase(FrontCase):
         self.hub = Hub(self.folder, self.words(*extra))
         self.addCleanup(self.hub.kill)
         return self.hub.wait_ready()
+
+    def wait_stopping(self) -> None:
+        """Waits until the hub, which has got a signal, reads no more lines."""
+
+        def listens() -> bool:
+            with contextlib.suppress(ConnectionRefusedError):
+                Talker(self.folder / "s/operator.sock").close()
+                return True
+            return False
+
+        wait_until(lambda: not listens(), self.hub.log_text)
 
     def talk(self, name: str, sockets: str = "s") -> Talker:
         talker = Talker(self.folder / sockets / f"{name}.sock")

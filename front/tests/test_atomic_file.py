@@ -6,12 +6,11 @@ import os
 import shlex
 import signal
 import subprocess
-import time
 import unittest
 from pathlib import Path
 from unittest import mock
 
-from support import PATIENCE, PROGRAM, FrontCase, tool_words
+from support import PATIENCE, PROGRAM, FrontCase, tool_words, wait_until
 
 from lefence.base.atomic_file import atomic_file
 
@@ -75,10 +74,7 @@ class WholeFiles(FrontCase):
         words = ["t.def", "t.lef", "--output", "x", "--program", self.describing("exec sleep 10")]
         before = sorted(os.listdir(self.folder))
         with subprocess.Popen([*tool_words("lefence-markers"), *words], cwd=self.folder) as tool:
-            last = time.monotonic() + PATIENCE
-            while not (self.folder / "x.partial0").exists():
-                self.assertLess(time.monotonic(), last)
-                time.sleep(0.01)
+            wait_until((self.folder / "x.partial0").exists)
             tool.terminate()
         self.assertEqual((tool.returncode, sorted(os.listdir(self.folder))), (128 + signal.SIGTERM, before))
 

@@ -7,10 +7,13 @@ import shutil
 import threading
 import time
 import unittest
+from unittest import mock
 
 from support import PATIENCE, PROGRAM, HubCase, spot
 
+from lefence.base.atomic_file import sync_folder
 from lefence.base.faults import Fault
+from lefence.journal import segments
 from lefence.journal import backup as module
 from lefence.journal.backup import copy_journal
 from lefence.journal.segments import Archive, read_records
@@ -86,6 +89,17 @@ class Backups(HubCase):
         self.assertEqual(next(turns), 3)
         done = self.tool("lefence-journal", "verify", self.folder / "b/journal", *VERIFIED)
         self.assertEqual(done.returncode, 0, done.stderr)
+
+    def test_the_names_of_all_files_and_folders_of_a_backup_are_on_the_disk(self) -> None:
+        self.go_on()
+        self.hub.kill()
+        with mock.patch.object(module, "sync_folder", side_effect=sync_folder) as synced, \
+                mock.patch.object(segments, "sync_folder", side_effect=sync_folder) as synced_too:
+            module.backup_journal(self.journal, self.folder / "saved")
+        folders = {call.args[0] for call in [*synced.call_args_list, *synced_too.call_args_list]}
+        for path in (self.folder / "saved").rglob("*"):
+            self.assertIn(path.parent, folders)
+        self.assertIn(self.folder, folders)
 
     def test_what_is_damaged_or_in_the_way_is_refused_and_nothing_is_left(self) -> None:
         self.change(0, 10)

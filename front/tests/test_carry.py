@@ -7,10 +7,11 @@ import subprocess
 from pathlib import Path
 from unittest import main
 
-from support import PROGRAM, Hub, HubCase
+from support import PATIENCE, PROGRAM, Hub, HubCase
 
 from lefence.base.description import Description
 from lefence.base.state_text import teams_in
+from lefence.hub.status import read_status
 
 # Of fence f0: f0c0 is resized, f0c1 gone, f0c2 in team f1, f0c3 FIXED; n1 is new, f1c0 renamed.
 NEXT = (
@@ -158,26 +159,72 @@ class Carries(HubCase):
         self.assertEqual(talker.ask("open f0", "where f0 0 f0c6"), ["ok 0 4", "ok 2000 0 N"])
         self.assertEqual(talker.ask("place f0 0 f0c6 3000 0 N"), ["ok 5"])
         self.assertEqual(hub.end(), 0)
-        # the next start goes on from the state, without the option; with it, it is refused
-        again = Hub(self.folder, [*words, "--begin", str(self.new_state)], "log3")
-        self.assertIn("only a new journal can begin with a state", again.wait_ready())
-        again.process.wait()
+        # The next start goes on from the state, without the option.
+        carried = self.new_state.read_bytes()
         self.new_state.unlink()
         again = Hub(self.folder, words, "log4")
         self.addCleanup(again.kill)
         self.assertIn(": ready:", again.wait_ready())
         self.assertEqual(self.talk("f0", "s2").ask("open f0", "where f0 0 f0c6"), ["ok 0 5", "ok 3000 0 N"])
+        again.kill()
+        # With it, the state must be the same, also in a later segment.
+        self.new_state.write_bytes(carried.replace(b"f0c6 2000,", b"f0c6 2200,"))
+        self.assertNotEqual(self.new_state.read_bytes(), carried)
+        again = self.started([*words, "--begin", str(self.new_state)])
+        self.assertIn("only a new journal can begin with this one", again.log_text())
+        self.assertEqual(again.process.wait(PATIENCE), 1)
+        self.new_state.write_bytes(carried)
+        again = self.started([*words, "--begin", str(self.new_state), "--roll"])
+        self.assertEqual(again.process.wait(PATIENCE), 0, again.log_text())
+        self.started([*words, "--begin", str(self.new_state)])
+        self.assertEqual(self.talk("f0", "s2").ask("open f0", "where f0 0 f0c6"), ["ok 0 5", "ok 3000 0 N"])
 
-    def test_a_journal_whose_first_state_is_damaged_is_refused(self) -> None:
-        self.saved(b"open f0")
+    def test_a_first_start_that_was_interrupted_can_be_given_again(self) -> None:
+        words = self.begun()
+        self.started([*words, "--begin", str(self.new_state)])
+        self.assertEqual(self.talk("f0", "s2").ask("open f0", "where f0 0 f0c6"), ["ok 0 4", "ok 2000 0 N"])
+
+    def begun(self) -> list[str]:
+        """Begins a journal with a carried state, without a change; returns the words that start its hub again."""
+        self.saved(*LINES.split(b"\n")[:5])
         self.assertEqual(self.from_state().returncode, 4)
         words = [str(self.next), str(self.next_lef), "--program", PROGRAM, "--sockets", str(self.folder / "s2")]
-        words += ["--journal", str(self.folder / "j2")]
-        hub = Hub(self.folder, [*words, "--begin", str(self.new_state)], "log2")
-        self.assertIn(": ready:", hub.wait_ready())
-        hub.kill()
+        words += ["--journal", str(self.folder / "j2"), "--programs", "1"]
+        hub = self.started([*words, "--begin", str(self.new_state)])
+        self.assertEqual(hub.end(), 0)
+        return words
+
+    def started(self, words: list[str]) -> Hub:
+        """Starts a hub with these words, and waits until it is ready or has ended."""
+        hub = Hub(self.folder, words, "log2")
+        self.addCleanup(hub.kill)
+        hub.wait_ready()
+        return hub
+
+    def test_a_carried_state_without_changes_is_kept(self) -> None:
+        words = self.begun()
+        hub = self.started([*words, "--sessions", "16"])
+        self.assertEqual(hub.process.wait(PATIENCE), 1)
+        self.assertIn("made for 8 session slots per team, not 16", hub.log_text())
+        text = self.next.read_text()
+        self.next.write_text(text.replace("DESIGN t ;", "DESIGN other ;"))
+        hub = self.started(words)
+        self.assertEqual(hub.process.wait(PATIENCE), 1)
+        self.assertIn("v2.def has changed since", hub.log_text())
+        for extra in (["--kept-texts"], ["--kept-texts", "--roll", "--sessions", "16"], ["--kept-texts"]):
+            hub = self.started([*words, *extra])
+            if "--roll" not in extra:
+                revisions = {each["team"]: each["revision"] for each in read_status(self.folder / "s2")["teams"]}
+                self.assertEqual(revisions["f0"], 4, hub.log_text())
+                hub.process.terminate()
+            self.assertEqual(hub.process.wait(PATIENCE), 0, hub.log_text())
+        self.started([*words, "--kept-texts"])
+        self.assertEqual(self.talk("f0", "s2").ask("open f0", "where f0 0 f0c6"), ["ok 0 4", "ok 2000 0 N"])
+
+    def test_a_journal_whose_first_state_is_damaged_is_refused(self) -> None:
+        words = self.begun()
         state = self.folder / "j2.past/1.state"
-        state.write_bytes(state.read_bytes().replace(b"f0c4 -", b"f0c4 0,0,N"))
+        state.write_bytes(state.read_bytes().replace(b"f0c4 ", b"f0c4  "))
         again = Hub(self.folder, words, "log3")
         self.assertIn("is not the state that the journal names, and the journal begins with it", again.wait_ready())
         self.assertEqual(again.process.wait(), 1)

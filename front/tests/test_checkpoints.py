@@ -9,14 +9,27 @@ import shlex
 import shutil
 import signal
 import tempfile
-import time
 import unittest
 from collections.abc import Callable
 from pathlib import Path
 from typing import Any
 from unittest import mock
 
-from support import CELLS, FRONT, LEF, PATIENCE, PROGRAM, TEAMS, Hub, HubCase, Script, design_text, spot, wait_gone
+from support import (
+    CELLS,
+    LEF,
+    PROGRAM,
+    TEAMS,
+    Hub,
+    HubCase,
+    Script,
+    SettableClock,
+    design_text,
+    page_blocks,
+    spot,
+    wait_gone,
+    wait_until,
+)
 
 from lefence.base.faults import Fault
 from lefence.base.protocol import is_change, text_length
@@ -326,10 +339,11 @@ class Checkpoints(HubCase):
 
     def wait_states(self, count: int) -> None:
         """Waits until the state of this segment or a later one is saved."""
-        last = time.monotonic() + PATIENCE
-        while max(Archive(self.journal).numbers("state"), default=0) < count:
-            self.assertLess(time.monotonic(), last, self.hub.log_text())
-            time.sleep(0.01)
+        wait_until(lambda: max(Archive(self.journal).numbers("state"), default=0) >= count, self.hub.log_text)
+
+    def status_of_last(self) -> str:
+        """What the system says of the program that the hub started last."""
+        return Path(f"/proc/{self.hub.children()[-1]}/status").read_text()
 
     def test_replies_are_the_same_over_checkpoints_starts_and_restored_programs(self) -> None:
         scripts = [Script(self.rng, team) for team in (0, 1, TEAMS)]
@@ -407,6 +421,8 @@ class Checkpoints(HubCase):
         talker = self.talk("f0")
         self.assertEqual(talker.ask("open f0", *self.places(50))[-1], "ok 50")
         self.hub.wait_for("cannot save a state")
+        failed = read_status(self.folder / "s")["failed_state"]
+        self.assertIn(failed["reason"], self.hub.log_text())
         self.assertEqual(talker.ask(*self.places(50, 50))[-1], "ok 100")
         self.assertEqual((self.hub.end(), Archive(self.journal).numbers("state")), (0, []))
         self.assertFalse(list(Archive(self.journal).folder.glob("*.making-*")))
@@ -425,24 +441,21 @@ class Checkpoints(HubCase):
         self.assertEqual(self.talk("f0").ask("open f0", "where f0 0 f0c9"), ["ok 0 150", f"ok {spot(0, 149)}"])
 
     def test_the_program_of_a_killed_hub_writes_no_export(self) -> None:
-        self.take_program('case "$*" in *--export*) sleep 1;; esac')
+        gate = self.folder / "gate"
+        self.take_program(f"""case "$*" in *--export*) while ! [ -e '{gate}' ]; do sleep 0.01; done;; esac""")
         target = self.folder / "new.def"
         target.write_text("older")
         self.start()
         self.assertEqual(self.talk("f0").ask("open f0", *self.places(50))[-1], "ok 50")
         self.talk("operator").socket.sendall(b"export %b\n" % bytes(target))
-        last = time.monotonic() + PATIENCE
-        while not list(self.folder.glob("new.def.partial*")):
-            self.assertLess(time.monotonic(), last, self.hub.log_text())
-            time.sleep(0.01)
+        wait_until(lambda: list(self.folder.glob("new.def.partial*")), self.hub.log_text)
         # Until its end only its owner can read it, and what the program writes next to it.
         self.assertEqual([path.stat().st_mode & 0o777 for path in self.folder.glob("new.def.partial*")], [0o600])
         # (the program may not run yet)
-        while "Umask:\t0077\n" not in Path(f"/proc/{self.hub.children()[-1]}/status").read_text():
-            self.assertLess(time.monotonic(), last, self.hub.log_text())
-            time.sleep(0.01)
-        time.sleep(0.2)
-        wait_gone(self.hub.kill_alone())
+        wait_until(lambda: "Umask:\t0077\n" in self.status_of_last(), self.hub.log_text)
+        programs = self.hub.kill_alone()
+        gate.touch()
+        wait_gone(programs)
         self.assertEqual(target.read_text(), "older")
 
 
@@ -450,7 +463,8 @@ class Limited(unittest.TestCase):
     def test_a_checkpoint_is_due_by_bytes_or_seconds_and_after_a_failure_later(self) -> None:
         journal = mock.Mock(tail_changes=1, tail_bytes=1001)
         journal.roll.side_effect = OSError(28, "x")
-        made = Checkpointer(mock.Mock(), JournalWriter(journal, mock.Mock()), TailLimits(1000, 10), mock.Mock())
+        writer = JournalWriter(journal, mock.Mock())
+        made = Checkpointer(mock.Mock(), writer, TailLimits(1000, 10), mock.Mock(), SettableClock())
         self.assertTrue(made.is_due())
         asyncio.run(made.make_last(mock.Mock(owners={}), mock.Mock(teams={}), False))
         self.assertFalse(made.is_due())
@@ -461,13 +475,13 @@ class Limited(unittest.TestCase):
         journal.tail_changes = 0
         self.assertFalse(made.is_due())
         writer = JournalWriter(mock.Mock(tail_changes=1, tail_bytes=1 << 40), mock.Mock())
-        never = Checkpointer(mock.Mock(), writer, TailLimits(0), mock.Mock())
+        never = Checkpointer(mock.Mock(), writer, TailLimits(0), mock.Mock(), SettableClock())
         self.assertFalse(never.is_due())
 
     def test_by_default_a_checkpoint_is_due_when_a_replay_takes_two_seconds(self) -> None:
         journal = mock.MagicMock(tail_changes=1, tail_bytes=1 << 40)
         side = mock.MagicMock(write=mock.AsyncMock(return_value=(0.5, 0.25)))
-        made = Checkpointer(side, JournalWriter(journal, mock.Mock()), TailLimits(), mock.Mock())
+        made = Checkpointer(side, JournalWriter(journal, mock.Mock()), TailLimits(), mock.Mock(), SettableClock())
 
         def due_after(seconds: float) -> bool:
             made.add(seconds)
@@ -488,7 +502,7 @@ class Limited(unittest.TestCase):
 
 
 class Pages(HubCase):
-    """The commands of docs/FRONT.md for backups and upgrades, line by line."""
+    """The commands of docs/HUB.md for backups and upgrades, line by line."""
 
     def setUp(self) -> None:
         super().setUp()
@@ -498,8 +512,7 @@ class Pages(HubCase):
 
     def lines(self, begin: str) -> list[str]:
         """The lines of the page's block with this beginning."""
-        page = (FRONT.parent / "docs/FRONT.md").read_text()
-        return next(block for block in page.split("```\n")[1::2] if block.startswith(begin)).splitlines()
+        return next(block for block in page_blocks("HUB.md") if block.startswith(begin)).splitlines()
 
     def begin(self, line: str, *extra: str) -> str:
         """Starts a hub by this line; returns its output until it is ready or ends."""

@@ -12,14 +12,13 @@ import pickle
 import signal
 import socket
 import threading
-import time
 import unittest
 from collections.abc import Callable
 from decimal import Decimal
 from typing import assert_type, cast
 from unittest import mock
 
-from support import CELLS, FRONT, PATIENCE, WIDTH, HubCase
+from support import CELLS, PATIENCE, WIDTH, HubCase, page_blocks
 
 import lefence
 from lefence import Legalized, Pending, Place, Report, Tidied, Violation
@@ -205,12 +204,8 @@ class Verbs(HubCase):
 
     def test_the_example_of_the_page_runs(self) -> None:
         self.start()
-        page = (FRONT.parent / "docs/FRONT.md").read_text()
-        code = (
-            page.partition("```python\n")[2]
-            .partition("```")[0]
-            .replace("/run/lefence/A.sock", str(self.folder / "s/f0.sock"))
-        )
+        [block] = page_blocks("CLIENTS.md", "python")
+        code = block.replace("/run/lefence/A.sock", str(self.folder / "s/f0.sock"))
         names: dict[str, object] = {"moves": [("f0c2", 200, 0), ("f0c2", 1200, 0)]}
         with contextlib.redirect_stdout(io.StringIO()) as printed:
             exec(code.replace('"A"', '"f0"').replace('"u', '"f0c'), names)
@@ -368,13 +363,13 @@ class Flights(HubCase):
 
     def test_a_late_reply_is_reported(self) -> None:
         self.start()
-        connection = self.enterContext(lefence.connect(self.folder / "s/f1.sock", timeout=0.2))
+        connection = self.enterContext(lefence.connect(self.folder / "s/f1.sock", timeout=1))
         os.kill(self.hub.process.pid, signal.SIGSTOP)
         with self.assertRaises(TimeoutError):
             connection.ask_line(b"open f1")
 
         async def wait() -> None:
-            async with await lefence.aio.connect(self.folder / "s/f1.sock", timeout=0.2) as connection:
+            async with await lefence.aio.connect(self.folder / "s/f1.sock", timeout=1) as connection:
                 with self.assertRaises(TimeoutError):
                     await connection.ask_line(b"open f1")
 
@@ -440,19 +435,29 @@ class Others(HubCase):
     async def aio_connection(self, end: socket.socket, timeout: float) -> lefence.aio.Connection:
         return lefence.aio.Connection(*await asyncio.open_connection(sock=end), timeout)
 
+    async def received(self, end: socket.socket, count: int) -> bytes:
+        """Waits for this number of bytes at an end that does not block."""
+        found = b""
+        while len(found) < count:
+            piece = await asyncio.get_running_loop().sock_recv(end, count - len(found))
+            self.assertTrue(piece, "the other end is closed")
+            found += piece
+        return found
+
     def test_asyncio_ends_all_pending_calls_if_the_end_is_broken(self) -> None:
-        async def ask(reply: bytes, line: bytes, *errors: type[Exception]) -> None:
+        async def ask(reply: bytes, line: bytes, timeout: float, *errors: type[Exception]) -> None:
             near, far = socket.socketpair()
             with far:
-                asyncio.get_running_loop().call_later(0.1, far.sendall, reply)
-                async with asyncio.timeout(PATIENCE), await self.aio_connection(near, 1) as connection:
-                    results = await asyncio.gather(
-                        *(connection.ask_line(line) for _ in range(200)), return_exceptions=True
-                    )
+                far.setblocking(False)
+                async with asyncio.timeout(PATIENCE), await self.aio_connection(near, timeout) as connection:
+                    calls = [asyncio.create_task(connection.ask_line(line)) for _ in range(200)]
+                    await self.received(far, len(line) + 1)
+                    far.sendall(reply)
+                    results = await asyncio.gather(*calls, return_exceptions=True)
                     self.assertEqual([type(each) for each in results[:2]], [*errors])
 
-        asyncio.run(ask(b"ok abc\n", b"def A 0", lefence.ProtocolError, lefence.ConnectionLost))
-        asyncio.run(ask(b"", b"x" * 4000, TimeoutError, TimeoutError))
+        asyncio.run(ask(b"ok abc\n", b"def A 0", PATIENCE, lefence.ProtocolError, lefence.ConnectionLost))
+        asyncio.run(ask(b"", b"x" * 4000, 0.2, TimeoutError, TimeoutError))
 
     def test_a_cancelled_call_leaves_no_session_open(self) -> None:
         output: list[object] = []
@@ -462,18 +467,19 @@ class Others(HubCase):
             asyncio.get_running_loop().set_exception_handler(lambda loop, context: output.append(context))
             connection = await self.aio_connection(near, PATIENCE)
             with far:
+                far.setblocking(False)
                 opening = asyncio.create_task(connection.session("A", microns=True).__aenter__())
-                await asyncio.sleep(0.05)
+                self.assertEqual(await self.received(far, 7), b"open A\n")
                 if is_late:
                     far.sendall(b"ok 3 0\n")
-                    await asyncio.sleep(0.05)
+                    self.assertEqual(await self.received(far, 6), b"units\n")
                 opening.cancel()
-                await asyncio.sleep(0.05)
+                self.assertEqual([type(each) for each in await asyncio.gather(opening, return_exceptions=True)], [
+                    asyncio.CancelledError
+                ])
                 if not is_late:
                     far.sendall(b"ok 3 0\n")
-                await asyncio.sleep(0.05)
-                self.assertEqual(far.recv(100), b"open A\n" + b"units\n" * is_late + b"close A 3\n")
-            await asyncio.sleep(0.05)
+                self.assertEqual(await self.received(far, 10), b"close A 3\n")
             with self.assertRaises(lefence.ConnectionLost):
                 await connection.ask_line(b"")
             await connection.close()
@@ -497,17 +503,18 @@ class Others(HubCase):
     def test_a_reply_in_slow_pieces_is_late(self) -> None:
         near, far = socket.socketpair()
 
+        is_over = threading.Event()
+
         def drip() -> None:
-            with contextlib.suppress(OSError):
-                for at in range(20):
-                    far.sendall(b"%d" % (at % 10))
-                    time.sleep(0.1)
-            far.close()
+            with far, contextlib.suppress(OSError):
+                while not is_over.wait(0.1):
+                    far.sendall(b"7")
 
         with lefence.Connection(near, timeout=0.5) as connection:
             dripping = threading.Thread(target=drip)
             dripping.start()
             self.addCleanup(dripping.join)
+            self.addCleanup(is_over.set)
             with self.assertRaises(TimeoutError):
                 connection.ask_line(b"sync A 0")
 

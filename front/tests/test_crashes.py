@@ -4,6 +4,7 @@ from __future__ import annotations
 
 import contextlib
 import os
+import shutil
 import signal
 import socket
 import sys
@@ -12,9 +13,10 @@ import unittest
 from collections.abc import Callable
 from pathlib import Path
 
-from support import CELLS, PATIENCE, PROGRAM, TURNS, Hub, HubCase, Talker, spot, wait_gone
+from support import CELLS, PATIENCE, PROGRAM, TURNS, Hub, HubCase, Talker, spot, wait_gone, wait_until
 
-from lefence.hub.clients import ClientPool
+from lefence.base.clock import SYSTEM_CLOCK
+from lefence.hub.client_pool import ClientPool
 from lefence.hub.status import read_status
 from lefence.journal.segments import Archive
 
@@ -65,6 +67,7 @@ class Crashes(HubCase):
         revisions, total, kept, cut = [0] * 4, 0, 0, set()
         for turn in range(TURNS):
             talkers = [self.changes(team, revision) for team, revision in enumerate(revisions)]
+            # (the moments of crashes are random)
             time.sleep(self.rng.uniform(0, 0.04))
             strike()
             for team, talker in enumerate(talkers):
@@ -195,6 +198,43 @@ class Programs(HubCase):
         self.assertEqual(talker.converse(text, 20000), b"ok 0 0 N\n" * 5000)
         self.assertIn("restoring 2 changes", self.hub.log_text())
 
+    def test_a_program_that_is_replaced_is_used_until_the_hub_ends(self) -> None:
+        installed = self.folder / "lefence"
+        shutil.copy(PROGRAM, installed)
+        self.program = str(installed)
+        self.start("--programs", "2")
+        talker, operator, exported = self.talk("f0"), self.talk("operator"), self.folder / "new.def"
+        lines = ["open f0", "place f0 0 f0c1 0 0 N", "tidy f0 0", "commit f0 0"]
+        self.assertEqual(talker.ask(*lines), ["ok 0 0", "ok 1", "ok 2 9", "ok 3"])
+        other = self.folder / "other"
+        other.write_text("#!/bin/sh\necho refused >&2\nexit 1\n")
+        other.chmod(0o755)
+        spoils: tuple[Callable[[], object], ...] = (lambda: other.rename(installed), installed.unlink)
+        for spoil in spoils:
+            spoil()
+            programs = {team: each for each in read_status(self.folder / "s")["programs"] for team in each["teams"]}
+            pid = programs["f0"]["pid"]
+            # (lists of processes show the program as it was given)
+            self.assertEqual(Path(f"/proc/{pid}/cmdline").read_bytes().split(b"\0")[0], bytes(installed))
+            os.kill(pid, signal.SIGKILL)
+            self.assertEqual(talker.ask("where f0 0 f0c1"), ["ok 0 0 N"])
+            self.assertEqual(operator.ask(f"export {exported}"), ["ok"])
+            self.assertIn("f0c1 INV + PLACED ( 0 0 ) N", exported.read_text())
+        self.assertEqual(self.hub.end(), 0, self.hub.log_text())
+        self.assertNotIn("/proc/", self.hub.log_text())
+
+    def test_a_refusal_while_the_hub_serves_ends_it_with_3(self) -> None:
+        self.wrap(f'[ "$starts" -eq 1 ] || {{ \'{PROGRAM}\' "$@" | sed -u "s/^ok 1$/ok 9/"; exit; }}')
+        self.start()
+        talker = self.talk("f0")
+        self.assertEqual(talker.ask("open f0", "place f0 0 f0c1 0 0 N"), ["ok 0 0", "ok 1"])
+        os.kill(self.hub.replay_pid(), signal.SIGKILL)
+        self.assertEqual((talker.ask("where f0 0 f0c1"), self.hub.process.wait(PATIENCE)), ([""], 3))
+        self.assertIn("change 2: the journal has b'ok 1\\n'", self.hub.log_text())
+        # At a start, the same is refused.
+        self.start()
+        self.assertEqual(self.hub.process.wait(PATIENCE), 1)
+
     def test_a_signal_during_a_restart_ends_the_hub(self) -> None:
         self.start("--tail-bytes", "0")
         self.assertEqual(
@@ -206,8 +246,7 @@ class Programs(HubCase):
             (self.folder / "starts").unlink(missing_ok=True)
             hub = Hub(self.folder, self.words(*words))
             self.addCleanup(hub.kill)
-            while not (self.folder / "starts").exists():
-                time.sleep(0.01)
+            wait_until((self.folder / "starts").exists, hub.log_text)
             self.assertEqual((hub.end(), Archive(self.journal).numbers("state")), (status, []))
         self.program = PROGRAM
         # The sessions of the killed hub are known and get closed.
@@ -216,7 +255,7 @@ class Programs(HubCase):
             self.talk("f0").ask("open f0", "close f0 1", "sync f0 0"), ["ok 0 1", "no 3 NoSession", "ok 1"]
         )
         # A session without an owner in the journal may be closed too.
-        ClientPool(8).note([b"close", b"f0", b"0"], b"ok\n", None)
+        ClientPool(8, SYSTEM_CLOCK).note([b"close", b"f0", b"0"], b"ok\n", None)
 
 
 if __name__ == "__main__":

@@ -16,8 +16,8 @@ from pathlib import Path
 from support import FRONT, PATIENCE, PROGRAM, FrontCase
 
 SCRIPT = FRONT / "examples/day.sh"
-# A command of KLayout and what it prints.
-KLAYOUT = re.compile(r"^klayout .*\n(?:#> .*\n)+", re.M)
+# A command that needs KLayout, and what it prints.
+KLAYOUT = re.compile(r"^(?:klayout|lefence-view) .*\n(?:#> .*\n)+", re.M)
 PRINTED = re.compile(r"^#> (.*\n)", re.M)
 # The progress that a tool prints on a slow machine.
 PROGRESS = re.compile(r"^lefence-\w+: .*, \d+ s\n", re.M)
@@ -47,7 +47,7 @@ class Day(FrontCase):
         """The script, as far as its tools are there."""
         self.maxDiff = None
         text = SCRIPT.read_text()
-        self.assertEqual(len(KLAYOUT.findall(text)), 2)
+        self.assertEqual(len(KLAYOUT.findall(text)), 3)
         return text if shutil.which("klayout") else KLAYOUT.sub("", text)
 
     def test_the_script_of_the_day_prints_what_it_says(self) -> None:
@@ -60,6 +60,7 @@ class Day(FrontCase):
 
     @unittest.skipUnless(shutil.which("dpkg-deb"), "dpkg-deb is not here")
     def test_the_day_of_a_debian_package(self) -> None:
+        head = subprocess.check_output(["git", "rev-parse", "HEAD"], cwd=FRONT, text=True).strip()
         made = subprocess.run(
             [sys.executable, FRONT.parent / "tools/package.py", "--program", PROGRAM, self.folder],
             check=True,
@@ -72,6 +73,15 @@ class Day(FrontCase):
         packages = str(root / "usr/lib/python3/dist-packages")
         script = root / "usr/share/doc/lefence/examples/day.sh"
         self.assertEqual(self.run_script(text, script, PATH=path, PYTHONPATH=packages), "".join(PRINTED.findall(text)))
+        # what it is made from
+        documents = root / "usr/share/doc/lefence"
+        fields = subprocess.check_output(["dpkg-deb", "--field", made.stdout.strip()], text=True)
+        for text in (fields, (documents / "copyright").read_text()):
+            self.assertIn(f"commit {head}", text.lower())
+        self.assertEqual(
+            gzip.decompress((documents / "changelog.gz").read_bytes()), (FRONT.parent / "CHANGELOG.md").read_bytes()
+        )
+        self.assertTrue((documents / "examples/soc.def").exists())
         # manual pages and completion
         for name in ("lefence", "lefence-hub", "lefence-carry"):
             page = gzip.decompress((root / f"usr/share/man/man1/{name}.1.gz").read_bytes()).decode()

@@ -71,7 +71,8 @@ class Descriptions(FrontCase):
                 line = keys | dict(zip(("box", "orient", "rule", "other"), place)) | more
                 text += json.dumps(line, separators=(",", ":"), sort_keys=True) + "\n"
             total = ",".join(f'"{key}":{7 if key == "cells" else 0}' for key in Total._fields)
-            printed.write_text(f'{text}{{"kind":"total",{total}}}\n')
+            density = '{"bins":0,"kind":"density","side":0}\n' if more else ""
+            printed.write_text(f'{text}{density}{{"kind":"total",{total}}}\n')
             with Description(str(program), self.design, []) as description:
                 lines = [line for part in description.cell_lines() for line in part]
                 self.assertEqual(description.total.cells, 7)

@@ -7,23 +7,22 @@ import os
 import signal
 import subprocess
 import sys
-import time
 import unittest
 from dataclasses import replace
 from unittest import mock
 
 import cluster
-from support import CELLS, FRONT, PATIENCE, PROGRAM, FrontCase, tool_words
+from support import CELLS, FRONT, PATIENCE, PROGRAM, FrontCase, tool_words, wait_until
 
 from lefence.base.design import Design
 from lefence.base.faults import Fault
 from lefence.base.slices import slices_of
 from lefence.journal.journal import Journal, texts_in
 from lefence.journal.owner import this_process
-from lefence.tools.farm import ranges_of
-from lefence.tools.farm_runs import teams_of
-from lefence.tools.merge import merge
-from lefence.tools.slice import slice_of
+from lefence.farm.main import ranges_of
+from lefence.farm.runs import teams_of
+from lefence.farm.merge import merge
+from lefence.slice.main import slice_of
 
 # Two fences and the ground around them, with two cells each.
 TEAMS = ("A", "B", "-")
@@ -230,10 +229,7 @@ class Farms(FarmCase):
         with subprocess.Popen(
             [*tool_words("lefence-farm"), *words], cwd=self.folder, stderr=subprocess.DEVNULL
         ) as farm:
-            last = time.monotonic() + PATIENCE
-            while not all((self.work / str(number) / "journal").exists() for number in (1, 2, 3)):
-                self.assertLess(time.monotonic(), last)
-                time.sleep(0.01)
+            wait_until(lambda: all((self.work / str(number) / "journal").exists() for number in (1, 2, 3)))
             farm.terminate()
         self.assertEqual(farm.returncode, 128 + signal.SIGTERM)
         self.assertEqual(

@@ -9,7 +9,7 @@ from pathlib import Path
 from support import AREAS, LEF, PROGRAM, TEAMS, FrontCase, klayout, with_klayout
 
 from lefence.base.description import Description
-from lefence.tools.fill import Masters
+from lefence.fill.main import Masters
 
 FILLERS = """MACRO F4 CLASS CORE SPACER ; SIZE 0.8 BY 2.0 ; SYMMETRY X Y ; END F4
 MACRO F1 CLASS CORE SPACER ; SIZE 0.2 BY 2.0 ; SYMMETRY X Y ; END F1

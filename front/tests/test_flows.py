@@ -106,11 +106,14 @@ class Flows(FrontCase):
         output = done.stderr.decode()
         for expected in (
             f"{self.tech}, line 4: y written as Y",
-            f"{self.lef}, line 3: 0.40000000000000002 written as 0.4",
+            f"{self.lef}, line 3: 0.40000000000000002 written as 0.4, and 1 more like it",
             f"{self.lef}, line 8: RECT added to pin VDD, which has a POLYGON alone",
             f"{self.lef}, line 11: END LIBRARY removed, since text follows it",
         ):
             self.assertIn(f"lefence-prepare: LEF file {expected}\n", output)
+        verbose = self.prepare("--lef-output", "lef", "--verbose").stderr.decode()
+        self.assertIn(f"{self.lef}, line 3: 0.40000000000000002 written as 0.4\n", verbose)
+        self.assertIn(f"{self.lef}, line 3: 2e0 written as 2\n", verbose)
         # what is prepared needs nothing more
         self.tech, self.lef = self.folder / "lef/tech.lef", self.folder / "lef/t.lef"
         again = self.prepare("--lef-output", "again")

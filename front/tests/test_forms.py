@@ -1,5 +1,6 @@
-"""Small designs in the forms of ten libraries, contests and tools: what loads, what `--look` says, what prepares them,
-and that `check` and `repair` then do the right thing.
+"""Small designs in the forms of fourteen libraries, contests and tools.
+
+What loads, what `--look` says, what prepares them, and that `check` and `repair` then do the right thing.
 
 The texts in data/forms are our own, in the forms that these write.
 """
@@ -13,10 +14,10 @@ from pathlib import Path
 from typing import NamedTuple
 from unittest import main
 
-from support import PROGRAM, FrontCase
+from support import PROGRAM, FrontCase, without_table
 
 from lefence.base.design import Design
-from lefence.tools.preparation import placed_in
+from lefence.prepare.preparation import placed_in
 
 TEXTS = Path(__file__).resolve().parent / "data/forms"
 
@@ -24,7 +25,7 @@ TEXTS = Path(__file__).resolve().parent / "data/forms"
 class Form(NamedTuple):
     """What becomes of a design: the program's refusal of the texts as they are, or nothing; the options that prepare
     it; then its cells, those without a place, and how many break which rule; and how many cells the repair moves, turns
-    and places. NAME.look has the output of `--look`.
+    and places. NAME.look has the output of `--look` but the table of teams.
     """
 
     refusal: str
@@ -37,6 +38,9 @@ class Form(NamedTuple):
 
 FORMS = {
     "asap7": Form("", "", 6, 0, {4: 2, 5: 1, 8: 1}, (1, 2, 0)),
+    "fakeram": Form(
+        "3 Unexpected line 5", "--lef-output lef --fix fakeram* --halos", 5, 0, {7: 2, 8: 2}, (3, 0, 0)
+    ),
     "gf180": Form("9 NoRows spm", "--lef-output lef", 5, 0, {2: 1, 8: 2}, (2, 0, 0)),
     "iccad2017": Form("", "--lef-output lef", 8, 0, {2: 7}, (7, 1, 0)),
     "icc2": Form("", "--fix SRAM1RW --halos", 5, 1, {7: 1, 8: 2}, (2, 0, 1)),
@@ -47,7 +51,12 @@ FORMS = {
     "ispd2015": Form("", "", 8, 8, {}, (0, 0, 8)),
     "magic": Form("9 NoRows map9v3", "--site std", 6, 0, {8: 2}, (1, 0, 0)),
     "nangate45": Form("3 Unexpected line 18", "--lef-output lef", 6, 0, {2: 1, 4: 1, 8: 2}, (2, 1, 0)),
+    "openlane": Form("", "--place-new", 9, 0, {2: 2, 7: 1, 8: 3}, (4, 1, 0)),
     "sky130": Form("", "--halos", 6, 1, {2: 1, 7: 1, 8: 2}, (3, 0, 1)),
+    "superblue": Form("", "", 9, 1, {2: 6, 8: 2}, (7, 0, 1)),
+    "voltage_areas": Form(
+        "", "--as-fence VA_AON --group VA_CPU u_soc/u_cpu/*", 10, 1, {6: 1, 8: 2}, (3, 0, 1)
+    ),
 }
 
 
@@ -76,7 +85,8 @@ class Forms(FrontCase):
                 self.assertEqual((status, errors.partition("\n")[0]), expected)
                 _, output, errors = self.prepare(*texts, "--look")
                 look = (TEXTS / f"{name}.look").read_text()
-                self.assertEqual((output.replace(f"{self.folder}/", ""), errors), (look, ""))
+                output = without_table(output.replace(f"{self.folder}/", ""))
+                self.assertEqual((output, errors), (look, ""))
 
     def test_prepared_designs_are_checked_and_repaired(self) -> None:
         for name, form in FORMS.items():

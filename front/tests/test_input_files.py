@@ -10,9 +10,10 @@ from collections.abc import Callable
 from pathlib import Path
 from unittest import main
 
-from support import PROGRAM, FrontCase, Hub, HubCase, tool_words
+from support import PATIENCE, PROGRAM, FrontCase, Hub, HubCase, tool_words
 
 from lefence.base.design import Design
+from lefence.hub.status import read_status
 
 Coding = dict[str, Callable[[bytes], bytes]]
 PACKERS: Coding = {".gz": gzip.compress, ".xz": lzma.compress, ".bz2": bz2.compress}
@@ -112,6 +113,35 @@ class Hubs(HubCase):
         self.assertIn(": ready:", again.wait_ready())
         kept = [path for path in self.folder.glob("journal.texts/*/*") if path.name == "t.def"]
         self.assertEqual(len(Design(kept[0].read_bytes()).fences), 8)
+
+    def test_the_kept_text_of_a_compressed_file_is_used(self) -> None:
+        source = self.folder / "t.def.gz"
+        source.write_bytes(gzip.compress(self.design.read_bytes()))
+        words = [str(source), str(self.lef), "--sockets", str(self.folder / "s"), "--journal", str(self.journal)]
+        words += ["--program", PROGRAM, "--programs", "1"]
+
+        def started(*extra: str) -> Hub:
+            hub = Hub(self.folder, [*words, *extra])
+            self.addCleanup(hub.kill)
+            hub.wait_ready()
+            return hub
+
+        hub = started()
+        self.assertEqual(self.talk("f0").ask("open f0", "pad f0 0 1"), ["ok 0 0", "ok 1"])
+        self.assertEqual(read_status(self.folder / "s")["texts"][0]["path"], str(source))
+        refused = f"no 13 NotExported {source} is the journal or a file of the design"
+        self.assertEqual(self.talk("operator").ask(f"export {source}"), [refused])
+        self.assertEqual(hub.end(), 0, hub.log_text())
+        source.write_bytes(gzip.compress(self.design.read_bytes().replace(b"DESIGN t ;", b"DESIGN u ;")))
+        hub = started()
+        self.assertEqual(hub.process.wait(PATIENCE), 1)
+        self.assertIn(f"{source} has changed since {self.journal} was made", hub.log_text())
+        for is_missing in (False, True):
+            if is_missing:
+                source.unlink()
+            hub = started("--kept-texts")
+            self.assertEqual(self.talk("f0").ask("open f0"), ["ok 0 1"], hub.log_text())
+            self.assertEqual(hub.end(), 0, hub.log_text())
 
 
 if __name__ == "__main__":

@@ -12,7 +12,7 @@ from dataclasses import replace
 from pathlib import Path
 from unittest import mock
 
-from support import FRONT, SEED
+from support import SEED, page_blocks
 
 from lefence.base.faults import Fault
 from lefence.journal.frames import Record, Text
@@ -150,8 +150,8 @@ class Journals(unittest.TestCase):
         self.assertEqual(self.path.read_bytes(), before)
 
     def test_the_example_of_the_page_is_a_journal(self) -> None:
-        page = (FRONT.parent / "docs/FRONT.md").read_text()
-        self.path.write_text(next(block for block in page.split("```\n") if block.startswith("lefence-hub journal")))
+        blocks = page_blocks("HUB.md")
+        self.path.write_text(next(block for block in blocks if block.startswith("lefence-hub journal")))
         lines = [b"open A", b"place A 0 a1 0 0 N", b"close A 0"]
         self.assertEqual([record.line for record in read_records(self.path)], lines)
 

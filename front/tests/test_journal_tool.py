@@ -199,6 +199,25 @@ class Segments(HubCase):
             self.tool("lefence-push", self.journal, "s/f0.sock").stderr.decode(),
         )
 
+    def test_states_that_the_hub_has_removed_are_not_damage(self) -> None:
+        self.archive.prune(1, keeps_segments=True)
+        removed = f"{self.archive.state(2)}: not there, since later states are kept\n"
+        self.assertIn(removed, self.output_of("check", self.journal)[0])
+        self.output_of("verify", self.journal, "--program", PROGRAM, "--all")
+        whole = self.archive.state(3).read_bytes()
+        self.archive.state(3).unlink()
+        self.assertIn(f"{self.archive.state(2)}: not there\n", self.output_of("check", self.journal, status=1)[0])
+        self.archive.state(3).write_bytes(whole)
+        # If the first segment is gone, the second one needs its state.
+        self.archive.segment(1).unlink()
+        self.assertIn(f"{self.archive.state(2)}: not there\n", self.output_of("check", self.journal, status=1)[0])
+
+    def test_with_all_segments_the_state_of_the_first_one_is_kept(self) -> None:
+        self.archive.segment(1).unlink()
+        self.archive.prune(1, keeps_segments=True)
+        self.assertIn(f"{self.archive.state(2)}: whole\n", self.output_of("check", self.journal)[0])
+        self.output_of("verify", self.journal, "--program", PROGRAM, "--all")
+
     def test_damage_to_any_segment_is_reported(self) -> None:
         whole = self.archive.segment(1).read_bytes()
         self.archive.segment(1).write_bytes(whole.replace(b"place f0 0 f0c1 0 0 N", b"place f0 0 f0c1 9 0 N"))

@@ -6,17 +6,16 @@ import asyncio
 import os
 import tempfile
 import threading
-import time
 import unittest
 from collections.abc import Coroutine
 from pathlib import Path
 from typing import Any
 from unittest import mock
 
-from support import PATIENCE
+from support import PATIENCE, run_until
 
 from lefence.base.faults import Fault
-from lefence.hub.hub_client import Entry
+from lefence.hub.connection import Entry
 from lefence.hub.journal_writer import JournalWriter, complete
 from lefence.journal.journal import MOST_REPLY, Journal
 
@@ -55,8 +54,7 @@ class Commits(unittest.TestCase):
             return file.read().count(b"\nbatch ")
 
     async def wait_syncs(self, count: int) -> None:
-        while self.syncs < count:
-            await asyncio.sleep(0.001)
+        await run_until(lambda: self.syncs >= count)
 
     def test_changes_that_wait_share_a_sync_in_their_order(self) -> None:
         async def work() -> None:
@@ -64,9 +62,8 @@ class Commits(unittest.TestCase):
             await self.wait_syncs(1)
             others = [asyncio.create_task(self.writer.append([change(number)])) for number in range(2, 9)]
             # The event loop does not wait.
-            begin = time.monotonic()
-            while time.monotonic() < begin + 0.05:
-                await asyncio.sleep(0.001)
+            for _ in range(100):
+                await asyncio.sleep(0)
             self.assertEqual((self.kept, first.done(), any(task.done() for task in others)), ([], False, False))
             self.may_sync.set()
             await asyncio.gather(first, *others)
@@ -127,17 +124,23 @@ class Commits(unittest.TestCase):
     def test_work_is_completed_although_its_caller_is_cancelled(self) -> None:
         done: list[int] = []
 
-        async def slow() -> int:
-            await asyncio.sleep(0.05)
+        async def slow(gate: asyncio.Event) -> int:
+            await gate.wait()
             done.append(1)
             return 1
 
         async def work() -> None:
-            self.assertEqual(await complete(slow()), 1)
-            task = asyncio.create_task(complete(slow()))
+            gate = asyncio.Event()
+            gate.set()
+            self.assertEqual(await complete(slow(gate)), 1)
+            gate.clear()
+            task = asyncio.create_task(complete(slow(gate)))
             for _ in range(2):
-                await asyncio.sleep(0.01)
+                for _ in range(10):
+                    await asyncio.sleep(0)
                 task.cancel()
+            self.assertEqual((task.done(), len(done)), (False, 1))
+            gate.set()
             with self.assertRaises(asyncio.CancelledError):
                 await task
             self.assertEqual(len(done), 2)

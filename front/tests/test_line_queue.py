@@ -8,7 +8,7 @@ from unittest import mock
 
 from support import HubCase, slow_program, spot
 
-from lefence.hub.hub_client import Client
+from lefence.hub.connection import PENDING, Client
 from lefence.hub.line_queue import LineQueue
 from lefence.hub.query_sockets import QueryClient
 
@@ -21,7 +21,7 @@ class Turns(unittest.TestCase):
         self.host = mock.Mock(unused_name=b"~", units=b"1000")
 
     def client(self, team: bytes | None, uid: int = 1, is_query: bool = False) -> Client:
-        queries = mock.Mock(**{"reply_to.return_value": None})
+        queries = mock.Mock(**{"reply_to.return_value": PENDING})
         made = QueryClient(self.host, team or b"", queries) if is_query else Client(self.host, team)
         made.uid = uid
         near, self.far = socket.socketpair()

@@ -12,7 +12,7 @@ from support import PROGRAM, FrontCase, klayout, with_klayout
 from lefence.base.description import Box, Cell
 from lefence.base.faults import Fault
 from lefence.base.protocol import ORIENTS
-from lefence.tools.markers import Violation, violations_of
+from lefence.view.markers import Violation, violations_of
 
 # Each item of the database with its tagged values, and the box of the cell with that name in KLayout's own reading.
 ITEMS = """

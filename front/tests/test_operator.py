@@ -2,6 +2,7 @@
 
 from __future__ import annotations
 
+import os
 import subprocess
 import unittest
 
@@ -60,6 +61,62 @@ class AtRunTime(HubCase):
         done = self.tool("lefence-push", "back", self.folder / "s/f0.sock", "--rebase")
         self.assertEqual(done.returncode, 0, done.stderr)
         self.assertEqual(self.member.ask("where f0 0 f0c1", "where f0 0 f0c2"), ["ok 0 0 N", "ok 2000 0 N"])
+
+    def say(self, socket: str, *lines: str) -> list[str]:
+        """What the shell prints for lines over a socket."""
+        text = "".join(f"{line}\n" for line in lines).encode()
+        done = self.tool("lefence-shell", self.folder / "s" / socket, lines=text)
+        self.assertEqual((done.returncode, done.stderr), (0, b""))
+        return done.stdout.decode().splitlines()
+
+    def test_the_lines_of_the_operator_are_commands_of_the_shell(self) -> None:
+        other = self.talk("f1")
+        self.assertEqual(other.ask("open f1"), ["ok 0 0"])
+        lines = {
+            "freeze f1": "team f1 is frozen: changes by its own clients are refused",
+            "freeze Z": "no: no such team here",
+            "freeze": "no: freeze takes TEAM",
+            "savepoint f1 noon": "noon names the present places of team f1",
+            "savepoint noon": "no: choose a team first: `team NAME`, or `savepoint TEAM NAME`",
+            "savepoint f1 7": "no: a savepoint's name must not be a number",
+            "savepoint f1 a b": "no: savepoint takes NAME, or TEAM NAME",
+            "state": "the hub saves a state if there are changes since the last one",
+            "state now": "no: state takes nothing",
+            "drop 1": "0 connections of process 1 ended",
+            "drop x": "no: drop takes PID, the number of a process",
+            "export": "no: export takes PATH",
+            "export no/such/new.def": "no: the file was not written: cannot write no/such/new.def",
+        }
+        self.assertEqual(self.say("operator.sock", *lines), [*lines.values()])
+        self.assertEqual(other.ask("place f1 0 f1c1 8000 0 N"), ["no 14 Frozen"])
+        self.assertEqual(self.say("operator.sock", "thaw f1", "thaw Z")[:1], ["team f1 is not frozen"])
+        self.assertEqual(other.ask("place f1 0 f1c1 8000 0 N"), ["ok 1"])
+        self.hub.wait_for("saved a state of")
+        # Without a team, a savepoint is of the team in use, or of the only one.
+        output = self.say("operator.sock", "team f1", "savepoint eve")
+        self.assertEqual(output[1:], ["eve names the present places of team f1"])
+        self.assertEqual(self.say("f1.sock", "savepoint late"), ["late names the present places of team f1"])
+        self.assertIn("this is a query socket", self.say("f1.query.sock", "savepoint late")[0])
+
+    def test_the_shell_ends_the_connections_of_a_process(self) -> None:
+        pid = os.getpid()
+        self.assertEqual(self.say("operator.sock", f"drop {pid}"), [f"1 connection of process {pid} ended"])
+        self.assertEqual(self.member.all_replies(), b"")
+
+    def test_the_shell_shows_the_status_and_the_full_path_of_an_export(self) -> None:
+        # A relative path begins in the hub's folder, which is that of the tests, and not in the shell's.
+        path = os.path.relpath(self.folder / "new.def")
+        output = self.say("operator.sock", "freeze f1", "status", f"export {path}")
+        self.assertRegex(output[1], "^hub: up .*; 3 clients; ")
+        teams = {line.split()[0]: line.split() for line in output if line}
+        self.assertEqual((teams["f1"][4], teams["f0"][2]), ("frozen", "1"))
+        self.assertEqual(output[-1], f"written: {os.path.join(os.getcwd(), path)}")
+        self.assertTrue((self.folder / "new.def").exists())
+
+    def test_other_sockets_refuse_the_commands_of_the_operator(self) -> None:
+        lines = ("status", "freeze f0", "thaw f0", "drop 1", "state", "export x")
+        expected = [f"no: {line.split()[0]} is for the operator's socket" for line in lines]
+        self.assertEqual(self.say("f0.sock", *lines), expected)
 
 
 if __name__ == "__main__":

@@ -20,8 +20,20 @@ ALLOWED: dict[str, set[str]] = {
     "base": set(),
     "client": {"base"},
     "journal": {"base"},
-    "hub": {"base", "client", "journal"},
-    "tools": {"base", "client", "journal", "hub"},
+    "hub": {"base", "client", "journal", "prepare"},
+    "view": {"base", "client"},
+    "live": {"base", "client", "view"},
+    "slice": {"base", "client"},
+    "check": {"base", "view"},
+    "prepare": {"base", "check", "slice"},
+    "push": {"base", "client", "journal", "slice"},
+    "repair": {"base", "check", "client", "prepare", "push", "slice", "view"},
+    "improve": {"base", "repair", "view"},
+    "journal_tool": {"base", "hub", "journal", "push", "slice"},
+    "carry": {"base", "journal_tool", "prepare"},
+    "fill": {"base", "prepare"},
+    "farm": {"base", "client", "journal", "push"},
+    "shell": {"base", "client", "hub"},
 }
 
 
@@ -66,7 +78,7 @@ class Packages(unittest.TestCase):
 
     def test_the_client_library_needs_no_asyncio(self) -> None:
         code = (
-            "import sys, lefence, lefence.client; sys.exit('asyncio' in sys.modules or 'lefence.tools' in sys.modules)"
+            "import sys, lefence, lefence.client; sys.exit('asyncio' in sys.modules or 'lefence.hub' in sys.modules)"
         )
         done = subprocess.run([sys.executable, "-c", code], cwd=FRONT)
         self.assertEqual(done.returncode, 0)

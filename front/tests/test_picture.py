@@ -11,8 +11,8 @@ from xml.etree import ElementTree
 from support import PATIENCE, TEAMS, FrontCase, tool_words
 
 from lefence.base.description import Box, Description
-from lefence.tools.drawing import MOVE_COLOURS, Drawing, Move, shortened, text_of
-from lefence.tools.scene import Scene, colour_of
+from lefence.view.drawing import MOVE_COLOURS, Drawing, Move, shortened, text_of
+from lefence.view.scene import Scene, colour_of
 
 SVG = "{http://www.w3.org/2000/svg}"
 # A FIXED component, a blockage, a soft one, two cells that overlap, one far outside, and one with a name that needs

@@ -6,14 +6,14 @@ import subprocess
 import unittest
 from pathlib import Path
 
-from support import PROGRAM, FrontCase
+from support import PROGRAM, FrontCase, without_table
 
 from lefence.base.description import Box
 from lefence.base.faults import Fault
 from lefence.base.lef import sites_of
-from lefence.tools.library_text import LibraryText
-from lefence.tools.preparation import PreparationOptions, Stages
-from lefence.tools.prepare import prepare
+from lefence.prepare.library_text import LibraryText
+from lefence.prepare.preparation import PreparationOptions, Stages
+from lefence.prepare.main import prepare
 
 LEF = """VERSION 5.8 ;
 PROPERTYDEFINITIONS MACRO SITE STRING ; END PROPERTYDEFINITIONS
@@ -93,7 +93,8 @@ class Preparations(FrontCase):
             "it loads: 4 cells, 0 unplaced, 2 illegal (1 by rule 2 Row, 1 by rule 6 Fence)",
         )
         self.assertEqual((done.returncode, done.stdout), (0, b""), done.stderr)
-        self.assertEqual(done.stderr.decode().splitlines(), [f"lefence-prepare: {line}" for line in expected])
+        output = without_table(done.stderr.decode().replace("lefence-prepare: ", ""))
+        self.assertEqual(output.splitlines(), [*expected])
         self.assertEqual(self.output.read_text(), text)
 
     def test_rows_start_at_the_corner_if_the_cells_have_no_grid(self) -> None:

@@ -2,16 +2,18 @@
 
 from __future__ import annotations
 
+import json
 import os
 import signal
 import threading
 import time
 from unittest import main
 
-from support import PATIENCE, HubCase, wait_gone
+from support import HubCase, wait_gone, wait_until
 
 import lefence
 from lefence.base.protocol import query_socket_name, socket_name, team_of_query_socket, team_of_socket
+from lefence.hub.status import read_status
 
 PLACED = ("open f0", "place f0 0 f0c1 0 0 N", "place f0 0 f0c2 400 0 N")
 
@@ -89,12 +91,57 @@ class QuerySockets(HubCase):
         query.socket.sendall(b"wait f0 2\nsync f0 0\n")
         user.ask("where f0 0 f0c1", "place f0 0 f0c1 0 1 N")
         self.talk("f1").ask("open f1", "place f1 0 f1c1 8000 0 N")
-        query.socket.settimeout(0.3)
-        with self.assertRaises(TimeoutError):
-            query.socket.recv(1)
-        query.socket.settimeout(PATIENCE)
+        # A line that comes later is answered later: the client would have its reply by now.
+        self.assertEqual(self.talk("f0.query").ask("sync f0 0"), ["ok 2"])
+        self.assertFalse(query.has_reply())
         user.ask("unplace f0 0 f0c1")
         self.assertEqual([query.replies.readline() for _ in range(2)], [b"ok 3\n"] * 2)
+
+    def test_the_changes_of_a_team_since_a_revision(self) -> None:
+        self.start()
+        query, user, operator = self.talk("f0.query"), self.talk("f0"), self.talk("operator")
+        self.assertEqual(query.ask("changes f0 0", "changes f0 1"), ["ok 0 []", "ok 0 null"])
+        user.ask(*PLACED, "place f0 0 f0c1 1 0 N", "swap f0 0 f0c1 f0c2")
+        operator.ask("open f0", "legalize f0 1 f0c3 2000 0")
+        [reply] = query.ask("changes f0 1")
+        changes = json.loads(reply.removeprefix("ok 4 "))
+        lines = (
+            (2, "place f0 0 f0c2 400 0 N", "ok 2", "f0"),
+            (3, "swap f0 0 f0c1 f0c2", "ok 3", "f0"),
+            (4, "legalize f0 1 f0c3 2000 0", "ok 4 2000 0 N", "operator"),
+        )
+        for change, expected in zip(changes, lines, strict=True):
+            self.assertLess(abs(change.pop("time") - time.time()), 3600)
+            self.assertEqual(tuple(change[key] for key in ("revision", "line", "reply", "socket")), expected)
+            self.assertEqual((change["uid"], change["pid"]), (os.getuid(), os.getpid()))
+        self.assertEqual(operator.ask("changes f0 1"), [reply])
+        self.assertEqual(operator.ask("changes Z 1", "changes f0 x"), ["no 2 NoTeam", "no 1 BadRequest"])
+        self.assertEqual(query.ask("changes f1 0", "changes f0 x"), ["no 2 NoTeam", "no 1 BadRequest"])
+        # only the changes since the start of the hub are known
+        self.hub.kill()
+        self.start()
+        query = self.talk("f0.query")
+        replies = query.ask("changes f0 4", "changes f0 3", "changes f0 5")
+        self.assertEqual(replies, ["ok 4 []", "ok 4 null", "ok 4 null"])
+
+    def test_the_cells_that_are_not_at_their_committed_place(self) -> None:
+        self.start()
+        query, user = self.talk("f0.query"), self.talk("f0")
+        self.assertEqual(query.ask("uncommitted f0", "uncommitted f1", "uncommitted")[0], "ok 0 {}")
+        user.ask("open f0", *(f"place f0 0 f0c{cell} {600 * cell} 0 N" for cell in range(10)), "commit f0 0")
+        self.assertEqual(query.ask("uncommitted f0"), ["ok 11 {}"])
+        user.ask("place f0 0 f0c1 600 4000 N", "unplace f0 0 f0c2", "place f0 0 f0c3 1800 4000 N", "undo f0 0")
+        other = self.talk("f0.query")
+        for talker in (query, other):
+            talker.socket.sendall(b"uncommitted f0\nsync f0 0\n")
+        for talker in (query, other):
+            [reply, revision] = [talker.replies.readline().decode() for _ in range(2)]
+            self.assertEqual(json.loads(reply.removeprefix("ok 15 ")), {"f0c1": [600, 0, "N"], "f0c2": [1200, 0, "N"]})
+            self.assertEqual(revision, "ok 15\n")
+        user.ask("revert f0 0")
+        self.assertEqual(query.ask("uncommitted f0"), ["ok 16 {}"])
+        self.talk("f1").ask("open f1", "place f1 0 f1c1 8000 0 N")
+        self.assertEqual(self.talk("f1.query").ask("uncommitted f1"), ['ok 1 {"f1c1":null}'])
 
     def test_the_end_of_the_hub_refuses_those_that_wait(self) -> None:
         self.start()
@@ -102,7 +149,8 @@ class QuerySockets(HubCase):
         for each in (query, gone):
             each.socket.sendall(b"wait f0 0\nwait f0 0\n")
         gone.close()
-        time.sleep(0.3)
+        # (the first line of each is taken, and waits)
+        wait_until(lambda: read_status(self.folder / "s")["lines_total"] >= 2)
         ended = threading.Thread(target=self.hub.end)
         ended.start()
         self.assertEqual(query.all_replies(), b"no 12 OutOfMemory\n" * 2)

@@ -11,7 +11,7 @@ from unittest import main
 from support import AREAS, CELLS, LEF, PROGRAM, TEAMS, WIDTH, FrontCase, klayout, with_klayout
 
 from lefence.base.description import Cell, Description
-from lefence.tools.splice import Spot, with_spots
+from lefence.slice.splice import Spot, with_spots
 
 # A macro that is higher than all rows.
 HIGH = "MACRO HIGH CLASS CORE ; ORIGIN 0 0 ; SIZE 0.4 BY 10.0 ; SYMMETRY X Y ; SITE core ; END HIGH\nEND LIBRARY"
@@ -75,7 +75,7 @@ class Repairs(FrontCase):
 
     def test_a_repair_makes_every_cell_legal_and_may_keep_legal_cells(self) -> None:
         before = self.cells(self.design)
-        done = self.repair("--out", self.target, "--keep")
+        done = self.repair("--output", self.target, "--keep")
         self.assertEqual((done.returncode, done.stdout), (0, b""), done.stderr)
         self.assertIn(b"every cell is legal", done.stderr)
         check = subprocess.run([PROGRAM, "check", self.target, self.lef], capture_output=True)
@@ -92,14 +92,14 @@ class Repairs(FrontCase):
 
     @with_klayout
     def test_klayout_finds_no_overlap_after_it(self) -> None:
-        self.assertEqual(self.repair("--out", self.target).returncode, 0)
+        self.assertEqual(self.repair("--output", self.target).returncode, 0)
         for design, is_repaired in ((self.design, False), (self.target, True)):
             [line] = klayout(self.folder, AREAS, "-b", "-rd", f"design={design}", "-rd", f"lef={self.lef}")
             count, area, covered = map(float, line.split())
             self.assertEqual((count == CELLS * (TEAMS + 1), area == covered), (is_repaired, is_repaired), line)
 
     def test_a_splice_equals_the_export_of_the_program(self) -> None:
-        self.assertEqual(self.repair("--out", self.target).returncode, 0)
+        self.assertEqual(self.repair("--output", self.target).returncode, 0)
         before, after = self.cells(self.design), self.cells(self.target)
         spots = {
             name: spot for name, cell in after.items() if (spot := spot_of(cell)) and spot != spot_of(before[name])
@@ -118,7 +118,7 @@ class Repairs(FrontCase):
         high = f"- high HIGH + PLACED ( {2 * WIDTH + 1000} 0 ) N"
         self.add(high, "- more high + REGION f2")
         self.add("- new HIGH", "- other new + REGION f2")
-        done = self.repair("--out", self.target)
+        done = self.repair("--output", self.target)
         self.assertEqual(done.returncode, 4)
         why = "no ground of its team holds it; it stays"
         self.assertIn(f"team f2: no place can hold high: {why} at {place}\n".encode(), done.stderr)
@@ -135,7 +135,7 @@ class Repairs(FrontCase):
 
     def test_a_cell_without_room_is_reported_and_unplaced(self) -> None:
         self.design.write_text(TIGHT.replace("( 1000 2000 )", "( 800 2000 )"))
-        done = self.repair("--out", self.target)
+        done = self.repair("--output", self.target)
         self.assertEqual(done.returncode, 4)
         gap = rb"; the widest gap of the rows near it is \d+\.\d{3} microns\n"
         self.assertRegex(done.stderr, rb"team A: no place for (two|three), which was at (0 0 FN|200 0 N)" + gap)
@@ -144,7 +144,7 @@ class Repairs(FrontCase):
 
     def test_cells_that_found_no_room_go_first_in_the_next_order(self) -> None:
         self.design.write_text(TIGHT)
-        self.assertEqual(self.repair("--out", self.target).returncode, 0)
+        self.assertEqual(self.repair("--output", self.target).returncode, 0)
         wanted = TIGHT.replace("( 200 0 ) N", "( 400 0 ) N")
         self.assertEqual(self.target.read_text(), wanted)
 
@@ -157,12 +157,23 @@ class Repairs(FrontCase):
         self.assertEqual((done.returncode, done.stdout), (0, b"- g 0 0 N -> 1000 0 N by 1000\n"), done.stderr)
         self.assertEqual(self.repair("--dry-run", "--team", "A").returncode, 4)
 
+    def test_the_least_displacement_is_not_named_if_cells_stay_on_soft_blockages(self) -> None:
+        """A repair without any cell there moves one by 1.2 microns; this one moves another by 0.1."""
+        cells = "- up INV + PLACED ( 1600 100 ) N ;\n"
+        cells += "".join(f"- soft{x} INV + PLACED ( {x} 0 ) N ;\n" for x in (0, 400, 800))
+        head = TIGHT.partition("REGIONS")[0].replace("DO 5", "DO 10")
+        soft = "BLOCKAGES 1 ; - PLACEMENT + SOFT RECT ( 0 0 ) ( 1200 2000 ) ; END BLOCKAGES"
+        self.design.write_text(f"{head}COMPONENTS 4 ;\n{cells}END COMPONENTS\n{soft}\nEND DESIGN\n")
+        done = self.repair("--dry-run", "--keep")
+        self.assertEqual((done.returncode, done.stdout), (0, b"- up 1600 100 N -> 1600 0 N by 100\n"), done.stderr)
+        self.assertIn(b"displacement in microns: mean 0.100, largest 0.100\n", done.stderr)
+
     def test_a_dry_run_prints_what_would_move_and_writes_nothing(self) -> None:
         before = self.cells(self.design)
         done = self.repair("--dry-run")
         self.assertEqual(done.returncode, 0)
         self.assertEqual([path.name for path in sorted(self.folder.iterdir())], ["t.def", "t.lef"])
-        self.repair("--out", self.target)
+        self.repair("--output", self.target)
         after = self.cells(self.target)
         moved = [name for name, cell in before.items() if spot_of(cell) != spot_of(after[name])]
         moves = dict(line.split(" ", 2)[1:] for line in done.stdout.decode().splitlines())
@@ -172,20 +183,25 @@ class Repairs(FrontCase):
             assert spot
             self.assertIn(f" -> {spot.x} {spot.y} {spot.orient}", text)
 
+    def test_a_dry_run_says_which_cells_only_turn(self) -> None:
+        self.design.write_text(TIGHT.replace("( 0 0 ) FN", "( 0 0 ) FS").replace("( 200 0 )", "( 400 0 )"))
+        done = self.repair("--dry-run")
+        self.assertEqual((done.returncode, done.stdout), (0, b"A two 0 0 FS -> 0 0 N turned\n"), done.stderr)
+
     def test_the_design_itself_may_be_written_and_then_nothing_moves(self) -> None:
         self.design.chmod(0o640)
         link = self.folder / "link"
         link.symlink_to(self.design)
-        self.assertEqual(self.repair("--out", link).returncode, 0)
+        self.assertEqual(self.repair("--output", link).returncode, 0)
         self.assertTrue(link.is_symlink())
         self.assertEqual(self.design.stat().st_mode & 0o777, 0o640)
-        done = self.repair("--out", self.target)
+        done = self.repair("--output", self.target)
         self.assertEqual((done.returncode, self.target.read_bytes()), (0, self.design.read_bytes()))
         self.assertIn(b"lefence-repair: nothing moves\n", done.stderr)
 
     def test_only_the_named_teams_are_repaired(self) -> None:
         before = self.cells(self.design)
-        done = self.repair("--out", self.target, "--team", "f1", "--team", "-")
+        done = self.repair("--output", self.target, "--team", "f1", "--team", "-")
         self.assertEqual(done.returncode, 4)
         after = self.cells(self.target)
         for name, cell in before.items():
@@ -196,14 +212,14 @@ class Repairs(FrontCase):
         self.assertTrue(
             done.stderr.endswith(b"not fully legal: other teams have cells that break a rule or have no place\n")
         )
-        done = self.repair("--out", self.target, "--team", "Z")
+        done = self.repair("--output", self.target, "--team", "Z")
         self.assertEqual((done.returncode, done.stderr), (1, b"lefence-repair: NoTeam; team Z is not in the design\n"))
 
     def test_a_slow_program_has_a_progress_line_each_second(self) -> None:
         slow = self.folder / "slow"
         slow.write_text(f"#!/bin/sh\n[ $1 = repair ] && sleep 2.5\nexec '{PROGRAM}' \"$@\"\n")
         slow.chmod(0o755)
-        done = self.repair("--out", self.target, program=str(slow))
+        done = self.repair("--output", self.target, program=str(slow))
         self.assertEqual(done.returncode, 0)
         self.assertRegex(done.stderr, rb"^(lefence-repair: the program repairs, \d+ s\n)+lefence-repair: team ")
 
@@ -214,7 +230,7 @@ class Repairs(FrontCase):
             (text.replace("UNITS", "#"), b"7 NoUnits t; DEF file"),
         ):
             self.design.write_text(broken)
-            done = self.repair("--out", self.target)
+            done = self.repair("--output", self.target)
             self.assertEqual((done.returncode, expected in done.stderr), (1, True), done.stderr)
             self.assertEqual([path.name for path in sorted(self.folder.iterdir())], ["t.def", "t.lef"])
         for target, why in (("nowhere/x", "cannot write nowhere/x: no such folder"), (".", ".: Is a directory")):
@@ -231,7 +247,7 @@ class Repairs(FrontCase):
         self.assertEqual([path.name for path in sorted(self.folder.iterdir())], ["odd", "t.def", "t.lef"])
 
     def test_a_program_that_dies_is_reported_and_no_file_remains(self) -> None:
-        for words in (("--out", str(self.target)), ("--dry-run",)):
+        for words in (("--output", str(self.target)), ("--dry-run",)):
             self.fails("kill -9 $$", b"the program ended unexpectedly with status -9\n", *words)
             self.fails("echo ok", b"the program ended unexpectedly with status 0\n", *words)
         for end, expected in (

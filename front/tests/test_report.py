@@ -14,7 +14,7 @@ from support import FrontCase
 
 import lefence
 from lefence.base.description import Box, Cell
-from lefence.tools.report import Near
+from lefence.view.report import Near
 
 # Cells that break rules, two of them with odd names; a soft blockage, a FIXED component with such a name, and a
 # blockage.
@@ -32,6 +32,16 @@ COMPONENTS 6 ;
 - f1cx INV + PLACED ( 8400 0 ) N ;
 END COMPONENTS
 """
+# A net with an odd name, of two cells and a pin of the design, and one of a single pin; pins for INV.
+NETS = """PINS 1 ;
+- p + NET n + DIRECTION INPUT + LAYER m1 ( 0 0 ) ( 9 9 ) + FIXED ( 30 40 ) N ;
+END PINS
+NETS 2 ;
+- </script>n ( one A ) ( two A ) ( PIN p ) ;
+- m ( two Z ) ;
+END NETS
+"""
+PINS = "PIN A PORT LAYER m1 ; RECT 0 0.5 0.2 1.5 ; END END A"
 
 
 class Text(HTMLParser):
@@ -155,6 +165,58 @@ class Reports(ReportCase):
         self.assertEqual((done.returncode, (self.folder / "x.html").exists()), (1, False), done.stderr)
         self.assertIn(b"2000 database units per micron", done.stderr)
 
+    def test_without_violations_there_is_no_card_of_them(self) -> None:
+        self.assertIn("<h2>Violations</h2>", self.page())
+        self.design.write_text(self.design.read_text().split("COMPONENTS")[0] + "END DESIGN\n")
+        self.assertNotIn("<h2>Violations</h2>", self.page())
+
+    def test_the_head_of_the_page_has_the_files_and_the_wire_length(self) -> None:
+        (self.folder / "early.def").write_text(self.design.read_text().replace("END DESIGN", f"{NETS}END DESIGN"))
+        self.design.write_text((self.folder / "early.def").read_text().replace("( 64000 0 )", "( 66000 0 )"))
+        self.lef.write_text(self.lef.read_text().replace("SITE core ; END INV", f"SITE core ; {PINS} END INV"))
+        page = self.page("--before", "early.def")
+        # The net goes from the pin at 30 40 to the pin of `two` or `one` at y 1000; the net of `m` has one pin only.
+        wires = "wire length 65.230 -&gt; 67.030 microns (+2.8%)"
+        self.assertTrue(f'<span class="badge faint">{wires}</span>' in page)
+        head = r'<p class="faint">t.def · t.lef · 95 cells · \d{4}-\d\d-\d\d \d\d:\d\d UTC</p>'
+        self.assertTrue(re.search(head, page))
+
+    def test_the_density_is_the_area_of_cells_by_the_area_of_rows(self) -> None:
+        found = self.data(Text(self.page()))["density"]
+        # Four rows of 72 microns in bins of one row; the wall and a blockage take room.
+        self.assertEqual((found["side"], found["columns"], len(found["used"])), (2000, 36, 144))
+        self.assertEqual((found["wide"], found["high"]), (72000, 8000))
+        self.assertEqual(sum(found["room"]), 36 * 4 * 4 - 0.6 * 2 - 1 * 4)
+        # (one, two, the odd one, and f1cx; far is far away)
+        self.assertAlmostEqual(sum(found["used"]), 4 * 0.4 * 2)
+        self.assertEqual([at for at, area in enumerate(found["used"]) if area], [4, 32, 36])
+        large = self.data(Text(self.page("--limit", "2")))["density"]
+        self.assertEqual(large, found)
+
+    def test_a_histogram_of_displacements(self) -> None:
+        early = self.design.read_text()
+        (self.folder / "early.def").write_text(early)
+        self.assertNotIn("<h2>Displacements</h2>", self.page("--before", "early.def"))
+        self.design.write_text(early.replace("one INV + PLACED ( 64000 0 ) N", "one INV + PLACED ( 66000 2000 ) FS"))
+        lines = Text(self.page("--before", "early.def")).lines
+        self.assertIn(["stay", "4", "80.0%", ""], lines)
+        self.assertIn(["up to 2", "1", "20.0%", ""], lines)
+        self.assertIn(["over 50", "0", "0.0%", ""], lines)
+
+    def test_the_nets_of_the_cells(self) -> None:
+        self.design.write_text(self.design.read_text().replace("END DESIGN", f"{NETS}END DESIGN"))
+        data = self.data(Text(self.page()))
+        names = [cell[6] for cell in [*data["broken"], *data["cells"]]]
+        one, two = names.index("one"), names.index("two")
+        # (without PINs in the LEF file a pin is in the middle of its cell)
+        expected = ["</script>n", 64200.0, 1000.0, one, 64400.0, 1000.0, two, 30.0, 40.0, -1]
+        self.assertEqual(data["nets"], [expected])
+        large = f"( PIN p ) ;\n- big ( two A ) {' '.join(['( one A )'] * 101)} ;"
+        self.design.write_text(self.design.read_text().replace("( PIN p ) ;", large))
+        page = self.page()
+        self.assertEqual(self.data(Text(page))["nets"], [expected])
+        self.assertIn("<dd>Nets of more than 100 pins are left out: 1.</dd>", page)
+
     def test_the_page_loads_nothing_else(self) -> None:
         self.assertIsNone(re.search(r"""(?:src|href)=["'](?!#|data:)|https?:|@import|url[(]""", self.page()))
 
@@ -248,6 +310,140 @@ class InABrowser(ReportCase):
             self.browser.open((self.folder / "x.html").as_uri() + hash_)
             self.assertEqual(self.where()[3], chosen)
             self.assertEqual(self.browser.faults(), [])
+
+    def press(self, *keys: str) -> None:
+        """Presses keys in the picture."""
+        self.browser.value("canvas.focus()")
+        for key in keys:
+            self.browser.key(key)
+
+    def colour(self, x: int, y: int) -> list[int]:
+        """The colour of the picture at a point in database units."""
+        self.browser.drawn()
+        # (a copy of the pixel is read, since the browser warns of many reads of a picture)
+        copy = 'new OffscreenCanvas(1, 1).getContext("2d", { willReadFrequently: true })'
+        code = f"const copy = {copy}; copy.drawImage(canvas, -Math.round(across({x})), -Math.round(down({y})));"
+        found: list[int] = self.browser.value(f"(() => {{ {code} return [...copy.getImageData(0, 0, 1, 1).data]; }})()")
+        return found[:3]
+
+    def test_the_density_map_in_a_browser(self) -> None:
+        browser = self.browser
+        browser.open((self.folder / "x.html").as_uri())
+        empty = self.colour(20000, 3000)
+        self.press("d")
+        self.assertEqual(browser.value("[joinedBins, densityBins().length]"), [4, 9])
+        self.assertNotEqual(self.colour(20000, 3000), empty)
+        self.assertFalse(browser.value("document.getElementById('shares').hidden"))
+        # Bins become smaller and larger, down to one row and up to one bin.
+        self.press("[", "[", "[")
+        self.assertEqual(browser.value("[joinedBins, densityBins().length]"), [1, 144])
+        # The bin of `one` and `two` is 0.6 microns of 2 full, and the tip says so.
+        bin_ = "densityBins().find((bin) => bin.box[0] === 64000 && bin.box[1] === 0)"
+        self.assertEqual(browser.value(f"shareText({bin_})"), "40 %")
+        self.assertIn("40 % of the rows taken in 2 × 2 µm", browser.value("under(across(65800), down(1000))"))
+        self.press(*"]" * 9)
+        self.assertEqual(browser.value("densityBins().length"), 1)
+        browser.click("#density")
+        self.assertEqual(self.colour(20000, 3000), empty)
+        self.assertEqual(browser.faults(), [])
+
+    def test_a_search_in_a_browser(self) -> None:
+        browser = self.browser
+        browser.open((self.folder / "x.html").as_uri())
+        browser.key("/")
+        self.assertEqual(browser.value("document.activeElement.id"), "search")
+
+        def found(text: str) -> list[str]:
+            browser.value(f"search.value = {json.dumps(text)}; search.dispatchEvent(new Event('input'))")
+            names: list[str] = browser.value("[...foundList.children].map((entry) => entry.textContent)")
+            return names
+
+        self.assertEqual(found("TWO"), ["twoINV"])
+        self.assertEqual(found("f1"), ["f1team", *(f"f1c{at}unplaced" for at in range(10)), "f1cxINV"])
+        self.assertEqual(found("f*c3"), [f"f{at}c3unplaced" for at in range(8)])
+        self.assertEqual(found("c")[-1], "and 81 more")
+        self.assertEqual(found("wall"), ["</script>wallFIXED"])
+        self.assertEqual(found("script"), ["</script>wallFIXED", f"{ODD}INV"])
+        self.assertEqual(found("f0c[1"), ["nothing has this name"])
+        found("two")
+        browser.key("Enter")
+        self.assertEqual(self.where()[:2], [64400, 1000])
+        self.assertEqual(browser.value("[location.hash, foundList.hidden]"), ["#c=two", True])
+        self.assertEqual(browser.value("info.firstChild.textContent"), "two")
+        found("*script*b*")
+        browser.click("#found button")
+        self.assertEqual(self.where()[:2], [700, 3000])
+        self.assertEqual(browser.value("info.firstChild.textContent"), ODD)
+        self.press("Escape")
+        self.assertTrue(browser.value("info.hidden"))
+        self.assertEqual(browser.faults(), [])
+
+    def test_before_and_after_in_a_browser(self) -> None:
+        early = self.design.read_text()
+        (self.folder / "early<b>.def").write_text(early)
+        self.design.write_text(early.replace("one INV + PLACED ( 64000 0 ) N", "one INV + PLACED ( 66000 2000 ) FS"))
+        self.page("--before", "early<b>.def")
+        browser = self.browser
+        browser.open((self.folder / "x.html").as_uri())
+        browser.click("tr[data-go='m=one']")
+        self.press("m")
+        red, row = [217, 43, 43], self.colour(68000, 1000)
+        self.assertEqual(browser.value("when.textContent"), "after: t.def")
+        self.assertEqual((self.colour(64100, 1000), self.colour(66100, 3000)), (row, [135, 152, 174]))
+        # Before, `one` overlaps `two`.
+        self.press("b")
+        self.assertEqual(browser.value("when.textContent"), "before: early<b>.def")
+        self.assertEqual((self.colour(64100, 1000), self.colour(66100, 3000)), (red, row))
+        browser.click("#before")
+        self.assertEqual(self.colour(66100, 3000), [135, 152, 174])
+        self.assertEqual(browser.faults(), [])
+
+    def test_names_of_javascript_are_names_of_cells(self) -> None:
+        cells = "- constructor INV + PLACED ( 65000 2000 ) FS ;\n- __proto__ INV + PLACED ( 65600 2000 ) FS ;\n"
+        early = self.design.read_text().replace("- far INV", f"{cells}- far INV")
+        (self.folder / "early.def").write_text(early)
+        self.design.write_text(early.replace("( 65600 2000 )", "( 68000 2000 )"))
+        self.page("--before", "early.def")
+        browser = self.browser
+        browser.open((self.folder / "x.html").as_uri())
+        lefts = "Object.entries(Object.fromEntries(cells.map((cell) => [`c_${cell[NAME]}`, placeOf(cell)[LEFT]])))"
+        after = dict(browser.value(lefts))
+        self.press("b")
+        before = dict(browser.value(lefts))
+        self.assertEqual((after["c_constructor"], after["c___proto__"]), (65000, 68000))
+        self.assertEqual({name: left for name, left in before.items() if after[name] != left}, {"c___proto__": 65600})
+        self.assertEqual(browser.faults(), [])
+
+    def test_the_nets_of_a_clicked_cell_in_a_browser(self) -> None:
+        self.design.write_text(self.design.read_text().replace("END DESIGN", f"{NETS}END DESIGN"))
+        self.page()
+        browser = self.browser
+        browser.open((self.folder / "x.html").as_uri() + "#t=-")
+        empty = self.colour(32115, 520)
+        # A click on a cell shows its nets, with a line to each other pin; a click beside all cells ends that.
+        spot = "((x, y) => { const b = canvas.getBoundingClientRect(); return [b.x + across(x), b.y + down(y)]; })"
+        for x, y, shown in ((64100, 1000, True), (32000, 7000, False)):
+            across, down = browser.value(f"{spot}({x}, {y})")
+            for kind in ("mousePressed", "mouseReleased"):
+                browser.mouse(kind, across, down, button="left", clickCount=1)
+            browser.drawn()
+            self.assertEqual(browser.value("!info.hidden"), shown)
+            self.assertEqual(self.colour(32115, 520) != empty, shown)
+            if shown:
+                self.assertEqual(browser.value("info.lastChild.textContent"), "1 net: </script>n")
+                self.assertEqual(browser.value("location.hash"), "#c=one")
+        self.assertEqual(browser.faults(), [])
+
+    def test_a_scale_bar_in_a_browser(self) -> None:
+        browser = self.browser
+        browser.open((self.folder / "x.html").as_uri())
+        for _ in range(3):
+            text, width = browser.value("[scaleBar.textContent, parseFloat(scaleBar.style.width)]")
+            length = float(text.removesuffix(" µm"))
+            self.assertAlmostEqual(browser.value(f"{length} * data.units * at.scale"), width, 2)
+            self.assertTrue(45 < width <= 121, width)
+            self.press("+", "+", "+")
+        self.assertEqual(browser.faults(), [])
 
     def test_a_map_in_a_browser(self) -> None:
         self.page("--limit", "2")

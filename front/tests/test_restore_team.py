@@ -44,8 +44,10 @@ class GoesBack(HubCase):
         self.work(15)
         first, number = self.cells("f0"), self.changes()
         self.work(15)
+        # (the journal rounds times to milliseconds)
+        time.sleep(0.002)
         second, moment = self.cells("f0"), datetime.datetime.now().isoformat(timespec="milliseconds")
-        time.sleep(0.1)
+        time.sleep(0.002)
         self.work(15)
         other = self.cells("f1")
         for when, wanted in ((str(number), first), (moment, second)):

@@ -2,10 +2,10 @@
 
 from __future__ import annotations
 
+import hashlib
 import os
 import resource
 import signal
-import threading
 import time
 import unittest
 from concurrent.futures import ThreadPoolExecutor
@@ -32,7 +32,7 @@ from lefence.base.design import Design
 from lefence.base.slices import slices_of
 from lefence.base.state_text import part_of
 from lefence.hub.shards import default_programs
-from lefence.hub.slices import Slice, divided, slices_folder
+from lefence.hub.slice_store import Slice, divided, slices_folder
 from lefence.hub.status import read_status
 from lefence.journal.segments import Archive, State, open_segments, records_in
 
@@ -229,8 +229,10 @@ class Shards(SeveralPrograms):
         gate.unlink()
         operator.socket.sendall(b"open f0\ntidy f0 1\nwhere f1 0 f1c0\n")
         self.assertEqual(operator.replies.readline(), b"ok 1 1\n")
+        operator.wait_read()
         self.hub.process.terminate()
-        threading.Timer(0.2, gate.touch).start()
+        self.wait_stopping()
+        gate.touch()
         self.assertEqual([line[:3] for line in operator.replies.read().splitlines()], [b"ok ", b"ok "])
         self.assertEqual(self.hub.process.wait(PATIENCE), 0)
 
@@ -250,6 +252,7 @@ class Losses(SeveralPrograms):
             for team, talker in talkers.items():
                 lines = [f"place f{team} 0 f{team}c{at % CELLS} {spot(team, at + turn * 50)}\n" for at in range(50)]
                 talker.socket.sendall("".join(lines).encode())
+            # (the programs are struck at a random moment)
             time.sleep(self.rng.uniform(0, 0.01))
             struck = self.rng.sample([*talkers], self.rng.choice([1, 1, 2]))
             for team in struck:
@@ -279,12 +282,12 @@ class Losses(SeveralPrograms):
         self.assertEqual([first.replies.readline() for _ in range(2)], [b"ok 1\n", b"ok 200 0 N\n"])
 
     def test_a_program_that_hangs_is_restored(self) -> None:
-        self.start("--programs", "2", "--deadline", "2")
+        self.start("--programs", "2", "--deadline", "5")
         talker = self.talk("f0")
         self.assertEqual(talker.ask("open f0", "place f0 0 f0c1 0 0 N"), ["ok 0 0", "ok 1"])
         os.kill(self.pid_of("f0"), signal.SIGSTOP)
         self.assertEqual(talker.ask("place f0 0 f0c1 200 0 N", "where f0 0 f0c1"), ["ok 2", "ok 200 0 N"])
-        self.assertIn("was silent for 2 seconds", self.hub.log_text())
+        self.assertIn("was silent for 5 seconds", self.hub.log_text())
         self.assertRegex(self.hub.log_text(), r" \(program \d of 2\); restarting it")
         self.assertEqual(sorted(each["restores"] for each in self.programs()), [0, 1])
 
@@ -305,6 +308,28 @@ class Losses(SeveralPrograms):
         self.assertIn("ready", self.start("--programs", "2"))
         self.assertEqual((damaged.read_bytes(), {*folder.iterdir()}), (text, {*times}))
         self.assertEqual(len(self.programs()), 2)
+
+    def test_a_damaged_index_is_not_believed(self) -> None:
+        index = slices_folder(self.journal) / "index"
+        self.start("--programs", "2")
+        talkers = [self.talk(f"f{team}") for team in range(TEAMS)]
+        for team, talker in enumerate(talkers):
+            self.assertEqual(talker.ask(f"open f{team}", f"pad f{team} 0 1"), ["ok 0 0", "ok 1"])
+        whole = index.read_bytes()
+        lines = whole.splitlines(keepends=True)
+        [*_, first, second, _] = lines
+        self.assertTrue(first.startswith(b"slice ") and second.startswith(b"slice "))
+        renamed = whole.replace(b" f2", b" g2")
+        summed = b"".join(lines[:-2])
+        # (the last one has the right checksum, but lacks teams)
+        summed += b"sum %b\n" % hashlib.sha256(summed).hexdigest().encode()
+        for damaged in (whole[: whole.rfind(b"slice")], whole[: whole.rfind(b"sum")], renamed, summed):
+            self.hub.kill()
+            index.write_bytes(damaged)
+            self.assertIn("ready", self.start("--programs", "2"))
+            self.assertEqual((index.read_bytes(), len(self.programs())), (whole, 2))
+            for team in range(TEAMS):
+                self.assertEqual(self.talk(f"f{team}").ask(f"open f{team}"), ["ok 0 1"], self.hub.log_text())
 
     def test_a_slice_that_changes_while_its_program_runs_ends_the_hub_and_nothing_is_lost(self) -> None:
         self.start("--programs", "2")
@@ -357,7 +382,6 @@ class Losses(SeveralPrograms):
                 accepted[team] += sum(each.startswith("ok") for each in replies)
                 ended[team] = set(replies) == {"no 12 OutOfMemory"}
         resource.prlimit(pid, resource.RLIMIT_FSIZE, (hard, hard))
-        time.sleep(1.5)
         for team, talker in enumerate(talkers):
             self.assertEqual(talker.ask(f"pad f{team} 0 1"), [f"ok {accepted[team] + 1}"])
         self.assertEqual(self.hub.end(), 0)

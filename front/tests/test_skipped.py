@@ -7,9 +7,9 @@ import subprocess
 import unittest
 from pathlib import Path
 
-from support import PROGRAM, FrontCase
+from support import PROGRAM, FrontCase, without_table
 
-from lefence.tools.skipped import line_of
+from lefence.prepare.skipped import line_of
 
 TEXT = """VERSION 5.8 ;
 DESIGN t ;
@@ -69,7 +69,7 @@ class Looks(FrontCase):
     def test_what_is_skipped_is_listed_with_its_line(self) -> None:
         done = self.run_on("--look")
         self.assertEqual((done.returncode, done.stderr), (4, b""))
-        *remarks, last = done.stdout.decode().splitlines()
+        *remarks, last = without_table(done.stdout.decode()).splitlines()
         self.assertEqual(sorted(remarks), sorted(REMARKS.splitlines()))
         self.assertEqual(last, "it loads: 5 cells, 2 unplaced, 0 illegal")
         self.assertEqual(sorted(path.name for path in self.folder.iterdir()), ["t.def", "t.lef"])
@@ -90,9 +90,9 @@ class Looks(FrontCase):
         clean = clean.replace("COMPONENTS 7", "COMPONENTS 5").replace("- i c1 + REGION C ;\n", "- i c1 ;\n")
         self.design.write_text(clean)
         done = self.run_on("--look")
-        self.assertEqual(
-            (done.returncode, done.stdout), (0, b"it loads: 4 cells, 0 unplaced, 1 illegal (1 by rule 6 Fence)\n")
-        )
+        output = without_table(done.stdout.decode())
+        expected = "it loads: 4 cells, 0 unplaced, 1 illegal (1 by rule 6 Fence)\n"
+        self.assertEqual((done.returncode, output), (0, expected))
 
     def test_a_preparing_run_lists_it_with_the_lines_of_its_input(self) -> None:
         done = self.run_on(
@@ -155,13 +155,14 @@ class Looks(FrontCase):
         done = self.run_on("--look")
         self.assertEqual(done.returncode, 1)
         self.assertIn(b"+ PLAECD of component a1", done.stdout)
-        self.assertTrue(
-            done.stdout.endswith(b"it does not load: 7 NoUnits t; t.def, line 2: DESIGN t ;\n"), done.stdout
-        )
+        says = b"there is no UNITS DISTANCE MICRONS, which says how many database units a micron has\n"
+        expected = b"it does not load: 7 NoUnits t; t.def, line 2: DESIGN t ;\n" + says
+        self.assertTrue(done.stdout.endswith(expected), done.stdout)
         self.design.write_text("DESIGN t ;\nUNITS DISTANCE MICRONS 1000 ;\nEND DESIGN\n")
         done = self.run_on("--look")
         where = b"t.def, line 1 (there is no ROW: lefence-prepare makes rows): DESIGN t ;\n"
-        expected = b"no ROW; a run with --output adds rows\nit does not load: 9 NoRows t; " + where
+        remark = b"no ROW; a run with --output adds rows, --floorplan FP.def takes those of another DEF file\n"
+        expected = remark + b"it does not load: 9 NoRows t; " + where
         self.assertEqual((done.returncode, done.stdout), (1, expected))
 
     def test_a_file_that_is_not_def_is_reported(self) -> None:

@@ -17,7 +17,7 @@ from lefence.base.design import Design
 from lefence.base.faults import Fault
 from lefence.journal.frames import Record
 from lefence.journal.journal import Journal, texts_in
-from lefence.tools.slice import refuse_difference, slice_of
+from lefence.slice.main import refuse_difference, slice_of
 
 # Parts of a real design: sections that a slice drops, comments, quotes, FIXED and COVER components.
 SECTIONS = """PINS 1 ;
@@ -111,7 +111,7 @@ class Slices(HubCase):
         for team in ("Z", "\udcff", ""):
             done = self.tool("lefence-slice", self.design, "--team", team)
             self.assertEqual((done.returncode, done.stdout), (1, b""))
-            self.assertIn(b"no team", done.stderr)
+            self.assertRegex(done.stderr, rb"no team: .*; the teams are f0, f1, .*, -\n")
         done = self.tool("lefence-slice", self.design, "--team", "f1")
         self.assertEqual((done.returncode, done.stdout), (0, slice_of(self.design.read_bytes(), "f1")))
         self.assertIn(b"not checked", done.stderr)

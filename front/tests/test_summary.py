@@ -8,8 +8,8 @@ import unittest
 from support import PROGRAM, FrontCase
 
 from lefence.base.description import Box, Cell, Facts, Fence, Frame, Row
-from lefence.tools.displacement import notes_of, summary_of
-from lefence.tools.displacement_text import text_of
+from lefence.view.displacement import notes_of, summary_of
+from lefence.view.displacement_text import text_of
 
 ROWS = [Row("r0", Box(0, 0, 8000, 2000), "N", 40), Row("r1", Box(0, 2000, 8000, 4000), "FS", 40)]
 FRAME = Frame(Facts("t", 1000, "core", 200, 2000), ROWS, [Fence("A", (Box(0, 0, 4000, 4000),))], [], [])

@@ -5,10 +5,11 @@ from __future__ import annotations
 import os
 import shutil
 import subprocess
+import sys
 import unittest
 from pathlib import Path
 
-from support import CELLS, FRONT, PATIENCE, HubCase
+from support import CELLS, FRONT, PATIENCE, HubCase, page_blocks
 
 import lefence
 from lefence.base.protocol import OPENACCESS
@@ -18,8 +19,13 @@ TCLSH = shutil.which("tclsh")
 
 @unittest.skipIf(TCLSH is None, "tclsh is not here; Debian has it as the package tcl")
 class Tcl(HubCase):
-    def run_tcl(self, script: str, *words: str | Path, expected: str = "") -> list[str]:
-        """Runs a script; returns its output. Its standard error must be the expected one."""
+    def run_tcl(
+        self, script: str, *words: str | Path, expected: str = "", library: Path = FRONT / "tcl", search: str = ""
+    ) -> list[str]:
+        """Runs a script with the library of a folder; returns its output. Its standard error must be the expected one.
+
+        `search` comes first in the search path.
+        """
         path = self.folder / "script.tcl"
         path.write_text(script)
         done = subprocess.run(
@@ -29,7 +35,7 @@ class Tcl(HubCase):
             text=True,
             timeout=PATIENCE,
             cwd=self.folder,
-            env={**os.environ, "TCLLIBPATH": str(FRONT / "tcl")},
+            env={**os.environ, "TCLLIBPATH": str(library), "PATH": f"{search}:{os.environ['PATH']}"},
         )
         self.assertEqual((done.returncode, done.stderr), (0, expected), done.stdout)
         return done.stdout.splitlines()
@@ -169,14 +175,31 @@ class Tcl(HubCase):
 
     def test_the_example_of_the_page_runs(self) -> None:
         self.start()
-        page = (FRONT.parent / "docs/FRONT.md").read_text()
-        code = (
-            page.partition("```tcl\n")[2]
-            .partition("```")[0]
-            .replace("/run/lefence/A.sock", str(self.folder / "s/f0.sock"))
-        )
+        [block] = page_blocks("CLIENTS.md", "tcl")
+        code = block.replace("/run/lefence/A.sock", str(self.folder / "s/f0.sock"))
         output = self.run_tcl(code.replace("$connection A", "$connection f0").replace("session u", "session f0c"))
         self.assertEqual(output, ["f0c2 f0c1", "0.4 0.0 N", "2"])
+
+    def test_an_installation_finds_its_shell(self) -> None:
+        self.start()
+        shell = f"#!/bin/sh\nexec '{sys.executable}' '{FRONT / 'bin/lefence-shell'}' \"$@\"\n"
+        script = "package require lefence; set c [lefence::connect [lindex $argv 0]]; puts [lefence::line $c units]"
+        # as of pip, of a Debian package, and of a folder apart from the tools
+        for prefix, library, search in (
+            ("pip", "share/lefence/tcl", ""),
+            ("usr", "share/tcltk/lefence", ""),
+            ("apart", "tcl", "usr/bin"),
+        ):
+            folder = self.folder / prefix
+            shutil.copytree(FRONT / "tcl", folder / library)
+            if not search:
+                (folder / "bin").mkdir()
+                (folder / "bin/lefence-shell").write_text(shell)
+                (folder / "bin/lefence-shell").chmod(0o755)
+            with self.subTest(prefix):
+                found = str(self.folder / search) if search else ""
+                output = self.run_tcl(script, self.folder / "s/f0.sock", library=folder / library, search=found)
+                self.assertEqual(output, ["ok 1000"])
 
     def test_orientations_are_those_of_the_library_for_python(self) -> None:
         [output] = self.run_tcl("package require lefence; puts $lefence::ORIENTS")

@@ -8,7 +8,7 @@ import unittest
 from support import SEED, FrontCase
 
 from lefence.base.description import Box, Description, Facts, Fence, Frame, Obstacle, Row
-from lefence.tools.team_area import areas_of
+from lefence.view.team_area import areas_of
 
 FACTS = Facts("t", 1000, "core", 1, 4)
 

@@ -22,7 +22,7 @@ from lefence.base.faults import Fault, run_tool
 TOOLS = (
     *("lefence-hub", "lefence-slice", "lefence-push", "lefence-shell", "lefence-picture", "lefence-report"),
     *("lefence-summary", "lefence-markers", "lefence-prepare", "lefence-repair", "lefence-journal", "lefence-farm"),
-    *("lefence-fill", "lefence-carry"),
+    *("lefence-fill", "lefence-carry", "lefence-check", "lefence-view", "lefence-improve"),
 )
 
 
@@ -65,15 +65,19 @@ class Tools(FrontCase):
             ("lefence-summary", ("t.def", "nowhere.def", "t.lef", "--program", PROGRAM)),
             ("lefence-prepare", ("t.def", "nowhere.lef", "--output", "x", "--program", PROGRAM)),
             ("lefence-prepare", ("t.def", "t.lef", "--output", "nowhere/x", "--program", PROGRAM)),
+            ("lefence-check", ("nowhere.def", "t.lef", "--program", PROGRAM)),
             ("lefence-markers", ("nowhere.def", "t.lef", "--output", "x", "--program", PROGRAM)),
             ("lefence-markers", ("t.def", "t.lef", "--output", "nowhere/x", "--program", PROGRAM)),
-            ("lefence-repair", ("nowhere.def", "t.lef", "--out", "x", "--program", PROGRAM)),
+            ("lefence-repair", ("nowhere.def", "t.lef", "--output", "x", "--program", PROGRAM)),
+            ("lefence-improve", ("nowhere.def", "t.lef", "--output", "x", "--program", PROGRAM)),
             ("lefence-picture", ("nowhere.def", "t.lef", "--program", PROGRAM)),
             ("lefence-picture", ("t.def", "t.lef", "--program", PROGRAM, "-o", "nowhere/x.svg")),
             ("lefence-report", ("nowhere.def", "t.lef", "--program", PROGRAM)),
             ("lefence-farm", ("work", "nowhere.def", "t.lef", "--program", PROGRAM, "--", "true")),
             ("lefence-farm", ("work", "--collect")),
             ("lefence-report", ("t.def", "t.lef", "--program", PROGRAM, "-o", "nowhere/x.html")),
+            ("lefence-view", ("nowhere.def", "t.lef", "--program", PROGRAM)),
+            ("lefence-view", (".", "--program", PROGRAM)),
         )
         for name, words in commands:
             done = self.tool(name, *words)
@@ -90,10 +94,13 @@ class Tools(FrontCase):
             ("lefence-shell", design),
             ("lefence-picture", design),
             ("lefence-report", design),
+            ("lefence-view", design),
             ("lefence-summary", ("t.def", *design)),
             ("lefence-markers", (*design, "--output", "x")),
+            ("lefence-check", design),
             ("lefence-prepare", (*design, "--output", "x")),
-            ("lefence-repair", (*design, "--out", "x")),
+            ("lefence-repair", (*design, "--output", "x")),
+            ("lefence-improve", (*design, "--output", "x")),
             ("lefence-farm", ("work", *design)),
         ):
             more = ("--", "true") if name == "lefence-farm" else ()

@@ -11,7 +11,8 @@ import tempfile
 from collections.abc import AsyncIterator
 from typing import IO, TypeVar
 
-from .faults import Fault
+from .clock import SYSTEM_CLOCK, Clock
+from .faults import Fault, as_given
 from .program import fault_of
 from .reply_reader import ReplyReader, reply_pipe
 
@@ -26,9 +27,9 @@ async def start_run(words: list[str]) -> AsyncRun:
     return AsyncRun(await _start(words, asyncio.subprocess.DEVNULL, asyncio.subprocess.PIPE, errors), errors)
 
 
-async def start_answering_run(words: list[str]) -> AnsweringRun:
+async def start_answering_run(words: list[str], clock: Clock = SYSTEM_CLOCK) -> AnsweringRun:
     """Starts the program with these words and an input. It writes its errors to the caller's standard error."""
-    replies, pipe = reply_pipe()
+    replies, pipe = reply_pipe(clock)
     try:
         return AnsweringRun(await _start(words, asyncio.subprocess.PIPE, pipe), replies)
     except BaseException:
@@ -44,7 +45,9 @@ async def _start(
     # A session of its own: the terminal's Ctrl-C reaches the caller only. The program's input ends when the caller
     # ends.
     return await asyncio.create_subprocess_exec(
-        *words,
+        as_given(words[0]),
+        *words[1:],
+        executable=words[0],
         stdin=source,
         stdout=target,
         stderr=errors,

@@ -1,7 +1,7 @@
 """The output of `lefence describe`: the frame at once, then the cells one by one, then the totals.
 
 The tools that draw, check and repair a design use only this. They have no rules of legality of their own. Lengths are
-database units. The keys are those of docs/PROTOCOL.md ("The description").
+database units. The keys are those of docs/CLI.md ("The description").
 """
 
 from __future__ import annotations
@@ -24,6 +24,8 @@ from .program import PAUSE, Program
 _WRITTEN = (0, 4)
 # A part of the last line only: in names, quotes are escaped.
 _TOTAL = b'"kind":"total"'
+# A part of the last line but one only.
+_DENSITY = b'"kind":"density"'
 # A text with its escapes; and the line of a cell with the keys that are known today.
 _TEXT = rb'[^"\\]*(?:\\.[^"\\]*)*'
 _CELL = re.compile(
@@ -265,12 +267,13 @@ class Description:
             raise self._fault()
 
     def _read_batches(self) -> Iterator[list[bytes]]:
-        """Yields the lines in batches. Raises a Fault at the end of the output."""
+        """Yields the lines in batches, without that of the density. Raises a Fault at the end of the output."""
         while True:
             try:
                 lines = self._run.lines()
             except EOFError:
                 raise self._fault() from None
+            lines[-2:] = [line for line in lines[-2:] if _DENSITY not in line]
             yield lines
             time.sleep(PAUSE)
 

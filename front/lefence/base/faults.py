@@ -64,7 +64,7 @@ class Parser(argparse.ArgumentParser):
 
     def add_program(self) -> None:
         """Adds the option for another program."""
-        text = "the lefence program (default: from the search path, else of this repository)"
+        text = "the lefence program (default: of the variable LEFENCE, of the search path, of this repository)"
         self.add_argument("--program", metavar="PATH", help=text)
 
 

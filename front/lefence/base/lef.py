@@ -28,7 +28,7 @@ def sites_of(text: bytes) -> Iterator[Site]:
     """Yields the sites of a LEF text in its order."""
     for name, words in _sections(text, b"SITE"):
         classes = [words[at + 1 : at + 2] for at, word in enumerate(words) if word == b"CLASS"]
-        yield Site(name, classes[-1:] == [[b"CORE"]], *_sizes(words)[-1], b"SYMMETRY" in words)
+        yield Site(name, classes[-1:] == [[b"CORE"]], *sizes_in(words)[-1], b"SYMMETRY" in words)
 
 
 def classes_of_sites(text: bytes) -> Iterator[tuple[bytes, bytes]]:
@@ -41,7 +41,12 @@ def classes_of_sites(text: bytes) -> Iterator[tuple[bytes, bytes]]:
 def sizes_of(text: bytes) -> Iterator[tuple[bytes, Decimal, Decimal]]:
     """Yields the macros of a LEF text in its order, with their widths and heights in microns."""
     for name, words in _sections(text, b"MACRO"):
-        yield name, *_sizes(words)[0]
+        yield name, *sizes_in(words)[0]
+
+
+def macros_of(text: bytes) -> Iterator[tuple[bytes, list[bytes]]]:
+    """Yields the macros of a LEF text in its order, each with the words between its name and its END."""
+    return _sections(text, b"MACRO")
 
 
 def rails_of(text: bytes) -> Iterator[tuple[bytes, bool]]:
@@ -55,6 +60,32 @@ def rails_of(text: bytes) -> Iterator[tuple[bytes, bool]]:
             has_rect = has_rect or word == b"RECT"
             is_known = is_known or (is_rail and has_rect)
         yield name, is_known
+
+
+def lines_of(text: bytes, keyword: bytes, name: bytes) -> list[int]:
+    """Lists the lines of a LEF text on which a section with this keyword and name begins. Words in comments do not
+    count.
+    """
+    words = keyword + rb"[ \t\r\n]+" + re.escape(name)
+    start = re.compile(rb"^[^#\n]*?(?<![^ \t\r\n])" + words + rb"(?![^ \t\r\n])", re.M)
+    keywords = (text.rindex(keyword, found.start(), found.end() - len(name)) for found in start.finditer(text))
+    return [text.count(b"\n", 0, place) + 1 for place in keywords]
+
+
+def pin_counts_of(text: bytes) -> Iterator[tuple[bytes, int]]:
+    """Yields the macros of a LEF text in its order; each with the number of its pins, except for POWER and GROUND."""
+    for name, words in _sections(text, b"MACRO"):
+        supplies: dict[bytes, bool] = {}
+        pin: bytes | None = None
+        for at, word in enumerate(words[:-1]):
+            if word == b"PIN" and pin is None:
+                pin = words[at + 1]
+                supplies.setdefault(pin, False)
+            elif pin is not None and word == b"USE":
+                supplies[pin] = words[at + 1] in (b"POWER", b"GROUND")
+            elif pin is not None and word == b"END" and words[at + 1] == pin:
+                pin = None
+        yield name, sum(not is_supply for is_supply in supplies.values())
 
 
 def _sections(text: bytes, keyword: bytes) -> Iterator[tuple[bytes, list[bytes]]]:
@@ -72,8 +103,8 @@ def _sections(text: bytes, keyword: bytes) -> Iterator[tuple[bytes, list[bytes]]
             next((each for each in words if each == b"ENDEXT"), None)
 
 
-def _sizes(words: list[bytes]) -> list[tuple[Decimal, Decimal]]:
-    """Lists the SIZEs of a macro or a site; (0, 0) if it has none. A pin or a property named SIZE has no BY."""
+def sizes_in(words: list[bytes]) -> list[tuple[Decimal, Decimal]]:
+    """Lists the SIZEs of a macro or a site, given its words; (0, 0) if it has none. A pin named SIZE has no BY."""
     found = []
     for at, word in enumerate(words):
         if word == b"SIZE" and words[at + 2 : at + 3] == [b"BY"] and len(words) > at + 3:

@@ -4,45 +4,88 @@ from __future__ import annotations
 
 import contextlib
 import fcntl
+import functools
 import json
 import os
 import shutil
 import socket
 import subprocess
 import tempfile
-from collections.abc import Iterable
+from collections.abc import Iterable, Sequence
+from concurrent.futures import FIRST_COMPLETED, ThreadPoolExecutor, wait
 from pathlib import Path
 from typing import IO, TYPE_CHECKING, Any
 
-from .faults import FAILED, USAGE, Fault
+from .faults import FAILED, USAGE, Fault, log, show_as
 from .protocol import MOST_LINES, SLOTS
 
 if TYPE_CHECKING:
     from .async_run import AnsweringRun, AsyncRun
+    from .clock import Clock
     from .progress import Progress
 
 # Bytes read at a time, and seconds to wait between reads. The program writes line by line; waking up for each of a
 # million lines is slow.
 PIECE, PAUSE = 1 << 20, 0.002
 
-# Exit statuses of a complete repair: the design is fully legal, or it is not.
-REPAIRED = (0, 4)
-# The start of a line with the progress of a repair.
-REPAIRING = "lefence: repairing "
+# Exit statuses of a check, a repair or an improvement that is complete: the design is fully legal, or it is not.
+COMPLETE = (0, 4)
+# The starts of lines with the progress of a repair or an improvement.
+_WORKING = ("lefence: repairing ", "lefence: improving ")
 
-# The program of the repository that contains this package.
+# The proved program of the repository that contains this package, and the unproved one.
 _BUILT = Path(__file__).resolve().parents[3] / "crates/lefence/out/lefence"
+_UNPROVED = _BUILT.parent / "unproved/lefence"
+# The variable of the environment that names the program.
+_VARIABLE = "LEFENCE"
 
 
 def find_program(given: str | None) -> str:
-    """Returns the path of the program: the given one, else `lefence` of the search path, else the one of this
-    repository.
+    """Returns the path of the program: the given one, the one that the variable LEFENCE names, `lefence` of the search
+    path, the proved one of this repository, or the unproved one; then it says so on standard error.
+
+    Raises a Fault if there is none. A script of the search path does not count: `./lefence` of the repository would
+    prove and build the program first.
     """
-    found = shutil.which(given or "lefence") or (str(_BUILT) if not given and os.access(_BUILT, os.X_OK) else None)
-    if found is None:
-        built = "" if given else "./lefence of the repository builds it, "
-        raise Fault(USAGE, f"{given or 'lefence'}: no such program; {built}--program PATH names another one")
-    return os.path.abspath(found)
+    named = given or os.environ.get(_VARIABLE)
+    if named:
+        found = shutil.which(named)
+        if found is None:
+            source = "" if given else f"{_VARIABLE} of the environment names it; "
+            raise Fault(USAGE, f"{named}: no such program; {source}--program PATH names another one")
+        return os.path.abspath(found)
+    for path in (*(Path(folder) / "lefence" for folder in os.get_exec_path()), _BUILT, _UNPROVED):
+        if path.is_file() and os.access(path, os.X_OK) and not _is_script(path):
+            if path == _UNPROVED:
+                _say_unproved()
+            return os.path.abspath(path)
+    built = "./lefence of the repository builds it, ./lefence --unproved without proofs"
+    raise Fault(USAGE, f"lefence: no such program; {built}; --program PATH names another one")
+
+
+def _is_script(path: Path) -> bool:
+    """Whether a file begins with `#!`. A script must be readable to run, so any other file is none."""
+    try:
+        with open(path, "rb") as file:
+            return file.read(2) == b"#!"
+    except OSError:
+        return False
+
+
+@functools.cache
+def _say_unproved() -> None:
+    """Says once that the program is not proved."""
+    log("lefence", "this program is not proved; ./lefence proves and builds the one that is")
+
+
+def held_program(path: str) -> str:
+    """Opens the program until this process ends, and returns another path of it, which stays valid if the file is
+    replaced or removed meanwhile. Messages and lists of processes show the given path. Raises OSError.
+    """
+    process, descriptor = os.getpid(), os.open(path, os.O_RDONLY | os.O_CLOEXEC)
+    held = f"/proc/{process}/task/{process}/fd/{descriptor}"
+    show_as(held, path)
+    return held
 
 
 class Program:
@@ -93,21 +136,24 @@ class Program:
         Writes the lines of its commands to a file and, if `export` is given, the committed places to another. Raises a
         Fault if the program fails.
         """
-        words = [self.path, "repair", *self._words, *options, "--lines", os.path.abspath(lines)]
-        words += ["--export", os.path.abspath(export)] if export else []
-        with tempfile.TemporaryFile() as errors:
-            with subprocess.Popen(words, stdin=subprocess.DEVNULL, stdout=subprocess.PIPE, stderr=errors) as process:
-                try:
-                    output = progress.output_of(process, lambda: progress_line(errors))
-                except BaseException:
-                    process.kill()
-                    raise
-            if process.returncode in REPAIRED:
-                with contextlib.suppress(ValueError):
-                    report = [json.loads(line) for line in output.splitlines()]
-                    if report and "legal" in report[-1]:
-                        return report
-            raise fault_of(process.returncode, errors, lost_text(process.returncode))
+        [report] = reports_of([self.move_words("repair", options, lines, export)], progress)
+        return report
+
+    def move_words(self, verb: str, options: Iterable[str], lines: Path, export: Path | None = None) -> list[str]:
+        """Returns the command line of `repair` or `improve` with these options and output files."""
+        words = [self.path, verb, *self._words, *options, "--lines", os.path.abspath(lines)]
+        return [*words, "--export", os.path.abspath(export)] if export else words
+
+    def is_legal(self) -> bool:
+        """Has the program check the design; returns whether it is fully legal. Raises a Fault if the program fails."""
+        with Run([self.path, "check", *self._words]) as run:
+            with contextlib.suppress(EOFError):
+                while True:
+                    run.lines()
+            status = run.wait()
+            if status not in COMPLETE:
+                raise run.fault(lost_text(status))
+            return status == 0
 
     def wire_length(self) -> dict[str, Any]:
         """Has the program measure the nets; returns the object of all teams. Raises a Fault if it fails."""
@@ -133,18 +179,24 @@ class Program:
         return Run([*words, "--state", *path_words([state])] if state else words)
 
     async def replay_async(
-        self, export: str | None = None, state: Path | None = None, save: Path | None = None
+        self,
+        export: str | None = None,
+        state: Path | None = None,
+        save: Path | None = None,
+        clock: Clock | None = None,
     ) -> AnsweringRun:
         """Starts a program that answers the lines of a pipe, with the caller's standard error.
 
-        It starts from `state`, and at the end of its input it writes `export` and `save`, each if given.
+        It starts from `state`, and at the end of its input it writes `export` and `save`, each if given. `clock` tells
+        when replies came, by default the system's.
         """
         from .async_run import start_answering_run
+        from .clock import SYSTEM_CLOCK
 
         words = self._replay_words(export)
         for option, path in (("--state", state), ("--save", save)):
             words += [option, *path_words([path])] if path else []
-        return await start_answering_run(words)
+        return await start_answering_run(words, clock or SYSTEM_CLOCK)
 
     async def describe_async(self) -> AsyncRun:
         """Starts a description of the design, for asyncio."""
@@ -205,6 +257,58 @@ class Run:
         return fault_of(self._process.wait(), self._errors, otherwise)
 
 
+class _ReportRun:
+    """A run of `repair` or `improve`. Its report and its errors go to files."""
+
+    def __init__(self, words: list[str]) -> None:
+        self.errors: IO[bytes] = tempfile.TemporaryFile()
+        self._output: IO[bytes] = tempfile.TemporaryFile()
+        self.process = subprocess.Popen(words, stdin=subprocess.DEVNULL, stdout=self._output, stderr=self.errors)
+
+    def close(self) -> None:
+        """Ends the program if it still runs."""
+        self.process.kill()
+        self.process.wait()
+        self.errors.close()
+        self._output.close()
+
+    def report(self) -> list[dict[str, Any]]:
+        """Waits until the program has ended; returns its report. Raises a Fault if it has failed."""
+        status = self.process.wait()
+        if status in COMPLETE:
+            with contextlib.suppress(ValueError):
+                self._output.seek(0)
+                report = [json.loads(line) for line in self._output]
+                if report and "legal" in report[-1]:
+                    return report
+        raise fault_of(status, self.errors, lost_text(status))
+
+
+def reports_of(commands: Sequence[list[str]], progress: Progress) -> list[list[dict[str, Any]]]:
+    """Runs commands of `repair` or `improve` side by side. Returns the report of each: an object per team, then one of
+    all.
+
+    As soon as one fails, the others are ended, and its Fault is raised.
+    """
+    runs: list[_ReportRun] = []
+    reports: dict[_ReportRun, list[dict[str, Any]]] = {}
+    with contextlib.ExitStack() as stack:
+        pool = stack.enter_context(ThreadPoolExecutor(len(commands)))
+        for words in commands:
+            runs.append(_ReportRun(words))
+            # (it is ended before the pool waits for its threads)
+            stack.callback(runs[-1].close)
+        pending = {pool.submit(run.process.wait): run for run in runs}
+        while pending:
+            done = wait(pending, progress.seconds_left, FIRST_COMPLETED).done
+            for run in map(pending.pop, done):
+                reports[run] = run.report()
+            if not done:
+                ended = f"{len(reports)} of {len(runs)} runs have ended" if len(runs) > 1 else None
+                progress.tell(ended or progress_line(runs[0].errors))
+    return [reports[run] for run in runs]
+
+
 def path_words(paths: Iterable[Path]) -> list[str]:
     """Returns the paths as arguments of the program: absolute, so that none is an option. Raises a Fault if one is not
     UTF-8.
@@ -229,14 +333,14 @@ def output_lines(errors: IO[bytes]) -> list[str]:
 
 
 def progress_line(errors: IO[bytes]) -> str | None:
-    """Returns the latest progress line of a repair in this file, or None."""
-    output = [line for line in output_lines(errors) if line.startswith(REPAIRING)]
+    """Returns the latest progress line of a repair or an improvement in this file, or None."""
+    output = [line for line in output_lines(errors) if line.startswith(_WORKING)]
     return output[-1].removeprefix("lefence: ") if output else None
 
 
 def fault_of(status: int, errors: IO[bytes], otherwise: str) -> Fault:
     """Returns the fault of a program with this status and the errors in this file, or else `otherwise`."""
-    text = "\n".join(line for line in output_lines(errors) if not line.startswith(REPAIRING)).strip() or otherwise
+    text = "\n".join(line for line in output_lines(errors) if not line.startswith(_WORKING)).strip() or otherwise
     return Fault(status if status in (1, 2, 3) else FAILED, text.removeprefix("lefence: ").replace("\nlefence: ", "; "))
 
 

@@ -2,14 +2,15 @@
 
 from __future__ import annotations
 
-import subprocess
+import os
 import time
-from collections.abc import Callable, Iterable, Iterator
+from collections.abc import Iterable, Iterator
 from typing import TypeVar
 
 from .faults import log
 
-# Seconds before the first line, and the least between two lines. Later the interval is a tenth of the elapsed time.
+# Seconds before the first line, and the least between two lines on a terminal. Later the interval is a tenth of the
+# elapsed time. Elsewhere each interval is twice the last one, so that a log has few lines.
 FIRST = 2.0
 BETWEEN = 1.0
 
@@ -24,6 +25,7 @@ class Progress:
         self._tool, self._what = tool, what
         self._start = time.monotonic()
         self._next = self._start + FIRST
+        self._is_terminal = os.isatty(2)
 
     def over(self, things: Iterable[_T]) -> Iterator[_T]:
         """Yields the things; each counts as done when the next one is requested."""
@@ -41,15 +43,18 @@ class Progress:
             yield things
             done += len(things)
 
-    def output_of(self, process: subprocess.Popen[bytes], progress_line: Callable[[], str | None]) -> bytes:
-        """Waits for a process; returns its standard output. Meanwhile it prints the progress, if `how_far` has one."""
-        while True:
-            try:
-                return process.communicate(timeout=max(0, self._next - time.monotonic()))[0]
-            except subprocess.TimeoutExpired:
-                self._say(progress_line() or self._what)
+    @property
+    def seconds_left(self) -> float:
+        """The seconds until the next line is due."""
+        return max(0.0, self._next - time.monotonic())
+
+    def tell(self, text: str | None) -> None:
+        """Prints a line if one is due: the text, or else what this is the progress of."""
+        if time.monotonic() >= self._next:
+            self._say(text or self._what)
 
     def _say(self, text: str) -> None:
         now = time.monotonic()
-        self._next = now + max(BETWEEN, (now - self._start) / 10)
-        log(self._tool, f"{text}, {now - self._start:.0f} s")
+        elapsed = now - self._start
+        self._next = now + (max(BETWEEN, elapsed / 10) if self._is_terminal else max(FIRST, elapsed))
+        log(self._tool, f"{text}, {elapsed:.0f} s")

@@ -85,6 +85,11 @@ def fields_of(line: bytes) -> list[bytes]:
     return [] if len(line) > MOST_LINE or body.translate(None, _LINE_BYTES) else body.split()
 
 
+def is_number(word: bytes) -> bool:
+    """Whether a field is a number of a session or a revision."""
+    return word.isdigit() and len(word) <= len(str(MOST_NUMBER)) and int(word) <= MOST_NUMBER
+
+
 def is_accepted(reply: bytes) -> bool:
     """Whether a reply accepts its command."""
     return reply == b"ok\n" or reply.startswith(b"ok ")

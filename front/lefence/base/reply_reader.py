@@ -8,8 +8,8 @@ import asyncio
 import contextlib
 import fcntl
 import os
-import time
 
+from .clock import SYSTEM_CLOCK, Clock
 from .program import PIECE
 
 # Bytes read at a time while the length of a reply is unknown, and first.
@@ -19,22 +19,23 @@ _LINES, _FIRST = 1 << 18, 1 << 16
 _MANY, _PAUSE = 1 << 15, 0.001
 
 
-def reply_pipe() -> tuple[ReplyReader, int]:
+def reply_pipe(clock: Clock = SYSTEM_CLOCK) -> tuple[ReplyReader, int]:
     """Makes a pipe, with a large buffer if the system allows it; returns a reader of it, and the end to write to."""
     near, far = os.pipe()
     with contextlib.suppress(OSError):
         fcntl.fcntl(near, fcntl.F_SETPIPE_SZ, PIECE)
-    return ReplyReader(near), far
+    return ReplyReader(near, clock), far
 
 
 class ReplyReader:
     """Reads one end of a pipe, one call at a time. Whoever makes it closes it."""
 
-    def __init__(self, pipe: int) -> None:
+    def __init__(self, pipe: int, clock: Clock = SYSTEM_CLOCK) -> None:
         """Makes a reader of this end of a pipe, which it owns."""
         # When bytes came last, and the number of reads.
-        self.last_heard = time.monotonic()
+        self.last_heard = clock.now()
         self.reads = 0
+        self._clock = clock
         self._pipe = pipe
         # Where the next bytes go, and their number when they have come.
         self._target = self._first = memoryview(bytearray(_FIRST))
@@ -95,7 +96,7 @@ class ReplyReader:
             self._stop()
             return
         count = os.readv(self._pipe, [self._target])
-        self.last_heard = time.monotonic()
+        self.last_heard = self._clock.now()
         self.reads += 1
         self._count.set_result(count)
 

@@ -1,4 +1,4 @@
-"""State texts, line by line: the teams of a floor and their cells' places (docs/PROTOCOL.md, "State texts")."""
+"""State texts, line by line: the teams of a floor and their cells' places (docs/CLI.md, "State texts")."""
 
 from __future__ import annotations
 

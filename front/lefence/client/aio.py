@@ -11,22 +11,23 @@ from __future__ import annotations
 
 import asyncio
 import os
-from collections import deque
+from collections.abc import Iterable
 from types import TracebackType
 from typing import TypeVar
 
-from ..base.protocol import ProtocolError, is_accepted, text_length
+from ..base.protocol import ProtocolError, is_accepted
 from . import verbs
-from .blocking import ConnectionLost, refuse_port, result_of, with_endpoint
+from .blocking import refuse_port, with_endpoint
 from .cells import Cell, cells_in
 from .refusals import BadRequest, Refusal, Stale
 from .session import BaseSession, SessionOptions
 from .verbs import Request
+from .wire import ConnectionLost, SentLine, Wire, result_of
 
 T = TypeVar("T")
 
-# A reply may be as long as a report of a million cells.
-_MOST_REPLY = 1 << 40
+# Bytes read at a time.
+_PIECE = 1 << 18
 
 
 async def connect(where: str | os.PathLike[str], port: int | None = None, timeout: float | None = None) -> Connection:
@@ -40,10 +41,18 @@ async def connect(where: str | os.PathLike[str], port: int | None = None, timeou
     try:
         async with asyncio.timeout(timeout):
             if port is not None:
-                return Connection(*await asyncio.open_connection(address, port, limit=_MOST_REPLY), timeout)
-            return Connection(*await asyncio.open_unix_connection(address, limit=_MOST_REPLY), timeout)
+                return Connection(*await asyncio.open_connection(address, port, limit=_PIECE), timeout)
+            return Connection(*await asyncio.open_unix_connection(address, limit=_PIECE), timeout)
     except OSError as error:
         raise with_endpoint(error, address, port) from None
+
+
+class _AwaitedLine(SentLine):
+    """A line and the future of its reply."""
+
+    def __init__(self, line: bytes) -> None:
+        super().__init__(line)
+        self.future: asyncio.Future[bytes] = asyncio.get_running_loop().create_future()
 
 
 class Connection:
@@ -55,12 +64,8 @@ class Connection:
         self._reader = reader
         self._writer = writer
         self._timeout = timeout
-        # The number of replies received.
-        self._count = 0
         self._is_reported = False
-        self._waiting: deque[tuple[bytes, asyncio.Future[bytes]]] = deque()
-        # Why the connection is lost.
-        self._lost: str | None = None
+        self._wire = Wire[_AwaitedLine]()
         self._reading = asyncio.create_task(self._read())
 
     async def __aenter__(self) -> Connection:
@@ -88,8 +93,6 @@ class Connection:
 
     async def ask_line(self, line: bytes) -> bytes:
         """Sends a line, given without its line feed; returns the whole reply, for `def` with its text."""
-        if b"\n" in line:
-            raise ValueError("a line must not contain a line feed")
         try:
             return await self._ask_line(line)
         except (ConnectionLost, TimeoutError, ProtocolError):
@@ -108,26 +111,27 @@ class Connection:
             raise
 
     def _send(self, line: bytes) -> asyncio.Future[bytes]:
-        if self._lost:
-            raise ConnectionLost(self._lost)
-        reply: asyncio.Future[bytes] = asyncio.get_running_loop().create_future()
-        self._waiting.append((line, reply))
-        self._writer.write(line + b"\n")
-        return reply
+        sent = self._wire.send(_AwaitedLine(line))
+        if sent.is_done:
+            self._settle([sent])
+        else:
+            self._writer.write(bytes(self._wire.unsent))
+            self._wire.unsent.clear()
+        return sent.future
 
     def send_unawaited(self, line: bytes) -> None:
         """Sends a line whose reply is ignored, unless the connection is lost."""
-        if not self._lost:
+        if not self._wire.is_lost:
             self._send(line).cancel()
 
     async def _wait_for(self, reply: asyncio.Future[bytes]) -> bytes:
         """Waits for the reply, as long as any reply comes within the timeout."""
         while self._timeout is not None:
-            count = self._count
+            replies = self._wire.replies
             done, _ = await asyncio.wait([reply], timeout=self._timeout)
             if done:
                 break
-            if count == self._count:
+            if replies == self._wire.replies:
                 raise TimeoutError(f"no reply for {self._timeout} seconds")
         return await reply
 
@@ -147,7 +151,7 @@ class Connection:
     async def close(self) -> None:
         """Ends the connection; a hub then frees its sessions."""
         self._reading.cancel()
-        if self._lost or self._is_reported or self._writer.transport.get_write_buffer_size():
+        if self._wire.is_lost or self._is_reported or self._writer.transport.get_write_buffer_size():
             # (the other end may never read the rest)
             self._writer.transport.abort()
         self._writer.close()
@@ -155,43 +159,34 @@ class Connection:
             await self._writer.wait_closed()
         except OSError:
             pass
-        self._mark_lost("the connection is closed")
+        self._settle(self._wire.lose("the connection is closed"))
 
     async def _read(self) -> None:
-        """Gives each reply to the line that it answers."""
+        """Reads until the connection is lost."""
         try:
-            while reply := await self._reader.readline():
-                if not reply.endswith(b"\n") or not self._waiting:
-                    break
-                line, future = self._waiting[0]
-                reply += await self._reader.readexactly(text_length(line, reply))
-                self._waiting.popleft()
-                self._count += 1
-                if not future.done():
-                    future.set_result(reply)
-                else:
-                    self._close_abandoned(line, reply)
-            self._mark_lost("the other end has closed the connection")
-        except ProtocolError as error:
-            _, future = self._waiting.popleft()
-            if not future.done():
-                future.set_exception(error)
-            self._mark_lost(f"the connection is lost: {error}")
+            while not self._wire.is_lost and (piece := await self._reader.read(_PIECE)):
+                self._settle(self._wire.receive(piece))
+            reason = "the other end has closed the connection"
         except Exception as error:
-            self._mark_lost(f"the connection is lost: {error}")
+            reason = f"the connection is lost: {error}"
+        self._settle(self._wire.lose(reason))
+
+    def _settle(self, done: Iterable[_AwaitedLine]) -> None:
+        """Gives the replies of lines that are done, or their errors, to those who wait for them."""
+        for sent in done:
+            if not sent.future.done():
+                if sent.error is not None:
+                    sent.future.set_exception(sent.error)
+                else:
+                    sent.future.set_result(sent.result())
+            elif sent.reply is not None:
+                self._close_abandoned(sent.line, sent.reply)
 
     def _close_abandoned(self, line: bytes, reply: bytes) -> None:
         """Closes a session whose opener was cancelled, to free its slot."""
         words, replied = line.split(), reply.split()
         if words[:1] == [b"open"] and len(words) == 2 and is_accepted(reply) and len(replied) > 1:
             self.send_unawaited(b"close %b %b" % (words[1], replied[1]))
-
-    def _mark_lost(self, text: str) -> None:
-        self._lost = self._lost or text
-        while self._waiting:
-            _, future = self._waiting.popleft()
-            if not future.done():
-                future.set_exception(ConnectionLost(self._lost))
 
 
 class Session(BaseSession[Connection]):

@@ -15,27 +15,22 @@ import os
 import selectors
 import socket
 import time
-from collections import deque
-from dataclasses import dataclass
 from types import TracebackType
 from typing import Any, Generic, TypeVar
 
-from ..base.protocol import ProtocolError, text_length
+from ..base.protocol import ProtocolError
 from . import verbs
 from .cells import Cell, cells_in
-from .refusals import BadRequest, Refusal, Stale, refusal_of
+from .refusals import BadRequest, Refusal, Stale
 from .session import BaseSession, SessionOptions, Verbs
-from .verbs import Request, Scope, read_reply
+from .verbs import Request, Scope
+from .wire import SentLine, Wire, result_of
 
 T = TypeVar("T")
 
 # Bytes read at a time, and bytes that may wait to be sent before a sender reads replies.
 _PIECE = 1 << 16
 _MOST_PORT = 65535
-
-
-class ConnectionLost(ConnectionError):
-    """The other end is gone. The team's revision shows which of the lines in flight were executed."""
 
 
 def connect(where: str | os.PathLike[str], port: int | None = None, timeout: float | None = None) -> Connection:
@@ -81,14 +76,6 @@ def with_endpoint(error: OSError, where: str, port: int | None) -> OSError:
     return error
 
 
-@dataclass
-class SentLine:
-    """A line that was sent or waits to be sent, and its whole reply once it is read."""
-
-    line: bytes
-    reply: bytes | None = None
-
-
 class Connection:
     """A connection: lines go out and replies come in, in order. Any number may be in flight."""
 
@@ -100,9 +87,7 @@ class Connection:
         self._selector = selectors.DefaultSelector()
         self._events = selectors.EVENT_READ
         self._selector.register(end, self._events)
-        self._out = bytearray()
-        self._in = bytearray()
-        self._unanswered: deque[SentLine] = deque()
+        self._wire = Wire[SentLine]()
         self._is_open, self._is_lost = True, False
 
     def __enter__(self) -> Connection:
@@ -155,6 +140,7 @@ class Connection:
         """Ends the connection; a hub then frees its sessions."""
         if self._is_open:
             self._is_open = False
+            self._wire.lose("the connection is closed")
             self._selector.close()
             self._end.close()
 
@@ -166,94 +152,62 @@ class Connection:
         """Queues a line without waiting; `wait` returns its reply. It goes out at the next `wait` or `flush`, or when
         many are queued.
         """
-        if b"\n" in line:
-            raise ValueError("a line must not contain a line feed")
-        sent = SentLine(line)
-        self._unanswered.append(sent)
-        self._out += line + b"\n"
-        if len(self._out) >= _PIECE:
+        sent = self._wire.send(SentLine(line))
+        if len(self._wire.unsent) >= _PIECE:
             self._transfer(waits=False)
         return sent
 
     def flush(self) -> None:
         """Sends all queued lines."""
         last = self._deadline()
-        while self._out:
+        while self._wire.unsent:
             self._transfer(last)
+        if self._wire.is_lost:
+            self._is_lost = True
+            raise self._wire.loss()
 
     def wait(self, sent: SentLine) -> bytes:
         """Waits for the whole reply to a line. Replies to earlier lines come first and are kept."""
-        while sent.reply is None:
-            first = self._unanswered[0]
-            try:
-                first.reply = self._next_reply(first.line, self._deadline())
-            except ProtocolError:
-                # (nobody knows where the next reply starts)
-                self._is_lost = True
-                raise
-            self._unanswered.popleft()
-        return sent.reply
+        last = self._deadline()
+        while not sent.is_done:
+            replies = self._wire.replies
+            self._transfer(last)
+            if replies != self._wire.replies:
+                last = self._deadline()
+        self._is_lost = self._is_lost or sent.error is not None
+        return sent.result()
 
     def _deadline(self) -> float | None:
         """When the next reply must have come."""
         return None if self._timeout is None else time.monotonic() + self._timeout
 
-    def _next_reply(self, line: bytes, last: float | None) -> bytes:
-        begin = 0
-        while (end := self._in.find(b"\n", begin)) < 0:
-            begin = len(self._in)
-            self._transfer(last)
-        end += 1
-        length = text_length(line, bytes(self._in[:end])) if line.lstrip().startswith(b"def") else 0
-        while len(self._in) < end + length:
-            self._transfer(last)
-        reply = bytes(self._in[: end + length])
-        del self._in[: end + length]
-        return reply
-
     def _transfer(self, last: float | None = None, waits: bool = True) -> None:
-        """Sends and reads as far as possible: both, so that neither end waits for the other."""
-        if not self._is_open:
-            raise ConnectionLost("the connection is closed")
-        try:
-            self._exchange(last, waits)
-        except (TimeoutError, ConnectionLost):
-            self._is_lost = True
-            raise
-
-    def _exchange(self, last: float | None, waits: bool) -> None:
-        events = selectors.EVENT_READ | (selectors.EVENT_WRITE if self._out else 0)
+        """Sends and reads as far as possible: both, so that neither end waits for the other. Lines get their replies,
+        or an error if the connection is lost. Raises TimeoutError.
+        """
+        wire = self._wire
+        events = selectors.EVENT_READ | (selectors.EVENT_WRITE if wire.unsent else 0)
         if events != self._events:
             self._selector.modify(self._end, events)
             self._events = events
         remaining = None if last is None else max(0, last - time.monotonic())
         ready = self._selector.select(remaining if waits else 0)
         if not ready and waits:
+            self._is_lost = True
             raise TimeoutError(f"no reply for {self._timeout} seconds")
         try:
             # (read first: if the other end is gone, sending fails, but its last replies are still there)
             if ready and ready[0][1] & selectors.EVENT_READ:
-                piece = self._end.recv(_PIECE)
-                if not piece:
-                    raise ConnectionLost("the other end has closed the connection")
-                self._in += piece
+                if piece := self._end.recv(_PIECE):
+                    wire.receive(piece)
+                else:
+                    wire.lose("the other end has closed the connection")
             elif ready:
-                del self._out[: self._end.send(self._out[:_PIECE])]
+                del wire.unsent[: self._end.send(wire.unsent[:_PIECE])]
         except BlockingIOError:
             pass
         except (BrokenPipeError, ConnectionResetError) as error:
-            raise ConnectionLost(f"the connection is lost: {error.strerror}") from None
-
-
-def result_of(request: Request[T], reply: bytes) -> T:
-    """Returns the result of a reply, or raises its refusal."""
-    first, _, text = reply.partition(b"\n")
-    if first == b"ok" or first.startswith(b"ok "):
-        return read_reply(request, first.decode("ascii", "backslashreplace").split()[1:], text)
-    refusal = refusal_of(first)
-    if refusal is None:
-        raise ProtocolError(f"unexpected reply {first!r} to {request.line!r}")
-    raise refusal
+            wire.lose(f"the connection is lost: {error.strerror}")
 
 
 class Pending(Generic[T]):

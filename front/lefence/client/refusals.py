@@ -147,8 +147,9 @@ class Illegal(Refusal):
         """For rule 8, the first cell of the team that the place overlaps or is too near to; else None."""
         return self._field(2) or None
 
-    def words(self) -> str:
-        return violation_text(self.rule, self.cell, self.other, is_padded=True)
+    def words(self, is_there: bool = False) -> str:
+        """The refusal in words; `is_there` if the cell has this place already, as at a commit."""
+        return violation_text(self.rule, self.cell, self.other, is_there, is_padded=True)
 
 
 class NoPlace(Refusal):

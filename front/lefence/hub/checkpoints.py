@@ -10,13 +10,13 @@ import asyncio
 import hashlib
 import os
 import re
-import time
 from collections.abc import Callable, Iterable
 from dataclasses import dataclass
 from pathlib import Path
 
+from ..base.clock import Clock
 from ..base.faults import Fault
-from .clients import ClientPool, SessionOwner
+from .client_pool import ClientPool
 from .exporter import SideProgram
 from .journal_writer import JournalWriter
 from .log_limit import RateLimitedLog
@@ -36,8 +36,8 @@ class TailLimits:
     """Limits for the changes after the last state: the seconds of a replay, and bytes.
 
     A replay may take as long as loading takes, if that is longer. Without a number of bytes they have no limit; 0 bytes
-    means no states. `keep` is the number of states kept, with the journal from the first of them, or with
-    `keeps_segments` all of it; 0 keeps all.
+    means that a state is saved only when one is asked for. `keep` is the number of states kept, with the journal from
+    the first of them, or with `keeps_segments` all of it; 0 keeps all.
     """
 
     bytes: int | None = None
@@ -54,7 +54,12 @@ class Checkpoints:
     """
 
     def __init__(
-        self, side_program: SideProgram, writer: JournalWriter, limits: TailLimits, log_limited: RateLimitedLog
+        self,
+        side_program: SideProgram,
+        writer: JournalWriter,
+        limits: TailLimits,
+        log_limited: RateLimitedLog,
+        clock: Clock,
     ) -> None:
         """Makes the checkpoints of a writer's journal."""
         # The estimated seconds of a replay of the changes after the last state, the seconds of the last loading, and
@@ -63,6 +68,8 @@ class Checkpoints:
         self.count = 0
         # Whether the operator wants a state now.
         self.is_requested = False
+        # When the last try failed, in seconds since 1970, and why; None if it did not.
+        self.failure: tuple[float, str] | None = None
         # Seconds of a replay by the program's seconds while it served.
         self._speed = 1.0
         self._side_program = side_program
@@ -70,6 +77,7 @@ class Checkpoints:
         self._journal = writer.journal
         self._limits = limits
         self._log_limited = log_limited
+        self._clock = clock
         # The factor on the limits; it doubles with each failure.
         self._backoff = 1.0
         self._task: asyncio.Task[None] | None = None
@@ -117,7 +125,7 @@ class Checkpoints:
 
     async def _make(self) -> None:
         """Has the side program save the state at the start of the last segment."""
-        seconds, begin = self.seconds, time.monotonic()
+        seconds, begin = self.seconds, self._clock.now()
         path = self._journal.archive.temporary_state(self._journal.header.number)
         try:
             async with self._side_program.turn:
@@ -126,9 +134,10 @@ class Checkpoints:
                 await self._writer.keep_state(path, size, total)
                 await self._writer.run(self._prune)
             self.seconds, self._backoff, self.count = max(0.0, self.seconds - seconds), 1, self.count + 1
+            self.failure = None
             self._learn(seconds, *times)
             what = f"saved a state of {self._journal.header.changes} changes"
-            self._log_limited("state", f"{what}: {size} bytes in {time.monotonic() - begin:.1f} s")
+            self._log_limited("state", f"{what}: {size} bytes in {self._clock.now() - begin:.1f} s")
         except (Fault, OSError, ReplayLost) as fault:
             for leftover in path.parent.glob(f"{path.name}*"):
                 leftover.unlink()
@@ -142,6 +151,7 @@ class Checkpoints:
 
     def _report_failure(self, fault: Exception) -> None:
         self._backoff *= 2
+        self.failure = self._clock.date(), str(fault)
         self._log_limited("no state", f"cannot save a state: {fault}; the next try is after twice as many changes")
 
 
@@ -178,4 +188,4 @@ def restore_notes(
             counts = metrics.teams[found[1]] = TeamMetrics()
             counts.revision, counts.uncommitted = int(found[2]), int(found[3])
             for number in found[4].split(b",") if found[4] != b"-" else []:
-                pool.owners[found[1], int(number)] = SessionOwner(None, time.time())
+                pool.own(found[1], int(number), None)

@@ -5,33 +5,41 @@ from __future__ import annotations
 import asyncio
 import os
 import shutil
-import time
 from collections.abc import Callable
 from pathlib import Path
 
 from ..base.async_run import in_threads
 from ..base.atomic_file import is_special, partial_file
+from ..base.clock import Clock
 from ..base.compression import is_packed_name, packing
 from ..base.faults import FAILED, Fault, reason_of
 from ..journal.journal import Journal
 from ..journal.segments import Position
 from ..journal.texts import texts_folder
 from .journal_writer import JournalWriter
-from .replay_process import ReplayLost, ReplayProcess
-from .slices import slices_folder
+from .replay_process import Divergence, ReplayLost, ReplayProcess
+from .slice_store import slices_folder
 
 
 class SideProgram:
     """A second program that replays the journal and writes an export or a state, one at a time."""
 
-    def __init__(self, replay: ReplayProcess, writer: JournalWriter) -> None:
-        """Makes the side program of the design that `replay` has, and of a writer's journal."""
+    def __init__(
+        self, replay: ReplayProcess, writer: JournalWriter, clock: Clock, on_divergence: Callable[[bytes, str], None]
+    ) -> None:
+        """Makes the side program of the design that `replay` has, and of a writer's journal.
+
+        `on_divergence` is called with a team, and a text, if the program's reply to one of its changes is not the one
+        in the journal.
+        """
         # Take the turn before each write.
         self.turn = asyncio.Lock()
         # The running side program.
         self.replay: ReplayProcess | None = None
         self._replay = replay
         self._writer = writer
+        self._clock = clock
+        self._on_divergence = on_divergence
 
     async def write(
         self, position: Position, export: str | None = None, save: Path | None = None
@@ -40,18 +48,22 @@ class SideProgram:
 
         Raises a Fault or ReplayLost if the files are not complete.
         """
-        self.replay = side_replay = ReplayProcess(self._replay.program, self._replay.sums, export, save)
+        program, sums = self._replay.program, self._replay.sums
+        self.replay = side_replay = ReplayProcess(program, sums, export, save, self._clock)
         try:
             await self._writer.run(self._writer.journal.refuse_loss)
-            begin = time.monotonic()
+            begin = self._clock.now()
             async with self._writer.tail(position) as tail:
                 await side_replay.start(tail.state)
-                loaded = time.monotonic()
+                loaded = self._clock.now()
                 await side_replay.restore(tail.records, None, tail.changes)
-            replayed = time.monotonic()
+            replayed = self._clock.now()
             if await side_replay.end():
                 raise Fault(FAILED, "the program could not write the file; see the hub's standard error")
             return loaded - begin, replayed - loaded
+        except Divergence as divergence:
+            self._on_divergence(divergence.team, str(divergence))
+            raise
         finally:
             self.replay = None
             await side_replay.kill()

@@ -1,7 +1,7 @@
 """The hub: merges the lines of all clients into one list, has it answered, and journals what was accepted.
 
 The program's replies depend only on that list, and those to a team only on the team's own lines. So the order in which
-clients are merged does not matter, and the journal is a complete backup. docs/FRONT.md describes the guarantees.
+clients are merged does not matter, and the journal is a complete backup. docs/HUB.md describes the guarantees.
 """
 
 from __future__ import annotations
@@ -10,34 +10,60 @@ import asyncio
 import os
 from collections.abc import Callable
 from dataclasses import dataclass, field
+from enum import Enum, auto
 from pathlib import Path
 
-from ..base.design import fences_in, units_in
-from ..base.faults import REFUSED, Fault, reason_of
+from ..base.clock import SYSTEM_CLOCK, Clock
+from ..base.design import fences_in, shown, units_in
+from ..base.faults import REFUSED, Fault, as_given, reason_of
 from ..base.protocol import CHANGE_VERBS, GROUND, is_change, on_one_line
 from ..journal.journal import MOST_REPLY, Journal
 from ..journal.segments import Position
 from .checkpoints import Checkpoints, TailLimits, restore_notes
-from .clients import ClientPool
+from .client_pool import ClientPool
 from .exporter import Exporter, SideProgram
-from .hub_client import NOT_DONE, Client, Entry
+from .connection import DEFERRED, NOT_DONE, Client, Deferred, Entry, Pending
 from .journal_writer import JournalWriter, complete
 from .latency import Latency
 from .line_queue import ALONE, clients_of
 from .log_limit import RateLimitedLog
 from .metrics import Metrics
 from .notify import notify_alive
-from .operator import Operator, is_savepoint
+from .operator import FROZEN, Operator, is_savepoint, team_of
 from .query_sockets import Queries
+from .recent_changes import RecentChanges
 from .replay_process import ReplayProcess, described_teams
 from .shards import Follower, Shard, ShardPool, run_all
-from .slices import SliceTexts
+from .slice_store import SliceTexts
 from .status import status_text, uncommitted_text
+from .uncommitted_places import UncommittedPlaces
 
 # The part of a sync's time that the hub waits for more lines, and the most seconds.
 _LINGER, _MOST_LINGER = 0.25, 0.002
 # Seconds until closes that a full disk refused are tried again.
 _RETRY = 1
+
+
+class Phase(Enum):
+    """What a hub does with the lines of its clients."""
+
+    # It reads lines and answers them.
+    SERVING = auto()
+    # It reads no more lines, but answers those that it has read.
+    STOPPING = auto()
+    # No line waits and no export runs.
+    ANSWERED = auto()
+    # It answers no more lines: those that still wait, or become known after an export, are refused.
+    OVER = auto()
+
+
+# The phases that may follow each one. A hub that has no time to answer all lines is never ANSWERED.
+_NEXT_PHASES = {
+    Phase.SERVING: {Phase.STOPPING},
+    Phase.STOPPING: {Phase.ANSWERED, Phase.OVER},
+    Phase.ANSWERED: {Phase.OVER},
+    Phase.OVER: set[Phase](),
+}
 
 
 @dataclass
@@ -62,30 +88,42 @@ class Hub:
     So between its batches the owner of each session is known, and its program has the state of the journal.
     """
 
-    def __init__(self, replay: ReplayProcess, journal: Journal, limits: HubLimits, say: Callable[[str], None]) -> None:
-        """Makes a hub; `start` starts it."""
+    def __init__(
+        self,
+        replay: ReplayProcess,
+        journal: Journal,
+        limits: HubLimits,
+        say: Callable[[str], None],
+        clock: Clock = SYSTEM_CLOCK,
+    ) -> None:
+        """Makes a hub; `start` starts it. Its program has the same clock."""
+        self.clock = clock
         self.replay = replay
         self.journal = journal
         self.writer = JournalWriter(journal, self._note_changes)
-        self.shards = ShardPool(replay, self.writer, say)
+        self.shards = ShardPool(replay, self.writer, say, clock)
         self.patience = limits.patience
         self.limits = limits
         self.say = say
-        self.log_limited = RateLimitedLog(say)
-        self.metrics = Metrics()
-        self.latency = Latency(limits.slow, self.log_limited)
-        self.pool = ClientPool(journal.header.slots)
-        self.queries = Queries(self.pool, self.metrics)
-        self.side_program = SideProgram(replay, self.writer)
+        self.log_limited = RateLimitedLog(say, clock)
+        self.metrics = Metrics(clock)
+        self.latency = Latency(limits.slow, self.log_limited, clock)
+        self.pool = ClientPool(journal.header.slots, clock)
+        self.side_program = SideProgram(replay, self.writer, clock, self._freeze_diverged)
+        self.recent_changes = RecentChanges(self.metrics, clock)
+        uncommitted = UncommittedPlaces(self.metrics, self.side_program, self.writer, clock)
+        self.queries = Queries(self.pool, self.metrics, self.recent_changes, uncommitted)
         self.exporter = Exporter(replay, journal, self.side_program, say)
-        self.checkpoints = Checkpoints(self.side_program, self.writer, limits.tail, self.log_limited)
-        self.operator = Operator(self.pool, self.writer, self.checkpoints, lambda: status_text(self))
+        self.checkpoints = Checkpoints(self.side_program, self.writer, limits.tail, self.log_limited, clock)
+        self.operator = Operator(
+            self.pool, self.writer, self.checkpoints, self.recent_changes, lambda: status_text(self)
+        )
         self.unused_name, self.units = b"", b""
         self.teams: list[str] = []
         self.folder = Path(os.path.realpath(journal.path)).parent
         self._exports: set[asyncio.Task[None]] = set()
-        # It ends; all lines are answered; the others are refused.
-        self._is_stopping = self._is_answered = self._is_over = False
+        self.phase = Phase.SERVING
+        # Whether the disk was full when room for changes was needed last.
         self._is_full = False
 
     async def start(self, wanted: list[str]) -> list[str]:
@@ -95,7 +133,7 @@ class Hub:
         self.unused_name = first_unused_name(teams)
         described = asyncio.create_task(described_teams(self.replay.program))
         try:
-            await self._start_programs()
+            await self._start_programs(teams)
             refuse_team_mismatch(teams, await described)
         finally:
             described.cancel()
@@ -107,11 +145,12 @@ class Hub:
         self.operator.teams = frozenset(team.encode() for team in self.teams)
         return self.teams
 
-    async def _start_programs(self) -> None:
-        """Starts the programs from the journal's last state, each with the changes after it of its teams."""
+    async def _start_programs(self, teams: list[str]) -> None:
+        """Starts the programs of all teams from the journal's last state, each with its teams' changes after it."""
         if self.limits.programs > 1:
             try:
-                self.shards.divide(await SliceTexts(self.journal, self.replay.program).get(self.limits.programs))
+                slices = SliceTexts(self.journal, self.replay.program, teams)
+                self.shards.divide(await slices.get(self.limits.programs))
             except (Fault, OSError) as fault:
                 self.say(f"one program serves all teams: {reason_of(fault)}")
         await self.shards.start(Follower(self._restore_notes, self._note))
@@ -132,7 +171,7 @@ class Hub:
         line of the same client is in front of it.
         """
         while client.is_ready() and client.next_is_status() and not self.shards.has_at_work(client):
-            client.next_entry(not self._is_stopping)
+            client.next_entry(self.phase is Phase.SERVING)
             client.reply(b"ok %b\n" % status_text(self))
             client.flush()
         if client.is_ready():
@@ -167,12 +206,12 @@ class Hub:
             shard.has_orphans = False
             if orphans := [session for session in self.pool.orphans() if shard.has_team(session[0])]:
                 return [Entry(None, [b"close", team, b"%d" % number]) for team, number in orphans]
-        batch = shard.queue.next_batch(not self._is_stopping)
+        batch = shard.queue.next_batch(self.phase is Phase.SERVING)
         for entry in batch:
             if entry.client and is_export(entry):
-                entry.client.is_busy, entry.reply = True, b""
+                entry.client.is_busy, entry.reply = True, DEFERRED
             elif is_savepoint(entry):
-                entry.reply = b""
+                entry.reply = DEFERRED
             elif reply := self.operator.reply_to(entry):
                 entry.reply = reply
         return batch
@@ -189,30 +228,32 @@ class Hub:
                 await self.answer(shard, batch)
                 self.checkpoints.begin(self.pool, self.metrics)
                 await asyncio.sleep(self._linger(batch))
-            if self._is_stopping and not self._exports and not self.shards.is_busy():
+            if self.phase is Phase.STOPPING and not self._exports and not self.shards.is_busy():
                 # (no other shard has lines to answer either)
-                self._is_answered = True
+                self._enter(Phase.ANSWERED)
                 self.shards.wake()
-            if self._is_answered:
+            if self.phase is Phase.ANSWERED:
                 return
             await shard.work.wait()
             shard.work.clear()
 
     async def watch(self) -> None:
-        """Checks each second for hung programs and idle clients. Raises a Fault if the journal is no longer in its
-        place.
-        """
+        """Looks each second for what has lasted too long. Raises a Fault if the journal is no longer in its place."""
         while True:
-            await asyncio.sleep(1)
+            await self.clock.sleep(1)
             notify_alive(bool(self.teams))
-            for replay in self._servers():
-                if replay.seconds_silent() > self.limits.deadline:
-                    self.say(f"the program was silent for {self.limits.deadline:g} seconds and is killed")
-                    replay.send_kill()
-            for client in self.pool.idle(self.limits.idle):
-                self.log_limited("idle", f"{client.name}: dropped, idle without a session")
-                client.disconnect()
+            self.end_overdue()
             await self.writer.run(self.journal.refuse_loss)
+
+    def end_overdue(self) -> None:
+        """Kills programs that are silent for too long, and drops clients that are idle for too long."""
+        for replay in self._servers():
+            if replay.seconds_silent() > self.limits.deadline:
+                self.say(f"the program was silent for {self.limits.deadline:g} seconds and is killed")
+                replay.send_kill()
+        for client in self.pool.idle(self.limits.idle):
+            self.log_limited("idle", f"{client.name}: dropped, idle without a session")
+            client.disconnect()
 
     def _linger(self, batch: list[Entry]) -> float:
         """Seconds to wait for more lines, so that clients just answered share the next sync.
@@ -233,21 +274,25 @@ class Hub:
 
     async def stop(self, run: asyncio.Task[None], seconds: float) -> None:
         """Stops reading, has `run` answer what was read, and after these seconds refuses the rest."""
-        self._is_stopping = True
+        self._enter(Phase.STOPPING)
         for client in self.pool.clients:
             client.transport.pause_reading()
         self.queries.end()
         self.shards.wake()
-        await asyncio.wait({run}, timeout=seconds)
-        if run.done():
+        if await self.clock.wait(run, seconds):
             run.result()
         else:
             self.say(f"not all lines were answered within {seconds:g} seconds; the rest is refused")
             run.cancel()
             await asyncio.gather(run, return_exceptions=True)
-        self._is_over = True
+        self._enter(Phase.OVER)
         for client in list(self.pool.clients):
             self._refuse_waiting(client)
+
+    def _enter(self, phase: Phase) -> None:
+        """Enters the next phase."""
+        assert phase in _NEXT_PHASES[self.phase], f"{self.phase.name} is not followed by {phase.name}"
+        self.phase = phase
 
     def _refuse_waiting(self, client: Client) -> None:
         """Refuses the waiting lines of a client at the end."""
@@ -257,10 +302,18 @@ class Hub:
         self._refuse(entries)
 
     def _refuse(self, entries: list[Entry]) -> None:
-        """Refuses lines at the end that have no reply yet."""
+        """Refuses lines at the end that are not executed yet, and sends the replies of the others."""
         for entry in entries:
-            if entry.client:
-                entry.client.reply(NOT_DONE if entry.reply is None else entry.reply)
+            if entry.client is None:
+                continue
+            match entry.reply:
+                case Pending():
+                    entry.client.reply(NOT_DONE)
+                case Deferred():
+                    # (whoever defers a reply also refuses the line)
+                    pass
+                case reply:
+                    entry.client.reply(reply)
         for client in clients_of(entries):
             client.flush()
 
@@ -291,7 +344,7 @@ class Hub:
                     entry.reply = b"no 10 SessionsFull\n"
             self.operator.refuse_frozen(batch)
             self.metrics.count(len(batch))
-            sent = [entry for entry in batch if entry.reply is None]
+            sent = [entry for entry in batch if entry.is_pending]
             replies, seconds = await self.queries.execute(sent, shard.execute)
         except asyncio.CancelledError:
             # (no line of it is in the journal)
@@ -299,13 +352,33 @@ class Hub:
             raise
         for entry, reply in zip(sent, replies):
             entry.reply = reply
+        self._refuse_diverged(shard, sent)
         shard.queue.charge(batch, seconds)
         return sent, seconds
+
+    def _refuse_diverged(self, shard: Shard, sent: list[Entry]) -> None:
+        """Refuses the executed lines of teams whose replies do not fit the journal, and freezes these teams.
+
+        Their program has executed what will not be in the journal, so it is killed and restored at its next line.
+        """
+        found = self.metrics.divergences((entry.fields, entry.reply_text) for entry in sent)
+        for entry in sent if found else []:
+            if team_of(entry) in found:
+                entry.reply = FROZEN if entry.verb in CHANGE_VERBS else NOT_DONE
+        for team, text in found.items():
+            self._freeze_diverged(team, text)
+        if found:
+            shard.replay.send_kill()
+
+    def _freeze_diverged(self, team: bytes, text: str) -> None:
+        """Freezes a team whose replies do not fit the journal, and says why each time."""
+        self.operator.diverged.add(team)
+        self.say(f"team {shown(team)} is frozen, since its program and its journal differ: {text}")
 
     async def _finish(self, shard: Shard, sent: list[Entry], seconds: float) -> None:
         """Journals the accepted changes of the executed lines of a shard's batch, then sends its replies."""
         batch = shard.batch
-        if changes := [entry for entry in sent if entry.reply and is_change(entry.fields, entry.reply)]:
+        if changes := [entry for entry in sent if is_change(entry.fields, entry.reply_text)]:
             # If this process ends before here, nobody has got a reply to these changes.
             await self.writer.append(changes)
             self.checkpoints.add(seconds * len(changes) / len(sent))
@@ -321,8 +394,9 @@ class Hub:
     def _note_changes(self, entries: list[Entry]) -> None:
         """Records session owners and metrics by changes that are on the disk."""
         self.metrics.syncs.append(self.journal.seconds)
+        self.recent_changes.note(entries)
         for entry in entries:
-            self._note(entry.fields, entry.reply or b"", entry.client)
+            self._note(entry.fields, entry.reply_text, entry.client)
             if entry.client and entry.client.is_ended:
                 self.shards.check_orphans()
 
@@ -334,7 +408,7 @@ class Hub:
         """Refuses changes as OutOfMemory, without executing them, if the journal cannot grow. Else it reserves bytes
         for them.
         """
-        changes = [entry for entry in shard.batch if entry.reply is None and entry.verb in CHANGE_VERBS]
+        changes = [entry for entry in shard.batch if entry.is_pending and entry.verb in CHANGE_VERBS]
         if not changes:
             return
         count = sum(len(entry.line) + MOST_REPLY for entry in changes)
@@ -349,35 +423,43 @@ class Hub:
         if is_full:
             for entry in changes:
                 entry.reply = NOT_DONE
-            asyncio.get_running_loop().call_later(_RETRY, self.shards.check_orphans)
+            self.clock.call_later(_RETRY, self.shards.check_orphans)
 
     def _reply(self, entry: Entry, position: Position | None) -> None:
         """Appends an entry's reply to its client, and handles its consequences. An export is of a position of the
         journal.
         """
-        client, reply = entry.client, entry.reply or b""
+        client = entry.client
         if client is None:
             return
-        client.reply(reply)
+        match entry.reply:
+            case Pending():
+                raise AssertionError(f"not executed: {entry.line!r}")
+            case Deferred():
+                if position and is_export(entry):
+                    self._begin_export(client, os.fsdecode(entry.fields[1]), position)
+            case reply:
+                client.reply(reply)
         if entry.is_last:
             client.flush()
             client.disconnect()
             self.shards.check_orphans()
-        elif position and is_export(entry):
-            path = os.fsdecode(entry.fields[1])
-            if text := uncommitted_text(self):
-                self.say(f"export {path}: {text}")
-            task = asyncio.create_task(self._answer_export(client, path, position))
-            self._exports.add(task)
-            task.add_done_callback(self._export_done)
+
+    def _begin_export(self, client: Client, path: str, position: Position) -> None:
+        """Starts an export, whose reply comes when it is done."""
+        if text := uncommitted_text(self):
+            self.say(f"export {path}: {text}")
+        task = asyncio.create_task(self._answer_export(client, path, position))
+        self._exports.add(task)
+        task.add_done_callback(self._export_done)
 
     async def _answer_export(self, client: Client, path: str, position: Position) -> None:
         """Exports the committed places as of the client's turn, and replies, while others are served."""
         reason = await self.exporter.write(path, position)
-        client.reply(b"ok\n" if reason is None else b"no 13 NotExported %b\n" % on_one_line(reason))
+        client.reply(b"ok\n" if reason is None else b"no 13 NotExported %b\n" % on_one_line(as_given(reason)))
         client.flush()
         client.is_busy = False
-        if self._is_over:
+        if self.phase is Phase.OVER:
             self._refuse_waiting(client)
         self.enqueue(client)
 

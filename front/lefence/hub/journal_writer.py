@@ -16,7 +16,7 @@ from typing import TypeVar
 from ..journal.frames import Record
 from ..journal.journal import Journal
 from ..journal.segments import Position, Tail
-from .hub_client import Entry
+from .connection import Entry
 
 T = TypeVar("T")
 # More bytes than a frame with a state's note has.
@@ -97,7 +97,7 @@ class JournalWriter:
         """Appends all waiting changes as one frame."""
         waiting = self._waiting[:]
         entries = [entry for changes in waiting for entry in changes.entries]
-        records = [Record(entry.line, entry.reply or b"", entry.who) for entry in entries]
+        records = [Record(entry.line, entry.reply_text, entry.who) for entry in entries]
         await self._in_thread(lambda: self.journal.append(records))
         del self._waiting[: len(waiting)]
         for changes in waiting:

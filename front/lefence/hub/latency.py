@@ -2,13 +2,13 @@
 
 from __future__ import annotations
 
-import time
 from collections import deque
 from collections.abc import Callable, Iterable
 from typing import Any, NamedTuple
 
+from ..base.clock import Clock
 from ..base.protocol import UNBOUNDED
-from .hub_client import Client, Entry
+from .connection import Client, Entry
 from .metrics import percentile
 
 # Lines of a team for the statistics, and slow lines that are kept.
@@ -44,12 +44,13 @@ class SlowLine(NamedTuple):
 class Latency:
     """Measures the lines of a hub's clients. The hub calls `serve` once and `note` for each batch."""
 
-    def __init__(self, slow: float, log_limited: Callable[[str, str], None]) -> None:
+    def __init__(self, slow: float, log_limited: Callable[[str, str], None], clock: Clock) -> None:
         """Logs lines that take more than `slow` seconds, if `slow` is not 0."""
         self.slow_lines: deque[SlowLine] = deque(maxlen=_SLOW_LINES)
         self.slow_count = 0
         self._slow = slow
         self._log_limited = log_limited
+        self._clock = clock
         self._teams: dict[bytes, TeamLatency] = {}
 
     def serve(self, teams: Iterable[str]) -> None:
@@ -58,7 +59,7 @@ class Latency:
 
     def note(self, batch: list[Entry], work: float) -> None:
         """Counts the lines of a batch, whose replies are sent now, and for which the program worked some seconds."""
-        now = time.monotonic()
+        now = self._clock.now()
         weights = [_WHOLE if entry.verb in _WHOLE_TEAM else 1 for entry in batch]
         for entry, weight in zip(batch, weights):
             if client := entry.client:
@@ -73,7 +74,7 @@ class Latency:
 
     def _note_slow(self, entry: Entry, client: Client, team: str, seconds: tuple[float, float]) -> None:
         rounded = [round(each, 3) for each in seconds]
-        line = SlowLine(round(time.time(), 1), team, entry.verb.decode(), client.uid, client.pid, *rounded)
+        line = SlowLine(round(self._clock.date(), 1), team, entry.verb.decode(), client.uid, client.pid, *rounded)
         self.slow_lines.append(line)
         self.slow_count += 1
         text = f"{line.seconds} s, {line.work} s of them in the program"

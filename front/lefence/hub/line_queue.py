@@ -8,7 +8,7 @@ from collections import Counter
 from collections.abc import Callable, Hashable, Iterable
 
 from ..base.protocol import UNBOUNDED
-from .hub_client import Client, Entry
+from .connection import Client, Entry
 
 # Commands that may take as long as their team is large, exports, and savepoints. Each is alone in its batch.
 ALONE = UNBOUNDED | {b"tidy", b"commit", b"revert", b"undo", b"export", b"savepoint"}

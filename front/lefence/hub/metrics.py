@@ -2,12 +2,12 @@
 
 from __future__ import annotations
 
-import time
 from collections import deque
 from collections.abc import Iterable, Iterator
 from pathlib import Path
 from typing import Any
 
+from ..base.clock import Clock
 from ..base.protocol import REVISIONS, is_accepted
 
 # Number of batches for the statistics.
@@ -27,8 +27,8 @@ class TeamMetrics:
 class Metrics:
     """Counters of one hub."""
 
-    def __init__(self) -> None:
-        self.started = time.monotonic()
+    def __init__(self, clock: Clock) -> None:
+        self.started = clock.now()
         self.teams: dict[bytes, TeamMetrics] = {}
         self.lines = 0
         # Seconds of the last syncs, and lines of the last batches.
@@ -41,6 +41,24 @@ class Metrics:
             team = self.teams.setdefault(fields[1], TeamMetrics())
             team.revision = int(reply.split()[1])
             team.uncommitted = 0 if fields[0] in _EVEN else team.uncommitted + 1
+
+    def divergences(self, answered: Iterable[tuple[list[bytes], bytes]]) -> dict[bytes, str]:
+        """Finds the teams whose replies, in their order, do not fit their revisions in the journal; describes the first
+        such reply of each. An accepted change must have the next revision, and `open` the present one.
+        """
+        revisions: dict[bytes, int] = {}
+        found: dict[bytes, str] = {}
+        for fields, reply in answered:
+            if not is_accepted(reply) or not fields or fields[0] not in (*REVISIONS, b"open"):
+                continue
+            verb, team = fields[:2]
+            is_change = verb in REVISIONS
+            revision = revisions.get(team, self.teams.get(team, TeamMetrics()).revision) + is_change
+            if reply.split()[1 if is_change else 2] != b"%d" % revision:
+                text = f"revision {revision} is due, but the program replies {reply!r} to `{verb.decode()}`"
+                found.setdefault(team, text)
+            revisions[team] = revision
+        return found
 
     def count(self, lines: int) -> None:
         """Counts a batch."""
@@ -68,6 +86,7 @@ _METRICS = {
     "clients": ("gauge", "Connections."),
     "unread_bytes": ("gauge", "Bytes of replies that clients have not read."),
     "lines_total": ("counter", "Lines answered since this start."),
+    "diverged_teams": ("gauge", "Teams that are frozen since a reply of the program does not fit the journal."),
     "restores_total": ("counter", "Restarts of the program since this start."),
     "changes_total": ("counter", "Changes in the journal."),
     "states_total": ("counter", "States saved since this start."),
@@ -87,6 +106,8 @@ _TEAM_METRICS = {
     "sessions": ("gauge", "Open sessions of the team."),
     "revision": ("counter", "The team's revision."),
     "uncommitted": ("gauge", "Changes of the team since its last commit or revert."),
+    "frozen": ("gauge", "Whether the operator has frozen the team: 1 or 0."),
+    "diverged": ("gauge", "Whether the hub has frozen the team, since a reply does not fit the journal: 1 or 0."),
     "lines_total": ("counter", "Lines of the team answered since this start."),
     "work_seconds_total": ("counter", "Seconds of the program's work for the team since this start."),
     "line_seconds_p50": ("gauge", "Median seconds from a line's arrival to its reply, of the team's last lines."),
@@ -113,4 +134,5 @@ def _of_teams(status: dict[str, Any], name: str) -> Iterator[tuple[str, float]]:
     for team in status["teams"]:
         value = team[name]
         quoted = team["team"].replace("\\", "\\\\").replace('"', '\\"')
-        yield quoted, len(value) if isinstance(value, list) else value
+        # (a bool becomes 0 or 1)
+        yield quoted, len(value) if isinstance(value, list) else +value

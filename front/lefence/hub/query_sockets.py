@@ -1,7 +1,8 @@
 """The query sockets of teams, for clients that change nothing. A session there takes no slot, and no line is journaled.
 
 The reply to a query does not depend on its session. So the program gets it in an open session of the team, or in one
-that is opened for it and closed at once. The hub itself answers `open`, `sync` and `close` there, and `wait`.
+that is opened for it and closed at once. The hub itself answers `open`, `sync` and `close` there, and its own lines
+`wait`, `changes` and `uncommitted`.
 """
 
 from __future__ import annotations
@@ -10,18 +11,19 @@ from collections import defaultdict
 from collections.abc import Awaitable, Callable, Iterable
 
 from ..base.faults import FAILED, Fault
-from ..base.protocol import CHANGE_VERBS, MOST_NUMBER
-from .clients import ClientPool
-from .hub_client import NOT_DONE, Client, Entry, Host
+from ..base.protocol import CHANGE_VERBS, is_number
+from .client_pool import ClientPool
+from .connection import DEFERRED, NOT_DONE, PENDING, Client, Deferred, Entry, Host, Pending, Reply
 from .metrics import Metrics, TeamMetrics
+from .recent_changes import RecentChanges
+from .uncommitted_places import UncommittedPlaces
 
 # Executes lines; returns the replies and the program's seconds.
 Execute = Callable[[list[bytes]], Awaitable[tuple[list[bytes], float]]]
 
 _BAD_REQUEST, _NO_TEAM, _QUERIES_ONLY = b"no 1 BadRequest\n", b"no 2 NoTeam\n", b"no 15 QueriesOnly\n"
-# The number of words of the lines that a hub answers itself on a query socket. The last word of all but `open` is a
-# number.
-_OWN = {b"open": 2, b"sync": 3, b"close": 3, b"wait": 3}
+# The number of words of the lines that a hub answers itself on a query socket. A third word is a number.
+_OWN = {b"open": 2, b"sync": 3, b"close": 3, b"wait": 3, b"changes": 3, b"uncommitted": 2}
 _REFUSED = CHANGE_VERBS | {b"savepoint"}
 
 
@@ -40,10 +42,14 @@ class QueryClient(Client):
 
     def next_entry(self, keeps_reading: bool) -> Entry:
         entry = super().next_entry(keeps_reading)
-        if entry.reply is None and (reply := self._queries.reply_to(self, entry.fields)) is not None:
-            # (without fields: it opens and closes no session of the program)
-            return Entry(self, [], reply)
-        return entry
+        if not entry.is_pending:
+            return entry
+        match self._queries.reply_to(self, entry.fields):
+            case Pending():
+                return entry
+            case reply:
+                # (without fields: it opens and closes no session of the program)
+                return Entry(self, [], reply)
 
     def connection_lost(self, error: Exception | None) -> None:
         self._queries.remove(self)
@@ -53,41 +59,56 @@ class QueryClient(Client):
 class Queries:
     """Answers the lines of query sockets, given the open sessions and the revisions of a hub's teams."""
 
-    def __init__(self, pool: ClientPool, metrics: Metrics) -> None:
+    def __init__(
+        self, pool: ClientPool, metrics: Metrics, changes: RecentChanges, uncommitted: UncommittedPlaces
+    ) -> None:
         self._pool = pool
         self._metrics = metrics
+        self._changes = changes
+        self._uncommitted = uncommitted
         # Clients that wait until their team's revision is above a number, by team.
         self._waiting: defaultdict[bytes, dict[QueryClient, int]] = defaultdict(dict)
         self._is_ending = False
 
-    def reply_to(self, client: QueryClient, fields: list[bytes]) -> bytes | None:
-        """Returns the reply to a line that the hub itself answers: empty if it comes later, None if the program answers
-        the line.
+    def reply_to(self, client: QueryClient, fields: list[bytes]) -> Reply:
+        """Returns the reply to a line that the hub itself answers, or that it comes later; `Pending` if the program
+        answers the line.
         """
         verb = fields[0] if fields else b""
         if verb in _OWN:
             return self._own_reply_to(client, fields)
-        return _QUERIES_ONLY if verb in _REFUSED else None
+        return _QUERIES_ONLY if verb in _REFUSED else PENDING
 
-    def _own_reply_to(self, client: QueryClient, fields: list[bytes]) -> bytes:
+    def _own_reply_to(self, client: QueryClient, fields: list[bytes]) -> bytes | Deferred:
         verb, *words = fields
-        if len(fields) != _OWN[verb] or not all(map(_is_number, words[1:])):
+        if len(fields) != _OWN[verb] or not all(map(is_number, words[1:])):
             return _BAD_REQUEST
         if words[0] != client.team:
             return _NO_TEAM
         revision = self._revision(words[0])
         if verb == b"wait":
             return self._wait(client, revision, int(words[1]))
+        if verb == b"changes":
+            return self._changes.reply_to(words[0], int(words[1]))
+        if verb == b"uncommitted":
+            return self._read_uncommitted(client)
         return {b"open": b"ok 0 %d\n" % revision, b"sync": b"ok %d\n" % revision, b"close": b"ok\n"}[verb]
 
-    def _wait(self, client: QueryClient, revision: int, known: int) -> bytes:
+    def _wait(self, client: QueryClient, revision: int, known: int) -> bytes | Deferred:
         if revision > known:
             return b"ok %d\n" % revision
         if self._is_ending:
             return NOT_DONE
         client.is_busy = True
         self._waiting[client.team or b""][client] = known
-        return b""
+        return DEFERRED
+
+    def _read_uncommitted(self, client: QueryClient) -> bytes | Deferred:
+        if self._is_ending:
+            return NOT_DONE
+        reply = self._uncommitted.reply_to(client.team or b"", lambda reply: self._answer(client, reply))
+        client.is_busy = isinstance(reply, Deferred)
+        return reply
 
     def _revision(self, team: bytes) -> int:
         return self._metrics.teams.get(team, TeamMetrics()).revision
@@ -102,6 +123,7 @@ class Queries:
     def end(self) -> None:
         """Refuses the lines that wait for a revision, also those that follow."""
         self._is_ending = True
+        self._uncommitted.end()
         for client in [client for clients in self._waiting.values() for client in clients]:
             self._answer(client, NOT_DONE)
 
@@ -147,7 +169,12 @@ class Queries:
                 lines.append(entry.line)
         replies, seconds = await execute(lines)
         for team, at in opened.items():
-            _refuse_unknown_session(team, replies[at])
+            if replies[at] == NOT_DONE:
+                # (the program died at this `open`: without a session nothing was asked)
+                for entry in queries[team]:
+                    replies[places[entry]] = NOT_DONE
+            else:
+                _refuse_unknown_session(team, replies[at])
         seconds += (await execute(last))[1] if last else 0
         return [replies[places[entry]] for entry in entries], seconds
 
@@ -155,13 +182,9 @@ class Queries:
 def _line_in(entry: Entry, number: int) -> bytes:
     """The line of a query in the session with this number, whatever session it names."""
     verb, *words = entry.fields or [b""]
-    if len(words) > 1 and _is_number(words[1]):
+    if len(words) > 1 and is_number(words[1]):
         words[1] = b"%d" % number
     return b" ".join([verb, *words])
-
-
-def _is_number(word: bytes) -> bool:
-    return word.isdigit() and len(word) <= len(str(MOST_NUMBER)) and int(word) <= MOST_NUMBER
 
 
 def _refuse_unknown_session(team: bytes, reply: bytes) -> None:

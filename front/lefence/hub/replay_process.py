@@ -3,12 +3,14 @@
 from __future__ import annotations
 
 import asyncio
+import contextlib
 import itertools
-import time
+import resource
 from collections.abc import Callable, Iterator
 from pathlib import Path
 
 from ..base.async_run import AnsweringRun
+from ..base.clock import SYSTEM_CLOCK, Clock
 from ..base.description import add_team
 from ..base.faults import FAILED, REFUSED, Fault
 from ..base.program import Program
@@ -26,14 +28,34 @@ class ReplayLost(Exception):
     """The program is gone. What it did with the lines in flight is unknown."""
 
 
+class Divergence(Fault):
+    """The program's reply to a change of a team is not the one in the journal."""
+
+    def __init__(self, team: bytes, text: str) -> None:
+        super().__init__(REFUSED, text)
+        self.team = team
+
+
 class ReplayProcess:
     """A running program over a design whose files have the given SHA-256 sums."""
 
-    def __init__(self, program: Program, sums: list[str], export: str | None = None, save: Path | None = None) -> None:
-        """Makes it without starting it. At its end, the program writes the files `export` and `save`, if given."""
+    def __init__(
+        self,
+        program: Program,
+        sums: list[str],
+        export: str | None = None,
+        save: Path | None = None,
+        clock: Clock = SYSTEM_CLOCK,
+        memory: int | None = None,
+    ) -> None:
+        """Makes it without starting it. At its end, the program writes the files `export` and `save`, if given. It may
+        have so many bytes of memory; None is no limit.
+        """
         self.program = program
         self.sums = sums
+        self.memory = memory
         self._export, self._save = export, save
+        self._clock = clock
         self._run: AnsweringRun | None = None
         # Since when the program has work; None if it has none.
         self._since: float | None = None
@@ -47,7 +69,7 @@ class ReplayProcess:
         """How many seconds the program has been silent although it has work."""
         if self._since is None or self._run is None:
             return 0
-        return time.monotonic() - max(self._since, self._run.replies.last_heard)
+        return self._clock.now() - max(self._since, self._run.replies.last_heard)
 
     def send_kill(self) -> None:
         """Kills a hung program without waiting; pending calls raise ReplayLost."""
@@ -61,7 +83,12 @@ class ReplayProcess:
         dies.
         """
         await self.kill()
-        self._run = await self.program.replay_async(self._export, state.path if state else None, self._save)
+        begin = state.path if state else None
+        self._run = await self.program.replay_async(self._export, begin, self._save, self._clock)
+        if self.memory is not None:
+            # (a program that has ended already is noticed below)
+            with contextlib.suppress(ProcessLookupError):
+                resource.prlimit(self._run.pid, resource.RLIMIT_AS, (self.memory, self.memory))
         try:
             await self.execute([b""])
         except ReplayLost:
@@ -81,7 +108,7 @@ class ReplayProcess:
         """Returns the whole reply to each line; only the last may be a `def`. Raises ReplayLost if the program dies."""
         if not lines:
             return []
-        self._since = time.monotonic()
+        self._since = self._clock.now()
         try:
             assert self._run
             self._run.send(b"\n".join(lines) + b"\n")
@@ -112,7 +139,7 @@ class ReplayProcess:
     ) -> int:
         """Replays records, compares each reply and calls `on_record` for each. Returns their number plus `count`.
 
-        Records for which `is_own` is false are counted, but not replayed. Raises a Fault at the first reply that
+        Records for which `is_own` is false are counted, but not replayed. Raises Divergence at the first reply that
         differs; ReplayLost if the program dies or is out of memory.
         """
         while chunk := list(itertools.islice(records, _CHUNK)):
@@ -123,7 +150,7 @@ class ReplayProcess:
                     raise ReplayLost("the program is out of memory and cannot restore its state")
                 if reply != record.reply:
                     place = f"change {count + at + 1}: the journal has {record.reply!r} for {record.line!r}"
-                    raise Fault(REFUSED, f"{place}, but the program replies {reply!r}")
+                    raise Divergence(record.line.split()[1], f"{place}, but the program replies {reply!r}")
                 if on_record:
                     on_record(record.line.split(), reply)
             count += len(chunk)
@@ -132,7 +159,7 @@ class ReplayProcess:
     async def end(self) -> int:
         """Ends the program's input; returns its exit status."""
         assert self._run
-        self._since = time.monotonic()
+        self._since = self._clock.now()
         try:
             return await self._run.finish()
         finally:

@@ -9,25 +9,28 @@ from __future__ import annotations
 import asyncio
 import functools
 import os
-import time
 from collections import deque
 from collections.abc import Callable, Coroutine, Iterable, Iterator
 from typing import Any, NamedTuple
 
+from ..base.clock import Clock
 from ..base.faults import FAILED, REFUSED, Fault, reason_of
+from ..base.protocol import is_change
 from ..journal.frames import Record
 from ..journal.segments import State
-from .hub_client import Client, Entry
+from .connection import NOT_DONE, Client, Entry
 from .journal_writer import JournalWriter, complete
 from .line_queue import LineQueue
 from .replay_process import Note, ReplayLost, ReplayProcess
-from .slices import Slice
+from .slice_store import Slice
 
 # The most programs of a hub.
 MOST_PROGRAMS = 8
 
-# How often a program that dies is restarted for the same lines.
-_STARTS = 5
+# How often a program that dies while it is restored is started again, and at how many deaths a line alone is refused.
+_STARTS, _DEATHS = 5, 2
+# The bytes of a refused line that are logged.
+_SHOWN = 200
 # Batches for the statistics.
 _BATCHES = 1024
 
@@ -50,6 +53,7 @@ class Shard:
         part: Slice | None,
         writer: JournalWriter,
         say: Callable[[str], None],
+        clock: Clock,
         name: str = "",
     ) -> None:
         """Makes a shard of all teams or, given a slice and a name for messages, of the slice's teams."""
@@ -70,6 +74,7 @@ class Shard:
         self.loading = self.replaying = 0.0
         self._writer = writer
         self._say = say
+        self._clock = clock
         self._name = name
 
     def has_team(self, team: bytes) -> bool:
@@ -100,43 +105,72 @@ class Shard:
             await self._restart(lost, follower)
 
     async def execute(self, lines: list[bytes]) -> tuple[list[bytes], float]:
-        """Returns the program's replies and its seconds. A program that dies is restored and gets the lines again; none
-        is in the journal yet.
+        """Returns the program's replies and its seconds. A program that dies is restored and gets the lines again, one
+        by one; none is in the journal yet.
         """
-        for _ in range(_STARTS):
-            begin = time.monotonic()
-            try:
-                replies = await self.replay.execute(lines)
-            except ReplayLost as lost:
-                await self._restart(lost)
-                continue
-            seconds = time.monotonic() - begin
-            self.seconds.append(seconds)
-            return replies, seconds
-        raise Fault(FAILED, f"the program died {_STARTS} times on the same lines")
+        begin = self._clock.now()
+        try:
+            replies = await self.replay.execute(lines)
+        except ReplayLost as lost:
+            await self._restart(lost)
+            begin = self._clock.now()
+            replies = await self._execute_apart(lines, 1 if len(lines) == 1 else 0)
+        seconds = self._clock.now() - begin
+        self.seconds.append(seconds)
+        return replies, seconds
 
-    async def _restart(self, lost: ReplayLost, follower: Follower | None = None) -> None:
-        """Starts the program again from the journal; several times if it keeps dying."""
+    async def _execute_apart(self, lines: list[bytes], deaths: int) -> list[bytes]:
+        """Executes lines one by one. A line at which the program dies twice is refused: it must not end the service of
+        others. The first line has killed it `deaths` times.
+        """
+        replies: list[bytes] = []
+        executed: list[Record] = []
+        for line in lines:
+            reply = None
+            while reply is None:
+                try:
+                    [reply] = await self.replay.execute([line])
+                except ReplayLost as lost:
+                    deaths += 1
+                    await self._restart(lost, executed=executed)
+                    if deaths >= _DEATHS:
+                        text = line[:_SHOWN].decode("ascii", "backslashreplace")
+                        self._say(f"refused, since the program died {deaths} times at this line alone: {text}")
+                        reply = NOT_DONE
+            replies.append(reply)
+            if is_change(line.split(), reply):
+                executed.append(Record(line, reply))
+            deaths = 0
+        return replies
+
+    async def _restart(
+        self, lost: ReplayLost, follower: Follower | None = None, executed: Iterable[Record] = ()
+    ) -> None:
+        """Starts the program again from the journal, then from the executed changes that are not in the journal yet;
+        several times if it keeps dying.
+        """
         for _ in range(_STARTS):
             self._say(f"{lost}{self._name}; restarting it and restoring {self._writer.changes} changes")
             self.restores += 1
             try:
-                return await self._restore(follower)
+                await self._restore(follower)
+                await self.replay.restore(iter(executed), None, self._writer.changes)
+                return
             except ReplayLost as again:
                 lost = again
         raise Fault(FAILED, f"{lost}; giving up after {_STARTS} starts, no acknowledged change is lost")
 
     async def _restore(self, follower: Follower | None = None) -> None:
         """Starts the program from the journal's last state and replays the changes of its teams after it."""
-        begin = time.monotonic()
+        begin = self._clock.now()
         async with self._writer.tail() as tail:
             await self._load(tail.state)
-            self.loading = time.monotonic() - begin
+            self.loading = self._clock.now() - begin
             if follower:
                 follower.on_notes(tail.notes, self.has_team)
             is_own = self._has_record if self.part else None
             await self.replay.restore(tail.records, follower and follower.on_record, tail.changes, is_own)
-        self.replaying = time.monotonic() - begin - self.loading
+        self.replaying = self._clock.now() - begin - self.loading
 
     async def _load(self, state: State | None) -> None:
         """Starts the program from a state. The program of a slice gets a part of it."""
@@ -157,12 +191,15 @@ class Shard:
 class ShardPool:
     """The shards of a hub. Each team is in one."""
 
-    def __init__(self, replay: ReplayProcess, writer: JournalWriter, say: Callable[[str], None]) -> None:
+    def __init__(
+        self, replay: ReplayProcess, writer: JournalWriter, say: Callable[[str], None], clock: Clock
+    ) -> None:
         """Makes one shard of all teams, with a program over the whole design."""
-        self.shards = [Shard(replay, None, writer, say)]
+        self.shards = [Shard(replay, None, writer, say, clock)]
         self._replay = replay
         self._writer = writer
         self._say = say
+        self._clock = clock
         self._by_team: dict[bytes, Shard] = {}
 
     def __iter__(self) -> Iterator[Shard]:
@@ -173,17 +210,24 @@ class ShardPool:
         shards = []
         for number, part in enumerate(slices, start=1):
             program = self._replay.program.with_design(part.path)
-            replay = ReplayProcess(program, [part.sum, *self._replay.sums[1:]])
-            shard = Shard(replay, part, self._writer, self._say, f" (program {number} of {len(slices)})")
+            sums, memory = [part.sum, *self._replay.sums[1:]], self._replay.memory
+            replay = ReplayProcess(program, sums, clock=self._clock, memory=memory)
+            name = f" (program {number} of {len(slices)})"
+            shard = Shard(replay, part, self._writer, self._say, self._clock, name)
             shard.queue = LineQueue(functools.partial(self._may_take, shard))
             shards.append(shard)
         self.shards = shards or self.shards
         self._by_team = {team: shard for shard, part in zip(shards, slices) for team in part.teams}
 
     def of(self, client: Client) -> Shard:
-        """The shard that answers the next line of a client. Lines that name no team are answered by the first."""
-        team = client.next_team() if client.team is None else client.team
-        return self._by_team.get(team, self.shards[0])
+        """The shard that answers the next line of a client. The operator's lines that name no team are answered by the
+        first. Raises a Fault if no shard has the client's team.
+        """
+        if client.team is None or not self._by_team:
+            return self._by_team.get(client.next_team(), self.shards[0])
+        if client.team not in self._by_team:
+            raise Fault(FAILED, f"no program serves team {client.team.decode()}")
+        return self._by_team[client.team]
 
     def _may_take(self, shard: Shard, client: Client) -> bool:
         """Whether a shard may take a client's next line. The operator's lines may be for several shards: those for one

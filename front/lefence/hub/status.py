@@ -4,7 +4,6 @@ from __future__ import annotations
 
 import json
 import os
-import time
 from collections import Counter
 from collections.abc import Iterator
 from pathlib import Path
@@ -31,15 +30,17 @@ def status_text(hub: Hub) -> bytes:
 
 
 def _status(hub: Hub) -> dict[str, Any]:
-    metrics, journal, now = hub.metrics, hub.journal, time.time()
+    metrics, journal, now = hub.metrics, hub.journal, hub.clock.date()
     return {
-        "uptime_seconds": round(time.monotonic() - metrics.started, 1),
+        "uptime_seconds": round(hub.clock.now() - metrics.started, 1),
         "clients": len(hub.pool.clients),
         "unread_bytes": hub.pool.unread_bytes(),
         "lines_total": metrics.lines,
+        "diverged_teams": len(hub.operator.diverged),
         "restores_total": hub.shards.restores,
         "changes_total": journal.changes,
         "states_total": hub.checkpoints.count,
+        "failed_state": _failed_state(hub),
         "journal_bytes": journal.end,
         "past_bytes": journal.archive.size(),
         "journal_age_seconds": round(now - (journal.last or now), 1),
@@ -47,12 +48,29 @@ def _status(hub: Hub) -> dict[str, Any]:
         **{f"batch_lines_p{part}": percentile(metrics.batches, part / 100) for part in (50, 99)},
         "program_bytes": sum(memory_of(shard.replay.pid) for shard in hub.shards),
         "hub_bytes": memory_of(os.getpid()),
+        "folder": _working_folder(),
         "texts": [{"path": printable(str(text.path)), "sha256": text.sum} for text in journal.header.texts],
         "slow_lines_total": hub.latency.slow_count,
         "slow_lines": hub.latency.slow_status(),
         "programs": [_program(shard) for shard in hub.shards],
         "teams": list(_teams(hub)),
     }
+
+
+def _working_folder() -> str:
+    """The folder in which relative paths of exports begin; empty if it was removed."""
+    try:
+        return printable(os.getcwd())
+    except OSError:
+        return ""
+
+
+def _failed_state(hub: Hub) -> dict[str, Any] | None:
+    """The last try to save a state, if it failed."""
+    if hub.checkpoints.failure is None:
+        return None
+    at, reason = hub.checkpoints.failure
+    return {"at": round(at, 1), "reason": printable(reason)}
 
 
 def _program(shard: Shard) -> dict[str, Any]:
@@ -70,6 +88,8 @@ def _teams(hub: Hub) -> Iterator[dict[str, Any]]:
         name = team.encode()
         counts = hub.metrics.teams.get(name, TeamMetrics())
         counted = {"clients": clients[name], "revision": counts.revision, "uncommitted": counts.uncommitted}
+        counted["frozen"] = hub.operator.is_frozen(name)
+        counted["diverged"] = name in hub.operator.diverged
         yield {"team": team, **counted, **hub.latency.status_of(name), "sessions": sessions.get(name, [])}
 
 

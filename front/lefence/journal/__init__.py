@@ -8,5 +8,5 @@ Modules in reading order:
 - `texts`: copies of the design's files, which a journal needs at its next start.
 - `backup`: consistent copies of all these files.
 
-It imports `lefence.base` and must not import the client library, the hub or the tools.
+It imports `lefence.base` and must not import any other sub-package.
 """

@@ -41,6 +41,8 @@ def backup_journal(journal: Path, folder: Path) -> Path:
         raise Fault(FAILED, f"{folder} is not empty: a backup needs a folder of its own")
     folder.mkdir(mode=0o700, exist_ok=True)
     copy_journal(journal, folder / journal.name)
+    # (the name of a new folder is in the folder above)
+    sync_folder(folder.absolute().parent)
     return folder / journal.name
 
 

@@ -10,6 +10,7 @@ import contextlib
 import errno
 import fcntl
 import os
+import re
 import time
 from collections.abc import Callable, Iterable, Iterator
 from pathlib import Path
@@ -33,7 +34,7 @@ from .frames import (
     refuse_damage,
 )
 from .owner import ENDED, Owner, OwnerHistory, this_process
-from .segments import Archive, Position, Segment, State, Tail, refuse_special
+from .segments import Archive, Position, Segment, State, Tail, names_state, refuse_special
 
 # Bytes reserved on the disk at a time, so that a sync need not store a new file length.
 _STEP = 1 << 18
@@ -41,6 +42,8 @@ _STEP = 1 << 18
 MOST_REPLY = 96
 _MOST_REST = 1024
 _NO_ROOM = (errno.ENOSPC, errno.EDQUOT, errno.EFBIG)
+# The note of a later segment that gives the SHA-256 of the state with which the journal has begun.
+_BEGUN = re.compile(rb"begun ([0-9a-f]{64})")
 _ACCESS_LIST = "system.posix_acl_access"
 # Errors of a file system that cannot reserve bytes.
 _NOT_OFFERED = (errno.EOPNOTSUPP, errno.EINVAL, errno.ENOSYS)
@@ -80,7 +83,7 @@ def _reserve(descriptor: int, end: int, count: int) -> int:
 
 
 def texts_in(path: Path) -> list[Text] | None:
-    """Reads the design's files of a journal; None if it has no change yet or does not exist.
+    """Reads the design's files of a journal; None if it has no change and no state yet, or does not exist.
 
     Raises a Fault if the file is not a journal.
     """
@@ -92,16 +95,16 @@ def texts_in(path: Path) -> list[Text] | None:
             return None
         reader = Reader(file.fileno(), path)
         header = reader.header()
-        return header.texts if _has_changes(reader, header) else None
+        return header.texts if _has_content(reader, header) else None
 
 
-def _has_changes(reader: Reader, header: Header) -> bool:
-    """Whether the journal has a change, or may have had one."""
+def _has_content(reader: Reader, header: Header) -> bool:
+    """Whether the journal has a change or begins with a state, or may have had a change."""
     if header.number > 1:
         return True
     end = header.length
     for frame in reader.frames(end):
-        if frame.changes:
+        if frame.changes or any(names_state(note) for note in frame.notes()):
             return True
         end = frame.end
     return reader.next_start(end) is not None
@@ -240,14 +243,14 @@ class Journal:
             refuse_damage(self._reader, self.end)
             if slots in (None, self._header.slots):
                 return True
-            if _has_changes(self._reader, self._header):
+            if _has_content(self._reader, self._header):
                 remedies = f"start without --sessions, or change the number by --roll --sessions {slots}"
                 raise Fault(
                     REFUSED,
                     f"{self.path}: made for {self._header.slots} session slots per team, not {slots}: {remedies}",
                 )
         found = os.pread(self._fd, MOST_HEADER, 0)
-        if is_partial_header(found) or self._header and not _has_changes(self._reader, self._header):
+        if is_partial_header(found) or self._header and not _has_content(self._reader, self._header):
             return False
         raise Fault(
             REFUSED, f"{self.path}: {'a journal of another design' if self._header else wrong_title_text(found)}"
@@ -331,6 +334,8 @@ class Journal:
         """
         self.refuse_loss()
         path, number = Path(os.path.realpath(self.path)), self.header.number
+        if first := self._first_state_sum():
+            notes = [b"begun %b" % first.encode(), *notes]
         next_path = path.with_name(f"{path.name}.next")
         header = header_of(self.header.texts, number + 1, self.changes, self.end, slots or self.header.slots)
         frame = frame_of(len(header), b"".join(b"%b\n" % note for note in [*notes, self.owner.note()]))
@@ -390,15 +395,25 @@ class Journal:
         self._reserved = self.end
 
     def begin_with(self, source: Path, size: int, digest: str, notes: list[bytes]) -> None:
-        """Makes a written file the state with which a journal without changes begins; `notes` are about its teams.
+        """Makes a written file the state with which a journal without changes begins; `notes` are about its teams. Does
+        nothing if the journal has begun with this state.
 
-        Raises a Fault if the journal has changes or begins with a state already.
+        Raises a Fault if the journal has changes or has begun with another state.
         """
+        if digest == self._first_state_sum():
+            return
         if self.changes or self.header.number > 1 or self._state:
-            why = "has a state or changes already: only a new journal can begin with a state"
+            why = "has changes or has begun with another state: only a new journal can begin with this one"
             raise Fault(REFUSED, f"{self.path} {why}")
         self._notes += notes
         self.keep_state(source, size, digest, notes)
+
+    def _first_state_sum(self) -> str | None:
+        """The SHA-256 of the state with which the journal has begun, or None. Later segments have it in a note."""
+        if self.header.number == 1:
+            return self._state.sum if self._state else None
+        named = [found[1].decode() for note in self._notes if (found := _BEGUN.fullmatch(note))]
+        return named[0] if named else None
 
     def keep_state(self, source: Path, size: int, digest: str, notes: Iterable[bytes] = ()) -> None:
         """Makes a written file the state at the start of the last segment, given its length and SHA-256, with notes.

@@ -210,13 +210,14 @@ class Archive:
         """Deletes old states, keeping the last `keep` and the segments from the first of them; keeps all if `keep` is
         0.
 
-        With `keeps_segments` it keeps all segments, and the state with which the journal begins.
+        With `keeps_segments` it keeps all segments, and the state with which the first of them begins.
         """
-        states = self.numbers("state")
+        states, segments = self.numbers("state"), self.numbers("journal")
         if not 0 < keep < len(states):
             return
-        old = [self.state(number) for number in states if number > 1 or not keeps_segments]
-        old += [] if keeps_segments else [self.segment(number) for number in self.numbers("journal")]
+        first = segments[0] if keeps_segments and segments else None
+        old = [self.state(number) for number in states if number != first]
+        old += [] if keeps_segments else [self.segment(number) for number in segments]
         # (at any moment the first remaining segment has its state)
         for path in sorted(old, key=lambda each: (int(each.stem), each.suffix)):
             if int(path.stem) < states[-keep]:
@@ -297,6 +298,11 @@ def last_state(path: Path, readers: list[Reader], is_all: bool) -> tuple[State |
         if number == 1 or state and state.is_whole():
             return state, readers[at:]
     raise Fault(REFUSED, f"{path}: segment {readers[first].header().number} has no intact state")
+
+
+def names_state(note: bytes) -> bool:
+    """Whether a note names the state with which its segment begins."""
+    return _STATE.fullmatch(note) is not None
 
 
 def refuse_special(path: Path) -> None:

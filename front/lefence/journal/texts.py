@@ -16,7 +16,7 @@ from pathlib import Path
 from typing import BinaryIO
 
 from ..base.atomic_file import atomic_file, sync_folder
-from ..base.faults import FAILED, REFUSED, Fault, reason_of
+from ..base.faults import FAILED, REFUSED, Fault, as_given, reason_of
 from .frames import Text, sum_of
 from .journal import texts_in
 
@@ -45,15 +45,21 @@ def resolve_texts(
 ) -> tuple[list[Text], list[Path]]:
     """Returns a journal's files and their copies; makes missing copies. The journal need not exist yet.
 
-    A journal with changes keeps its files. Raises a Fault if other files are given, or if one has changed at its
-    original path, unless `uses_kept`.
+    Of a compressed file or a pipe, `given` is its plain copy, and the journal names the file itself. A journal that has
+    changes or begins with a state keeps its files. Raises a Fault if other files are given, or if one has changed at
+    its original path, unless `uses_kept`.
     """
     texts = texts_in(journal)
     if texts is None:
-        texts = [Text(sum_of(path), path.absolute()) for path in given]
+        texts = [Text(sum_of(path), _named(path)) for path in given]
     if len(texts) != len(given):
         raise Fault(REFUSED, f"{journal}: a journal of another design, which has {len(texts)} files")
     return texts, [_resolve_text(journal, text, path, say, uses_kept) for text, path in zip(texts, given)]
+
+
+def _named(given: Path) -> Path:
+    """The path of a file for the journal."""
+    return Path(as_given(str(given))).absolute()
 
 
 def _resolve_text(journal: Path, text: Text, given: Path, say: Callable[[str], None], uses_kept: bool) -> Path:
@@ -70,7 +76,7 @@ def _resolve_text(journal: Path, text: Text, given: Path, say: Callable[[str], N
         raise Fault(
             REFUSED, f"{journal}: a journal of another design: {given} is not its file, and no copy of that is kept"
         )
-    if given.absolute() != text.path:
+    if _named(given) != text.path:
         raise Fault(REFUSED, f"{journal}: a journal of another design: its file was {text.path}, and {given} differs")
     if is_there and not uses_kept:
         remedies = "--kept-texts goes on with the kept copy, lefence-carry and --begin with the changed design"
