@@ -4,6 +4,7 @@ ghost use Rattle.std.specs.Prelude.{◌<◌, length};
 ghost use Rattle.lf_wire_length.specs.Bounds.{IsPinOffset};
 
 use crate::movable::MovableCells;
+use crate::team_nets::TeamNet;
 use lf_cells::CellId;
 use lf_floorplan::Place;
 use lf_orient::Orient;
@@ -110,16 +111,16 @@ fn push_net(source: &NetSource<'_>, net: usize, nets: &mut BoardNets) -> Result<
     Ok(())
 }
 
-/// The nets of the team for the search, of the numbers of its nets. `Err` if an allocation fails.
+/// The nets of the team for the search, of the list of its nets. `Err` if an allocation fails.
 pub(crate) fn board_nets(
     alloc: Global,
     source: &NetSource<'_>,
-    listed: &[u32],
+    listed: &[TeamNet],
 ) -> Result<BoardNets, AllocError> {
     let mut nets = BoardNets::new(alloc);
     push_all_offsets(source.netlist, &mut nets)?;
-    for net in listed {
-        let net = *net as usize;
+    for one in listed {
+        let net = one.net as usize;
         if net < source.netlist.len() {
             push_net(source, net, &mut nets)?;
         }

@@ -2,4 +2,3 @@ mod Lengths
 mod Near
 mod Results
 mod Improving
-mod TeamLengths

@@ -15,6 +15,4 @@ mod OthersLegal
 pub mod WithoutPlace
 mod LastPass
 pub mod OffSoft
-mod ReachLemmas
-mod MeanLemmas
 pub mod Listing

@@ -1,3 +1,2 @@
-mod Keeping
-pub mod NettedSteps
+pub mod Keeping
 pub mod Steps

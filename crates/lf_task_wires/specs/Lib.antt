@@ -1,3 +1,2 @@
-pub mod Netted
 pub mod Readings
 pub mod Wirelengths

@@ -4,5 +4,3 @@ pub mod BoxLemmas
 pub mod StoredLemmas
 pub mod ViewLemmas
 pub mod TeamLemmas
-pub mod TeamNetLemmas
-pub mod TeamListLemmas

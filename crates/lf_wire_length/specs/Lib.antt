@@ -6,4 +6,3 @@ pub mod Placed
 pub mod Laws
 pub mod Teams
 pub mod Counts
-pub mod TeamNets
