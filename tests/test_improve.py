@@ -336,6 +336,17 @@ class Improve(InFolder):
         self.assertGreater(int(str(one)), int(str(four)))
         self.assertEqual(self.improve(text)[-1]["doubled"], four)
 
+    def test_effort_and_a_density_never_make_the_nets_longer(self) -> None:
+        text = Chip(7, 6, 10).text()
+        plain = self.improve(text)[-1]
+        self.assertEqual(self.improve(text, "--effort", "0")[-1], plain)
+        for words in (["--effort", "50"], ["--density", "60"], ["--effort", "20", "--density", "100"]):
+            with self.subTest(words):
+                report = self.improve(text, *words)
+                before, after = (int(str(report[-1][key])) for key in ("doubled_before", "doubled"))
+                self.assertLessEqual(after, before)
+                self.assertEqual(report[-1]["doubled"], self.lengths(self.new)[-1]["doubled"])
+
     def test_shuffled_cells_come_near_their_neighbors(self) -> None:
         report = self.improve(Chip(9, 18, 38).text())
         self.assertEqual(report[-1]["cells"], 3 * (18 * 38 + 1))

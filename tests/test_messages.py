@@ -170,6 +170,8 @@ class Mistakes(unittest.TestCase):
             self.said(["replay", *DESIGN, "--export-working", str(target)], 2, USAGE)
             for option in ("--state", "--save", "--export-working"):
                 self.said(["improve", *DESIGN, option, str(target)], 2, USAGE)
+            for option in ("--balance-heights", "--near-nets"):
+                self.said(["improve", *DESIGN, option], 2, USAGE)
             self.assertEqual(os.listdir(folder), [])
 
     def test_an_option_without_its_value_or_twice(self) -> None:
@@ -186,6 +188,8 @@ class Mistakes(unittest.TestCase):
         self.said(["improve", *DESIGN, "--rounds", "5", "--rounds=5"], 2, USAGE)
         self.said(["repair", *DESIGN, "--keep", "--keep"], 2, USAGE)
         self.said(["repair", *DESIGN, "--keep", "--all"], 2, USAGE)
+        self.said(["repair", *DESIGN, "--effort", "1", "--effort=1"], 2, USAGE)
+        self.said(["repair", *DESIGN, "--near-nets=true"], 2, USAGE)
         self.said(["replay", *DESIGN, "--lines"], 2, USAGE)
         self.said(["replay", *DESIGN, "--lines", "5", "--lines=5"], 2, USAGE)
         self.said(["serve", *DESIGN, "--port", "--connections", "1"], 2, USAGE)
@@ -204,9 +208,15 @@ class Mistakes(unittest.TestCase):
             self.said(["replay", *DESIGN, "--lines", lines], 2, USAGE)
 
     def test_rounds_and_rows_out_of_their_ranges(self) -> None:
-        for option, numbers in (("--rounds", ("0", "101", "all", "")), ("--within", ("0", "65536", "-1", ""))):
+        for option, numbers in (
+            ("--rounds", ("0", "101", "all", "")), ("--within", ("0", "65536", "-1", "")),
+            ("--effort", ("10001", "all", "-1", "")), ("--density", ("0", "101", "all", "")),
+        ):
             for number in numbers:
                 self.said(["improve", *DESIGN, f"{option}={number}"], 2, USAGE)
+        for option, numbers in (("--effort", ("10001", "all", "-1", "")), ("--within", ("0", "65536", "-1", ""))):
+            for number in numbers:
+                self.said(["repair", *DESIGN, f"{option}={number}"], 2, USAGE)
 
     def test_a_missing_file_or_a_folder_in_its_place(self) -> None:
         with tempfile.TemporaryDirectory() as folder:

@@ -16,8 +16,8 @@ from program import DEF, LEF, PROGRAM, InFolder, Start, preloading, run
 
 # The keys of the line of a team, and of the line of all teams, in order.
 TEAM_KEYS = [
-    "cells", "gaps", "impossible", "kept", "largest", "least_largest", "left", "mean", "moved", "placed", "pushed",
-    "team", "total", "turned",
+    "average", "cells", "gaps", "impossible", "kept", "largest", "least_largest", "left", "mean", "mean_by_height",
+    "moved", "placed", "pushed", "team", "total", "turned",
 ]
 ALL_KEYS = [
     "cells", "kept", "largest", "least_largest", "left_cells", "legal", "mean", "moved", "placed", "pushed",
@@ -37,6 +37,29 @@ NARROW = {"- A ( 0 0 ) ( 4000 4000 ) + TYPE FENCE ;": "- A ( 0 0 ) ( 400 2000 ) 
 # A row with free runs of 3, 15 and 4 sites between cells that do not move. Three cells of 8, 5 and 3 sites are in the
 # widest run and overlap there. The narrowest has to move, and fits only into the run of 3 sites.
 GAPS = {"w8": (8, 11), "s4": (4, 28), "w5": (5, 12), "s5": (5, 3), "w3": (3, 12), "t5": (5, 23)}
+
+# Two cells without a place. One is in a net with a cell at the right end of the row.
+NETTED_LEF = """VERSION 5.8 ;
+SITE core CLASS CORE ; SYMMETRY Y ; SIZE 0.2 BY 2.0 ; END core
+MACRO INV CLASS CORE ; SIZE 0.4 BY 2.0 ; SYMMETRY X Y ; SITE core ;
+  PIN A PORT LAYER m1 ; RECT 0.1 0.9 0.3 1.1 ; END END A
+END INV
+END LIBRARY
+"""
+NETTED_DEF = """VERSION 5.8 ;
+DESIGN w ;
+UNITS DISTANCE MICRONS 1000 ;
+ROW r core 0 0 N DO 100 BY 1 STEP 200 0 ;
+COMPONENTS 3 ;
+- far INV + PLACED ( 16000 0 ) N ;
+- new INV ;
+- lone INV ;
+END COMPONENTS
+NETS 1 ;
+- n ( far A ) ( new A ) ;
+END NETS
+END DESIGN
+"""
 
 
 def of_gaps(site: dict[str, int]) -> tuple[str, str]:
@@ -219,6 +242,57 @@ class Repairs(InFolder):
         status, report = self.repair({}, "--export", str(self.new))
         self.assertEqual((status, self.check(self.text), self.check(self.new)), (0, 4, 0))
         self.assertEqual([line["placed"] for line in report], [3, 1, 1, 5])
+
+    def near_nets(self, text: str, *words: str) -> tuple[int, str, str]:
+        """Repairs this text over the LEF text with pins. Returns the status and what was written."""
+        lef = self.folder / "netted.lef"
+        lef.write_text(NETTED_LEF)
+        self.text.write_text(text)
+        return run(["repair", str(self.text), str(lef), "--export", str(self.new), *words])
+
+    def test_cells_without_a_place_go_near_their_nets(self) -> None:
+        for words, x_of_new in (((), (0, 400)), (("--near-nets",), (15600, 16400))):
+            with self.subTest(words):
+                status, written, said = self.near_nets(NETTED_DEF, *words)
+                self.assertEqual((status, said), (0, ""), written)
+                found = dict(re.findall(r"^- (\w+) INV .*PLACED \( (\d+) 0 \)", self.new.read_text(), re.MULTILINE))
+                self.assertEqual(found["far"], "16000")
+                self.assertIn(int(found["new"]), x_of_new)
+                self.assertIn(int(found["lone"]), (0, 400))
+
+    def test_nets_are_read_only_if_cells_go_near_them(self) -> None:
+        text = NETTED_DEF.replace("- n ( far A ) ( new A ) ;", "- n x ;")
+        self.assertEqual(self.near_nets(text)[0], 0)
+        line = text[: text.index("- n x")].count("\n") + 1
+        said = f"lefence: 3 Unexpected line {line}\nlefence: DEF file {self.text}, line {line}: - n x ;\n"
+        self.assertEqual(self.near_nets(text, "--near-nets"), (1, "", said))
+        # A state that cannot be read is reported first.
+        status, written, said = self.near_nets(text, "--near-nets", "--state", str(self.folder / "missing"))
+        self.assertEqual((status, written), (3, ""))
+        self.assertIn("state file", said)
+
+    def test_no_cell_goes_farther_than_is_allowed(self) -> None:
+        # b1 is three row heights left of its fence, where it overlaps a1.
+        changes = {**PLACED_CELLS, "- b1 INV ;": "- b1 INV + PLACED ( 0 0 ) N ;"}
+        for rows, status, left, largest in (("3", 0, [], 6000), ("2", 4, ["b1"], 0)):
+            with self.subTest(rows):
+                done, report = self.repair(changes, "--within", rows)
+                self.assertEqual((done, report[1]["left"], report[1]["largest"]), (status, left, largest))
+                self.assertEqual(report[0]["left"], [])
+
+    def test_more_effort_makes_no_longer_displacements(self) -> None:
+        lef, text = of_gaps({name: site for name, (_, site) in GAPS.items()})
+        totals = []
+        efforts: list[list[str]] = [["--effort=0"], ["--effort=0"], [], ["--effort=50"], ["--balance-heights"]]
+        for effort in efforts:
+            (self.folder / "gaps.lef").write_text(lef)
+            self.text.write_text(text)
+            words = ["repair", str(self.text), str(self.folder / "gaps.lef"), "--export", str(self.new), *effort]
+            status, written, said = run(words)
+            self.assertEqual((status, said), (0, ""), written)
+            totals.append(json.loads(written.splitlines()[-1])["total"])
+        self.assertEqual(totals[0], totals[1])
+        self.assertLessEqual(totals[3], totals[0])
 
     def test_the_lines_do_the_repair_again(self) -> None:
         self.assertEqual(self.repair(PLACED_CELLS, "--export", str(self.new), "--lines", str(self.lines))[0], 0)
@@ -447,6 +521,16 @@ class Repairs(InFolder):
         self.assertEqual(
             (status, [line["least_largest"] for line in report], report[0]["largest"]), (0, [0, 0, 0, 0], 400)
         )
+
+    def test_means_are_over_all_cells_and_by_height(self) -> None:
+        # a2 moves by a tenth of a row's height. A has two cells of one row and one of two rows, all others stay.
+        status, report = self.repair(PLACED_CELLS)
+        means = [(line["average"], line["mean_by_height"]) for line in report[:-1]]
+        self.assertEqual((status, means), (0, [(33, 25), (0, 0), (0, 0)]))
+        # All cells without a place: nothing is displaced.
+        status, report = self.repair({})
+        self.assertEqual((status, [line["average"] for line in report[:-1]]), (0, [0, 0, 0]))
+        self.assertEqual([line["mean_by_height"] for line in report[:-1]], [0, 0, 0])
 
     def test_a_legal_design_stays(self) -> None:
         legal = {**PLACED_CELLS, "- a2 INV + UNPLACED ;": "- a2 INV + PLACED ( 400 0 ) N ;"}

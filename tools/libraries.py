@@ -75,8 +75,8 @@ GROUPS = {
     "wires": Group(
         "lf_wire_*",
         "nets and their lengths. `_pins` and `_nets` read texts, `_length` measures, `_binding` finds the cells of"
-        " pins, and `_report` prints. `_board` measures what moves of cells change, and `_improver` looks for moves"
-        " that make nets shorter",
+        " pins, and `_report` prints. `_targets` says where cells without a place are near their nets. `_board`"
+        " measures what moves of cells change, and `_improver` looks for moves that make nets shorter",
     ),
     "improvements": Group("lf_improve_*", "shorter wires"),
     "io": Group(
@@ -258,10 +258,16 @@ RULES = (
         "The search for shorter wires knows sites alone, as the planner does.",
     ),
     Rule(
-        "wires",
+        "wires -lf_wire_targets",
         Kind.RESERVED,
-        "improvements lf_task_wires lf_task_improve tests",
+        "lf_wire_targets improvements lf_task_wires lf_task_improve tests",
         "No verb may pay for nets, or depend on them: a reply would then depend on other teams' cells.",
+    ),
+    Rule(
+        "lf_wire_targets",
+        Kind.RESERVED,
+        "lf_task_repair tests",
+        "Nets only advise a repair where its cells without a place may go.",
     ),
     Rule("io", Kind.INDEPENDENT, "all", "Devices and files are at the bottom, and any group may name `Output`."),
     Rule(
@@ -298,8 +304,8 @@ RULES = (
     Rule(
         "lf_task_repair",
         Kind.UNNAMED,
-        "lf_server lf_wire_*",
-        "A repair is complete without connections and nets.",
+        "lf_server wires -lf_wire_targets",
+        "A repair is complete without connections, and all that it knows of nets is the targets that they give.",
     ),
     Rule("lf_tests_*", Kind.RESERVED, "tests", "No code of the program is there for tests."),
 )

@@ -94,9 +94,10 @@ class Improvements(FrontCase):
 
     def test_one_run_writes_what_the_program_writes(self) -> None:
         self.shuffled()
-        self.improve("-o", str(self.target), "--within", "2", "--rounds", "1", "--team", "B", "--team", "-")
+        words = ["--within", "2", "--rounds", "1", "--effort", "5", "--density", "90", "--team", "B", "--team", "-"]
+        self.improve("-o", str(self.target), *words)
         plain = self.folder / "plain.def"
-        words = ["--within", "2", "--rounds", "1", "--team", "B", "--team", "-", "--export", str(plain)]
+        words += ["--export", str(plain)]
         subprocess.run([PROGRAM, "improve", self.design, self.lef, *words], stdout=subprocess.DEVNULL, check=True)
         self.assertEqual(self.target.read_bytes(), plain.read_bytes())
         self.assertNotEqual(plain.read_bytes(), self.design.read_bytes())

@@ -90,6 +90,22 @@ class Repairs(FrontCase):
                 self.assertLess(abs(box.left - cell.box.left) + abs(box.bottom - cell.box.bottom), 6000, name)
         self.assertEqual([path.name for path in sorted(self.folder.iterdir())], ["new.def", "t.def", "t.lef"])
 
+    def test_the_options_of_the_search_are_those_of_the_program(self) -> None:
+        for words in (["--effort", "0"], ["--effort=3", "--within", "40", "--balance-heights", "--near-nets"]):
+            plain = self.folder / "plain.def"
+            done = subprocess.run(
+                [PROGRAM, "repair", self.design, self.lef, *words, "--export", plain], stdout=subprocess.DEVNULL
+            )
+            self.assertEqual(done.returncode, 0)
+            self.assertEqual(self.repair("--output", self.target, *words).returncode, 0)
+            self.assertEqual(self.target.read_bytes(), plain.read_bytes())
+
+    def test_a_number_that_the_program_refuses_is_reported(self) -> None:
+        done = self.repair("--output", self.target, "--within", "0")
+        self.assertNotEqual(done.returncode, 0)
+        self.assertIn(b"--within", done.stderr)
+        self.assertFalse(self.target.exists())
+
     @with_klayout
     def test_klayout_finds_no_overlap_after_it(self) -> None:
         self.assertEqual(self.repair("--output", self.target).returncode, 0)

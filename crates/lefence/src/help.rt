@@ -31,11 +31,12 @@ const USAGE: &str =
                                 with the committed places, to FILE
   lefence serve DEF LEF... --port P --connections N [--state FILE] [--save FILE] [--export FILE] [--sessions N]
                                 answers the lines of N connections to port P of this machine, one after another
-  lefence repair DEF LEF... [--team NAME]... [--keep | --all] [--state FILE] [--save FILE] [--export FILE]
-              [--export-working FILE] [--lines FILE] [--sessions N]
-                                moves cells that break a rule or have no place to legal places
-  lefence improve DEF LEF... [--team NAME]... [--within ROWS] [--rounds N] [--export FILE] [--lines FILE]
+  lefence repair DEF LEF... [--team NAME]... [--keep | --all] [--effort N] [--within ROWS] [--balance-heights]
+              [--near-nets] [--state FILE] [--save FILE] [--export FILE] [--export-working FILE] [--lines FILE]
               [--sessions N]
+                                moves cells that break a rule or have no place to legal places
+  lefence improve DEF LEF... [--team NAME]... [--within ROWS] [--rounds N] [--effort N] [--density P]
+              [--export FILE] [--lines FILE] [--sessions N]
                                 moves legal cells so that the nets become shorter
   (put -- before a path that begins with '-'; docs/CLI.md says more)
 ";
@@ -116,13 +117,21 @@ example:
 ";
 
 const REPAIR: &str =
-    "lefence repair DEF LEF... [--team NAME]... [--keep | --all] [--state FILE] [--save FILE] [--export FILE]
-               [--export-working FILE] [--lines FILE] [--sessions N]
+    "lefence repair DEF LEF... [--team NAME]... [--keep | --all] [--effort N] [--within ROWS] [--balance-heights]
+               [--near-nets] [--state FILE] [--save FILE] [--export FILE] [--export-working FILE] [--lines FILE]
+               [--sessions N]
 
 Moves cells that break a rule or have no place to legal places: those of the named teams, or of all teams. Commits
 each team in which every cell is then legal. Legal cells move only if another cell would otherwise have no place or be
 moved far; with --keep they stay, and with --all they may move, to shorten the total displacement. Writes a
-line of JSON for each team and one for all. --state starts from a state that was saved by --save, in place of the
+line of JSON for each team and one for all.
+
+The search for short displacements makes N tries for each cell (0 to 10000), or one for each five cells if --effort is
+not given; with 0 the first plan stays as it is. With --within, no cell moves farther than ROWS times the height of a
+row (1 to 65535); a cell that cannot be repaired so has no place at the end. With --balance-heights, cells of a height
+that few cells have weigh more. With --near-nets, cells without a place go near the other cells of their nets.
+
+--state starts from a state that was saved by --save, in place of the
 places of the DEF text. --export writes the DEF text with the committed places to FILE, --export-working with the
 working places of all teams, committed or not, --lines the accepted commands, and --save the state at the end. With
 --sessions, each team has N session slots (1 to 64; 8 if not given). The exit status is 0 if the committed design is
@@ -133,14 +142,15 @@ example:
 ";
 
 const IMPROVE: &str =
-    "lefence improve DEF LEF... [--team NAME]... [--within ROWS] [--rounds N] [--export FILE] [--lines FILE]
-               [--sessions N]
+    "lefence improve DEF LEF... [--team NAME]... [--within ROWS] [--rounds N] [--effort N] [--density P]
+               [--export FILE] [--lines FILE] [--sessions N]
 
 Moves legal cells so that the nets become shorter: those of the named teams, or of all teams. A team is skipped if one
 of its cells is unplaced or breaks a rule. All others stay legal and are committed, and the wire length of the design
 never grows. With --within, no cell is farther from its place in the DEF text than ROWS times the height of a row (1 to
-65535). The search makes at most N rounds (1 to 100; 4 if not given). Writes a line of JSON for each team and one for
-all. --export writes the DEF text with the committed places to FILE, and --lines the accepted commands. With
+65535). The search makes at most N rounds (1 to 100; 4 if not given), and then tries as many random moves of each cell
+as --effort says (0 to 10000; 0 if not given). With --density, no move makes a part of the floor fuller that is then
+above P percent (1 to 100). Writes a line of JSON for each team and one for all. --export writes the DEF text with the committed places to FILE, and --lines the accepted commands. With
 --sessions, each team has N session slots (1 to 64; 8 if not given). The exit status is 0 if the committed design is
 then fully legal, and 4 if it is not.
 

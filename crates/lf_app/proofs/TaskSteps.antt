@@ -45,8 +45,8 @@ succeeds gives (serve def lefs state number port connections save export) io sta
 succeeds gives (check def lefs state number committed) io status (limits, slots, is) = is.2.done
 succeeds gives (describe def lefs state number) io status (limits, slots, is) = is.shown.2.done
 succeeds gives (wirelength def lefs state number) io status (limits, slots, is) = inl is.3
-succeeds gives (repair def lefs state number teams legal files) io status (limits, slots, is) = is.repaired.committed_checked.done
-succeeds gives (improve def lefs number teams within rounds files) io status (limits, slots, is) = is.improved.committed_checked.done
+succeeds gives (repair def lefs state number teams options files) io status (limits, slots, is) = is.repaired.committed_checked.done
+succeeds gives (improve def lefs number teams within options files) io status (limits, slots, is) = is.improved.committed_checked.done
 
 -- Only a check, a description, a repair or an improvement has status 4.
 pub checked : (gives : ReadsFile) (task : Task) (io : Streams) (status : ℕ) → IsJobOutcome gives (as_job task) io status → status ≡ 4 → ReadsNone task
@@ -58,8 +58,8 @@ checked gives (Serve def lefs state number port connections save export) io stat
 checked gives (Check def lefs state number committed) io status is four = tt
 checked gives (Describe def lefs state number) io status is four = tt
 checked gives (Wirelength def lefs state number) io status is four = tt
-checked gives (Repair def lefs state number teams legal files) io status is four = tt
-checked gives (Improve def lefs number teams within rounds files) io status is four = tt
+checked gives (Repair def lefs state number teams options files) io status is four = tt
+checked gives (Improve def lefs number teams within options files) io status is four = tt
 
 -- A task that only writes touches nothing if it writes nothing.
 pub stops_untouched : (r : Result ℕ Fault) (nothing work also more : Fault → Type 0) (same untouched : Type 0)

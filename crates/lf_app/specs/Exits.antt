@@ -31,22 +31,22 @@ EndsTask why old new failed exit = (fault : Fault) × why fault × EndsWith faul
 abbrev pub NamesNoState : Job → Type 0
 NamesNoState (replay def lefs state slots lines save export) = save ≡ None
 NamesNoState (serve def lefs state slots port connections save export) = save ≡ None
-NamesNoState (repair def lefs state slots teams legal files) = WritesExportAlone files
-NamesNoState (improve def lefs slots teams within rounds files) = WritesExportAlone files
+NamesNoState (repair def lefs state slots teams options files) = WritesExportAlone files
+NamesNoState (improve def lefs slots teams within options files) = WritesExportAlone files
 NamesNoState job = Unit {0}
 
 -- A job that requests no text to be written to a file.
 abbrev pub NamesNoFile : Job → Type 0
 NamesNoFile (replay def lefs state slots lines save export) = (save ≡ None) × (export ≡ None)
 NamesNoFile (serve def lefs state slots port connections save export) = (save ≡ None) × (export ≡ None)
-NamesNoFile (repair def lefs state slots teams legal files) = WritesNoFile files
-NamesNoFile (improve def lefs slots teams within rounds files) = WritesNoFile files
+NamesNoFile (repair def lefs state slots teams options files) = WritesNoFile files
+NamesNoFile (improve def lefs slots teams within options files) = WritesNoFile files
 NamesNoFile job = Unit {0}
 
 -- A job that neither repairs nor improves: no progress is reported.
 abbrev pub RepairsNothing : Job → Type 0
-RepairsNothing (repair def lefs state slots teams legal files) = ⊥
-RepairsNothing (improve def lefs slots teams within rounds files) = ⊥
+RepairsNothing (repair def lefs state slots teams options files) = ⊥
+RepairsNothing (improve def lefs slots teams within options files) = ⊥
 RepairsNothing job = Unit {0}
 
 -- A job that reads nothing from standard input.
@@ -62,8 +62,8 @@ job_slots (describe def lefs state slots) = slots
 job_slots (wirelength def lefs state slots) = slots
 job_slots (replay def lefs state slots lines save export) = slots
 job_slots (serve def lefs state slots port connections save export) = slots
-job_slots (repair def lefs state slots teams legal files) = slots
-job_slots (improve def lefs slots teams within rounds files) = slots
+job_slots (repair def lefs state slots teams options files) = slots
+job_slots (improve def lefs slots teams within options files) = slots
 job_slots _ = 8
 
 -- The most lines of its input that a job answers.
@@ -92,9 +92,9 @@ IsOutcomeWithin limits gives (describe def lefs state slots) io status =
     IsOpenDescribed limits gives def lefs state io.before io.after status
 IsOutcomeWithin limits gives (wirelength def lefs state slots) io status =
     IsMeasured limits gives def lefs state io.before io.after status
-IsOutcomeWithin limits gives (repair def lefs state slots teams legal files) io status =
-    IsOpenRepaired limits gives def lefs state teams legal files io.before io.after io.old_puts io.new_puts status
-IsOutcomeWithin limits gives (improve def lefs slots teams within rounds files) io status =
+IsOutcomeWithin limits gives (repair def lefs state slots teams options files) io status =
+    IsOpenRepaired limits gives def lefs state teams options files io.before io.after io.old_puts io.new_puts status
+IsOutcomeWithin limits gives (improve def lefs slots teams within options files) io status =
     IsOpenImproved limits gives def lefs teams within files io.before io.after io.old_puts io.new_puts status
 
 -- The outcome of a job that succeeds, with this status.
@@ -127,9 +127,9 @@ IsJobFaultWithin limits gives (describe def lefs state slots) fault io =
     IsDesignFault limits gives def lefs fault ⊎ IsOpenUndescribed limits gives def lefs state io.before io.after fault
 IsJobFaultWithin limits gives (wirelength def lefs state slots) fault io =
     IsNotMeasured limits gives def lefs state io.before io.after fault
-IsJobFaultWithin limits gives (repair def lefs state slots teams legal files) fault io =
-    IsNotRepaired limits gives def lefs state teams legal files io.before io.after io.old_puts io.new_puts fault
-IsJobFaultWithin limits gives (improve def lefs slots teams within rounds files) fault io =
+IsJobFaultWithin limits gives (repair def lefs state slots teams options files) fault io =
+    IsNotRepaired limits gives def lefs state teams options files io.before io.after io.old_puts io.new_puts fault
+IsJobFaultWithin limits gives (improve def lefs slots teams within options files) fault io =
     IsNotImproved limits gives def lefs teams within files io.before io.after io.old_puts io.new_puts fault
 
 -- Why a job fails.

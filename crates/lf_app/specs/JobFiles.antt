@@ -22,8 +22,8 @@ IsInputOf limits (describe def lefs state slots) input = IsInputAt limits def le
 IsInputOf limits (wirelength def lefs state slots) input = IsInputAt limits def lefs state input
 IsInputOf limits (replay def lefs state slots lines save export) input = IsInputAt limits def lefs state input
 IsInputOf limits (serve def lefs state slots port connections save export) input = IsInputAt limits def lefs state input
-IsInputOf limits (repair def lefs state slots teams legal files) input = IsInputAt limits def lefs state input
-IsInputOf limits (improve def lefs slots teams within rounds files) input = IsInputAt limits def lefs None input
+IsInputOf limits (repair def lefs state slots teams options files) input = IsInputAt limits def lefs state input
+IsInputOf limits (improve def lefs slots teams within options files) input = IsInputAt limits def lefs None input
 
 -- The outputs have these paths.
 pub record AreOutputsAt (save export : Option (List ℕ)) (outputs : OutputPaths) : Type 0 where

@@ -35,7 +35,7 @@
 //!
 //! 1. the LEF files and their texts, then the DEF file and its text
 //! 2. loading
-//! 3. the saved state, or the pins and nets that are measured
+//! 3. the saved state, and then the pins and nets that are measured, or to which cells go near
 //! 4. a team to repair or to improve that does not exist
 //! 5. the paths of the files to write
 //! 6. the port
@@ -66,8 +66,8 @@
 mod tasks;
 
 pub use lf_cli::{
-    Help, LegalCells, RepairFiles, Slots, Subcommand, Task, UsageFault, command_of, help_of,
-    usage_message,
+    Help, ImproveOptions, LegalCells, RepairFiles, RepairOptions, Slots, Subcommand, Task,
+    UsageFault, command_of, help_of, usage_message,
 };
 pub use lf_io::{FromRead, ToWrite};
 pub use lf_io_files::FsOutputFiles;

@@ -18,7 +18,7 @@ ghost use Rattle.lf_app.specs.Exits.{reads_of, job_slots};
 ghost use Rattle.lf_app.specs.JobFiles.{AreOutputsOf, IsInputAt, IsInputOf};
 ghost use Rattle.lf_app.specs.Offers.{IsOfferOf};
 
-use lf_cli::{LegalCells, RepairFiles, Slots, Task};
+use lf_cli::{ImproveOptions, RepairFiles, RepairOptions, Slots, Task};
 use lf_def::DEMO_DEF;
 use lf_frame::Limits;
 use lf_io::{FromRead, Sink, Source, ToWrite};
@@ -155,13 +155,13 @@ fn outputs_of<'a>(task: &'a Task<'_>) -> OutputPaths<'a>
 fn repair_job<'a>(
     inputs: DesignInput<'a>,
     teams: &'a [&'a str],
-    legal: LegalCells,
+    options: RepairOptions,
     files: RepairFiles<'a>,
 ) -> RepairJob<'a>
     ensures def { result.def ≡ inputs.entry.def }
     ensures lefs { result.lefs ≡ inputs.entry.lefs }
     ensures teams { result.teams.now ≡ teams.now }
-    ensures legal { result.legal ≡ legal }
+    ensures options { result.options ≡ options }
     ensures state { path_of result.state ≡ path_of inputs.entry.state }
     ensures files { repair_paths result.files ≡ repair_paths files.entry }
     ensures limits { result.limits ≡ inputs.entry.limits }
@@ -171,7 +171,7 @@ fn repair_job<'a>(
         lefs: inputs.lefs,
         state: inputs.state,
         teams,
-        legal,
+        options,
         files,
         limits: inputs.limits,
     }
@@ -182,14 +182,14 @@ fn improve_job<'a>(
     inputs: DesignInput<'a>,
     teams: &'a [&'a str],
     within: Option<u32>,
-    rounds: u32,
+    options: ImproveOptions,
     files: RepairFiles<'a>,
 ) -> ImproveJob<'a>
     ensures def { result.def ≡ inputs.entry.def }
     ensures lefs { result.lefs ≡ inputs.entry.lefs }
     ensures teams { result.teams.now ≡ teams.now }
     ensures within { result.within ≡ within }
-    ensures rounds { result.rounds ≡ rounds }
+    ensures options { result.options ≡ options }
     ensures files { repair_paths result.files ≡ repair_paths files.entry }
     ensures limits { result.limits ≡ inputs.entry.limits }
 {
@@ -198,7 +198,7 @@ fn improve_job<'a>(
         lefs: inputs.lefs,
         teams,
         within,
-        rounds,
+        options,
         files,
         limits: inputs.limits,
     }
@@ -263,11 +263,11 @@ fn outcome_within<
         Task::Wirelength { .. } => wirelength(alloc, &around.texts, inputs, &mut around.writer),
         Task::Repair {
             teams,
-            legal,
+            options,
             files,
             ..
         } => {
-            let requested = repair_job(inputs, teams.as_slice(), *legal, *files);
+            let requested = repair_job(inputs, teams.as_slice(), *options, *files);
             let exports = &mut around.exports;
             let writer = &mut around.writer;
             let progress = &mut around.progress;
@@ -276,11 +276,11 @@ fn outcome_within<
         Task::Improve {
             teams,
             within,
-            rounds,
+            options,
             files,
             ..
         } => {
-            let requested = improve_job(inputs, teams.as_slice(), *within, *rounds, *files);
+            let requested = improve_job(inputs, teams.as_slice(), *within, *options, *files);
             let exports = &mut around.exports;
             let writer = &mut around.writer;
             let progress = &mut around.progress;

@@ -1,5 +1,5 @@
 -- The command line as declared to the argument parser, and the jobs that its words name.
-use Rattle.std.specs.Prelude.{◌&&◌, ◌||◌, ℕ, Bool, true, false, List, [], ◌∷◌, fold, length, map, nat_le, nat_lt, position, slice_get, Option, Some, None}
+use Rattle.std.specs.Prelude.{◌&&◌, ◌||◌, ◌*◌, ℕ, Bool, true, false, List, [], ◌∷◌, fold, length, map, nat_le, nat_lt, position, slice_get, Option, Some, None}
 use Rattle.std.specs.Prelude.{is_some, option_map, option_and_then, unwrap_or, bytes_eq, codes, if◌then◌else◌}
 use Rattle.std.specs.Char.{digit_value}
 use Rattle.std.specs.List.{list_all, list_any}
@@ -12,9 +12,11 @@ use Rattle.clap.specs.Simple.{App, new_app, new_rule, subcommand_of, with_rule, 
 use Rattle.clap.specs.Walk.{Row, Rule, Text, all_of, first_of}
 use Rattle.clap.specs.declared.builder.action.ArgAction.TheVariants.{Append, SetTrue}
 use Rattle.clap.specs.declared.builder.value_parser.ValueParser.TheVariants as parser
+use Rattle.lf_cli.specs.declared.parse.ImproveOptions.{ImproveOptions}
 use Rattle.lf_cli.specs.declared.parse.LegalCells.{LegalCells}
 use Rattle.lf_cli.specs.declared.parse.LegalCells.TheVariants.{MoveAsNeeded, KeepLegal, MoveAll}
 use Rattle.lf_cli.specs.declared.parse.RepairFiles.{RepairFiles}
+use Rattle.lf_cli.specs.declared.parse.RepairOptions.{RepairOptions}
 use Rattle.lf_cli.specs.declared.parse.Task.{Task}
 use Rattle.lf_cli.specs.declared.parse.Task.TheVariants as task
 use Rattle.lf_cli.specs.declared.subcommand.Subcommand.{Subcommand}
@@ -68,6 +70,10 @@ repeated_rule name = record (text_rule name) { action = Some Append }
 abbrev pub number_rule : Text → ℕ → Rule
 number_rule name most = record (text_rule name) { parser = Some (parser.Unsigned 1 most) }
 
+-- How hard a repair or an improvement searches: a number from 0 to 10,000.
+abbrev pub effort_rule : Rule
+effort_rule = record (text_rule (codes "effort")) { parser = Some (parser.Unsigned 0 10000) }
+
 -- An option without a value.
 abbrev pub flag_rule : Text → Rule
 flag_rule name = record (text_rule name) { action = Some SetTrue }
@@ -99,10 +105,13 @@ line_of Serve = design_line (subcommand_word Serve)
     ∷ text_rule (codes "state") ∷ slots_rule ∷ text_rule (codes "save") ∷ text_rule (codes "export") ∷ [])
 line_of Repair = design_line (subcommand_word Repair)
     (repeated_rule (codes "team") ∷ flag_rule (codes "keep") ∷ flag_rule (codes "all")
+    ∷ effort_rule ∷ number_rule (codes "within") 65535 ∷ flag_rule (codes "balance-heights")
+    ∷ flag_rule (codes "near-nets")
     ∷ text_rule (codes "state") ∷ slots_rule ∷ text_rule (codes "save") ∷ text_rule (codes "export")
     ∷ text_rule (codes "export-working") ∷ text_rule (codes "lines") ∷ [])
 line_of Improve = design_line (subcommand_word Improve)
     (repeated_rule (codes "team") ∷ number_rule (codes "within") 65535 ∷ number_rule (codes "rounds") 100
+    ∷ effort_rule ∷ number_rule (codes "density") 100
     ∷ slots_rule ∷ text_rule (codes "export") ∷ text_rule (codes "lines") ∷ [])
 
 -- The program with one more subcommand.
@@ -136,12 +145,12 @@ pub data Job : Type 0 where
   replay : Text → List Text → Option Text → ℕ → ℕ → Option Text → Option Text → Job
   -- The port and the number of connections; the paths of the state and of the DEF file to write.
   serve : Text → List Text → Option Text → ℕ → ℕ → ℕ → Option Text → Option Text → Job
-  -- The teams, or all if the list is empty; what may be done with legal cells; the paths of the
-  -- files to write.
-  repair : Text → List Text → Option Text → ℕ → List Text → LegalCells → RepairPaths → Job
-  -- No state. The teams, as of a repair; the greatest displacement in rows; the most rounds; the paths
-  -- of the files to write.
-  improve : Text → List Text → ℕ → List Text → Option ℕ → ℕ → RepairPaths → Job
+  -- The teams, or all if the list is empty; how places are searched for; the paths of the files to
+  -- write.
+  repair : Text → List Text → Option Text → ℕ → List Text → RepairOptions → RepairPaths → Job
+  -- No state. The teams, as of a repair; the greatest displacement in rows; how places are searched
+  -- for; the paths of the files to write.
+  improve : Text → List Text → ℕ → List Text → Option ℕ → ImproveOptions → RepairPaths → Job
 
 -- ---- the files of a job
 
@@ -203,8 +212,8 @@ repair_clash def lefs state files =
 abbrev pub clash_of : Job → Option Text
 clash_of (replay def lefs state slots lines save export) = clash_among def lefs state save export
 clash_of (serve def lefs state slots port connections save export) = clash_among def lefs state save export
-clash_of (repair def lefs state slots teams legal files) = repair_clash def lefs state files
-clash_of (improve def lefs slots teams within rounds files) = repair_clash def lefs None files
+clash_of (repair def lefs state slots teams options files) = repair_clash def lefs state files
+clash_of (improve def lefs slots teams within options files) = repair_clash def lefs None files
 clash_of _ = None
 
 -- ---- numbers
@@ -260,10 +269,36 @@ abbrev pub within_requested : Option Text → Option (Option ℕ)
 within_requested None = Some None
 within_requested (Some text) = option_map (λ rows. Some rows) (number_in 1 65535 text)
 
+-- The tries of a repair for a hundred cells: 100 for each unit of effort, and 20 by default.
+abbrev pub tries_requested : Option Text → Option ℕ
+tries_requested None = Some 20
+tries_requested (Some text) = option_map (λ effort. effort * 100) (number_in 0 10000 text)
+
 -- The most rounds of an improvement: 4 by default.
 abbrev pub rounds_requested : Option Text → Option ℕ
 rounds_requested None = Some 4
 rounds_requested (Some text) = number_in 1 100 text
+
+-- The random moves of an improvement for each cell: none by default.
+abbrev pub moves_requested : Option Text → Option ℕ
+moves_requested None = Some 0
+moves_requested (Some text) = number_in 0 10000 text
+
+-- The greatest density in percent. By default there is none.
+abbrev pub density_requested : Option Text → Option (Option ℕ)
+density_requested None = Some None
+density_requested (Some text) = option_map (λ percent. Some percent) (number_in 1 100 text)
+
+-- How an improvement searches for places.
+abbrev pub improve_options_among : List Row → Option ImproveOptions
+improve_options_among rows =
+    option_and_then (λ rounds. option_and_then (λ moves. option_map (λ density. record {
+      rounds = rounds;
+      moves = moves;
+      density = density;
+    }) (density_requested (first_of (codes "density") rows)))
+    (moves_requested (first_of (codes "effort") rows)))
+    (rounds_requested (first_of (codes "rounds") rows))
 
 -- The paths of the files that a repair writes.
 abbrev pub repair_paths_among : List Row → RepairPaths
@@ -290,6 +325,19 @@ legal_cells true false = Some KeepLegal
 legal_cells false true = Some MoveAll
 legal_cells true true = None
 
+-- How a repair searches for places.
+abbrev pub repair_options_among : List Row → Option RepairOptions
+repair_options_among rows =
+    option_and_then (λ legal. option_and_then (λ tries. option_map (λ within. record {
+      legal = legal;
+      tries = tries;
+      within = within;
+      balances_heights = is_set (codes "balance-heights") rows;
+      near_nets = is_set (codes "near-nets") rows;
+    }) (within_requested (first_of (codes "within") rows)))
+    (tries_requested (first_of (codes "effort") rows)))
+    (legal_cells (is_set (codes "keep") rows) (is_set (codes "all") rows))
+
 -- ---- what the words name
 
 -- The job of a subcommand on these paths.
@@ -315,16 +363,16 @@ job_on Serve def lefs rows =
     (slots_among rows))
     (service_of rows)
 job_on Repair def lefs rows =
-    option_and_then (λ legal. option_map
-    (λ slots. repair def lefs (first_of (codes "state") rows) slots (values_of (codes "team") rows) legal
+    option_and_then (λ options. option_map
+    (λ slots. repair def lefs (first_of (codes "state") rows) slots (values_of (codes "team") rows) options
     (repair_paths_among rows))
     (slots_among rows))
-    (legal_cells (is_set (codes "keep") rows) (is_set (codes "all") rows))
+    (repair_options_among rows)
 job_on Improve def lefs rows =
-    option_and_then (λ within. option_and_then (λ rounds. option_map
-    (λ slots. improve def lefs slots (values_of (codes "team") rows) within rounds (improvement_paths_among rows))
+    option_and_then (λ within. option_and_then (λ options. option_map
+    (λ slots. improve def lefs slots (values_of (codes "team") rows) within options (improvement_paths_among rows))
     (slots_among rows))
-    (rounds_requested (first_of (codes "rounds") rows)))
+    (improve_options_among rows))
     (within_requested (first_of (codes "within") rows))
 
 -- The job of a subcommand that takes the path of a DEF file and at least one path of a LEF file.
@@ -391,11 +439,11 @@ as_job (task.Replay def lefs state slots lines save export) =
 as_job (task.Serve def lefs state slots port connections save export) =
     serve def.now (map (λ lef. lef.now) lefs) (option_map (λ path. path.now) state) slots.number
     port connections (option_map (λ path. path.now) save) (option_map (λ path. path.now) export)
-as_job (task.Repair def lefs state slots teams legal files) =
+as_job (task.Repair def lefs state slots teams options files) =
     repair def.now (map (λ lef. lef.now) lefs) (option_map (λ path. path.now) state) slots.number
-    (map (λ team. team.now) teams) legal (repair_paths files)
-as_job (task.Improve def lefs slots teams within rounds files) =
-    improve def.now (map (λ lef. lef.now) lefs) slots.number (map (λ team. team.now) teams) within rounds
+    (map (λ team. team.now) teams) options (repair_paths files)
+as_job (task.Improve def lefs slots teams within options files) =
+    improve def.now (map (λ lef. lef.now) lefs) slots.number (map (λ team. team.now) teams) within options
     (repair_paths files)
 
 -- Holds if the task reads no line.

@@ -29,6 +29,9 @@ mod session_slots;
 mod subcommand;
 
 pub use help::{Help, help_of};
-pub use parse::{LegalCells, RepairFiles, Task, UsageFault, command_of, usage_message};
+pub use parse::{
+    ImproveOptions, LegalCells, RepairFiles, RepairOptions, Task, UsageFault, command_of,
+    usage_message,
+};
 pub use session_slots::Slots;
 pub use subcommand::Subcommand;

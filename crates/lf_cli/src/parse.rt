@@ -7,13 +7,14 @@ ghost use Rattle.clap.specs.Simple.{subcommand_rows_of};
 ghost use Rattle.clap.specs.Walk.{all_of, first_of, rows_of};
 ghost use Rattle.lf_cli.specs.declared.subcommand.Subcommand.TheVariants.{Check, Describe, Improve, Repair, Replay, Serve, Wirelength};
 ghost use Rattle.lf_cli.specs.declared.parse.UsageFault.TheVariants.{Usage};
-ghost use Rattle.lf_cli.specs.Command.{as_job, clash_among, clash_of, is_among, is_demo, is_same, is_set, job_requested, job_by, job_found, job_of, job_on};
-ghost use Rattle.lf_cli.specs.Command.{export_clash, improvement_paths_among, legal_cells, lines_clash, most_lines, number_in, repair_clash, repair_paths, repair_paths_among};
-ghost use Rattle.lf_cli.specs.Command.{rounds_requested, save_clash, service_of, slots_among, unless_clash, values_of, within_requested, working_clash, working_repeats};
+ghost use Rattle.lf_cli.specs.Command.{as_job, clash_among, clash_of, density_requested, improve_options_among, is_among, is_demo, is_same, is_set, job_requested, job_by, job_found, job_of, job_on};
+ghost use Rattle.lf_cli.specs.Command.{export_clash, improvement_paths_among, legal_cells, lines_clash, most_lines, moves_requested, number_in, repair_clash, repair_options_among, repair_paths, repair_paths_among};
+ghost use Rattle.lf_cli.specs.Command.{rounds_requested, save_clash, service_of, slots_among, tries_requested, unless_clash, values_of, within_requested, working_clash, working_repeats};
 
 use crate::session_slots::{MOST_SLOTS, Slots};
 use crate::subcommand::{
-    MOST_CONNECTIONS, MOST_ROUNDS, MOST_ROWS, Subcommand, command_line, subcommand_named,
+    MOST_CONNECTIONS, MOST_DENSITY, MOST_EFFORT, MOST_ROUNDS, MOST_ROWS, Subcommand, command_line,
+    subcommand_named,
 };
 use clap::error::ErrorKind;
 use clap::{ArgMatches, Command};
@@ -21,6 +22,12 @@ use lf_units::Sequence;
 use std::alloc::{AllocError, Global};
 use strsim::jaro;
 use thiserror::Error;
+
+/// The tries for a hundred cells in a repair's search if the option is absent.
+const USUAL_TRIES: u32 = 20;
+
+/// The tries for a hundred cells for each unit of a repair's effort: one for each cell.
+const TRIES_OF_EFFORT: u32 = 100;
 
 /// The most lines that are answered if the option is absent.
 const USUAL_LINES: u32 = 1_000_000;
@@ -43,6 +50,33 @@ pub enum LegalCells {
     KeepLegal,
     /// Those of one row's height may move, to make the total displacement small.
     MoveAll,
+}
+
+/// How a repair searches for places.
+#[derive(Clone, Copy, Debug, PartialEq, Eq)]
+pub struct RepairOptions {
+    /// What it does with legal cells.
+    pub legal: LegalCells,
+    /// The tries for a hundred cells: 100 for each unit of effort, at most 1,000,000; 20 by default.
+    pub tries: u32,
+    /// The greatest displacement of a cell, in heights of a row: from 1 to 65,535, if limited.
+    pub within: Option<u32>,
+    /// Whether the displacement of a cell weighs the more, the fewer cells of its team have its height.
+    pub balances_heights: bool,
+    /// Whether cells without a place go near the other cells of their nets.
+    pub near_nets: bool,
+}
+
+/// How an improvement searches for places.
+#[derive(Clone, Copy, Debug, PartialEq, Eq)]
+pub struct ImproveOptions {
+    /// The most rounds of the search: from 1 to 100; 4 by default.
+    pub rounds: u32,
+    /// The random moves that are tried after the rounds, for each cell: at most 10,000; none by default.
+    pub moves: u32,
+    /// No move makes a part of the floor fuller that is then above this number of percent: from 1 to 100,
+    /// if limited.
+    pub density: Option<u32>,
 }
 
 /// The paths of the files that a repair or an improvement writes, each if requested.
@@ -130,7 +164,7 @@ pub enum Task<'a> {
         /// The names of the teams to repair, in the order of the words. They are repaired in the
         /// order of the fences, `-` last. If empty, all teams are repaired.
         teams: Sequence<&'a str>,
-        legal: LegalCells,
+        options: RepairOptions,
         files: RepairFiles<'a>,
     },
     /// Moves legal cells so that the wires of a design become shorter.
@@ -143,8 +177,7 @@ pub enum Task<'a> {
         teams: Sequence<&'a str>,
         /// The greatest displacement of a cell, in heights of a row: from 1 to 65,535, if limited.
         within: Option<u32>,
-        /// The most rounds of the search: from 1 to 100; 4 by default.
-        rounds: u32,
+        options: ImproveOptions,
         /// No file has the working places, and no state is saved.
         files: RepairFiles<'a>,
     },
@@ -373,6 +406,59 @@ fn serve_on<'a>(def: &'a str, lefs: Sequence<&'a str>, matches: &ArgMatches<'a>)
     })
 }
 
+/// Returns the greatest displacement in rows, `Some(None)` if it is not limited, or `None` if the
+/// option's value is wrong.
+fn within_of(matches: &ArgMatches<'_>) -> Option<Option<u32>>
+    ensures { result ≡ within_requested (first_of (codes "within") (rows_of (found_of matches.now))) }
+{
+    match value_of(matches, "within") {
+        Some(text) => Some(Some(number_in(text, MOST_ROWS)?)),
+        None => Some(None),
+    }
+}
+
+/// Returns the effort that the text writes, or `None` if it is not from 0 to 10,000.
+#[tactic(auto, using(crate::proofs::Numbers::number_none, crate::proofs::Numbers::number_some, crate::proofs::Numbers::number_out))]
+fn effort_in(text: &str) -> Option<u32>
+    ensures effort { result ≡ number_in 0 10000 text.now }
+    ensures most { IfSome result (λ effort. effort ≤ 10000) }
+{
+    let Ok(effort) = text.parse::<u32>() else {
+        return None;
+    };
+    if effort > MOST_EFFORT {
+        return None;
+    }
+    Some(effort)
+}
+
+/// Returns the tries of a repair for a hundred cells, or `None` if the option's value is wrong.
+fn tries_of(matches: &ArgMatches<'_>) -> Option<u32>
+    ensures { result ≡ tries_requested (first_of (codes "effort") (rows_of (found_of matches.now))) }
+{
+    match value_of(matches, "effort") {
+        Some(text) => Some(effort_in(text)? * TRIES_OF_EFFORT),
+        None => Some(USUAL_TRIES),
+    }
+}
+
+/// Returns how a repair searches for places. `None` if the value of an option is wrong, or if options
+/// exclude each other.
+fn repair_options(matches: &ArgMatches<'_>) -> Option<RepairOptions>
+    ensures { result ≡ repair_options_among (rows_of (found_of matches.now)) }
+{
+    let legal = legal_cells(is_set(matches, "keep"), is_set(matches, "all"))?;
+    let tries = tries_of(matches)?;
+    let within = within_of(matches)?;
+    Some(RepairOptions {
+        legal,
+        tries,
+        within,
+        balances_heights: is_set(matches, "balance-heights"),
+        near_nets: is_set(matches, "near-nets"),
+    })
+}
+
 /// Returns the paths of the files that a repair writes.
 fn repair_files<'a>(matches: &ArgMatches<'a>) -> RepairFiles<'a>
     ensures { repair_paths result ≡ repair_paths_among (rows_of (found_of matches.now)) }
@@ -395,7 +481,7 @@ fn repair_on<'a>(
     ensures { IfOk result (λ task. option_map as_job task
         ≡ job_on Repair def.now (map (λ lef. lef.now) lefs.entry) (rows_of (found_of matches.now))) }
 {
-    let Some(legal) = legal_cells(is_set(matches, "keep"), is_set(matches, "all")) else {
+    let Some(options) = repair_options(matches) else {
         return Ok(None);
     };
     let Some(slots) = slots_of(matches) else {
@@ -409,21 +495,10 @@ fn repair_on<'a>(
             state,
             slots,
             teams,
-            legal,
+            options,
             files: repair_files(matches),
         })),
         Err(error) => Err(error),
-    }
-}
-
-/// Returns the greatest displacement in rows, `Some(None)` if it is not limited, or `None` if the
-/// option's value is wrong.
-fn within_of(matches: &ArgMatches<'_>) -> Option<Option<u32>>
-    ensures { result ≡ within_requested (first_of (codes "within") (rows_of (found_of matches.now))) }
-{
-    match value_of(matches, "within") {
-        Some(text) => Some(Some(number_in(text, MOST_ROWS)?)),
-        None => Some(None),
     }
 }
 
@@ -435,6 +510,41 @@ fn rounds_of(matches: &ArgMatches<'_>) -> Option<u32>
         Some(text) => number_in(text, MOST_ROUNDS),
         None => Some(USUAL_ROUNDS),
     }
+}
+
+/// Returns the random moves of an improvement for each cell, or `None` if the option's value is wrong.
+fn moves_of(matches: &ArgMatches<'_>) -> Option<u32>
+    ensures { result ≡ moves_requested (first_of (codes "effort") (rows_of (found_of matches.now))) }
+{
+    match value_of(matches, "effort") {
+        Some(text) => effort_in(text),
+        None => Some(0),
+    }
+}
+
+/// Returns the greatest density in percent, `Some(None)` if it is not limited, or `None` if the
+/// option's value is wrong.
+fn density_of(matches: &ArgMatches<'_>) -> Option<Option<u32>>
+    ensures { result ≡ density_requested (first_of (codes "density") (rows_of (found_of matches.now))) }
+{
+    match value_of(matches, "density") {
+        Some(text) => Some(Some(number_in(text, MOST_DENSITY)?)),
+        None => Some(None),
+    }
+}
+
+/// Returns how an improvement searches for places. `None` if the value of an option is wrong.
+fn improve_options(matches: &ArgMatches<'_>) -> Option<ImproveOptions>
+    ensures { result ≡ improve_options_among (rows_of (found_of matches.now)) }
+{
+    let rounds = rounds_of(matches)?;
+    let moves = moves_of(matches)?;
+    let density = density_of(matches)?;
+    Some(ImproveOptions {
+        rounds,
+        moves,
+        density,
+    })
 }
 
 /// Returns the paths of the files that an improvement writes.
@@ -462,7 +572,7 @@ fn improve_on<'a>(
     let Some(within) = within_of(matches) else {
         return Ok(None);
     };
-    let Some(rounds) = rounds_of(matches) else {
+    let Some(options) = improve_options(matches) else {
         return Ok(None);
     };
     let Some(slots) = slots_of(matches) else {
@@ -475,7 +585,7 @@ fn improve_on<'a>(
             slots,
             teams,
             within,
-            rounds,
+            options,
             files: improvement_files(matches),
         })),
         Err(error) => Err(error),
@@ -779,10 +889,12 @@ fn matches_of<'a>(alloc: Global, words: &'a [&'a str]) -> Result<ArgMatches<'a>,
 /// - `serve`, `replay` and `repair` may have `--save FILE` and `--export FILE`
 /// - all may have `--sessions N`, from 1 to 64, and all but `improve` `--state FILE`
 /// - `check` may have `--committed`
-/// - `repair` may have `--export-working FILE`, `--lines FILE`, `--keep` or `--all`, and
+/// - `repair` may have `--export-working FILE`, `--lines FILE`, `--keep` or `--all`, `--effort N`, from
+///   0 to 10,000, `--within ROWS`, from 1 to 65535, `--balance-heights`, `--near-nets`, and
 ///   `--team NAME` any number of times
 /// - `improve` may have `--export FILE`, `--lines FILE`, `--within ROWS`, from 1 to 65535,
-///   `--rounds N`, from 1 to 100, and `--team NAME` any number of times
+///   `--rounds N`, from 1 to 100, `--effort N`, from 0 to 10,000, `--density P`, from 1 to 100, and
+///   `--team NAME` any number of times
 ///
 /// Each option except `--team` is given at most once. No FILE that is written may be one that is
 /// read, or be written twice; paths are compared as written. There are two exceptions: `--export`

@@ -5,7 +5,7 @@ ghost use Rattle.clap.specs.Simple.{app_of, with_rule};
 ghost use Rattle.clap.specs.Walk.{rule_of};
 ghost use Rattle.clap.specs.declared.builder.command.Command.TheViews.{out-Command};
 ghost use Rattle.lf_cli.specs.declared.subcommand.Subcommand.TheVariants.{Check, Improve, Repair, Replay, Serve};
-ghost use Rattle.lf_cli.specs.Command.{command_line, def_rule, design_line, flag_rule, lef_rule, line_of, needed, number_rule, repeated_rule, slots_rule, subcommand_named, text_rule, with_subcommand_line, subcommand_word};
+ghost use Rattle.lf_cli.specs.Command.{command_line, def_rule, design_line, effort_rule, flag_rule, lef_rule, line_of, needed, number_rule, repeated_rule, slots_rule, subcommand_named, text_rule, with_subcommand_line, subcommand_word};
 
 use crate::session_slots::MOST_SLOTS;
 use clap::builder::ValueParser;
@@ -15,7 +15,13 @@ use std::alloc::{AllocError, Global};
 /// The most connections that a service accepts.
 pub(crate) const MOST_CONNECTIONS: u32 = 1_000_000;
 
-/// The most rows that an improvement may allow a cell to move.
+/// The greatest density that an improvement may be told, in percent.
+pub(crate) const MOST_DENSITY: u32 = 100;
+
+/// The greatest effort of a repair or an improvement.
+pub(crate) const MOST_EFFORT: u32 = 10_000;
+
+/// The most rows that a repair or an improvement may allow a cell to move.
 pub(crate) const MOST_ROWS: u32 = 65_535;
 
 /// The most rounds of an improvement.
@@ -139,6 +145,14 @@ fn number<'a>(alloc: Global, name: &'a str, most: u64) -> Arg<'a>
     text(alloc, name).value_parser(ValueParser::unsigned(1, most))
 }
 
+/// Declares how hard a repair or an improvement searches: a number from 0 to 10,000.
+fn effort<'a>(alloc: Global) -> Arg<'a>
+    ensures rule { rule_of result ≡ effort_rule }
+    ensures local { result.global ≡ false }
+{
+    text(alloc, "effort").value_parser(ValueParser::unsigned(0, MOST_EFFORT as u64))
+}
+
 /// Declares a required option whose value is a number from 1 to `most`.
 fn needed_number<'a>(alloc: Global, name: &'a str, most: u64) -> Arg<'a>
     ensures rule { rule_of result ≡ needed (number_rule name.now most) }
@@ -233,12 +247,37 @@ fn repair_of_cells<'a>(alloc: Global) -> Result<Command<'a>, AllocError>
         .arg(flag(alloc, "all"))
 }
 
+/// Adds the options of a repair that limit its search.
+fn with_limits<'a>(alloc: Global, command: Command<'a>) -> Result<Command<'a>, AllocError>
+    requires local { (out-Command command).has_globals ≡ false }
+    ensures line { IfOk result (λ made. app_of made
+        ≡ fold with_rule (app_of command.entry) (effort_rule ∷ number_rule (codes "within") 65535 ∷ [])) }
+    ensures local { IfOk result (λ made. (out-Command made).has_globals ≡ false) }
+{
+    command
+        .arg(effort(alloc))?
+        .arg(number(alloc, "within", MOST_ROWS as u64))
+}
+
+/// Adds the options of a repair that guide its search.
+fn with_guides<'a>(alloc: Global, command: Command<'a>) -> Result<Command<'a>, AllocError>
+    requires local { (out-Command command).has_globals ≡ false }
+    ensures line { IfOk result (λ made. app_of made ≡ fold with_rule (app_of command.entry)
+        (flag_rule (codes "balance-heights") ∷ flag_rule (codes "near-nets") ∷ [])) }
+    ensures local { IfOk result (λ made. (out-Command made).has_globals ≡ false) }
+{
+    command
+        .arg(flag(alloc, "balance-heights"))?
+        .arg(flag(alloc, "near-nets"))
+}
+
 /// Declares the subcommand that repairs cells.
 fn repair<'a>(alloc: Global) -> Result<Command<'a>, AllocError>
     ensures line { IfOk result (λ made. app_of made ≡ line_of Repair) }
     ensures local { IfOk result (λ made. (out-Command made).has_globals ≡ false) }
 {
-    let command = with_outputs(alloc, repair_of_cells(alloc)?)?;
+    let command = with_limits(alloc, repair_of_cells(alloc)?)?;
+    let command = with_outputs(alloc, with_guides(alloc, command)?)?;
     command
         .arg(text(alloc, "export-working"))?
         .arg(text(alloc, "lines"))
@@ -257,12 +296,25 @@ fn improvement_of_cells<'a>(alloc: Global) -> Result<Command<'a>, AllocError>
         .arg(number(alloc, "rounds", MOST_ROUNDS as u64))
 }
 
+/// Adds the options of an improvement's random moves.
+fn with_moves<'a>(alloc: Global, command: Command<'a>) -> Result<Command<'a>, AllocError>
+    requires local { (out-Command command).has_globals ≡ false }
+    ensures line { IfOk result (λ made. app_of made
+        ≡ fold with_rule (app_of command.entry) (effort_rule ∷ number_rule (codes "density") 100 ∷ [])) }
+    ensures local { IfOk result (λ made. (out-Command made).has_globals ≡ false) }
+{
+    command
+        .arg(effort(alloc))?
+        .arg(number(alloc, "density", MOST_DENSITY as u64))
+}
+
 /// Declares the subcommand that shortens wires.
 fn improve<'a>(alloc: Global) -> Result<Command<'a>, AllocError>
     ensures line { IfOk result (λ made. app_of made ≡ line_of Improve) }
     ensures local { IfOk result (λ made. (out-Command made).has_globals ≡ false) }
 {
-    improvement_of_cells(alloc)?
+    let command = with_moves(alloc, improvement_of_cells(alloc)?)?;
+    command
         .arg(slots(alloc))?
         .arg(text(alloc, "export"))?
         .arg(text(alloc, "lines"))

@@ -4,7 +4,6 @@ ghost use Rattle.std.specs.Prelude.{◌<◌, length};
 ghost use Rattle.lf_wire_length.specs.Bounds.{IsPinOffset};
 
 use crate::movable::MovableCells;
-use crate::team_nets::TeamNet;
 use lf_cells::CellId;
 use lf_floorplan::Place;
 use lf_orient::Orient;
@@ -111,16 +110,16 @@ fn push_net(source: &NetSource<'_>, net: usize, nets: &mut BoardNets) -> Result<
     Ok(())
 }
 
-/// The nets of the team for the search, of the list of its nets. `Err` if an allocation fails.
+/// The nets of the team for the search, of the numbers of its nets. `Err` if an allocation fails.
 pub(crate) fn board_nets(
     alloc: Global,
     source: &NetSource<'_>,
-    listed: &[TeamNet],
+    listed: &[u32],
 ) -> Result<BoardNets, AllocError> {
     let mut nets = BoardNets::new(alloc);
     push_all_offsets(source.netlist, &mut nets)?;
-    for one in listed {
-        let net = one.net as usize;
+    for net in listed {
+        let net = *net as usize;
         if net < source.netlist.len() {
             push_net(source, net, &mut nets)?;
         }

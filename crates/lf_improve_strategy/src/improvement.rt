@@ -1,15 +1,15 @@
 //! The edits of a team.
 
 use crate::board_nets::{NetSource, board_nets};
+use crate::density::bins_below;
 use crate::movable::{MovableCells, movable_cells, place_of};
-use crate::team_nets::TeamNets;
 use lf_placement::Placement;
 use lf_repair_strategy::{
     CellEdit, CellMove, MoveList, PaddedTeam, bands_of, width_of, with_moves,
 };
 use lf_wire_board::CellPlace;
-use lf_wire_improver::{ImproveOptions, improved_places};
-use lf_wire_length::Netlist;
+use lf_wire_improver::{ImproveOptions, ImproveSearch, improved_places};
+use lf_wire_length::{Netlist, TeamNets};
 use std::alloc::{AllocError, Global};
 
 /// The nets of a design, and which of them each team has.
@@ -61,13 +61,15 @@ fn edits_to(
 ///
 /// Cells of one row's height exchange places, are inserted between others, and are flipped, on the
 /// team's free sites off soft blockages, within the distance of the options from where they are.
-/// All other cells stay.
+/// All other cells stay. After the rounds cells are moved at random, as the search says. It makes no
+/// bin fuller that is then above its density.
 pub fn improvement_edits(
     alloc: Global,
     placement: &Placement,
     owner: &PaddedTeam,
     wires: &WireNets<'_>,
     options: &ImproveOptions,
+    search: &ImproveSearch,
 ) -> Result<Vec<CellEdit>, AllocError> {
     let movable = movable_cells(alloc, placement, owner)?;
     let source = NetSource {
@@ -78,6 +80,7 @@ pub fn improvement_edits(
     };
     let nets = board_nets(alloc, &source, wires.of_teams.of(owner.team))?;
     let cells = movable.cells.as_slice();
-    let places = improved_places(alloc, &movable.land, cells, &nets, options)?;
+    let bins = bins_below(alloc, placement, search.density)?;
+    let places = improved_places(alloc, &movable.land, cells, &nets, options, search, bins)?;
     edits_to(alloc, placement, owner, &movable, places.as_slice())
 }

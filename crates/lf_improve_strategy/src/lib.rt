@@ -9,23 +9,23 @@
 //!
 //! Modules, in reading order:
 //!
-//! - `team_nets`: the nets of each team
 //! - `movable`: the cells that may move, and their free sites
 //! - `board_nets`: the nets of a team, for the search
+//! - `density`: the bins that must not become too full
 //! - `improvement`: the edits of a team
 //!
 //! From `crates/lf_improve_team/src/team.rt`:
 //!
 //! ```
-//! improvement_edits(alloc, placement, &owner, wires, options)
+//! improvement_edits(alloc, placement, &owner, wires, options, search)
 //! ```
 #![tactic(auto)]
 
 mod board_nets;
+mod density;
 mod improvement;
 mod movable;
-mod team_nets;
 
 pub use improvement::{WireNets, improvement_edits};
-pub use lf_wire_improver::ImproveOptions;
-pub use team_nets::TeamNets;
+pub use lf_wire_improver::{ImproveOptions, ImproveSearch};
+pub use lf_wire_length::TeamNets;

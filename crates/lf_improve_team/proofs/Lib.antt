@@ -2,3 +2,4 @@ mod Lengths
 mod Near
 mod Results
 mod Improving
+mod TeamLengths

@@ -1,6 +1,6 @@
 //! The improvement of one team.
 
-ghost use Rattle.std.specs.Prelude.{◌≡◌, ◌↔◌, ◌<◌, ◌≤◌, [], IfOk, IfSome, IsTrue, List, None, OnErr, OnOk, Some, false, is_some, length, map, slice_get, unwrap_or, ℕ};
+ghost use Rattle.std.specs.Prelude.{◌≡◌, ◌↔◌, ◌<◌, ◌≤◌, ◌-◌, ◌^◌, [], IfOk, IfSome, IsTrue, List, None, OnErr, OnOk, Some, false, is_some, length, map, slice_get, slice_index_or, unwrap_or, ℕ};
 ghost use Rattle.lf_cells.specs.Cells.{cells_of};
 ghost use Rattle.lf_rules.specs.Legalizer.{Legalizer};
 ghost use Rattle.lf_floor_model.specs.States.{TeamState};
@@ -11,13 +11,13 @@ ghost use Rattle.lf_repair_team.specs.CellEdits.{AreStatsOfFirst, KeepsOtherSlot
 ghost use Rattle.lf_repair_team.specs.Runs.{IsRunWithCutLine, IsWrittenRun};
 ghost use Rattle.lf_repair_team.specs.Stats.{AreTeamStats};
 ghost use Rattle.lf_repair_team.specs.TeamRepairs.{ChangesOnly, session_slots_in};
-ghost use Rattle.lf_improve_team.specs.FloorLengths.{IsWireLengthOn};
+ghost use Rattle.lf_improve_team.specs.FloorLengths.{AreNetsOfFloor, DecidesAfter, DecidesOn, IsLengthOfNetsOn, IsWireLengthOn};
 ghost use Rattle.lf_improve_team.specs.TeamImprovements.{AreCellsNear, IsCommitted, IsImprovable, IsMovedBack, IsShortened, KeepsTeamPlaces, StaysWithin};
 
 use crate::cells_on_floor::CellsOnFloor;
 use lf_floor::Floor;
 use lf_floorplan::same_place;
-use lf_improve_strategy::{ImproveOptions, WireNets, improvement_edits};
+use lf_improve_strategy::{ImproveOptions, ImproveSearch, WireNets, improvement_edits};
 use lf_io::Sink;
 use lf_legalize::Seeker;
 use lf_placement::Placement;
@@ -52,12 +52,16 @@ pub struct TeamImprovement {
     pub length: u64,
 }
 
-/// An attempt to improve a team: the team at its start, the nets, and what is wanted.
+/// An attempt to improve a team: the team at its start, the nets, what is wanted, how it is searched,
+/// and the length of the team's nets before.
 #[derive(Clone, Copy)]
 struct Attempt<'a> {
     start: &'a RepairInput,
     wires: &'a WireNets<'a>,
     wish: &'a ImproveWish,
+    search: &'a ImproveSearch,
+    /// The length of the team's nets at its start, in half database units.
+    part: u64,
 }
 
 /// Whether all cells of the team with this number are at their committed places.
@@ -91,20 +95,36 @@ fn team_edits<S: Seeker + Drop>(
     alloc: Global,
     floor: &Floor<S>,
     number: usize,
-    wires: &WireNets<'_>,
-    options: &ImproveOptions,
+    attempt: &Attempt<'_>,
 ) -> Result<Vec<CellEdit>, AllocError> {
     let placement = floor.placement();
     let owner = PaddedTeam::new(placement.frame(), number, floor.padding_of(number));
-    improvement_edits(alloc, placement, &owner, wires, options)
+    let options = &attempt.wish.options;
+    improvement_edits(
+        alloc,
+        placement,
+        &owner,
+        attempt.wires,
+        options,
+        attempt.search,
+    )
 }
 
-/// The wire length of the design with all cells at their working places, in half database units.
-fn floor_length<S: Seeker + Drop>(floor: &Floor<S>, wires: &WireNets<'_>) -> u64
-    ensures { IsWireLengthOn wires.now.netlist.now.nets floor.now result }
+/// The length of the nets of the team with this number, with all cells at their working places, in
+/// half database units.
+fn length_of_team<S: Seeker + Drop>(floor: &Floor<S>, wires: &WireNets<'_>, number: usize) -> u64
+    ensures { IsLengthOfNetsOn wires.now.netlist.now.nets (slice_index_or wires.now.of_teams.now number [])
+        floor.now result }
 {
     let cells = CellsOnFloor::new(floor.working(), &[]);
-    wires.netlist.wire_length(&cells)
+    wires.netlist.length_of(&cells, wires.of_teams.of(number))
+}
+
+/// A law: a length in 64 bits is at most the greatest number of 64 bits.
+fn length_is_bounded(length: u64)
+    ensures { length ≤ 2 ^ 64 - 1 }
+{
+    let _ = length;
 }
 
 /// Statistics of the team with this number since its start, with empty lists.
@@ -144,23 +164,27 @@ fn is_near<S: Seeker + Drop>(
 }
 
 /// The wire length on the floor, if it is shorter than before and no cell of the team with this
-/// number is too far from its place at the start.
+/// number is too far from its place at the start. Only the team's nets are measured.
 fn better_length<S: Seeker + Drop>(
     alloc: Global,
     floor: &Floor<S>,
     number: usize,
     attempt: &Attempt<'_>,
 ) -> Option<u64>
+    requires decides { DecidesOn attempt.now.wires.now.netlist.now.nets
+        (slice_index_or attempt.now.wires.now.of_teams.now number []) attempt.now.wish.now.length attempt.now.part
+        floor.now }
     ensures measured { IfSome result (λ length.
         IsWireLengthOn attempt.now.wires.now.netlist.now.nets floor.now length) }
     ensures shorter { IfSome result (λ length. length < attempt.now.wish.now.length) }
     ensures near { (team : List ℕ) → team_number floor.now.frame team ≡ Some number → IfSome result (λ _.
         AreCellsNear attempt.now.wish.now.options.within attempt.now.start.now.pass.targets.items team floor.now) }
 {
-    let length = floor_length(floor, attempt.wires);
-    if length >= attempt.wish.length {
+    let part = length_of_team(floor, attempt.wires, number);
+    if part >= attempt.part {
         return None;
     }
+    let gain = attempt.part.saturating_sub(part);
     if !is_near(
         alloc,
         floor,
@@ -170,7 +194,7 @@ fn better_length<S: Seeker + Drop>(
     ) {
         return None;
     }
-    Some(length)
+    Some(attempt.wish.length.saturating_sub(gain))
 }
 
 /// Commits the team if the wire length is shorter than before and no cell is too far from its place
@@ -183,7 +207,10 @@ fn commit_if_better<S: Seeker + Drop, K: Sink>(
     attempt: &Attempt<'_>,
     lines: &mut K,
 ) -> Result<Option<u64>, RepairFault>
-    requires { team_number floor.old.frame seat.now.team.now ≡ Some seat.now.number }
+    requires number { team_number floor.old.frame seat.now.team.now ≡ Some seat.now.number }
+    requires decides { DecidesAfter seat.now.team.now attempt.now.wires.now.netlist.now.nets
+        (slice_index_or attempt.now.wires.now.of_teams.now seat.now.number []) attempt.now.wish.now.length
+        attempt.now.part floor.old }
     ensures run { (l : Legalizer) → IfOk result (λ _.
         IsWrittenRun l seat.now.team.now floor.old (K.contents lines.old) (K.contents lines.new) floor.new) }
     ensures err { (l : Legalizer) → OnErr result (
@@ -216,7 +243,10 @@ fn commit_or_move_back<S: Seeker + Drop, K: Sink>(
     attempt: &Attempt<'_>,
     lines: &mut K,
 ) -> Result<Option<u64>, RepairFault>
-    requires { team_number floor.old.frame seat.now.team.now ≡ Some seat.now.number }
+    requires number { team_number floor.old.frame seat.now.team.now ≡ Some seat.now.number }
+    requires decides { DecidesAfter seat.now.team.now attempt.now.wires.now.netlist.now.nets
+        (slice_index_or attempt.now.wires.now.of_teams.now seat.now.number []) attempt.now.wish.now.length
+        attempt.now.part floor.old }
     ensures run { (l : Legalizer) → IfOk result (λ _.
         IsWrittenRun l seat.now.team.now floor.old (K.contents lines.old) (K.contents lines.new) floor.new) }
     ensures err { (l : Legalizer) → OnErr result (
@@ -253,6 +283,9 @@ fn move_cells<S: Seeker + Drop, K: Sink>(
 ) -> Result<Option<u64>, RepairFault>
     requires number { team_number floor.old.frame seat.now.team.now ≡ Some seat.now.number }
     requires committed { IsCommitted seat.now.team.now floor.old }
+    requires decides { DecidesAfter seat.now.team.now attempt.now.wires.now.netlist.now.nets
+        (slice_index_or attempt.now.wires.now.of_teams.now seat.now.number []) attempt.now.wish.now.length
+        attempt.now.part floor.old }
     ensures run { (l : Legalizer) → IfOk result (λ _.
         IsWrittenRun l seat.now.team.now floor.old (K.contents lines.old) (K.contents lines.new) floor.new) }
     ensures err { (l : Legalizer) → OnErr result (
@@ -266,8 +299,7 @@ fn move_cells<S: Seeker + Drop, K: Sink>(
     ensures kept { IfOk result (λ found.
         found ≡ None → KeepsTeamPlaces seat.now.team.now floor.old floor.new) }
 {
-    let options = &attempt.wish.options;
-    let Ok(edits) = team_edits(alloc, floor, seat.number, attempt.wires, options) else {
+    let Ok(edits) = team_edits(alloc, floor, seat.number, attempt) else {
         return Err(RepairFault::OutOfMemory);
     };
     if edits.is_empty() {
@@ -293,6 +325,9 @@ fn improve_in_session<S: Seeker + Drop, K: Sink>(
 ) -> Result<Option<u64>, RepairFault>
     requires number { team_number floor.old.frame team.now ≡ Some number }
     requires committed { IsCommitted team.now floor.old }
+    requires decides { DecidesAfter team.now attempt.now.wires.now.netlist.now.nets
+        (slice_index_or attempt.now.wires.now.of_teams.now number []) attempt.now.wish.now.length
+        attempt.now.part floor.old }
     ensures run { (l : Legalizer) → IfOk result (λ _.
         IsWrittenRun l team.now floor.old (K.contents lines.old) (K.contents lines.new) floor.new) }
     ensures err { (l : Legalizer) → OnErr result (
@@ -382,9 +417,11 @@ pub fn improve_team<S: Seeker + Drop, K: Sink>(
     team: &[u8],
     wires: &WireNets<'_>,
     wish: &ImproveWish,
+    search: &ImproveSearch,
     lines: &mut K,
 ) -> Result<TeamImprovement, RepairFault>
     requires measured { IsWireLengthOn wires.now.netlist.now.nets floor.old wish.now.length }
+    requires nets { AreNetsOfFloor wires.now.of_teams.now wires.now.netlist.now.nets floor.old }
     ensures run { (l : Legalizer) → IfOk result (λ _.
         IsWrittenRun l team.now floor.old (K.contents lines.old) (K.contents lines.new) floor.new) }
     ensures err { (l : Legalizer) → OnErr result (
@@ -410,6 +447,7 @@ pub fn improve_team<S: Seeker + Drop, K: Sink>(
     let Some(number) = floor.team_number(team) else {
         return Err(RepairFault::NoTeam);
     };
+    length_is_bounded(wish.length);
     let Ok(start) = team_input(alloc, floor, team, number, MovePolicy::MoveAll, &[]) else {
         return Err(RepairFault::OutOfMemory);
     };
@@ -417,6 +455,8 @@ pub fn improve_team<S: Seeker + Drop, K: Sink>(
         start: &start,
         wires,
         wish,
+        search,
+        part: length_of_team(floor, wires, number),
     };
     if !is_improvable(floor, team, number) {
         return Ok(result_of(alloc, floor, number, &attempt, true, None));

@@ -34,9 +34,11 @@ pub record CellShape : Type 0 where
   pub number : ℕ
   pub width : ℕ
   pub wanted : ℕ
+  pub offset : ℕ
+  pub reach : ℕ
 
 abbrev pub shape : PackedCell → CellShape
-shape c = record { number = c.number; width = c.width; wanted = c.wanted }
+shape c = record { number = c.number; width = c.width; wanted = c.wanted; offset = c.offset; reach = c.reach }
 
 -- the same cells in the same order, wherever they are
 abbrev pub AreSameCells : List PackedCell → List PackedCell → Type 0
@@ -44,4 +46,11 @@ AreSameCells old new = map shape old ≡ map shape new
 
 -- the cell at the site of another one
 abbrev pub at_place_of : PackedCell → PackedCell → PackedCell
-at_place_of other c = record { number = c.number; width = c.width; wanted = c.wanted; at = other.at }
+at_place_of other c = record {
+  number = c.number;
+  width = c.width;
+  wanted = c.wanted;
+  offset = c.offset;
+  reach = c.reach;
+  at = other.at;
+}

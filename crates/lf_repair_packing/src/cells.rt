@@ -12,6 +12,11 @@ pub struct PackedCell {
     pub width: u32,
     /// The target site.
     pub wanted: u32,
+    /// The distance of the target from the left edge of that site, in database units. Only costs count it.
+    pub offset: u32,
+    /// The greatest distance in sites from the target to which a search pushes it. A cell at its target that no
+    /// search pushes has 0.
+    pub reach: u32,
     /// The current site.
     pub at: u32,
 }

@@ -1,6 +1,9 @@
 //! The cost of one more cell in a gap between others, and its best site there.
+//!
+//! A cell of several rows is inserted in a gap of each of its rows. `reachable_sites` narrows the sites that it may take, row
+//! by row, and `add_pushed` adds what the cells of each row cost that it then pushes.
 
-ghost use Rattle.std.specs.Prelude.{◌≡◌, ◌≤◌, ◌<◌, ◌↔◌, IfOk, IfSome, length};
+ghost use Rattle.std.specs.Prelude.{◌≡◌, ◌+◌, ◌≤◌, ◌<◌, ◌↔◌, IfOk, IfSome, length};
 
 use crate::cells::PackedCell;
 use crate::cost_curve::CostCurve;
@@ -18,9 +21,14 @@ pub struct SearchEffort {
     pub near: u32,
     /// beyond that, `weight` times.
     pub weight: u16,
+    /// The distance of sites, in database units.
+    pub pitch: u32,
+    /// How often the displacement of the cell itself counts.
+    pub factor: u32,
 }
 
-/// A place in a gap, and by how much the total displacement grows if a cell is placed there.
+/// A place in a gap, and by how much the total displacement grows if a cell is placed there, in
+/// database units.
 #[derive(Clone, Copy, Debug, PartialEq, Eq)]
 pub struct Insertion {
     pub gap: usize,
@@ -43,6 +51,7 @@ fn left_side(cells: &[PackedCell], gap: usize, lowest: i64, most: usize) -> Side
     requires { gap ≤ length cells.now }
     ensures { result.count ≤ gap }
 {
+    let mut lowest = lowest;
     let mut distance = 0u32;
     let mut count = 0;
     while count < gap {
@@ -58,6 +67,8 @@ fn left_side(cells: &[PackedCell], gap: usize, lowest: i64, most: usize) -> Side
         }
         distance = distance.saturating_add(cell.width);
         count += 1;
+        let farthest = (cell.wanted as i64 - cell.reach as i64).min(cell.at as i64);
+        lowest = lowest.max(farthest + distance as i64);
     }
     let limit = lowest.max(distance as i64);
     Side {
@@ -72,6 +83,7 @@ fn left_side(cells: &[PackedCell], gap: usize, lowest: i64, most: usize) -> Side
 fn right_side(cells: &[PackedCell], width: u32, highest: i64, most: usize, room: u32) -> Side
     ensures { result.count ≤ length cells.now }
 {
+    let mut highest = highest;
     let mut distance = width;
     let mut count = 0;
     for cell in cells {
@@ -84,6 +96,8 @@ fn right_side(cells: &[PackedCell], width: u32, highest: i64, most: usize, room:
                 limit,
             };
         }
+        let farthest = (cell.wanted as i64 + cell.reach as i64).max(cell.at as i64);
+        highest = highest.min(farthest - distance as i64);
         distance = distance.saturating_add(cell.width);
         count += 1;
     }
@@ -145,9 +159,9 @@ pub(crate) fn try_gap(
     if high < low {
         return Ok(None);
     }
-    curve.begin(low as u32, high as u32);
+    curve.begin(low as u32, high as u32, effort.pitch);
     add_left_side(curve, &cells[gap - left.count..gap], left.extent)?;
-    curve.add_own(cell.wanted, effort.near, effort.weight)?;
+    curve.add_own(cell, effort)?;
     add_right_side(curve, &cells[gap..gap + right.count], cell.width)?;
     let least = curve.least();
     Ok(Some(Insertion {
@@ -155,4 +169,73 @@ pub(crate) fn try_gap(
         at: least.at,
         cost: least.value,
     }))
+}
+
+/// The sites that a cell may take, from `low` to `high`. It has none if `high` is less.
+#[derive(Clone, Copy, Debug, PartialEq, Eq)]
+pub struct SiteRange {
+    pub low: i64,
+    pub high: i64,
+}
+
+/// The two sides of a gap for a cell of this width at the sites of a range. Its first site is
+/// `shift` sites left of that of the range.
+fn sides_of(cells: &[PackedCell], room: u32, gap: &RowGap, sites: &SiteRange) -> (Side, Side)
+    requires gap { gap.now.gap ≤ length cells.now }
+    ensures left { result.0.count ≤ gap.now.gap }
+    ensures right { gap.now.gap + result.1.count ≤ length cells.now }
+{
+    let lowest = sites.low.saturating_add(gap.shift);
+    let highest = sites.high.saturating_add(gap.shift);
+    (
+        left_side(cells, gap.gap, lowest, gap.most),
+        right_side(&cells[gap.gap..], gap.width, highest, gap.most, room),
+    )
+}
+
+/// A gap in one of the rows of a cell that covers several rows. The gap's first site is `shift`
+/// sites left of the site from which the cell's sites are counted.
+#[derive(Clone, Copy)]
+pub struct RowGap {
+    pub gap: usize,
+    pub shift: i64,
+    /// The width of the cell, in sites.
+    pub width: u32,
+    /// The greatest number of cells pushed on each side.
+    pub most: usize,
+}
+
+/// The sites of a range that the cell may take in this gap.
+pub(crate) fn reachable_sites(
+    cells: &[PackedCell],
+    room: u32,
+    gap: &RowGap,
+    sites: &SiteRange,
+) -> SiteRange
+    requires gap { gap.now.gap ≤ length cells.now }
+{
+    let (left, right) = sides_of(cells, room, gap, sites);
+    let last = room as i64 - gap.width as i64;
+    SiteRange {
+        low: left.limit.max(0).saturating_sub(gap.shift),
+        high: right.limit.min(last).saturating_sub(gap.shift),
+    }
+}
+
+/// Adds the cells that are pushed if the cell takes a site of this range in this gap.
+pub(crate) fn add_pushed(
+    cells: &[PackedCell],
+    room: u32,
+    gap: &RowGap,
+    sites: &SiteRange,
+    curve: &mut CostCurve,
+) -> Result<(), AllocError>
+    requires gap { gap.now.gap ≤ length cells.now }
+{
+    let (left, right) = sides_of(cells, room, gap, sites);
+    curve.set_shift(gap.shift);
+    add_left_side(curve, &cells[gap.gap - left.count..gap.gap], left.extent)?;
+    add_right_side(curve, &cells[gap.gap..gap.gap + right.count], gap.width)?;
+    curve.set_shift(0);
+    Ok(())
 }

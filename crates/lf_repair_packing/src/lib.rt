@@ -36,6 +36,6 @@ mod push_apart;
 mod window;
 
 pub use cells::PackedCell;
-pub use cost_curve::CostCurve;
-pub use insertion::{Insertion, SearchEffort};
+pub use cost_curve::{CostCurve, Least};
+pub use insertion::{Insertion, RowGap, SearchEffort, SiteRange};
 pub use packed_span::PackedSpan;

@@ -7,7 +7,9 @@ ghost use Rattle.lf_repair_packing.specs.Packing.{AreSameCells, IsPacked, at_pla
 
 use crate::cells::{PackedCell, total_displacement};
 use crate::cost_curve::CostCurve;
-use crate::insertion::{Insertion, SearchEffort, try_gap};
+use crate::insertion::{
+    Insertion, RowGap, SearchEffort, SiteRange, add_pushed, reachable_sites, try_gap,
+};
 use crate::window::insert_cell;
 use std::alloc::{AllocError, Global};
 use std::marker::Model;
@@ -90,6 +92,19 @@ impl PackedSpan {
         }
     }
 
+    /// A span of as many sites with the same cells at the same sites. `Err` if an allocation fails.
+    pub fn copy(&self, alloc: Global) -> Result<PackedSpan, AllocError>
+        ensures { IfOk result (λ copy. copy ≡ self.now) }
+    {
+        let mut cells = Vec::with_capacity(alloc, self.cells.len())?;
+        cells.extend_from_slice(self.cells.as_slice())?;
+        Ok(PackedSpan {
+            room: self.room,
+            taken: self.taken,
+            cells,
+        })
+    }
+
     /// The number of cells.
     pub fn len(&self) -> usize
         ensures { result ≡ length self.now.cells }
@@ -151,6 +166,26 @@ impl PackedSpan {
         ensures gap { IfOk result (λ found. IfSome found (λ candidate_cell. candidate_cell.gap ≡ gap)) }
     {
         try_gap(self.cells.as_slice(), self.room, gap, cell, effort, curve)
+    }
+
+    /// The sites of a range that a cell may take in a gap of one of its rows.
+    pub fn reachable_sites(&self, gap: &RowGap, sites: &SiteRange) -> SiteRange
+        requires gap { gap.now.gap ≤ length self.now.cells }
+    {
+        reachable_sites(self.cells.as_slice(), self.room, gap, sites)
+    }
+
+    /// Adds the cells to the curve that are pushed if a cell takes a site of this range in a gap of
+    /// one of its rows. `Err` if an allocation fails.
+    pub fn add_pushed(
+        &self,
+        gap: &RowGap,
+        sites: &SiteRange,
+        curve: &mut CostCurve,
+    ) -> Result<(), AllocError>
+        requires gap { gap.now.gap ≤ length self.now.cells }
+    {
+        add_pushed(self.cells.as_slice(), self.room, gap, sites, curve)
     }
 
     /// Inserts a cell at position `gap`, at its own site if that is free, otherwise near it. The

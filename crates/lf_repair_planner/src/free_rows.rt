@@ -2,6 +2,9 @@
 
 ghost use Rattle.std.specs.Prelude.{◌<ℤ◌, pos};
 
+use crate::plan::PlannedSite;
+use crate::search::clipped;
+use crate::search_limits::number_of;
 use std::alloc::Global;
 
 /// The orientation of a row.
@@ -83,5 +86,37 @@ impl FreeRows {
             rows: Vec::new(alloc),
             spans: Vec::new(alloc),
         }
+    }
+
+    /// The position of the span of a row at this y that contains an x. `None` if there is none.
+    pub(crate) fn span_at(&self, x: i64, y: i64) -> Option<usize> {
+        let begin = self.rows.partition_point(|row| (row.y as i64) < y);
+        for row in self.rows.get(begin..)? {
+            if row.y as i64 != y {
+                return None;
+            }
+            let spans = self.spans.get(row.first..row.last)?;
+            let within = spans.partition_point(|span| span.end() <= x);
+            if let Some(span) = spans.get(within) {
+                if span.first as i64 <= x {
+                    return Some(row.first.saturating_add(within));
+                }
+            }
+        }
+        None
+    }
+
+    /// The site that begins at this point, in database units. `None` if no free site does.
+    pub fn site_at(&self, x: i64, y: i64) -> Option<PlannedSite> {
+        let position = self.span_at(x, y)?;
+        let span = self.spans.get(position)?;
+        let along = x.saturating_sub(span.first as i64);
+        if along.rem_euclid(span.pitch()) != 0 {
+            return None;
+        }
+        Some(PlannedSite {
+            span: number_of(position),
+            at: clipped(along.div_euclid(span.pitch())),
+        })
     }
 }

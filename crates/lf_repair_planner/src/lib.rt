@@ -19,6 +19,11 @@
 //! - `swaps`: exchanges of two cells' places
 //! - `scored_plan`: a plan by one order of the cells, and its cost
 //! - `plan`: the best of the plans tried
+//! - `tall`: cells of several rows
+//! - `scramble`: numbers that look random
+//! - `window`: the cells around a cell
+//! - `changes`: changed spans that may get their old cells back
+//! - `recreate`: a plan improved by ruin and recreate
 //!
 //! From `crates/lf_repair_strategy/src/rounds.rt`:
 //!
@@ -29,15 +34,21 @@
 //! ```
 #![tactic(auto)]
 
+mod changes;
 mod free_rows;
 mod order;
 mod passes;
 mod plan;
 mod plan_state;
+mod recreate;
 mod scored_plan;
+mod scramble;
 mod search;
 mod search_limits;
 mod swaps;
+mod tall;
+mod window;
 
 pub use free_rows::{FreeRows, FreeSpan, PlannerRow, RowKind, RowKinds};
 pub use plan::{PlanOptions, PlannedSite, PlannerCell, plan_cells};
+pub use recreate::{RecreateOptions, recreate_plan};

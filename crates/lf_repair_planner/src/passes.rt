@@ -45,7 +45,7 @@ pub(crate) fn displacement_at_site(wish: &PlannerCell, sites: &FreeSpan, y: i32,
 }
 
 /// The displacement of a cell in a gap, in database units.
-fn displacement_at(given: &PlannerInput, wish: &PlannerCell, gap: &Gap) -> i64 {
+pub(crate) fn displacement_at(given: &PlannerInput, wish: &PlannerCell, gap: &Gap) -> i64 {
     let (Some(sites), Some(row)) = (given.land.spans.get(gap.span), given.row_of(gap.span)) else {
         return i64::MAX;
     };
@@ -95,6 +95,8 @@ pub(crate) fn nearest_alone(
         number,
         wish,
         how,
+        height: given.height,
+        exact: false,
     };
     let best = best_gap(&search, i64::MAX, curve)?;
     Ok(if best.gap.is_some() { best.cost } else { 0 })
@@ -118,6 +120,8 @@ pub(crate) fn place_all(
             number: *number,
             wish,
             how,
+            height: given.height,
+            exact: false,
         };
         let best = find_gap(&search, i64::MAX, given.height, curve)?;
         if let Some(gap) = best.gap {
@@ -145,6 +149,8 @@ fn place_again(
         number: search.number,
         wish: search.wish,
         how: search.how,
+        height: given.height,
+        exact: false,
     };
     let best = find_gap(&open, search.limit, given.height, curve)?;
     if let Some(gap) = best.gap {
@@ -228,17 +234,18 @@ fn all_displacements(
     Ok(displacements)
 }
 
-/// The displacement that only the longest exceed: a thousandth of all, or eight if that is more, but
-/// at most an eighth of all.
+/// The displacement that only the longest exceed: a thousandth of all, or `fewest` if that is more,
+/// but at most an eighth of all.
 pub(crate) fn long_displacement(
     alloc: Global,
     given: &PlannerInput,
     board: &PlanState,
+    fewest: usize,
 ) -> Result<i64, AllocError> {
     let mut ways = all_displacements(alloc, given, board)?;
     ways.sort_unstable();
     let last = ways.len().saturating_sub(1);
-    let longest = (last / 1000).max(8).min(last / 8);
+    let longest = (last / 1000).max(fewest).min(last / 8);
     let place = last.saturating_sub(longest);
     match ways.get(place) {
         Some(way) => Ok(*way),

@@ -12,16 +12,22 @@ use crate::search_limits::number_of;
 use lf_repair_packing::{CostCurve, PackedCell, PackedSpan};
 use std::alloc::{AllocError, Global};
 
-/// A cell: its target and its width, in database units, and the rows on which it may be placed.
+/// A cell: its target and its width, in database units, and the rows on which it may be placed. If
+/// it covers several rows, this is said of the lowest one.
 #[derive(Clone, Copy)]
 pub struct PlannerCell {
     pub x: i32,
     pub y: i32,
     pub width: u32,
     pub kinds: RowKinds,
+    /// The number of rows that it covers.
+    pub rows: u32,
+    /// How often its displacement counts.
+    pub factor: u32,
 }
 
-/// A place of a plan: the position of a span in the list of spans, and a site of the span.
+/// A place of a plan: the position of a span in the list of spans, and a site of the span. That of
+/// a cell of several rows is in its lowest row.
 #[derive(Clone, Copy, Debug, PartialEq, Eq)]
 pub struct PlannedSite {
     pub span: u32,

@@ -1,8 +1,11 @@
 //! The places of the cells of a plan so far.
 
 use crate::free_rows::FreeRows;
+use crate::passes::{PlannerInput, displacement_at_site};
 use crate::plan::PlannedSite;
+use crate::search::placed_at;
 use crate::search_limits::number_of;
+use crate::tall::{cell_in, gap_at, span_above};
 use lf_repair_packing::{PackedCell, PackedSpan};
 use std::alloc::{AllocError, Global};
 
@@ -12,6 +15,8 @@ pub(crate) struct Gap {
     pub(crate) span: usize,
     pub(crate) gap: usize,
     pub(crate) cell: PackedCell,
+    /// Of a cell of several rows, the site by whose middle it finds its gap in each of them.
+    pub(crate) aim: u32,
 }
 
 /// The cells in each span, and for each cell its span and a site near its own. `None` if a cell has
@@ -38,7 +43,11 @@ pub(crate) fn empty_segments(
 }
 
 /// Inserts a cell. Returns false if it has no room there.
-fn put_in(segment: &mut PackedSpan, gap: usize, cell: PackedCell) -> Result<bool, AllocError> {
+pub(crate) fn put_in(
+    segment: &mut PackedSpan,
+    gap: usize,
+    cell: PackedCell,
+) -> Result<bool, AllocError> {
     if segment.len() < gap || MOST <= segment.len() || !segment.has_room(cell.width) {
         return Ok(false);
     }
@@ -88,7 +97,12 @@ impl PlanState {
         let span = spot.span as usize;
         let segment = self.segments.get(span)?;
         let (gap, cell) = find_in(segment, number, spot.at)?;
-        Some(Gap { span, gap, cell })
+        Some(Gap {
+            span,
+            gap,
+            cell,
+            aim: cell.at,
+        })
     }
 
     /// Removes the cell of a gap.
@@ -98,5 +112,95 @@ impl PlanState {
                 segment.remove(gap.gap);
             }
         }
+    }
+
+    /// Gives a cell this place, or none, without changing the spans.
+    pub(crate) fn set_place(&mut self, number: u32, place: Option<Gap>) {
+        if let Some(spot) = self.spots.get_mut(number as usize) {
+            *spot = match place {
+                Some(gap) => Some(PlannedSite {
+                    span: number_of(gap.span),
+                    at: gap.cell.at,
+                }),
+                None => None,
+            };
+        }
+    }
+
+    /// Inserts a cell, of one row or several, in a gap that was found for it.
+    pub(crate) fn put_cell(&mut self, given: &PlannerInput, gap: &Gap) -> Result<(), AllocError> {
+        let Some(wish) = given.wishes.get(gap.cell.number as usize) else {
+            return Ok(());
+        };
+        if wish.rows <= 1 {
+            return self.put(gap);
+        }
+        for up in 0..wish.rows {
+            if let Some(covered) = span_above(given, gap, up) {
+                if let Some(segment) = self.segments.get_mut(covered.span) {
+                    let own = gap_at(segment, &gap.cell, gap.aim, covered.shift);
+                    put_in(segment, own, cell_in(&gap.cell, &covered, up))?;
+                }
+            }
+        }
+        self.set_place(gap.cell.number, Some(*gap));
+        Ok(())
+    }
+
+    /// Removes the cell of a gap, of one row or several.
+    pub(crate) fn take_cell(&mut self, given: &PlannerInput, gap: &Gap) {
+        let Some(wish) = given.wishes.get(gap.cell.number as usize) else {
+            return;
+        };
+        self.set_place(gap.cell.number, None);
+        for up in 0..wish.rows {
+            if let Some(covered) = span_above(given, gap, up) {
+                if let Some(segment) = self.segments.get_mut(covered.span) {
+                    let listed = cell_in(&gap.cell, &covered, up);
+                    if let Some(own) = segment.find(listed.number, listed.at) {
+                        segment.remove(own);
+                    }
+                }
+            }
+        }
+    }
+
+    /// The state in which the cells are at these sites. One that is farther from its target than `reach` has no
+    /// place, and searches push none farther.
+    pub(crate) fn with_spots(
+        alloc: Global,
+        given: &PlannerInput,
+        spots: &[Option<PlannedSite>],
+        reach: i64,
+    ) -> Result<PlanState, AllocError> {
+        let mut state = PlanState::new(alloc, given.land, given.wishes.len())?;
+        for (number, (wish, spot)) in given.wishes.iter().zip(spots.iter()).enumerate() {
+            let Some(spot) = spot else {
+                continue;
+            };
+            let span = spot.span as usize;
+            let (Some(sites), Some(row), Some(segment)) = (
+                given.land.spans.get(span),
+                given.row_of(span),
+                state.segments.get(span),
+            ) else {
+                continue;
+            };
+            let number = number_of(number);
+            let Some(cell) = placed_at(number, wish, sites, row.y, spot.at, reach) else {
+                continue;
+            };
+            if reach < displacement_at_site(wish, sites, row.y, spot.at) {
+                continue;
+            }
+            let gap = Gap {
+                span,
+                gap: gap_at(segment, &cell, spot.at, 0),
+                cell,
+                aim: spot.at,
+            };
+            state.put_cell(given, &gap)?;
+        }
+        Ok(state)
     }
 }

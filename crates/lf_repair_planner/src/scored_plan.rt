@@ -25,6 +25,7 @@ pub(crate) fn initial_limits(height: u32) -> SearchLimits {
         most: 10,
         near: 2 * height as i64,
         weight: 3,
+        reach: i64::MAX,
     }
 }
 
@@ -42,12 +43,13 @@ fn improve(
     for _ in 0..steps.passes {
         pass(given, order, 0, &how, board, &mut curve)?;
     }
-    let long = long_displacement(alloc, given, board)?;
+    let long = long_displacement(alloc, given, board, 8)?;
     let last = SearchLimits {
         gaps: 12,
         most: 160,
         near: long,
         weight: 10,
+        reach: i64::MAX,
     };
     for _ in 0..steps.rounds {
         pass(given, order, long, &last, board, &mut curve)?;

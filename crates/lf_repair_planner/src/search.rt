@@ -3,10 +3,13 @@
 //! It visits rows outward from the target's y, the spans of a row outward from the target's x, and
 //! in a span the gap at the target and those on both sides.
 
+ghost use Rattle.std.specs.Prelude.{◌<ℤ◌, pos};
+
 use crate::free_rows::{FreeRows, FreeSpan, PlannerRow};
 use crate::plan::PlannerCell;
 use crate::plan_state::Gap;
 use crate::search_limits::{SearchLimits, apart, cost_of};
+use crate::tall::try_tall_span;
 use lf_repair_packing::{CostCurve, PackedCell, PackedSpan, SearchEffort};
 use std::alloc::AllocError;
 
@@ -18,6 +21,10 @@ pub(crate) struct Search<'a> {
     pub(crate) number: u32,
     pub(crate) wish: &'a PlannerCell,
     pub(crate) how: &'a SearchLimits,
+    /// The distance of adjacent rows.
+    pub(crate) height: u32,
+    /// Whether costs count a target between two sites there, or at the nearer one.
+    pub(crate) exact: bool,
 }
 
 /// The best gap so far and its cost. Without a gap, the cost is a limit that a gap must be below.
@@ -30,12 +37,11 @@ pub(crate) struct Best {
 /// The cell as it is tried in a span, and its cost there when it is at the span's site nearest to
 /// its target.
 #[derive(Clone, Copy)]
-struct SpanCandidate {
-    span: usize,
-    cell: PackedCell,
-    effort: SearchEffort,
-    pitch: i64,
-    base: i64,
+pub(crate) struct SpanCandidate {
+    pub(crate) span: usize,
+    pub(crate) cell: PackedCell,
+    pub(crate) effort: SearchEffort,
+    pub(crate) base: i64,
 }
 
 /// The number limited to the range of 32 bits: 0 if it is less, the greatest number if it is
@@ -50,35 +56,108 @@ pub(crate) fn site_at(sites: &FreeSpan, x: i32) -> i64 {
     (x as i64 - sites.first as i64 + pitch / 2).div_euclid(pitch)
 }
 
-/// A cell with this number and width, at its target.
-fn cell_at(number: u32, width: u32, wanted: u32) -> PackedCell {
-    PackedCell {
-        number,
-        width,
-        wanted,
-        at: wanted,
+/// The target of a cell in a span: a site of the span, the distance of the target from that site to
+/// the right, and its distance from the span if it lies outside. Distances are in database units.
+#[derive(Clone, Copy)]
+struct SpanTarget {
+    site: i64,
+    offset: i64,
+    outside: i64,
+}
+
+/// The target at this x in a span whose last site for the cell is `last`.
+fn span_target(sites: &FreeSpan, x: i32, last: i64, exact: bool) -> SpanTarget {
+    let pitch = sites.pitch();
+    if !exact {
+        let nearest = site_at(sites, x);
+        let site = nearest.max(0).min(last);
+        let outside = nearest.saturating_sub(site).saturating_abs();
+        return SpanTarget {
+            site,
+            offset: 0,
+            outside: outside.saturating_mul(pitch),
+        };
+    }
+    let along = x as i64 - sites.first as i64;
+    let below = along.div_euclid(pitch);
+    let site = below.max(0).min(last);
+    let distance = along.saturating_sub(site.saturating_mul(pitch));
+    if site == below && site < last {
+        return SpanTarget {
+            site,
+            offset: distance,
+            outside: 0,
+        };
+    }
+    SpanTarget {
+        site,
+        offset: 0,
+        outside: distance.saturating_abs(),
     }
 }
 
 /// The number of sites by which a cell may be displaced in a span before it costs as much as the
-/// best gap. `row` is what its displacement across rows costs.
-fn sites_left(best: &Best, row: i64, sites: &FreeSpan) -> i64 {
-    let pitch = sites.pitch();
+/// best gap. `row` is what its displacement across rows costs, `unit` what each site costs.
+fn sites_left(best: &Best, row: i64, unit: i64) -> i64 {
+    let unit = unit.max(1);
     best.cost
         .saturating_sub(row)
-        .saturating_add(pitch - 1)
-        .div_euclid(pitch)
+        .saturating_add(unit - 1)
+        .div_euclid(unit)
 }
 
-/// The limits for the cells of a span when one cell is `outside` sites from its target. It may be
-/// displaced by `left` sites, `near` of them at the lower cost.
-fn effort_along(how: &SearchLimits, left: i64, near: i64, outside: i64) -> SearchEffort {
-    SearchEffort {
-        reach: clipped(left.saturating_sub(outside)),
-        most: how.most,
-        near: clipped(near.saturating_sub(outside)),
-        weight: how.weight,
+/// The width of a cell in sites.
+fn sites_of(wish: &PlannerCell, pitch: i64) -> i64
+    requires { pos 0 <ℤ pitch }
+{
+    (wish.width as i64).saturating_add(pitch.saturating_sub(1)) / pitch
+}
+
+/// A cell at its target in a span of a row at distance `dy`. It may be pushed as far as `reach`.
+fn cell_at(
+    number: u32,
+    width: i64,
+    target: &SpanTarget,
+    pitch: i64,
+    dy: i64,
+    reach: i64,
+) -> PackedCell
+    requires { pos 0 <ℤ pitch }
+{
+    let wanted = clipped(target.site);
+    let rest = reach
+        .saturating_sub(dy)
+        .saturating_sub(target.outside)
+        .saturating_sub(target.offset);
+    PackedCell {
+        number,
+        width: clipped(width),
+        wanted,
+        offset: clipped(target.offset),
+        reach: clipped(rest.max(0) / pitch),
+        at: wanted,
     }
+}
+
+/// A cell at a site of a span of a row at this y, with its exact target there. `None` if it reaches past
+/// the span's end.
+pub(crate) fn placed_at(
+    number: u32,
+    wish: &PlannerCell,
+    sites: &FreeSpan,
+    y: i32,
+    at: u32,
+    reach: i64,
+) -> Option<PackedCell> {
+    let pitch = sites.pitch();
+    let width = sites_of(wish, pitch);
+    let last = (sites.count as i64).saturating_sub(width);
+    if last < at as i64 {
+        return None;
+    }
+    let target = span_target(sites, wish.x, last, true);
+    let cell = cell_at(number, width, &target, pitch, apart(y, wish.y), reach);
+    Some(PackedCell { at, ..cell })
 }
 
 /// How to try the cell in a span of a row at distance `dy`. `None` if it is too wide for the span
@@ -91,31 +170,43 @@ fn try_of(
     best: &Best,
 ) -> Option<SpanCandidate> {
     let pitch = sites.pitch();
-    let width = (search.wish.width as i64 + pitch - 1) / pitch;
-    let last = sites.count as i64 - width;
+    let width = sites_of(search.wish, pitch);
+    let last = (sites.count as i64).saturating_sub(width);
     if last < 0 {
         return None;
     }
-    let site = site_at(sites, search.wish.x);
-    let wanted = site.max(0).min(last);
-    let outside = site.saturating_sub(wanted).saturating_abs();
+    let target = span_target(sites, search.wish.x, last, search.exact);
+    let outside = target.outside.div_euclid(pitch);
+    let factor = search.wish.factor as i64;
     let row = cost_of(dy, search.how);
-    let left = sites_left(best, row, sites);
-    if left <= outside {
+    let left = sites_left(
+        best,
+        row.saturating_mul(factor),
+        pitch.saturating_mul(factor),
+    );
+    let beyond = search.how.reach.saturating_sub(dy);
+    if left <= outside || beyond < target.outside {
         return None;
     }
     let near = search.how.near.saturating_sub(dy).max(0).div_euclid(pitch);
     let along = SearchLimits {
-        near,
+        near: near.saturating_mul(pitch),
         ..*search.how
     };
-    let in_row = cost_of(outside, &along).saturating_mul(pitch);
+    let in_row = cost_of(target.outside, &along);
+    let cell = cell_at(search.number, width, &target, pitch, dy, search.how.reach);
     Some(SpanCandidate {
         span,
-        cell: cell_at(search.number, clipped(width), clipped(wanted)),
-        effort: effort_along(search.how, left, near, outside),
-        pitch,
-        base: row.saturating_add(in_row),
+        cell,
+        effort: SearchEffort {
+            reach: clipped(left.saturating_sub(outside)).min(cell.reach),
+            most: search.how.most,
+            near: clipped(near.saturating_sub(outside)),
+            weight: search.how.weight,
+            pitch: clipped(pitch),
+            factor: search.wish.factor,
+        },
+        base: row.saturating_add(in_row).saturating_mul(factor),
     })
 }
 
@@ -133,9 +224,7 @@ fn try_gap(
     let Some(candidate_cell) = segment.try_insertion(gap, &tried.cell, &tried.effort, curve)? else {
         return Ok(());
     };
-    let cost = tried
-        .base
-        .saturating_add(candidate_cell.cost.saturating_mul(tried.pitch));
+    let cost = tried.base.saturating_add(candidate_cell.cost);
     if cost < best.cost {
         let cell = PackedCell {
             at: candidate_cell.at,
@@ -147,6 +236,7 @@ fn try_gap(
                 span: tried.span,
                 gap,
                 cell,
+                aim: tried.cell.wanted,
             }),
         };
     }
@@ -176,11 +266,11 @@ fn try_gaps(
     Ok(())
 }
 
-/// Tries a span of a row at distance `dy`.
+/// Tries a span of a row at this y.
 fn try_span(
     search: &Search,
     span: usize,
-    dy: i64,
+    y: i32,
     best: &mut Best,
     curve: &mut CostCurve,
 ) -> Result<(), AllocError> {
@@ -188,18 +278,27 @@ fn try_span(
     else {
         return Ok(());
     };
+    let dy = apart(y, search.wish.y);
     let Some(tried) = try_of(search, span, sites, dy, best) else {
         return Ok(());
     };
+    if 1 < search.wish.rows {
+        return try_tall_span(search, &tried, y, best, curve);
+    }
     if !segment.has_room(tried.cell.width) {
         return Ok(());
     }
     try_gaps(segment, search.how.gaps, &tried, best, curve)
 }
 
-/// Whether anything at distance `dx` on a row at distance `dy` costs too much.
+/// Whether anything at distance `dx` on a row at distance `dy` costs too much or is out of reach.
 fn is_beyond(search: &Search, dy: i64, dx: i64, best: &Best) -> bool {
-    best.cost <= cost_of(dy, search.how).saturating_add(dx.max(0))
+    let dx = dx.max(0);
+    if search.how.reach < dy.saturating_add(dx) {
+        return true;
+    }
+    let way = cost_of(dy, search.how).saturating_add(dx);
+    best.cost <= way.saturating_mul(search.wish.factor as i64)
 }
 
 /// Tries a row: its spans from the target's x to the right, and then to the left.
@@ -219,14 +318,14 @@ fn try_row(
         if is_beyond(search, dy, spans[span].first as i64 - x, best) {
             break;
         }
-        try_span(search, span, dy, best, curve)?;
+        try_span(search, span, row.y, best, curve)?;
     }
     for back in 0..middle - row.first {
         let span = middle - 1 - back;
         if is_beyond(search, dy, x.saturating_sub(spans[span].end()), best) {
             return Ok(());
         }
-        try_span(search, span, dy, best, curve)?;
+        try_span(search, span, row.y, best, curve)?;
     }
     Ok(())
 }

@@ -11,6 +11,8 @@ pub(crate) struct SearchLimits {
     pub(crate) near: i64,
     /// beyond it, `weight` times.
     pub(crate) weight: u16,
+    /// The longest displacement to which a cell is inserted or pushed.
+    pub(crate) reach: i64,
 }
 
 /// The cost of a displacement.

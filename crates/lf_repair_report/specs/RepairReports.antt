@@ -1,5 +1,5 @@
 -- The report of a repair: a line of JSON for each team, and one for all. Lengths are in database
--- units.
+-- units, except that `average` and `mean_by_height` are in thousandths of the height of a row.
 use Rattle.std.specs.Prelude.{◌≡◌, ◌==◌, ◌+◌, ◌-◌, ◌/◌, ◌^◌, ℕ, Bool, if◌then◌else◌, List, [], ◌∷◌, ◌++◌, Option, Some, None, codes, find, flat_map, length, map, max, min, slice_get, option_and_then, option_map}
 use Rattle.std.specs.Option.{option_map_or}
 use Rattle.serde_json.specs.Data.{Data, Members, array, boolean, member, no_members, null, object, put, string}
@@ -13,6 +13,7 @@ use Rattle.lf_repair_bounds.specs.declared.reasons.ImpossibleReason.{ImpossibleR
 use Rattle.lf_repair_bounds.specs.declared.reasons.ImpossibleReason.TheVariants.{Ground, Height, Orientation, Width}
 use Rattle.lf_repair_bounds.specs.Gaps.{AreGaps, placed_team}
 use Rattle.lf_repair_bounds.specs.ImpossibleMacros.{is_of_macro}
+use Rattle.lf_repair_strategy.specs.declared.stats.DisplacementMeans.{DisplacementMeans}
 use Rattle.lf_repair_strategy.specs.declared.stats.RepairStats.{RepairStats}
 use Rattle.lf_repair_report.specs.declared.totals.Totals.{Totals}
 use Rattle.lf_repair_report.specs.declared.report.RepairReport.{RepairReport}
@@ -74,9 +75,9 @@ cell_reasons list floor team owns = map (reason_of_cell list floor team) owns
 -- ---- a team
 
 -- the members of a team: its name, the names of the unrepaired cells, the width of the widest gap
--- near each, the largest of the least displacements of its cells, and the statistics of its repair
-abbrev pub team_members : Data → Data → Data → ℕ → RepairStats → Members
-team_members name left gaps least r =
+-- near each, the largest of the least displacements of its cells, and the counts of its repair
+abbrev pub counted_members : Data → Data → Data → ℕ → RepairStats → Members
+counted_members name left gaps least r =
     member (codes "cells") (report_number r.cells)
     (member (codes "gaps") gaps
     (member (codes "kept") (report_number r.kept)
@@ -90,6 +91,15 @@ team_members name left gaps least r =
     (member (codes "team") name
     (member (codes "total") (report_number r.total_displacement)
     (member (codes "turned") (report_number r.turned) no_members))))))))))))
+
+-- the members with the means of the displacements
+abbrev pub with_means : DisplacementMeans → Members → Members
+with_means means ms = put (codes "mean_by_height") (report_number means.by_height)
+    (put (codes "average") (report_number means.all) ms)
+
+-- the members of a team: these, and the means of the displacements
+abbrev pub team_members : Data → Data → Data → ℕ → RepairStats → Members
+team_members name left gaps least r = with_means r.means (counted_members name left gaps least r)
 
 -- the JSON of a team: these members, and why no place can hold each of the unrepaired cells
 abbrev pub team_data : Data → Data → Data → Data → ℕ → RepairStats → Data

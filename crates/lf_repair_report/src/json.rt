@@ -3,13 +3,13 @@
 ghost use Rattle.std.specs.Prelude.{◌≡◌, ◌++◌, IfOk, OnOk, codes, map};
 ghost use Rattle.serde_json.specs.Data.{Members, array, object, put};
 ghost use Rattle.serde_json.specs.View.{items_of, view};
-ghost use Rattle.lf_repair_report.specs.RepairReports.{all_data, cell_names, report_number, name_of_cell, report_text_value, team_members};
+ghost use Rattle.lf_repair_report.specs.RepairReports.{all_data, cell_names, counted_members, report_number, name_of_cell, report_text_value, with_means};
 
 use crate::totals::{Totals, mean_displacement};
 use lf_describe::name_value;
 use lf_floor::Floor;
 use lf_legalize::Seeker;
-use lf_repair_strategy::RepairStats;
+use lf_repair_strategy::{DisplacementMeans, RepairStats};
 use serde_json::{Value, json};
 use std::alloc::{AllocError, Global};
 
@@ -74,8 +74,8 @@ pub(crate) fn array_value(values: Vec<Value>) -> Value
     Value::Array(values)
 }
 
-/// The members of a team's line, except the reasons: its name, its unrepaired cells and the gaps near
-/// them, the largest of the least displacements, and the statistics.
+/// The members of a team's line, except the means and the reasons: its name, its unrepaired cells and
+/// the gaps near them, the largest of the least displacements, and the counts.
 pub(crate) fn team_value(
     alloc: Global,
     name: Value,
@@ -84,7 +84,8 @@ pub(crate) fn team_value(
     least: u64,
     repaired: &RepairStats,
 ) -> Result<Value, AllocError>
-    ensures { IfOk result (λ v. view v ≡ object (team_members (view name) (view left) (view gaps) least repaired.now)) }
+    ensures { IfOk result
+        (λ v. view v ≡ object (counted_members (view name) (view left) (view gaps) least repaired.now)) }
 {
     let mean = mean_displacement(repaired.total_displacement, u64::from(repaired.moved));
     let (cells, kept, largest) = (repaired.cells, repaired.kept, repaired.max_displacement);
@@ -94,6 +95,30 @@ pub(crate) fn team_value(
         "cells": cells, "gaps": gaps, "kept": kept, "largest": largest, "least_largest": least, "left": left, "mean": mean,
         "moved": moved, "placed": placed, "pushed": pushed, "team": name, "total": total, "turned": turned
     })
+}
+
+/// The line of a team with two members more: the means of the displacements.
+pub(crate) fn with_means(
+    alloc: Global,
+    line: Value,
+    means: &DisplacementMeans,
+) -> Result<Value, AllocError>
+    ensures { (ms : Members) → view line ≡ object ms
+        → IfOk result (λ v. view v ≡ object (with_means means.now ms)) }
+{
+    match line {
+        Value::Object(mut members) => {
+            serde_json::put(&mut members, alloc, "average", count_value(means.all))?;
+            serde_json::put(
+                &mut members,
+                alloc,
+                "mean_by_height",
+                count_value(means.by_height),
+            )?;
+            Ok(Value::Object(members))
+        }
+        other => Ok(other),
+    }
 }
 
 /// The line of a team with one member more: for each unrepaired cell why no place can hold it.

@@ -6,7 +6,9 @@ ghost use Rattle.serde_json.specs.Written.{has_float};
 ghost use Rattle.lf_repair_report.specs.RepairReports.{HasTeamMembers, IsOneMore, IsTeamData, all_line, least_for, no_sums, report_line_text};
 
 use crate::gaps::gaps_near;
-use crate::json::{all_value, array_value, count_values, name_values, team_value, with_impossible};
+use crate::json::{
+    all_value, array_value, count_values, name_values, team_value, with_impossible, with_means,
+};
 use crate::reasons::reason_values;
 use crate::totals::{Totals, none, with_one};
 use lf_describe::name_value;
@@ -70,7 +72,8 @@ fn members_of<S: Seeker + Drop>(
     let gaps = array_value(count_values(alloc, &found)?);
     let left = array_value(name_values(alloc, floor, team, &repaired.unrepaired)?);
     let name = name_value(alloc, team)?;
-    team_value(alloc, name, left, gaps, least, repaired)
+    let line = team_value(alloc, name, left, gaps, least, repaired)?;
+    with_means(alloc, line, &repaired.means)
 }
 
 /// The line of a team, given the result of its repair on the floor and the largest of the least

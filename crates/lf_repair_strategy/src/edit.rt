@@ -2,6 +2,7 @@
 
 use lf_floorplan::Place;
 use lf_units::Point;
+use std::alloc::AllocError;
 
 /// An edit of a cell.
 #[derive(Clone, Copy)]
@@ -19,4 +20,28 @@ pub enum Edit {
 pub struct CellEdit {
     pub own: u32,
     pub step: Edit,
+}
+
+/// Adds the edits of a cell's move. It is unplaced if it has a place, and placed at its new place if
+/// there is one.
+pub(crate) fn push_move(
+    own: u32,
+    now: Option<Place>,
+    to: Option<Place>,
+    unplaced: &mut Vec<CellEdit>,
+    places: &mut Vec<CellEdit>,
+) -> Result<(), AllocError> {
+    if now.is_some() {
+        unplaced.push(CellEdit {
+            own,
+            step: Edit::Unplace,
+        })?;
+    }
+    if let Some(place) = to {
+        places.push(CellEdit {
+            own,
+            step: Edit::Place(place),
+        })?;
+    }
+    Ok(())
 }

@@ -15,11 +15,14 @@
 //! Modules, in reading order:
 //!
 //! - `edit`: an edit of a cell
+//! - `search`: how a repair searches for places
 //! - `pass`: a team at the start of its repair
 //! - `free_space`: the free sites of a team
 //! - `ordered_moves`: moves in an order in which few cells are unplaced
+//! - `team_plan`: the planned places of a team's cells
 //! - `rounds`: the edits of each phase of a pass
 //! - `local_pass`: passes that also free legal cells
+//! - `window_pass`: a pass in which legal cells make room for those at fault
 //! - `stats`: the result of repairing a team
 //!
 //! From `crates/lf_repair_team/src/team.rt`:
@@ -27,7 +30,7 @@
 //! ```
 //! let placement = floor.placement();
 //! let owner = PaddedTeam::new(placement.frame(), number, floor.padding_of(number));
-//! edits_for(alloc, placement, &owner, pass, phase)
+//! edits_for(alloc, placement, &owner, pass, phase, search)
 //! ```
 #![tactic(auto)]
 
@@ -37,7 +40,10 @@ mod local_pass;
 mod ordered_moves;
 mod pass;
 mod rounds;
+mod search;
 mod stats;
+mod team_plan;
+mod window_pass;
 
 pub use edit::{CellEdit, Edit};
 pub use free_space::PaddedTeam;
@@ -45,4 +51,6 @@ pub use local_pass::{LocalPass, Neighborhood, plan_local_pass, undo_edits};
 pub use ordered_moves::{Bands, CellMove, MoveList, with_moves};
 pub use pass::{MovePolicy, Pass, RepairInput, initial_locks, working_places};
 pub use rounds::{Phase, bands_of, edits_for, fits_on, free_rows_without, width_of};
-pub use stats::RepairStats;
+pub use search::RepairSearch;
+pub use stats::{DisplacementMeans, RepairStats};
+pub use window_pass::plan_window_pass;

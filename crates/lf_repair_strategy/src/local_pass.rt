@@ -1,13 +1,13 @@
 //! Plans local passes, which free legal cells to find places for cells without one and to shorten
 //! long displacements.
 
-use crate::edit::{CellEdit, Edit};
+use crate::edit::{CellEdit, push_move};
 use crate::free_space::coordinate;
 use crate::pass::{MovePolicy, Pass, RepairInput, copied, stays_if_legal, working_places};
 use crate::rounds::width_of;
+use crate::search::RepairSearch;
 use lf_cells::CellId;
 use lf_floorplan::{Frame, Place, same_place};
-use lf_legalize::anchor;
 use lf_orient::Orient;
 use lf_placement::Placement;
 use lf_segments::Segment;
@@ -20,6 +20,8 @@ const FAR: i64 = 8;
 /// The cells that a local pass may move.
 #[derive(Clone, Copy)]
 pub enum Neighborhood {
+    /// The cells of windows around those at fault, as `plan_window_pass` plans them.
+    Windows,
     /// Cells in the tile of a problem cell's target or in an adjacent tile. A tile is `rows` ×
     /// `sites`.
     Near { rows: i64, sites: i64 },
@@ -102,15 +104,21 @@ fn bounds_of(placement: &Placement, number: usize) -> Bounds {
     bounds
 }
 
-/// The target of a cell: its original place, moved into the box around its team's segments, or the
-/// team's anchor if it had no place.
-fn point_of(frame: &Frame, id: CellId, wanted_place: Option<Place>, bounds: &Bounds) -> Point {
+/// The target of a cell: its original place, moved into the box around its team's segments, or that
+/// of the search if it had no place.
+fn point_of(
+    frame: &Frame,
+    id: CellId,
+    wanted_place: Option<Place>,
+    bounds: &Bounds,
+    search: &RepairSearch<'_>,
+) -> Point {
     match wanted_place {
         Some(wanted_place) => Point {
             x: (wanted_place.x as i64).max(bounds.low.x).min(bounds.high.x),
             y: (wanted_place.y as i64).max(bounds.low.y).min(bounds.high.y),
         },
-        None => anchor(frame, id.team as usize),
+        None => search.target_without_place(frame, id),
     }
 }
 
@@ -128,10 +136,11 @@ fn note_cell(
     id: CellId,
     wanted_place: Option<Place>,
     bounds: &Bounds,
+    search: &RepairSearch<'_>,
     need: &mut ProblemCells,
 ) -> Result<(), AllocError> {
     let frame = placement.frame();
-    let point = point_of(frame, id, wanted_place, bounds);
+    let point = point_of(frame, id, wanted_place, bounds, search);
     match placement.cells().working(id) {
         Some(place) => {
             let far = frame.pitch.y.saturating_mul(FAR);
@@ -154,6 +163,7 @@ fn problem_cells(
     number: usize,
     first: &Pass,
     bounds: &Bounds,
+    search: &RepairSearch<'_>,
 ) -> Result<ProblemCells, AllocError> {
     let mut need = ProblemCells {
         left: 0,
@@ -167,7 +177,7 @@ fn problem_cells(
         .zip(first.targets.iter())
     {
         if !first.is_impossible(id.own as usize) {
-            note_cell(placement, *id, *wanted_place, bounds, &mut need)?;
+            note_cell(placement, *id, *wanted_place, bounds, search, &mut need)?;
         }
     }
     Ok(need)
@@ -305,6 +315,7 @@ fn locked_cells(
     start: &RepairInput,
     bounds: &Bounds,
     near: &NearRegion,
+    search: &RepairSearch<'_>,
 ) -> Result<Vec<bool>, AllocError> {
     let frame = placement.frame();
     let mut marks = Vec::with_capacity(alloc, start.legal.len())?;
@@ -314,31 +325,37 @@ fn locked_cells(
         .iter()
         .zip(start.pass.targets.iter().zip(start.legal.iter()))
     {
-        let wanted = point_of(frame, *id, *wanted_place, bounds);
+        let wanted = point_of(frame, *id, *wanted_place, bounds, search);
         marks.push(is_locked(placement, *id, *legal, &wanted, near))?;
     }
     Ok(marks)
 }
 
 /// The target place of a cell in a local pass: its original place if it had one, otherwise its
-/// present place, otherwise the team's anchor.
-fn target_place(placement: &Placement, id: CellId, wanted_place: Option<Place>) -> Place {
+/// present place, otherwise that of the search.
+fn target_place(
+    placement: &Placement,
+    id: CellId,
+    wanted_place: Option<Place>,
+    search: &RepairSearch<'_>,
+) -> Place {
     if let Some(wanted_place) = wanted_place {
         return wanted_place;
     }
     if let Some(place) = placement.cells().working(id) {
         return place;
     }
-    let point = anchor(placement.frame(), id.team as usize);
+    let point = search.target_without_place(placement.frame(), id);
     Place::new(coordinate(point.x), coordinate(point.y), Orient::N)
 }
 
 /// The target places of the cells of the team with this number.
-fn all_wanted(
+pub(crate) fn target_places(
     alloc: Global,
     placement: &Placement,
     number: usize,
     targets: &[Option<Place>],
+    search: &RepairSearch<'_>,
 ) -> Result<Vec<Option<Place>>, AllocError> {
     let mut wanted = Vec::with_capacity(alloc, targets.len())?;
     for (id, wanted_place) in placement
@@ -347,7 +364,7 @@ fn all_wanted(
         .iter()
         .zip(targets.iter())
     {
-        wanted.push(Some(target_place(placement, *id, *wanted_place)))?;
+        wanted.push(Some(target_place(placement, *id, *wanted_place, search)))?;
     }
     Ok(wanted)
 }
@@ -355,6 +372,7 @@ fn all_wanted(
 /// Whether a local pass with this reach has nothing to improve.
 fn has_no_work(start: &RepairInput, need: &ProblemCells, reach: &Neighborhood) -> bool {
     match reach {
+        Neighborhood::Windows => true,
         Neighborhood::Near { .. } => need.points.len() == 0,
         Neighborhood::All => need.left == 0,
         Neighborhood::Whole => {
@@ -403,26 +421,55 @@ fn frees_legal(legal: &[bool], marks: &[bool]) -> bool {
     false
 }
 
+/// The local pass with these locked cells and targets, which improves something if the total
+/// displacement is less after it. `Err` if an allocation fails.
+pub(crate) fn new_local_pass(
+    alloc: Global,
+    placement: &Placement,
+    number: usize,
+    start: &RepairInput,
+    pass: Pass,
+    search: &RepairSearch<'_>,
+) -> Result<LocalPass, AllocError> {
+    let bounds = bounds_of(placement, number);
+    let need = problem_cells(alloc, placement, number, &start.pass, &bounds, search)?;
+    let total = total_displacement(placement, number, start.pass.targets.as_slice());
+    Ok(LocalPass {
+        pass,
+        before: working_places(alloc, placement, number)?,
+        left: need.left,
+        needy: need.points.len(),
+        total: Some(total),
+    })
+}
+
 /// The local pass with this reach for the team with this number. `None` if it has nothing to
-/// improve, or could move no legal cell. `Err` if an allocation fails.
+/// improve, or could move no legal cell, and for windows, which `plan_window_pass` plans. `Err` if an allocation fails.
 pub fn plan_local_pass(
     alloc: Global,
     placement: &Placement,
     number: usize,
     start: &RepairInput,
     reach: &Neighborhood,
+    search: &RepairSearch<'_>,
 ) -> Result<Option<LocalPass>, AllocError> {
     let bounds = bounds_of(placement, number);
-    let need = problem_cells(alloc, placement, number, &start.pass, &bounds)?;
+    let need = problem_cells(alloc, placement, number, &start.pass, &bounds, search)?;
     if has_no_work(start, &need, reach) {
         return Ok(None);
     }
     let near = near_of(alloc, placement.frame(), &need, reach)?;
-    let marks = locked_cells(alloc, placement, number, start, &bounds, &near)?;
+    let marks = locked_cells(alloc, placement, number, start, &bounds, &near, search)?;
     if !frees_legal(start.legal.as_slice(), marks.as_slice()) {
         return Ok(None);
     }
-    let targets = all_wanted(alloc, placement, number, start.pass.targets.as_slice())?;
+    let targets = target_places(
+        alloc,
+        placement,
+        number,
+        start.pass.targets.as_slice(),
+        search,
+    )?;
     let before = working_places(alloc, placement, number)?;
     Ok(Some(LocalPass {
         pass: Pass {
@@ -437,10 +484,35 @@ pub fn plan_local_pass(
     }))
 }
 
-/// Whether a cell that was legal has no place.
-fn has_lost_legal(placement: &Placement, number: usize, legal: &[bool]) -> bool {
-    for (id, legal) in placement.cells().cells_of(number).iter().zip(legal.iter()) {
-        if *legal && placement.cells().working(*id).is_none() {
+/// Whether a cell at this place is farther from its original place than the search allows.
+fn is_beyond_reach(place: &Place, original: Option<Place>, search: &RepairSearch<'_>) -> bool {
+    let (Some(reach), Some(original)) = (search.reach, original) else {
+        return false;
+    };
+    let point = Point {
+        x: original.x as i64,
+        y: original.y as i64,
+    };
+    reach < displacement(place, &point)
+}
+
+/// Whether a cell that was legal has no place, or one beyond the reach of the search.
+fn has_lost_legal(
+    placement: &Placement,
+    number: usize,
+    start: &RepairInput,
+    search: &RepairSearch<'_>,
+) -> bool {
+    let originals = start.pass.targets.iter();
+    let ids = placement.cells().cells_of(number).iter();
+    for (id, (legal, original)) in ids.zip(start.legal.iter().zip(originals)) {
+        if !*legal {
+            continue;
+        }
+        let Some(place) = placement.cells().working(*id) else {
+            return true;
+        };
+        if is_beyond_reach(&place, *original, search) {
             return true;
         }
     }
@@ -468,11 +540,12 @@ pub fn undo_edits(
     number: usize,
     start: &RepairInput,
     local_plan: &LocalPass,
+    search: &RepairSearch<'_>,
 ) -> Result<Vec<CellEdit>, AllocError> {
     let mut cell_edits = Vec::new(alloc);
     let bounds = bounds_of(placement, number);
-    let need = problem_cells(alloc, placement, number, &start.pass, &bounds)?;
-    let has_lost = has_lost_legal(placement, number, start.legal.as_slice());
+    let need = problem_cells(alloc, placement, number, &start.pass, &bounds, search)?;
+    let has_lost = has_lost_legal(placement, number, start, search);
     let total = total_displacement(placement, number, start.pass.targets.as_slice());
     if !has_lost && is_better(&need, total, local_plan) {
         return Ok(cell_edits);
@@ -488,32 +561,8 @@ pub fn undo_edits(
         if same_place(now, *before) {
             continue;
         }
-        push_undo(id.own, now, *before, &mut cell_edits, &mut places)?;
+        push_move(id.own, now, *before, &mut cell_edits, &mut places)?;
     }
     cell_edits.extend_from_slice(places.as_slice())?;
     Ok(cell_edits)
-}
-
-/// Adds the edits that undo a cell's move. It is unplaced if it has a place, and placed at its old
-/// place if it had one.
-fn push_undo(
-    own: u32,
-    now: Option<Place>,
-    before: Option<Place>,
-    unplaced: &mut Vec<CellEdit>,
-    places: &mut Vec<CellEdit>,
-) -> Result<(), AllocError> {
-    if now.is_some() {
-        unplaced.push(CellEdit {
-            own,
-            step: Edit::Unplace,
-        })?;
-    }
-    if let Some(place) = before {
-        places.push(CellEdit {
-            own,
-            step: Edit::Place(place),
-        })?;
-    }
-    Ok(())
 }

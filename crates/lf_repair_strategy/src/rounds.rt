@@ -1,31 +1,20 @@
 //! Lists the edits of each phase of a pass.
 
-use crate::edit::{CellEdit, Edit};
+use crate::edit::{CellEdit, Edit, push_move};
 use crate::free_space::{
     Area, BlockedSpan, PaddedTeam, coordinate, free_rows_beside, take_area, take_soft,
 };
 use crate::ordered_moves::{Bands, CellMove, MoveList, with_moves};
 use crate::pass::Pass;
+use crate::search::RepairSearch;
+use crate::team_plan::{PlannedCell, TeamPlan, is_planned_tall, orient_of, team_plan};
 use lf_cells::CellId;
-use lf_floorplan::{Frame, Macro, Place};
-use lf_legalize::anchor;
+use lf_floorplan::{Frame, Macro, Place, same_place};
 use lf_orient::{Orient, equal_under, is_candidate, row_rail};
 use lf_placement::Placement;
-use lf_repair_planner::{
-    FreeRows, PlanOptions, PlannedSite, PlannerCell, RowKind, RowKinds, plan_cells,
-};
+use lf_repair_planner::FreeRows;
 use lf_units::Point;
 use std::alloc::{AllocError, Global};
-
-/// The options of a plan for `loose` cells of a team. It tries two orders if these are at most half
-/// of the team's cells.
-fn steps_of(placement: &Placement, team: usize, loose: usize) -> PlanOptions {
-    PlanOptions {
-        passes: 1,
-        rounds: 2,
-        two_orders: loose <= placement.cells().cells_of(team).len() / 2,
-    }
-}
 
 /// The phases of a pass.
 #[derive(Clone, Copy)]
@@ -44,12 +33,17 @@ pub enum Phase {
 /// A cell that may move: its id, its target place, and its macro with the macro's size in database
 /// units.
 #[derive(Clone, Copy)]
-struct MovableCell<'a> {
-    id: CellId,
-    wanted_place: Option<Place>,
-    mac: &'a Macro,
-    width: i64,
-    height: i64,
+pub(crate) struct MovableCell<'a> {
+    pub(crate) id: CellId,
+    pub(crate) wanted_place: Option<Place>,
+    pub(crate) mac: &'a Macro,
+    pub(crate) width: i64,
+    pub(crate) height: i64,
+}
+
+/// Whether a cell covers several rows.
+pub(crate) fn is_high(frame: &Frame, cell: &MovableCell<'_>) -> bool {
+    frame.pitch.y < cell.height
 }
 
 /// A length of LEF, converted to database units.
@@ -71,7 +65,11 @@ pub fn width_of(placement: &Placement, id: CellId) -> i64 {
 
 /// The cell as one that may move. `None` if it is locked, if no place can hold it, or if there is no
 /// such cell.
-fn movable_cell<'a>(placement: &'a Placement, pass: &Pass, id: CellId) -> Option<MovableCell<'a>> {
+pub(crate) fn movable_cell<'a>(
+    placement: &'a Placement,
+    pass: &Pass,
+    id: CellId,
+) -> Option<MovableCell<'a>> {
     let frame = placement.frame();
     let own = id.own as usize;
     if *pass.locked.get(own)? || pass.is_impossible(own) {
@@ -90,7 +88,7 @@ fn movable_cell<'a>(placement: &'a Placement, pass: &Pass, id: CellId) -> Option
 }
 
 /// The number of cells that may move.
-fn movable_count(pass: &Pass) -> usize {
+pub(crate) fn movable_count(pass: &Pass) -> usize {
     let mut count = 0usize;
     for held in &pass.locked {
         if !*held {
@@ -100,14 +98,14 @@ fn movable_count(pass: &Pass) -> usize {
     count
 }
 
-/// The target of a cell: its target place, or the team's anchor if it has no target place.
-fn target_of(frame: &Frame, cell: &MovableCell<'_>) -> Point {
+/// The target of a cell: its target place, or that of the search if it has no target place.
+fn target_of(frame: &Frame, cell: &MovableCell<'_>, search: &RepairSearch<'_>) -> Point {
     match cell.wanted_place {
         Some(place) => Point {
             x: place.x as i64,
             y: place.y as i64,
         },
-        None => anchor(frame, cell.id.team as usize),
+        None => search.target_without_place(frame, cell.id),
     }
 }
 
@@ -121,8 +119,8 @@ struct Key {
     y: i64,
 }
 
-fn key_of(frame: &Frame, cell: &MovableCell<'_>) -> Key {
-    let target = target_of(frame, cell);
+fn key_of(frame: &Frame, cell: &MovableCell<'_>, search: &RepairSearch<'_>) -> Key {
+    let target = target_of(frame, cell, search);
     Key {
         area: 0i64.saturating_sub(cell.width.saturating_mul(cell.height)),
         own: cell.id.own,
@@ -145,7 +143,7 @@ fn best_places(alloc: Global, keys: &mut Vec<Key>) -> Result<Vec<CellEdit>, Allo
 }
 
 /// Whether a cell that may move covers several rows.
-fn may_move_tall(placement: &Placement, number: usize, pass: &Pass) -> bool {
+pub(crate) fn may_move_tall(placement: &Placement, number: usize, pass: &Pass) -> bool {
     let high = placement.frame().pitch.y;
     for id in placement.cells().cells_of(number) {
         if let Some(cell) = movable_cell(placement, pass, *id) {
@@ -187,13 +185,14 @@ fn legalize_tall(
     placement: &Placement,
     number: usize,
     pass: &Pass,
+    search: &RepairSearch<'_>,
 ) -> Result<Vec<CellEdit>, AllocError> {
     let frame = placement.frame();
     let mut keys = Vec::new(alloc);
     for id in placement.cells().cells_of(number) {
         if let Some(cell) = movable_cell(placement, pass, *id) {
             if frame.pitch.y < cell.height {
-                keys.push(key_of(frame, &cell))?;
+                keys.push(key_of(frame, &cell, search))?;
             }
         }
     }
@@ -206,13 +205,14 @@ fn legalize_unplaced(
     placement: &Placement,
     number: usize,
     pass: &Pass,
+    search: &RepairSearch<'_>,
 ) -> Result<Vec<CellEdit>, AllocError> {
     let frame = placement.frame();
     let mut keys = Vec::new(alloc);
     for id in placement.cells().cells_of(number) {
         if let Some(cell) = movable_cell(placement, pass, *id) {
             if placement.cells().working(*id).is_none() {
-                keys.push(key_of(frame, &cell))?;
+                keys.push(key_of(frame, &cell, search))?;
             }
         }
     }
@@ -292,7 +292,12 @@ pub fn fits_on(frame: &Frame, mac: &Macro, orient: Orient, row: Orient) -> bool 
 
 /// The orientation of a cell on a row of this orientation: its own if allowed, otherwise the first
 /// allowed one of N, S, FN and FS.
-fn orient_on(frame: &Frame, mac: &Macro, wanted_place: Orient, row: Orient) -> Option<Orient> {
+pub(crate) fn orient_on(
+    frame: &Frame,
+    mac: &Macro,
+    wanted_place: Orient,
+    row: Orient,
+) -> Option<Orient> {
     if fits_on(frame, mac, wanted_place, row) {
         return Some(wanted_place);
     }
@@ -302,102 +307,6 @@ fn orient_on(frame: &Frame, mac: &Macro, wanted_place: Orient, row: Orient) -> O
         }
     }
     None
-}
-
-/// The kinds of rows on which a cell of one row's height may be placed.
-fn kinds_of(frame: &Frame, mac: &Macro) -> RowKinds {
-    RowKinds {
-        n: orient_on(frame, mac, Orient::N, Orient::N).is_some(),
-        s: orient_on(frame, mac, Orient::N, Orient::S).is_some(),
-        fn_: orient_on(frame, mac, Orient::N, Orient::FN).is_some(),
-        fs: orient_on(frame, mac, Orient::N, Orient::FS).is_some(),
-    }
-}
-
-/// A site of a span, and the position in the team of the cell placed there.
-#[derive(Clone, Copy, PartialEq, Eq, PartialOrd, Ord)]
-struct PlannedCell {
-    span: u32,
-    at: u32,
-    own: u32,
-}
-
-/// The positions of cells of one row's height, and the planner's input for each.
-#[derive(Drop)]
-struct PlannerCells {
-    owns: Vec<u32>,
-    wishes: Vec<PlannerCell>,
-}
-
-/// The planner's input for a cell with this target place.
-fn planner_cell(
-    frame: &Frame,
-    cell: &MovableCell<'_>,
-    wanted_place: &Place,
-    pad: i64,
-) -> PlannerCell {
-    PlannerCell {
-        x: wanted_place.x,
-        y: wanted_place.y,
-        width: cell.width.saturating_add(pad).clamp(0, 4_294_967_295) as u32,
-        kinds: kinds_of(frame, cell.mac),
-    }
-}
-
-/// The cells of one row's height that may move and have a target place.
-fn planner_cells(
-    alloc: Global,
-    placement: &Placement,
-    owner: &PaddedTeam,
-    pass: &Pass,
-) -> Result<PlannerCells, AllocError> {
-    let frame = placement.frame();
-    let most = movable_count(pass);
-    let mut owns = Vec::with_capacity(alloc, most)?;
-    let mut wishes = Vec::with_capacity(alloc, most)?;
-    for id in placement.cells().cells_of(owner.team) {
-        let Some(cell) = movable_cell(placement, pass, *id) else {
-            continue;
-        };
-        let Some(wanted_place) = cell.wanted_place else {
-            continue;
-        };
-        if cell.height <= frame.pitch.y {
-            owns.push(id.own)?;
-            wishes.push(planner_cell(frame, &cell, &wanted_place, owner.pad))?;
-        }
-    }
-    Ok(PlannerCells { owns, wishes })
-}
-
-/// The spots of a plan for the cells at these positions, row by row from left to right.
-fn planned_cells(
-    alloc: Global,
-    owns: &[u32],
-    spots: &[Option<PlannedSite>],
-) -> Result<Vec<PlannedCell>, AllocError> {
-    let mut stops = Vec::with_capacity(alloc, spots.len())?;
-    for (own, spot) in owns.iter().zip(spots.iter()) {
-        if let Some(spot) = spot {
-            stops.push(PlannedCell {
-                span: spot.span,
-                at: spot.at,
-                own: *own,
-            })?;
-        }
-    }
-    stops.sort_unstable();
-    Ok(stops)
-}
-
-/// The orientation of a row of this kind.
-fn orient_of(kind: RowKind) -> Orient {
-    match kind {
-        RowKind::N => Orient::N,
-        RowKind::S => Orient::S,
-        RowKind::FN => Orient::FN,
-        RowKind::FS => Orient::FS,
-    }
 }
 
 /// The place of a cell at a planned site.
@@ -417,23 +326,8 @@ fn place_at(
     Some(Place::new(coordinate(x), coordinate(row.y as i64), orient))
 }
 
-/// The planned sites of the cells of one row's height that may move. All other data of the plan is
-/// dropped.
-fn all_planned_cells(
-    alloc: Global,
-    placement: &Placement,
-    owner: &PaddedTeam,
-    pass: &Pass,
-    land: &FreeRows,
-) -> Result<Vec<PlannedCell>, AllocError> {
-    let PlannerCells { owns, wishes } = planner_cells(alloc, placement, owner, pass)?;
-    let steps = steps_of(placement, owner.team, owns.as_slice().len());
-    let spots = plan_cells(alloc, land, wishes.as_slice(), &steps)?;
-    planned_cells(alloc, owns.as_slice(), spots.as_slice())
-}
-
 /// Whether each cell may move and covers one row.
-fn loose_cells(
+pub(crate) fn loose_cells(
     alloc: Global,
     placement: &Placement,
     number: usize,
@@ -458,7 +352,22 @@ fn upright_place(placement: &Placement, id: CellId) -> Option<Place> {
     Some(place)
 }
 
-/// The move of a cell to its planned site. `None` if the cell breaks a rule there.
+/// The planned place of a cell. `None` if it breaks a rule there.
+pub(crate) fn planned_place(
+    placement: &Placement,
+    cell: &MovableCell<'_>,
+    land: &FreeRows,
+    stop: &PlannedCell,
+) -> Option<Place> {
+    let to = place_at(placement.frame(), land, stop, cell)?;
+    if placement.broken_frame_rule(cell.id, &to).is_some() {
+        return None;
+    }
+    Some(to)
+}
+
+/// The move of a cell of one row's height to its planned site. `None` if it covers several rows, or
+/// breaks a rule there.
 fn planned_move(
     placement: &Placement,
     team: usize,
@@ -468,15 +377,14 @@ fn planned_move(
 ) -> Option<CellMove> {
     let id = placement.cells().cell_of(team, stop.own as usize)?;
     let cell = movable_cell(placement, pass, id)?;
-    let to = place_at(placement.frame(), land, stop, &cell)?;
-    if placement.broken_frame_rule(id, &to).is_some() {
+    if is_high(placement.frame(), &cell) {
         return None;
     }
     Some(CellMove {
         own: stop.own,
         width: cell.width.clamp(0, 4_294_967_295) as u32,
         from: upright_place(placement, id),
-        to,
+        to: planned_place(placement, &cell, land, stop)?,
     })
 }
 
@@ -506,19 +414,73 @@ fn planned_moves(
     placement: &Placement,
     owner: &PaddedTeam,
     pass: &Pass,
+    plan: &TeamPlan,
     loose: &mut Vec<bool>,
 ) -> Result<MoveList, AllocError> {
-    let land = free_rows_without(alloc, placement, owner, loose.as_slice())?;
-    let stops = all_planned_cells(alloc, placement, owner, pass, &land)?;
-    let bands = bands_of(placement.frame(), owner, &land);
-    let mut list = MoveList::with_capacity(alloc, bands, stops.len())?;
-    for stop in &stops {
-        if let Some(one) = planned_move(placement, owner.team, pass, &land, stop) {
+    let bands = bands_of(placement.frame(), owner, &plan.land);
+    let mut list = MoveList::with_capacity(alloc, bands, plan.stops.len())?;
+    for stop in &plan.stops {
+        if let Some(one) = planned_move(placement, owner.team, pass, &plan.land, stop) {
             clear_moved(loose.as_mut_slice(), &one);
             list.push(&one)?;
         }
     }
     Ok(list)
+}
+
+/// The planned places of the cells of several rows, by their positions in the team.
+fn tall_places(
+    alloc: Global,
+    placement: &Placement,
+    owner: &PaddedTeam,
+    pass: &Pass,
+    plan: &TeamPlan,
+) -> Result<Vec<Option<Place>>, AllocError> {
+    let cells = placement.cells().cells_of(owner.team);
+    let mut places = vec![in alloc; None; cells.len()]?;
+    for stop in &plan.stops {
+        let own = stop.own as usize;
+        let Some(id) = placement.cells().cell_of(owner.team, own) else {
+            continue;
+        };
+        let (Some(cell), Some(place)) = (movable_cell(placement, pass, id), places.get_mut(own))
+        else {
+            continue;
+        };
+        if is_high(placement.frame(), &cell) {
+            *place = planned_place(placement, &cell, &plan.land, stop);
+        }
+    }
+    Ok(places)
+}
+
+/// Appends the edits that move the cells of several rows as planned: all that move are unplaced, and
+/// then placed at their planned places. None if the plan moves no such cell.
+fn push_tall_edits(
+    alloc: Global,
+    placement: &Placement,
+    owner: &PaddedTeam,
+    pass: &Pass,
+    plan: &TeamPlan,
+    cell_edits: &mut Vec<CellEdit>,
+) -> Result<(), AllocError> {
+    if !plan.moves_tall {
+        return Ok(());
+    }
+    let places = tall_places(alloc, placement, owner, pass, plan)?;
+    let mut placed = Vec::new(alloc);
+    let ids = placement.cells().cells_of(owner.team);
+    for (id, place) in ids.iter().zip(places.iter()) {
+        let Some(cell) = movable_cell(placement, pass, *id) else {
+            continue;
+        };
+        let now = placement.cells().working(*id);
+        if is_planned_tall(placement.frame(), &cell) && !same_place(now, *place) {
+            push_move(id.own, now, *place, cell_edits, &mut placed)?;
+        }
+    }
+    cell_edits.extend_from_slice(placed.as_slice())?;
+    Ok(())
 }
 
 /// Edits that unplace the cells whose entry is true.
@@ -540,17 +502,21 @@ fn unplace_loose(
     Ok(cell_edits)
 }
 
-/// Edits that move the cells of one row's height that may move as planned.
+/// Edits that move the cells as planned. Those of one row's height that keep no planned place are
+/// unplaced.
 fn place_by_plan(
     alloc: Global,
     placement: &Placement,
     owner: &PaddedTeam,
     pass: &Pass,
+    search: &RepairSearch<'_>,
 ) -> Result<Vec<CellEdit>, AllocError> {
     let mut loose = loose_cells(alloc, placement, owner.team, pass)?;
-    let list = planned_moves(alloc, placement, owner, pass, &mut loose)?;
-    let unplaced = unplace_loose(alloc, placement, owner.team, loose.as_slice())?;
-    with_moves(alloc, unplaced.as_slice(), list)
+    let plan = team_plan(alloc, placement, owner, pass, loose.as_slice(), search)?;
+    let list = planned_moves(alloc, placement, owner, pass, &plan, &mut loose)?;
+    let mut cell_edits = unplace_loose(alloc, placement, owner.team, loose.as_slice())?;
+    push_tall_edits(alloc, placement, owner, pass, &plan, &mut cell_edits)?;
+    with_moves(alloc, cell_edits.as_slice(), list)
 }
 
 /// The edits of a phase for the cells of the team. Locked cells, and those that no place can hold,
@@ -561,11 +527,12 @@ pub fn edits_for(
     owner: &PaddedTeam,
     pass: &Pass,
     phase: Phase,
+    search: &RepairSearch<'_>,
 ) -> Result<Vec<CellEdit>, AllocError> {
     match phase {
         Phase::UnplaceForTall => unplace_for_tall(alloc, placement, owner.team, pass),
-        Phase::PlaceTall => legalize_tall(alloc, placement, owner.team, pass),
-        Phase::PlacePlanned => place_by_plan(alloc, placement, owner, pass),
-        Phase::PlaceRemaining => legalize_unplaced(alloc, placement, owner.team, pass),
+        Phase::PlaceTall => legalize_tall(alloc, placement, owner.team, pass, search),
+        Phase::PlacePlanned => place_by_plan(alloc, placement, owner, pass, search),
+        Phase::PlaceRemaining => legalize_unplaced(alloc, placement, owner.team, pass, search),
     }
 }

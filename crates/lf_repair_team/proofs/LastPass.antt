@@ -1,5 +1,5 @@
 -- The last pass, cell by cell.
-use Rattle.std.proofs.Common.{◌≡◌, ◌≢◌, ◌⊎◌, inl, inr, ℕ, ◌+◌, ◌<◌, ◌≤◌, ◌==◌, List, [], ◌∷◌, ◌++◌, Bool, true, false, length, map, get_or, take, Option, Some, None, refl, ap, sym, ◌∙◌, subst, arith}
+use Rattle.std.proofs.Common.{◌≡◌, ◌≢◌, ◌⊎◌, inl, inr, ℕ, ℤ, ◌+◌, ◌<◌, ◌≤◌, ◌==◌, List, [], ◌∷◌, ◌++◌, Bool, true, false, length, map, get_or, take, Option, Some, None, refl, ap, sym, ◌∙◌, subst, arith}
 use Rattle.std.specs.Prelude.{All, AllPairs, Contains, MatchOption, option_and_then, slice_get}
 use Rattle.std.specs.Option.{option_map}
 use Rattle.std.proofs.lemmas.Bool.{cases_eq}
@@ -20,8 +20,9 @@ use Rattle.lf_floor_model.specs.Outcomes.{name_at}
 use Rattle.lf_floor_model.specs.Teams.{IsTeamOf, state_of, team_number}
 use Rattle.lf_floor_model.specs.Steps.{AllCommittedIn}
 use Rattle.lf_floor_model.proofs.LegalPlaces.{member_is, none_some, some_one, there_within}
-use Rattle.lf_repair_team.specs.CellEdits.{AreMovable, AreUnrepaired, HasNoPlaceOrIsFlagged, HoldsOrIsListed, IsAnotherCell, IsFlagged, IsLegalOrUnplaced, IsLegalOrWithoutPlace, KeepsLegalCells, KeepsLockedLegal, KeepsLockedPlaces, RemainsLegal, SameCells}
-use Rattle.lf_repair_team.specs.TeamRepairs.{AreLegalExcept, HasNoPlace, IsIllegalIn, IsLegalIn, KeepsLegalPlaces, team_cell_names, place_of_cell_in}
+use Rattle.lf_repair_strategy.specs.Targets.{target_at}
+use Rattle.lf_repair_team.specs.CellEdits.{AreMovable, AreUnrepaired, HasNoPlaceOrIsFlagged, HoldsOrIsListed, IsAnotherCell, IsFlagged, IsLegalOrUnplaced, IsLegalOrWithoutPlace, IsWithoutPlace, KeepsLegalCells, KeepsLockedLegal, KeepsLockedPlaces, RemainsLegal, SameCells}
+use Rattle.lf_repair_team.specs.TeamRepairs.{AreLegalExcept, IsIllegalIn, IsLegalIn, KeepsLegalPlaces, team_cell_names, place_of_cell_in}
 use Rattle.lf_repair_team.proofs.Cells.{named_is}
 use Rattle.lf_repair_team.proofs.Results.{each_state}
 use Rattle.lf_repair_team.proofs.Legal.{all_left_through, but_committed, but_through, left_committed, reported_legal, state_there}
@@ -83,31 +84,31 @@ unplaced_more team old new cells i d within before places here =
 -- ---- each cell is moved to its best place
 
 -- what a legalize of one cell does to the cells of the team
-pub record LegalizesOne (team : List ℕ) (old new : FloorState) (own : ℕ) : Type 0 where
+pub record LegalizesOne (reach : Option ℤ) (targets : List (Option Place)) (team : List ℕ) (old new : FloorState) (own : ℕ) : Type 0 where
   pub legal : KeepsLegalCells team old new
   pub places : (other : ℕ) → other ≢ own → place_of_cell_in new team other ≡ place_of_cell_in old team other
-  pub without : (other : ℕ) → HasNoPlace old team other → other ≢ own → HasNoPlace new team other
-  pub done : IsLegalOrWithoutPlace new team own
+  pub without : (other : ℕ) → IsWithoutPlace reach targets old team other → other ≢ own → IsWithoutPlace reach targets new team other
+  pub done : IsLegalOrWithoutPlace reach targets new team own
 
-pub done_more : (team : List ℕ) (old new : FloorState) (cells : List ℕ) (i d : ℕ) → i < length cells → LegalizesOne team old new (get_or cells i d)
-    → All (λ own. IsLegalOrWithoutPlace old team own) (take i cells) → All (λ own. IsLegalOrWithoutPlace new team own) (take (i + 1) cells)
-done_more team old new cells i d within one before =
-    All-more (λ own. IsLegalOrWithoutPlace new team own) cells i d within
-    (All-weaker (λ own. IsLegalOrWithoutPlace old team own) (λ own. IsLegalOrWithoutPlace new team own) still (take i cells) before) one.done
+pub done_more : (reach : Option ℤ) (targets : List (Option Place)) (team : List ℕ) (old new : FloorState) (cells : List ℕ) (i d : ℕ) → i < length cells → LegalizesOne reach targets team old new (get_or cells i d)
+    → All (λ own. IsLegalOrWithoutPlace reach targets old team own) (take i cells) → All (λ own. IsLegalOrWithoutPlace reach targets new team own) (take (i + 1) cells)
+done_more reach targets team old new cells i d within one before =
+    All-more (λ own. IsLegalOrWithoutPlace reach targets new team own) cells i d within
+    (All-weaker (λ own. IsLegalOrWithoutPlace reach targets old team own) (λ own. IsLegalOrWithoutPlace reach targets new team own) still (take i cells) before) one.done
   where
-    still : (own : ℕ) → IsLegalOrWithoutPlace old team own → IsLegalOrWithoutPlace new team own
+    still : (own : ℕ) → IsLegalOrWithoutPlace reach targets old team own → IsLegalOrWithoutPlace reach targets new team own
     still own (inl legal) = inl (one.legal own legal).0
     still own (inr has) = elim (cases_eq own (get_or cells i d)) [
-      | inl same ↦ subst (λ (j : ℕ). IsLegalOrWithoutPlace new team j) (sym same) one.done
+      | inl same ↦ subst (λ (j : ℕ). IsLegalOrWithoutPlace reach targets new team j) (sym same) one.done
       | inr differ ↦ inr (one.without own has differ)
     ]
 
-pub still_unplaced : (team : List ℕ) (old new : FloorState) (cells : List ℕ) (own : ℕ) → LegalizesOne team old new own
+pub still_unplaced : (reach : Option ℤ) (targets : List (Option Place)) (team : List ℕ) (old new : FloorState) (cells : List ℕ) (own : ℕ) → LegalizesOne reach targets team old new own
     → All (λ own. IsLegalOrUnplaced old team own) cells → All (λ own. IsLegalOrUnplaced new team own) cells
-still_unplaced team old new cells own one all = All-weaker (λ k. IsLegalOrUnplaced old team k) (λ k. IsLegalOrUnplaced new team k) still cells all where
-  here : IsLegalOrWithoutPlace new team own → IsLegalOrUnplaced new team own
+still_unplaced reach targets team old new cells own one all = All-weaker (λ k. IsLegalOrUnplaced old team k) (λ k. IsLegalOrUnplaced new team k) still cells all where
+  here : IsLegalOrWithoutPlace reach targets new team own → IsLegalOrUnplaced new team own
   here (inl legal) = inl legal
-  here (inr has) = inr (none_is_unplaced new team own has)
+  here (inr has) = inr (none_is_unplaced reach (target_at targets own) new team own has)
 
   still : (k : ℕ) → IsLegalOrUnplaced old team k → IsLegalOrUnplaced new team k
   still k (inl legal) = inl (one.legal k legal).0
@@ -154,10 +155,10 @@ state_named team floor own name at = go (state_of floor team) refl at where
   go (Some s) is e = (s, is, e)
 
 -- a placed cell that is legal or unplaced is legal
-pub placed_is_legal : (team : List ℕ) (floor : FloorState) (own : ℕ) (place : Place) → place_of_cell_in floor team own ≡ Some place → IsLegalOrUnplaced floor team own
-    → IsLegalOrWithoutPlace floor team own
-placed_is_legal team floor own place is (inl legal) = inl legal
-placed_is_legal team floor own place is (inr none) = absurd (none_some (sym none ∙ is))
+pub placed_is_legal : (reach : Option ℤ) (targets : List (Option Place)) (team : List ℕ) (floor : FloorState) (own : ℕ) (place : Place) → place_of_cell_in floor team own ≡ Some place → IsLegalOrUnplaced floor team own
+    → IsLegalOrWithoutPlace reach targets floor team own
+placed_is_legal reach targets team floor own place is (inl legal) = inl legal
+placed_is_legal reach targets team floor own place is (inr none) = absurd (none_some (sym none ∙ is))
 
 -- the cell is legal if the floor says so after a command
 pub now_legal : (team : List ℕ) (old new : FloorState) (number own : ℕ) (name : List ℕ) → team_number old.frame team ≡ Some number → new.frame ≡ old.frame
@@ -192,39 +193,39 @@ named_unplaced team name floor own teams at none s k there named =
 
 -- ---- the cells at the end
 
-state_of_legal : (team : List ℕ) (floor : FloorState) (own : ℕ) → IsLegalOrWithoutPlace floor team own → (s : TeamState) × (state_of floor team ≡ Some s)
-state_of_legal team floor own (inl legal) = (legal.state, legal.there)
-state_of_legal team floor own (inr has) = (has.state, has.there)
+state_of_legal : (reach : Option ℤ) (targets : List (Option Place)) (team : List ℕ) (floor : FloorState) (own : ℕ) → IsLegalOrWithoutPlace reach targets floor team own → (s : TeamState) × (state_of floor team ≡ Some s)
+state_of_legal reach targets team floor own (inl legal) = (legal.state, legal.there)
+state_of_legal reach targets team floor own (inr has) = (has.state, has.there)
 
 -- if each of the cells that were illegal is flagged, legal or without a place, those that are illegal
 -- have none, or are flagged
-pub illegal_have_none : (team : List ℕ) (flags : List Bool) (a b : FloorState) (before movable left : List ℕ) → (movable ≡ [] → ⊥)
+pub illegal_have_none : (reach : Option ℤ) (targets : List (Option Place)) (team : List ℕ) (flags : List Bool) (a b : FloorState) (before movable left : List ℕ) → (movable ≡ [] → ⊥)
     → team_cell_names b team ≡ team_cell_names a team → AreLegalExcept team a before → AreMovable flags before movable → KeepsLegalCells team a b
-    → All (λ own. IsLegalOrWithoutPlace b team own) movable → All (λ own. IsIllegalIn b team own) left → All (λ own. HasNoPlaceOrIsFlagged flags b team own) left
-illegal_have_none team flags a b before movable left some names legal movables kept done illegal =
-    All-weaker (λ own. IsIllegalIn b team own) (λ own. HasNoPlaceOrIsFlagged flags b team own) one left illegal
+    → All (λ own. IsLegalOrWithoutPlace reach targets b team own) movable → All (λ own. IsIllegalIn b team own) left → All (λ own. HasNoPlaceOrIsFlagged reach targets flags b team own) left
+illegal_have_none reach targets team flags a b before movable left some names legal movables kept done illegal =
+    All-weaker (λ own. IsIllegalIn b team own) (λ own. HasNoPlaceOrIsFlagged reach targets flags b team own) one left illegal
   where
     there : (xs : List ℕ) → movable ≡ xs → (s : TeamState) × (state_of b team ≡ Some s)
     there [] none = absurd (some none)
     there (x ∷ xs) is =
-        state_of_legal team b x (All-head (λ own. IsLegalOrWithoutPlace b team own) x xs (subst (λ (ys : List ℕ). All (λ own. IsLegalOrWithoutPlace b team own) ys) is done))
+        state_of_legal reach targets team b x (All-head (λ own. IsLegalOrWithoutPlace reach targets b team own) x xs (subst (λ (ys : List ℕ). All (λ own. IsLegalOrWithoutPlace reach targets b team own) ys) is done))
 
-    one : (own : ℕ) → IsIllegalIn b team own → HasNoPlaceOrIsFlagged flags b team own
+    one : (own : ℕ) → IsIllegalIn b team own → HasNoPlaceOrIsFlagged reach targets flags b team own
     one own is =
         let s = there movable refl in
         let u = state_before team a b s.0 names s.1 in
         let within : own < length s.0.cells = is.within s.0 s.1 in
         at (legal u.0 u.1 own (subst (λ (n : ℕ). own < n) (sym u.2) within))
       where
-        settled : IsLegalOrWithoutPlace b team own → HasNoPlaceOrIsFlagged flags b team own
+        settled : IsLegalOrWithoutPlace reach targets b team own → HasNoPlaceOrIsFlagged reach targets flags b team own
         settled (inl legal) = absurd (is.illegal legal)
         settled (inr has) = inl has
 
-        moved : IsFlagged flags own ⊎ Contains movable own → HasNoPlaceOrIsFlagged flags b team own
+        moved : IsFlagged flags own ⊎ Contains movable own → HasNoPlaceOrIsFlagged reach targets flags b team own
         moved (inl flag) = inr flag
-        moved (inr listed) = settled (All-contains (λ own. IsLegalOrWithoutPlace b team own) movable own done listed)
+        moved (inr listed) = settled (All-contains (λ own. IsLegalOrWithoutPlace reach targets b team own) movable own done listed)
 
-        at : IsLegalIn a team own ⊎ Contains before own → HasNoPlaceOrIsFlagged flags b team own
+        at : IsLegalIn a team own ⊎ Contains before own → HasNoPlaceOrIsFlagged reach targets flags b team own
         at (inl legal) = absurd (is.illegal (kept own legal).0)
         at (inr listed) = moved (All-contains (λ own. IsFlagged flags own ⊎ Contains movable own) before own movables.others listed)
 
@@ -300,44 +301,44 @@ some_there [] empty is e none = absurd (grind (arith, nat_tests))
 some_there (x ∷ xs) empty is e none = cc
 
 -- no cell is movable: the illegal cells are flagged
-pub none_unrepaired : (team : List ℕ) (flags : List Bool) (floor : FloorState) (left movable : List ℕ) → movable ≡ [] → AreMovable flags left movable → AreLegalExcept team floor left
-    → All (IsIllegalIn floor team) left → AllPairs (λ own later. own < later) left → AreUnrepaired team flags floor left
-none_unrepaired team flags floor left movable none movables named illegal rise = record {
+pub none_unrepaired : (reach : Option ℤ) (targets : List (Option Place)) (team : List ℕ) (flags : List Bool) (floor : FloorState) (left movable : List ℕ) → movable ≡ [] → AreMovable flags left movable → AreLegalExcept team floor left
+    → All (IsIllegalIn floor team) left → AllPairs (λ own later. own < later) left → AreUnrepaired reach targets team flags floor left
+none_unrepaired reach targets team flags floor left movable none movables named illegal rise = record {
   named = named;
   illegal = illegal;
-  without = All-weaker (λ own. IsFlagged flags own ⊎ Contains movable own) (λ own. HasNoPlaceOrIsFlagged flags floor team own) one left movables.others;
+  without = All-weaker (λ own. IsFlagged flags own ⊎ Contains movable own) (λ own. HasNoPlaceOrIsFlagged reach targets flags floor team own) one left movables.others;
   rise = rise;
 } where
   nowhere : (own : ℕ) → Contains [] own → ⊥
   nowhere own contains = let within = contains.1 in absurd (omega (arith, within))
 
-  one : (own : ℕ) → IsFlagged flags own ⊎ Contains movable own → HasNoPlaceOrIsFlagged flags floor team own
+  one : (own : ℕ) → IsFlagged flags own ⊎ Contains movable own → HasNoPlaceOrIsFlagged reach targets flags floor team own
   one own (inl flag) = inr flag
   one own (inr listed) = absurd (nowhere own (subst (λ (xs : List ℕ). Contains xs own) none listed))
 
-pub unrepaired_through : (team : List ℕ) (flags : List Bool) (old new : FloorState) (left : List ℕ) → new.frame ≡ old.frame → SameCells team old new
-    → AreUnrepaired team flags old left → AreUnrepaired team flags new left
-unrepaired_through team flags old new left frame same are = record {
+pub unrepaired_through : (reach : Option ℤ) (targets : List (Option Place)) (team : List ℕ) (flags : List Bool) (old new : FloorState) (left : List ℕ) → new.frame ≡ old.frame → SameCells team old new
+    → AreUnrepaired reach targets team flags old left → AreUnrepaired reach targets team flags new left
+unrepaired_through reach targets team flags old new left frame same are = record {
   named = but_through team old new left frame same are.named;
   illegal = all_left_through team old new left frame same are.illegal;
-  without = All-weaker (λ own. HasNoPlaceOrIsFlagged flags old team own) (λ own. HasNoPlaceOrIsFlagged flags new team own) through left are.without;
+  without = All-weaker (λ own. HasNoPlaceOrIsFlagged reach targets flags old team own) (λ own. HasNoPlaceOrIsFlagged reach targets flags new team own) through left are.without;
   rise = are.rise;
 } where
-  through : (own : ℕ) → HasNoPlaceOrIsFlagged flags old team own → HasNoPlaceOrIsFlagged flags new team own
-  through own (inl has) = inl (none_through team old new own frame same has)
+  through : (own : ℕ) → HasNoPlaceOrIsFlagged reach targets flags old team own → HasNoPlaceOrIsFlagged reach targets flags new team own
+  through own (inl has) = inl (none_through reach (target_at targets own) team old new own frame same has)
   through own (inr flag) = inr flag
 
 -- a commit if no cell is unrepaired, and otherwise no command
-pub unrepaired_committed : (team : List ℕ) (flags : List Bool) (a b : FloorState) (given left : List ℕ) → given ≡ left → (given ≢ [] → b ≡ a) → (l : Legalizer)
-    → (given ≡ [] → AllCommittedIn l b team) → AreUnrepaired team flags a left → AreUnrepaired team flags b left
-unrepaired_committed team flags a b given left same kept l committed are = record {
+pub unrepaired_committed : (reach : Option ℤ) (targets : List (Option Place)) (team : List ℕ) (flags : List Bool) (a b : FloorState) (given left : List ℕ) → given ≡ left → (given ≢ [] → b ≡ a) → (l : Legalizer)
+    → (given ≡ [] → AllCommittedIn l b team) → AreUnrepaired reach targets team flags a left → AreUnrepaired reach targets team flags b left
+unrepaired_committed reach targets team flags a b given left same kept l committed are = record {
   named = but_committed team a b given left same kept l committed are.named;
   illegal = left_committed team a b given left same kept are.illegal;
   without = go left refl;
   rise = are.rise;
 } where
-  go : (xs : List ℕ) → left ≡ xs → All (λ own. HasNoPlaceOrIsFlagged flags b team own) left
-  go [] none = All-same (λ own. HasNoPlaceOrIsFlagged flags b team own) left [] none (All-nil (λ own. HasNoPlaceOrIsFlagged flags b team own))
-  go (x ∷ xs) some = subst (λ (f : FloorState). All (λ own. HasNoPlaceOrIsFlagged flags f team own) left) (sym (kept (λ none. nil_cons (sym none ∙ same ∙ some)))) are.without where
+  go : (xs : List ℕ) → left ≡ xs → All (λ own. HasNoPlaceOrIsFlagged reach targets flags b team own) left
+  go [] none = All-same (λ own. HasNoPlaceOrIsFlagged reach targets flags b team own) left [] none (All-nil (λ own. HasNoPlaceOrIsFlagged reach targets flags b team own))
+  go (x ∷ xs) some = subst (λ (f : FloorState). All (λ own. HasNoPlaceOrIsFlagged reach targets flags f team own) left) (sym (kept (λ none. nil_cons (sym none ∙ same ∙ some)))) are.without where
     nil_cons : [] ≡ x ∷ xs → ⊥
     nil_cons e = cc

@@ -15,4 +15,6 @@ mod OthersLegal
 pub mod WithoutPlace
 mod LastPass
 pub mod OffSoft
+mod ReachLemmas
+mod MeanLemmas
 pub mod Listing

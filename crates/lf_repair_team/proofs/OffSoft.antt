@@ -1,5 +1,5 @@
 -- Cells off soft blockages: a cell that a legalize places is off them, and stays off them at its place.
-use Rattle.std.proofs.Common.{◌≡◌, ◌≢◌, ◌⊎◌, inl, inr, ℕ, ◌+◌, ◌<◌, ◌≤◌, zero, suc, List, Bool, true, map, length, Option, Some, None, refl, ap, sym, ◌∙◌, subst, arith}
+use Rattle.std.proofs.Common.{◌≡◌, ◌≢◌, ◌⊎◌, inl, inr, ℕ, ℤ, ◌+◌, ◌<◌, ◌≤◌, zero, suc, List, Bool, true, map, length, Option, Some, None, refl, ap, sym, ◌∙◌, subst, arith}
 use Rattle.std.specs.Prelude.{All, slice_get, option_and_then}
 use Rattle.std.specs.Option.{option_map}
 use Rattle.std.proofs.lemmas.Bool.{cases_eq}
@@ -32,7 +32,7 @@ use Rattle.lf_repair_bounds.specs.declared.reasons.ImpossibleMacro.{ImpossibleMa
 use Rattle.lf_repair_bounds.specs.ImpossibleMacros.{is_listed}
 use Rattle.lf_repair_strategy.specs.Targets.{AreWorkingPlaces, target_at}
 use Rattle.lf_repair_team.specs.CellEdits.{AreAtTargetsOrOffSoft, AreFlaggedAtTargets, AreListedFlags, AreLockedInPlace, HasNoPlaceOrIsFlagged, IsAtTargetOrOffSoft, IsUnchangedOrStepped, IsUnplacedOrOffSoft, KeepsCellsAtTargets, KeepsLockedLegal, KeepsLockedPlaces, KeepsPlaces, MovesOffSoft, RemainsLegal, SameCells}
-use Rattle.lf_repair_team.specs.TeamRepairs.{AreMovedOffSoft, ChangesOnly, HasNoPlaceOrIsListed, IsLegalIn, IsListedIn, IsOffSoft, KeepsLegalPlaces, place_of_cell_in, team_cell_macros, team_cell_names}
+use Rattle.lf_repair_team.specs.TeamRepairs.{AreMovedOffSoft, ChangesOnly, HasNoPlace, HasNoPlaceOrIsListed, IsLegalIn, IsListedIn, IsOffSoft, KeepsLegalPlaces, place_of_cell_in, team_cell_macros, team_cell_names}
 use Rattle.lf_repair_team.proofs.Cells.{named_is}
 use Rattle.lf_repair_team.proofs.Finding.{team_was}
 use Rattle.lf_repair_team.proofs.Legal.{legal_through, same_places, state_there}
@@ -158,27 +158,30 @@ module _ (team : List ℕ) (b c : FloorState) (only : ChangesOnly team b c) wher
     ]
 
 -- a position past the team's cells has no place
-pub all_settled : (team : List ℕ) (old new : FloorState) (count : ℕ) (targets : List (Option Place)) → team_cell_macros new team ≡ team_cell_macros old team
-    → ((s : TeamState) → state_of old team ≡ Some s → length s.cells ≤ count) → ((own : ℕ) → own < count → IsAtTargetOrOffSoft team targets new own)
-    → AreAtTargetsOrOffSoft team targets new
-all_settled team old new count targets macros many are own = within_or_past (cases_lt own count) where
-  cases_lt : (a b : ℕ) → (a < b) ⊎ (b ≤ a)
-  cases_lt a zero = inr (omega arith)
-  cases_lt zero (suc b) = inl (omega arith)
-  cases_lt (suc a) (suc b) = elim (cases_lt a b) [ inl less ↦ inl (omega (arith, less)) | inr more ↦ inr (omega (arith, more)) ]
-
-  past : count ≤ own → (o : Option TeamState) → state_of new team ≡ o → place_of_cell_in new team own ≡ None
-  past more None there = ap (λ (o : Option TeamState). option_and_then (λ (s : TeamState). working_at s.cells own) o) there
-  past more (Some s) there =
+pub past_is_unplaced : (team : List ℕ) (old new : FloorState) (count own : ℕ) → team_cell_macros new team ≡ team_cell_macros old team
+    → ((s : TeamState) → state_of old team ≡ Some s → length s.cells ≤ count) → count ≤ own → place_of_cell_in new team own ≡ None
+past_is_unplaced team old new count own macros many more = past (state_of new team) refl where
+  past : (o : Option TeamState) → state_of new team ≡ o → place_of_cell_in new team own ≡ None
+  past None there = ap (λ (o : Option TeamState). option_and_then (λ (s : TeamState). working_at s.cells own) o) there
+  past (Some s) there =
       let before = state_with_macros new old team s (sym macros) there in
       let few = many before.0 before.1 in
       let long : length before.0.cells ≡ length s.cells = sym (length-map before.0.cells (λ (c : Cell). c.mac)) ∙ ap (λ (ms : List ℕ). length ms) before.2 ∙ length-map s.cells (λ (c : Cell). c.mac) in
       place_of_state new team own s there
       ∙ ap (λ (o : Option Cell). option_and_then (λ (c : Cell). c.working) o) (slice_get_past s.cells own (omega (arith, more, few, long)))
 
-  within_or_past : (own < count) ⊎ (count ≤ own) → IsAtTargetOrOffSoft team targets new own
-  within_or_past (inl within) = are own within
-  within_or_past (inr more) = inr (inl (past more (state_of new team) refl))
+pub is_less_or_past : (a b : ℕ) → (a < b) ⊎ (b ≤ a)
+is_less_or_past a zero = inr (omega arith)
+is_less_or_past zero (suc b) = inl (omega arith)
+is_less_or_past (suc a) (suc b) = elim (is_less_or_past a b) [ inl less ↦ inl (omega (arith, less)) | inr more ↦ inr (omega (arith, more)) ]
+
+pub all_settled : (team : List ℕ) (old new : FloorState) (count : ℕ) (targets : List (Option Place)) → team_cell_macros new team ≡ team_cell_macros old team
+    → ((s : TeamState) → state_of old team ≡ Some s → length s.cells ≤ count) → ((own : ℕ) → own < count → IsAtTargetOrOffSoft team targets new own)
+    → AreAtTargetsOrOffSoft team targets new
+all_settled team old new count targets macros many are own = elim (is_less_or_past own count) [
+  | inl within ↦ are own within
+  | inr more ↦ inr (inl (past_is_unplaced team old new count own macros many more))
+]
 
 -- ---- a cell is tested
 
@@ -347,6 +350,13 @@ locked_at_start team floor number marks targets named are legal own mark =
     let is = legal own mark in
     (is, place_of_state floor team own is.state is.there ∙ sym (are is.state (state_there floor team number is.state named is.there) own))
 
+-- the targets are the places at the start
+pub target_is_place : (team : List ℕ) (floor : FloorState) (number : ℕ) (targets : List (Option Place)) (own : ℕ) → team_number floor.frame team ≡ Some number
+    → ((s : TeamState) → slice_get floor.teams number ≡ Some s → AreWorkingPlaces s.cells targets) → (s : TeamState) → state_of floor team ≡ Some s
+    → place_of_cell_in floor team own ≡ target_at targets own
+target_is_place team floor number targets own named are s there =
+    place_of_state floor team own s there ∙ sym (are s (state_there floor team number s named there) own)
+
 -- a cell that is not at its target has moved, if the targets are the places at the start
 pub moved_off_soft : (team : List ℕ) (old new : FloorState) (number : ℕ) (targets : List (Option Place)) → team_number old.frame team ≡ Some number
     → ((s : TeamState) → slice_get old.teams number ≡ Some s → AreWorkingPlaces s.cells targets) → team_cell_names new team ≡ team_cell_names old team
@@ -403,11 +413,14 @@ listed_through list old new team own only is =
     }
 
 -- the unrepaired cells have no place, or are of listed macros
-pub none_or_listed : (list : List ImpossibleMacro) (old new : FloorState) (team : List ℕ) (flags : List Bool) (left : List ℕ) → ChangesOnly team old new
-    → AreListedFlags list team old flags → All (λ own. HasNoPlaceOrIsFlagged flags new team own) left → All (HasNoPlaceOrIsListed list new team) left
-none_or_listed list old new team flags left only are without =
-    All-weaker (λ own. HasNoPlaceOrIsFlagged flags new team own) (HasNoPlaceOrIsListed list new team) one left without
+pub none_or_listed : (reach : Option ℤ) (list : List ImpossibleMacro) (old new : FloorState) (team : List ℕ) (number : ℕ) (targets : List (Option Place)) (flags : List Bool)
+    (left : List ℕ) → team_number old.frame team ≡ Some number → ((s : TeamState) → slice_get old.teams number ≡ Some s → AreWorkingPlaces s.cells targets) → ChangesOnly team old new
+    → AreListedFlags list team old flags → All (λ own. HasNoPlaceOrIsFlagged reach targets flags new team own) left → All (HasNoPlaceOrIsListed reach list old new team) left
+none_or_listed reach list old new team number targets flags left named targets_are only are without =
+    All-weaker (λ own. HasNoPlaceOrIsFlagged reach targets flags new team own) (HasNoPlaceOrIsListed reach list old new team) one left without
   where
-    one : (own : ℕ) → HasNoPlaceOrIsFlagged flags new team own → HasNoPlaceOrIsListed list new team own
-    one own (inl has) = inl has
+    one : (own : ℕ) → HasNoPlaceOrIsFlagged reach targets flags new team own → HasNoPlaceOrIsListed reach list old new team own
+    one own (inl has) =
+        let was = team_was team old new has.state only.names has.there in
+        inl (subst (λ (o : Option Place). HasNoPlace reach o new team own) (sym (target_is_place team old number targets own named targets_are was.0 was.1)) has)
     one own (inr flag) = inr (listed_through list old new team own only ((are own).0 flag))

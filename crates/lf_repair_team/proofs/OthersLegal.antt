@@ -84,11 +84,11 @@ other_legal f team padding n own old new differ same arrives sized legal m here 
   at None is before = before
   at (Some q) is before = legal_beside f team padding old new own m.mac q before (clear q is before)
 
--- a cell that has no place has none if an unplaced cell gets one
-pub still_none : (f : Frame) (team padding n own mac : ℕ) (old new : List Member) → SameExcept n old new → ((m : Member) → slice_get old n ≡ Some m → m.place ≡ None)
-    → ((p : SpotPlace) → IsAllowedPlace (query_from f team padding old own mac) p → ⊥)
-    → (p : SpotPlace) → IsAllowedPlace (query_from f team padding new own mac) p → ⊥
-still_none f team padding n own mac old new same unplaced none p allowed =
+-- a cell that has no place, or only places of a kind, has no other if an unplaced cell gets one
+pub still_none : (Kind : SpotPlace → Type 0) (f : Frame) (team padding n own mac : ℕ) (old new : List Member) → SameExcept n old new → ((m : Member) → slice_get old n ≡ Some m → m.place ≡ None)
+    → ((p : SpotPlace) → IsAllowedPlace (query_from f team padding old own mac) p → Kind p)
+    → (p : SpotPlace) → IsAllowedPlace (query_from f team padding new own mac) p → Kind p
+still_none Kind f team padding n own mac old new same unplaced none p allowed =
     none p (record { legal = legal_beside f team padding new old own mac p allowed.legal clear; off_soft = allowed.off_soft })
   where
     clear : Clear f old own (padded_in f padding mac p)

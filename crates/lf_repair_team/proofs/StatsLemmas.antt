@@ -17,6 +17,7 @@ use Rattle.lf_cells.specs.Cells.{id_of, working_at}
 use Rattle.lf_floor_model.specs.States.{FloorState, TeamState}
 use Rattle.lf_floor_model.specs.Teams.{state_of, team_number}
 use Rattle.lf_floor_model.proofs.LegalPlaces.{some_one}
+use Rattle.lf_repair_strategy.specs.declared.stats.DisplacementMeans.{DisplacementMeans}
 use Rattle.lf_repair_strategy.specs.declared.stats.RepairStats.{RepairStats}
 use Rattle.lf_repair_strategy.specs.Targets.{AreWorkingPlaces, target_at}
 use Rattle.lf_repair_team.specs.CellEdits.{AreLegalFlags, CountsIf, CountsOneCell, AreStatsOfFirst}
@@ -213,6 +214,20 @@ module _ (targets : List (Option Place)) (marks : List Bool) (cells : List Cell)
       → IsShortTo k old → AreStatsOfFirst targets marks cells k old → CountsOneCell wanted_place now (was_legal ≡ true) old new → AreStatsOfFirst targets marks cells (k + 1) new
   reported_at is now_is wanted_place_is marked few short so_far one =
       tally_more (target_at targets) (working_at cells) (λ own. slice_get marks own ≡ Some true) k old new few short so_far (one_reported_at is now_is wanted_place_is marked one)
+
+-- the means are no part of it
+pub tally_with_means : (targets : List (Option Place)) (marks : List Bool) (cells : List Cell) (all : ℕ) (reported : RepairStats) (means : DisplacementMeans)
+    → AreStatsOfFirst targets marks cells all reported → AreStatsOfFirst targets marks cells all (record reported { means = means })
+tally_with_means targets marks cells all reported means tally = record {
+  cells = tally.cells;
+  kept = tally.kept;
+  displaced_legal = tally.displaced_legal;
+  moved = tally.moved;
+  placed = tally.placed;
+  turned = tally.turned;
+  total_displacement = tally.total_displacement;
+  max_displacement = tally.max_displacement;
+}
 
 -- ---- the team between two floors
 

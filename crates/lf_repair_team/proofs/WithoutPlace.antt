@@ -1,6 +1,6 @@
 -- Cells without a place: a refused legalize shows that the cell has none, and a legalize of an
 -- unplaced cell leaves the others without one.
-use Rattle.std.proofs.Common.{◌≡◌, inl, inr, ℕ, List, map, Bool, true, false, cond, eqb, ltb, Option, Some, None, refl, ap, sym, ◌∙◌, subst}
+use Rattle.std.proofs.Common.{◌≡◌, inl, inr, ℕ, ℤ, List, map, Bool, true, false, cond, eqb, ltb, Option, Some, None, refl, ap, sym, ◌∙◌, subst}
 use Rattle.std.specs.Prelude.{All, slice_get, option_and_then}
 use Rattle.std.specs.Option.{option_map}
 use Rattle.lf_units.specs.declared.geometry.Point.{Point}
@@ -32,7 +32,7 @@ use Rattle.lf_floor_model.proofs.Forms.{state_at, legalized_at, legalized_own, u
 use Rattle.lf_floor_model.proofs.Answering.{own_answer}
 use Rattle.lf_floor_model.proofs.LegalPlaces.{member_there, moved_there, none_some, some_one}
 use Rattle.lf_repair_team.specs.CellEdits.{IsAnotherCell, IsUnchangedOrStepped, SameCells, SaysNoPlace}
-use Rattle.lf_repair_team.specs.TeamRepairs.{HasNoPlace, place_of_cell_in}
+use Rattle.lf_repair_team.specs.TeamRepairs.{HasNoPlace, IsBeyond, place_of_cell_in, way_to}
 use Rattle.lf_repair_team.proofs.Cells.{named_is}
 use Rattle.lf_repair_team.proofs.OthersLegal.{members_except, outcome_has, still_none}
 use Rattle.lf_repair_team.proofs.Results.{each_state}
@@ -68,13 +68,13 @@ no_best t session k own name target s known at reply = slot (seen_at s.slots ses
   slot None e = absurd cc
   slot (Some seen) e = stale (eqb seen s.revision) e
 
-named_cell : (cells : List Cell) (own : ℕ) (name : List ℕ) → name_at cells own ≡ Some name → (c : Cell) × (slice_get cells own ≡ Some c)
+pub named_cell : (cells : List Cell) (own : ℕ) (name : List ℕ) → name_at cells own ≡ Some name → (c : Cell) × (slice_get cells own ≡ Some c)
 named_cell cells own name at = go (slice_get cells own) refl at where
   go : (o : Option Cell) → slice_get cells own ≡ o → option_map (λ (c : Cell). c.name) o ≡ Some name → (c : Cell) × (slice_get cells own ≡ Some c)
   go None is e = absurd (none_some e)
   go (Some c) is e = (c, is)
 
-working_of : (cells : List Cell) (own : ℕ) (c : Cell) → slice_get cells own ≡ Some c → working_at cells own ≡ c.working
+pub working_of : (cells : List Cell) (own : ℕ) (c : Cell) → slice_get cells own ≡ Some c → working_at cells own ≡ c.working
 working_of cells own c is = ap (λ (o : Option Cell). option_and_then (λ (d : Cell). d.working) o) is
 
 number_there : (floor : FloorState) (team : List ℕ) (s : TeamState) → state_of floor team ≡ Some s → (number : ℕ) × (team_number floor.frame team ≡ Some number)
@@ -84,10 +84,10 @@ number_there floor team s there = go (team_number floor.frame team) refl there w
   go (Some number) is e = (number, is)
 
 -- if a legalize of an unplaced cell is refused because it has no best place, it has no place
-pub refused_has_none : (l : Legalizer) (old new : FloorState) (team name : List ℕ) (session own : ℕ) (target : Point) (s : TeamState) (reply : Reply)
+pub refused_has_none : (reach : Option ℤ) (was : Option Place) (l : Legalizer) (old new : FloorState) (team name : List ℕ) (session own : ℕ) (target : Point) (s : TeamState) (reply : Reply)
     → BestIsFound → RefusalKeepsState → All (λ s. IsTeamOf old.frame s) old.teams → new.frame ≡ old.frame → state_of old team ≡ Some s → name_at s.cells own ≡ Some name
-    → working_at s.cells own ≡ None → Step l old (To team (Within session (Changing (Legalize name target)))) reply new → SaysNoPlace reply → HasNoPlace new team own
-refused_has_none l old new team name session own target s reply found keeps teams frame there at unplaced step (k, is) =
+    → working_at s.cells own ≡ None → Step l old (To team (Within session (Changing (Legalize name target)))) reply new → SaysNoPlace reply → HasNoPlace reach was new team own
+refused_has_none reach was l old new team name session own target s reply found keeps teams frame there at unplaced step (k, is) =
     let order = Within session (Changing (Legalize name target)) in
     let at_number = number_there old team s there in
     let number = at_number.0 in
@@ -109,62 +109,62 @@ refused_has_none l old new team name session own target s reply found keeps team
       there = ap (λ (floor : FloorState). state_of floor team) answer.floor_is ∙ own_is.1 ∙ ap (λ (u : TeamState). Some u) same;
       cell_is = cell.1;
       unplaced = sym (working_of s.cells own cell.0 cell.1) ∙ unplaced;
-      none = subst (λ (f : Frame). (p : SpotPlace) → IsAllowedPlace (query_from f number s.padding (map member_of s.cells) own cell.0.mac) p → ⊥) (sym frame) none;
+      none = λ p allowed. absurd (subst (λ (f : Frame). (p : SpotPlace) → IsAllowedPlace (query_from f number s.padding (map member_of s.cells) own cell.0.mac) p → ⊥) (sym frame) none p allowed);
     }
 
 -- ---- a legalize of another cell
 
--- the team has a cell at this position, which has no place
-pub record HasNoneAt (f : Frame) (number other : ℕ) (u : TeamState) : Type 0 where
+-- the team has a cell at this position, which has no place within reach of its place before
+pub record HasNoneAt (reach : Option ℤ) (was : Option Place) (f : Frame) (number other : ℕ) (u : TeamState) : Type 0 where
   pub cell : Cell
   pub is : slice_get u.cells other ≡ Some cell
   pub unplaced : cell.working ≡ None
-  pub none : (p : SpotPlace) → IsAllowedPlace (query_from f number u.padding (map member_of u.cells) other cell.mac) p → ⊥
+  pub none : (p : SpotPlace) → IsAllowedPlace (query_from f number u.padding (map member_of u.cells) other cell.mac) p → IsBeyond reach (way_to was p)
 
-legalized_none : (t : TeamRules) (session other : ℕ) (name : List ℕ) (target : Point) (s : TeamState)
+legalized_none : (reach : Option ℤ) (was : Option Place) (t : TeamRules) (session other : ℕ) (name : List ℕ) (target : Point) (s : TeamState)
     → (cell_named name s.cells ≡ Some other → ⊥) → ((n : ℕ) → cell_named name s.cells ≡ Some n → working_at s.cells n ≡ None)
-    → HasNoneAt t.frame t.number other s → HasNoneAt t.frame t.number other (legalized t session name target s).team
+    → HasNoneAt reach was t.frame t.number other s → HasNoneAt reach was t.frame t.number other (legalized t session name target s).team
 unfolding legalized
-legalized_none t session other name target s differ unplaced has = found (cell_named name s.cells) refl where
+legalized_none reach was t session other name target s differ unplaced has = found (cell_named name s.cells) refl where
   placeless : (n : ℕ) → cell_named name s.cells ≡ Some n → (m : Member) → slice_get (map member_of s.cells) n ≡ Some m → m.place ≡ None
   placeless n named m there =
       let c = member_there s.cells n m there in
       ap (λ (x : Member). x.place) (sym c.2) ∙ ap (λ (o : Option Place). option_map spot_of o) (sym (working_of s.cells n c.0 c.1) ∙ unplaced n named)
 
-  at : (n : ℕ) → cell_named name s.cells ≡ Some n → (o : Option Place) → HasNoneAt t.frame t.number other (legalized_at o t session n s).team
+  at : (n : ℕ) → cell_named name s.cells ≡ Some n → (o : Option Place) → HasNoneAt reach was t.frame t.number other (legalized_at o t session n s).team
   at n named None = has
   at n named (Some place) = record {
     cell = has.cell;
     is = moved_there s.cells n other (Some place) (λ (e : other ≡ n). differ (named ∙ ap (λ (k : ℕ). Some k) (sym e))) ∙ has.is;
     unplaced = has.unplaced;
-    none = still_none t.frame t.number s.padding n other has.cell.mac (map member_of s.cells) (map member_of (moved s.cells n (Some place)))
+    none = still_none (λ p. IsBeyond reach (way_to was p)) t.frame t.number s.padding n other has.cell.mac (map member_of s.cells) (map member_of (moved s.cells n (Some place)))
         (members_except s.cells n (Some place)) (placeless n named) has.none;
   }
 
-  found : (o : Option ℕ) → cell_named name s.cells ≡ o → HasNoneAt t.frame t.number other (legalized_own o t session target s).team
+  found : (o : Option ℕ) → cell_named name s.cells ≡ o → HasNoneAt reach was t.frame t.number other (legalized_own o t session target s).team
   found None named = has
   found (Some n) named = at n named (best_at t s.cells n target)
 
 -- a legalize of an unplaced cell leaves each other cell without a place
-pub other_has_none : (l : Legalizer) (old new : FloorState) (team name : List ℕ) (session : ℕ) (target : Point) (other : ℕ) → new.frame ≡ old.frame
+pub other_has_none : (reach : Option ℤ) (was : Option Place) (l : Legalizer) (old new : FloorState) (team name : List ℕ) (session : ℕ) (target : Point) (other : ℕ) → new.frame ≡ old.frame
     → IsUnchangedOrStepped l old (To team (Within session (Changing (Legalize name target)))) new → IsAnotherCell old team name other
     → ((s : TeamState) (own : ℕ) → state_of old team ≡ Some s → cell_named name s.cells ≡ Some own → working_at s.cells own ≡ None)
-    → HasNoPlace old team other → HasNoPlace new team other
-other_has_none l old new team name session target other frame requested differ unplaced has =
+    → HasNoPlace reach was old team other → HasNoPlace reach was new team other
+other_has_none reach was l old new team name session target other frame requested differ unplaced has =
     elim (requested_step l old new team (Within session (Changing (Legalize name target))) requested) [
-      | inl same ↦ subst (λ (floor : FloorState). HasNoPlace floor team other) (sym same) has
+      | inl same ↦ subst (λ (floor : FloorState). HasNoPlace reach was floor team other) (sym same) has
       | inr served ↦
           let s = served.state in
           let number = served.number in
           let t = team_rules l old.frame number s.padding in
           let state : has.state ≡ s = some_one (sym has.there ∙ served.before) in
           let same : has.number ≡ number = some_one (sym has.named ∙ served.named) in
-          let had : HasNoneAt old.frame has.number other has.state = record { cell = has.cell; is = has.cell_is; unplaced = has.unplaced; none = has.none } in
-          let before : HasNoneAt old.frame number other s =
-          subst (λ (u : TeamState). HasNoneAt old.frame number other u) state (subst (λ (n : ℕ). HasNoneAt old.frame n other has.state) same had) in
-          let after : HasNoneAt old.frame number other (outcome_by_rules l old.frame number (Within session (Changing (Legalize name target))) s).team =
-          outcome_has (HasNoneAt old.frame number other) t session (Legalize name target) s before
-          (legalized_none t session other name target s (differ s served.before) (λ n named. unplaced s n served.before named) before) in
+          let had : HasNoneAt reach was old.frame has.number other has.state = record { cell = has.cell; is = has.cell_is; unplaced = has.unplaced; none = has.none } in
+          let before : HasNoneAt reach was old.frame number other s =
+          subst (λ (u : TeamState). HasNoneAt reach was old.frame number other u) state (subst (λ (n : ℕ). HasNoneAt reach was old.frame n other has.state) same had) in
+          let after : HasNoneAt reach was old.frame number other (outcome_by_rules l old.frame number (Within session (Changing (Legalize name target))) s).team =
+          outcome_has (HasNoneAt reach was old.frame number other) t session (Legalize name target) s before
+          (legalized_none reach was t session other name target s (differ s served.before) (λ n named. unplaced s n served.before named) before) in
           record {
             number = number;
             state = (outcome_by_rules l old.frame number (Within session (Changing (Legalize name target))) s).team;
@@ -174,30 +174,30 @@ other_has_none l old new team name session target other frame requested differ u
             cell_is = after.is;
             unplaced = after.unplaced;
             none = subst (λ (f : Frame). (p : SpotPlace) → IsAllowedPlace (query_from f number (outcome_by_rules l old.frame number (Within session (Changing (Legalize name target))) s).team.padding
-                (map member_of (outcome_by_rules l old.frame number (Within session (Changing (Legalize name target))) s).team.cells) other after.cell.mac) p → ⊥) (sym frame) after.none;
+                (map member_of (outcome_by_rules l old.frame number (Within session (Changing (Legalize name target))) s).team.cells) other after.cell.mac) p → IsBeyond reach (way_to was p)) (sym frame) after.none;
           }
     ]
 
 -- ---- what a cell without a place is
 
 -- it is unplaced
-pub none_is_unplaced : (floor : FloorState) (team : List ℕ) (own : ℕ) → HasNoPlace floor team own → place_of_cell_in floor team own ≡ None
-none_is_unplaced floor team own has =
+pub none_is_unplaced : (reach : Option ℤ) (was : Option Place) (floor : FloorState) (team : List ℕ) (own : ℕ) → HasNoPlace reach was floor team own → place_of_cell_in floor team own ≡ None
+none_is_unplaced reach was floor team own has =
     place_of_state floor team own has.state has.there ∙ working_of has.state.cells own has.cell has.cell_is ∙ has.unplaced
 
 -- it has none on a floor with the same cells
-same_none : (f g : Frame) (number own : ℕ) (s t : TeamState) → g ≡ f → KeepsCells s t → HasNoneAt f number own s → HasNoneAt g number own t
-same_none f g number own s t frame keeps has = record {
+same_none : (reach : Option ℤ) (was : Option Place) (f g : Frame) (number own : ℕ) (s t : TeamState) → g ≡ f → KeepsCells s t → HasNoneAt reach was f number own s → HasNoneAt reach was g number own t
+same_none reach was f g number own s t frame keeps has = record {
   cell = has.cell;
   is = ap (λ (cells : List Cell). slice_get cells own) keeps.cells ∙ has.is;
   unplaced = has.unplaced;
-  none = subst (λ (h : Frame). (p : SpotPlace) → IsAllowedPlace (query_from h number t.padding (map member_of t.cells) own has.cell.mac) p → ⊥) (sym frame)
-      (subst (λ (n : ℕ). (p : SpotPlace) → IsAllowedPlace (query_from f number n (map member_of t.cells) own has.cell.mac) p → ⊥) (sym keeps.padding)
-      (subst (λ (cells : List Cell). (p : SpotPlace) → IsAllowedPlace (query_from f number s.padding (map member_of cells) own has.cell.mac) p → ⊥) (sym keeps.cells) has.none));
+  none = subst (λ (h : Frame). (p : SpotPlace) → IsAllowedPlace (query_from h number t.padding (map member_of t.cells) own has.cell.mac) p → IsBeyond reach (way_to was p)) (sym frame)
+      (subst (λ (n : ℕ). (p : SpotPlace) → IsAllowedPlace (query_from f number n (map member_of t.cells) own has.cell.mac) p → IsBeyond reach (way_to was p)) (sym keeps.padding)
+      (subst (λ (cells : List Cell). (p : SpotPlace) → IsAllowedPlace (query_from f number s.padding (map member_of cells) own has.cell.mac) p → IsBeyond reach (way_to was p)) (sym keeps.cells) has.none));
 }
 
-pub none_through : (team : List ℕ) (old new : FloorState) (own : ℕ) → new.frame ≡ old.frame → SameCells team old new → HasNoPlace old team own → HasNoPlace new team own
-none_through team old new own frame same has = elim same [
+pub none_through : (reach : Option ℤ) (was : Option Place) (team : List ℕ) (old new : FloorState) (own : ℕ) → new.frame ≡ old.frame → SameCells team old new → HasNoPlace reach was old team own → HasNoPlace reach was new team own
+none_through reach was team old new own frame same has = elim same [
   | inl state ↦ record {
     number = has.number;
     state = has.state;
@@ -206,13 +206,13 @@ none_through team old new own frame same has = elim same [
     there = state ∙ has.there;
     cell_is = has.cell_is;
     unplaced = has.unplaced;
-    none = subst (λ (f : Frame). (p : SpotPlace) → IsAllowedPlace (query_from f has.number has.state.padding (map member_of has.state.cells) own has.cell.mac) p → ⊥) (sym frame) has.none;
+    none = subst (λ (f : Frame). (p : SpotPlace) → IsAllowedPlace (query_from f has.number has.state.padding (map member_of has.state.cells) own has.cell.mac) p → IsBeyond reach (way_to was p)) (sym frame) has.none;
   }
   | inr keeps ↦
-      let had : HasNoneAt old.frame has.number own has.state = record { cell = has.cell; is = has.cell_is; unplaced = has.unplaced; none = has.none } in
-      let now : HasNoneAt new.frame has.number own keeps.after =
-      same_none old.frame new.frame has.number own keeps.before keeps.after frame keeps.keeps
-      (subst (λ (u : TeamState). HasNoneAt old.frame has.number own u) (some_one (sym has.there ∙ keeps.was)) had) in
+      let had : HasNoneAt reach was old.frame has.number own has.state = record { cell = has.cell; is = has.cell_is; unplaced = has.unplaced; none = has.none } in
+      let now : HasNoneAt reach was new.frame has.number own keeps.after =
+      same_none reach was old.frame new.frame has.number own keeps.before keeps.after frame keeps.keeps
+      (subst (λ (u : TeamState). HasNoneAt reach was old.frame has.number own u) (some_one (sym has.there ∙ keeps.was)) had) in
       record {
         number = has.number;
         state = keeps.after;

@@ -1,9 +1,11 @@
 -- Changes of one cell, and what is read at the start and at the end of a repair. The clauses of
 -- `repair_team` do not cite this module.
-use Rattle.std.specs.Prelude.{◌≡◌, ◌≢◌, ◌⊎◌, ◌↔◌, ℕ, ◌<◌, ◌≤◌, ◌+◌, ◌++◌, ◌∷◌, [], List, Bool, true, All, AllPairs, Contains, IsSome, None, Option, Some, length, map, max, min, option_and_then, option_map, slice_get, slice_set}
+use Rattle.std.specs.Prelude.{◌≡◌, ◌≢◌, ◌⊎◌, ◌↔◌, ℕ, ℤ, ◌<◌, ◌≤◌, ◌+◌, ◌++◌, ◌∷◌, [], List, Bool, true, All, AllPairs, Contains, IsSome, None, Option, Some, length, map, max, min, option_and_then, option_map, slice_get, slice_set}
+use Rattle.lf_units.specs.declared.geometry.Point.{Point}
 use Rattle.lf_floorplan.specs.declared.place.Place.{Place}
+use Rattle.lf_rules.specs.Choice.{IsBest, SpotPlace, spot_of}
 use Rattle.lf_rules.specs.Legalizer.{Legalizer}
-use Rattle.lf_rules.specs.Team.{IsLegalCell}
+use Rattle.lf_rules.specs.Team.{IsLegalCell, query_from}
 use Rattle.lf_proto.specs.declared.request.Command.{Command}
 use Rattle.lf_proto.specs.declared.reply.Reply.{Reply}
 use Rattle.lf_proto.specs.declared.reply.Reply.TheVariants.{Opened, Refused}
@@ -15,12 +17,12 @@ use Rattle.lf_cells.specs.Cells.{cell_named, working_at}
 use Rattle.lf_legalize.specs.Members.{member_of}
 use Rattle.lf_floor_model.specs.States.{FloorState, TeamState}
 use Rattle.lf_floor_model.specs.Steps.{Step}
-use Rattle.lf_floor_model.specs.Teams.{state_of}
+use Rattle.lf_floor_model.specs.Teams.{state_of, team_number}
 use Rattle.lf_floor_model.specs.VerbLaws.{KeepsCells, committed_places}
 use Rattle.lf_repair_bounds.specs.declared.reasons.ImpossibleMacro.{ImpossibleMacro}
 use Rattle.lf_repair_strategy.specs.Targets.{target_at}
 use Rattle.lf_repair_strategy.specs.declared.stats.RepairStats.{RepairStats}
-use Rattle.lf_repair_team.specs.TeamRepairs.{AreLegalExcept, HasNoPlace, IsIllegalIn, IsLegalIn, IsListedIn, IsOffSoft, committed_in, team_cell_names, place_of_cell_in}
+use Rattle.lf_repair_team.specs.TeamRepairs.{AreLegalExcept, HasNoPlace, IsBeyond, IsIllegalIn, IsLegalIn, IsListedIn, IsOffSoft, committed_in, team_cell_names, place_of_cell_in, way_to}
 use Rattle.lf_repair_team.specs.Stats.{AreTurned, AreStatsOf, displacement}
 
 -- the floor is unchanged, or has executed the command
@@ -183,13 +185,33 @@ SaysNoPlace reply = (own : ℕ) × (reply ≡ Refused (NoPlace own))
 abbrev pub IsLegalOrUnplaced : FloorState → List ℕ → ℕ → Type 0
 IsLegalOrUnplaced floor team own = IsLegalIn floor team own ⊎ (place_of_cell_in floor team own ≡ None)
 
--- the cell at this position is legal or has no place
-abbrev pub IsLegalOrWithoutPlace : FloorState → List ℕ → ℕ → Type 0
-IsLegalOrWithoutPlace floor team own = IsLegalIn floor team own ⊎ HasNoPlace floor team own
+-- the cell at this position has no place within reach of its place in `targets`
+abbrev pub IsWithoutPlace : Option ℤ → List (Option Place) → FloorState → List ℕ → ℕ → Type 0
+IsWithoutPlace reach targets floor team own = HasNoPlace reach (target_at targets own) floor team own
 
--- the cell at this position has no place, or is flagged
-abbrev pub HasNoPlaceOrIsFlagged : List Bool → FloorState → List ℕ → ℕ → Type 0
-HasNoPlaceOrIsFlagged flags floor team own = HasNoPlace floor team own ⊎ IsFlagged flags own
+-- the place is the best one for the target of the cell at this position
+pub record IsBestIn (floor : FloorState) (team : List ℕ) (own : ℕ) (target : Point) (p : SpotPlace) : Type 0 where
+  pub number : ℕ
+  pub state : TeamState
+  pub cell : Cell
+  pub named : team_number floor.frame team ≡ Some number
+  pub there : state_of floor team ≡ Some state
+  pub cell_is : slice_get state.cells own ≡ Some cell
+  pub best : IsBest (query_from floor.frame number state.padding (map member_of state.cells) own cell.mac) target p
+
+-- the cell at this position is unplaced, or at the place that was its best one for the target
+abbrev pub IsUnplacedOrAtBest : FloorState → List ℕ → ℕ → Point → FloorState → Type 0
+IsUnplacedOrAtBest old team own target new = (p : Place) → place_of_cell_in new team own ≡ Some p
+    → IsBestIn old team own target (spot_of p)
+
+-- the cell at this position is legal or has no place within reach
+abbrev pub IsLegalOrWithoutPlace : Option ℤ → List (Option Place) → FloorState → List ℕ → ℕ → Type 0
+IsLegalOrWithoutPlace reach targets floor team own = IsLegalIn floor team own ⊎ IsWithoutPlace reach targets floor team own
+
+-- the cell at this position has no place within reach, or is flagged
+abbrev pub HasNoPlaceOrIsFlagged : Option ℤ → List (Option Place) → List Bool → FloorState → List ℕ → ℕ → Type 0
+HasNoPlaceOrIsFlagged reach targets flags floor team own =
+    IsWithoutPlace reach targets floor team own ⊎ IsFlagged flags own
 
 -- the cells of the list that are not flagged
 pub record AreMovable (flags : List Bool) (cells movable : List ℕ) : Type 0 where
@@ -197,12 +219,13 @@ pub record AreMovable (flags : List Bool) (cells movable : List ℕ) : Type 0 wh
   pub free : All (λ own. IsFlagged flags own → ⊥) movable
   pub others : All (λ own. IsFlagged flags own ⊎ Contains movable own) cells
 
--- these are the unrepaired cells, in loading order: they are illegal, each has no place or is
--- flagged, and all others are legal
-pub record AreUnrepaired (team : List ℕ) (flags : List Bool) (floor : FloorState) (left : List ℕ) : Type 0 where
+-- these are the unrepaired cells, in loading order: they are illegal, each has no place within reach
+-- of its place in `targets` or is flagged, and all others are legal
+pub record AreUnrepaired (reach : Option ℤ) (targets : List (Option Place)) (team : List ℕ) (flags : List Bool)
+    (floor : FloorState) (left : List ℕ) : Type 0 where
   pub named : AreLegalExcept team floor left
   pub illegal : All (λ own. IsIllegalIn floor team own) left
-  pub without : All (λ own. HasNoPlaceOrIsFlagged flags floor team own) left
+  pub without : All (λ own. HasNoPlaceOrIsFlagged reach targets flags floor team own) left
   pub rise : AllPairs (λ own later. own < later) left
 
 -- the team's cell of this name is not the one at this position
@@ -235,6 +258,27 @@ abbrev pub KeepsCellsAtTargets : List ℕ → List (Option Place) → FloorState
 KeepsCellsAtTargets team targets old new =
     (own : ℕ) → place_of_cell_in old team own ≡ target_at targets own
     → (place_of_cell_in new team own ≡ place_of_cell_in old team own) × RemainsLegal team old new own
+
+-- ---- the reach
+
+-- the cell at this position is unplaced, or within reach of its place in `targets`
+abbrev pub IsWithin : Option ℤ → List (Option Place) → FloorState → List ℕ → ℕ → Type 0
+IsWithin reach targets floor team own = (p : Place) → place_of_cell_in floor team own ≡ Some p
+    → IsBeyond reach (way_to (target_at targets own) (spot_of p)) → ⊥
+
+-- the best place of the cell at this position for the target, if it has one, is within reach of its
+-- place in `targets`
+abbrev pub BestIsWithin : Option ℤ → List (Option Place) → FloorState → List ℕ → ℕ → Point → Type 0
+BestIsWithin reach targets floor team own target = (p : SpotPlace) → IsBestIn floor team own target p
+    → IsBeyond reach (way_to (target_at targets own) p) → ⊥
+
+-- each cell is unplaced, or within reach of its place in `targets`
+abbrev pub AreWithin : Option ℤ → List (Option Place) → List ℕ → FloorState → Type 0
+AreWithin reach targets team floor = (own : ℕ) → IsWithin reach targets floor team own
+
+-- each cell remains unplaced, or within reach of its place in `targets`, if all are
+abbrev pub KeepsWithin : Option ℤ → List (Option Place) → List ℕ → FloorState → FloorState → Type 0
+KeepsWithin reach targets team old new = AreWithin reach targets team old → AreWithin reach targets team new
 
 -- ---- the statistics
 

@@ -1,10 +1,15 @@
 -- The statistics of a team's repair.
-use Rattle.std.specs.Prelude.{◌≡◌, ◌≢◌, ◌↔◌, ℕ, ◌<◌, ◌+◌, ◌-ℤ◌, List, AllPairs, Contains, IsSome, None, Option, Some, fold, length, map, max, sum}
+use Rattle.std.specs.Prelude.{◌≡◌, ◌≢◌, ◌↔◌, ◌==◌, ℕ, ◌<◌, ◌+◌, ◌*◌, ◌/◌, ◌-◌, ◌^◌, ◌-ℤ◌, if◌then◌else◌, List, AllPairs, Contains, IsSome, None, Option, Some, fold, length, map, max, min, slice_get, sum}
 use Rattle.std.specs.Int.RustNames.{unsigned_abs}
 use Rattle.std.specs.List.{range_with_len}
+use Rattle.std.specs.Option.{option_map_or}
+use Rattle.lf_floorplan.specs.declared.frame.Frame.{Frame}
 use Rattle.lf_floorplan.specs.declared.place.Place.{Place}
+use Rattle.lf_floorplan.specs.Boxes.{macro_of, size_of}
+use Rattle.lf_cells.specs.declared.cell.Cell.{Cell}
 use Rattle.lf_floor_model.specs.States.{FloorState, TeamState}
 use Rattle.lf_floor_model.specs.Teams.{state_of}
+use Rattle.lf_repair_strategy.specs.declared.stats.DisplacementMeans.{DisplacementMeans}
 use Rattle.lf_repair_strategy.specs.declared.stats.RepairStats.{RepairStats}
 use Rattle.lf_repair_team.specs.TeamRepairs.{IsLegalIn, place_of_cell_in}
 
@@ -50,3 +55,52 @@ abbrev pub AreTeamStats : List ℕ → FloorState → FloorState → RepairStats
 AreTeamStats team old new reported =
     (s : TeamState) → state_of old team ≡ Some s
     → AreStatsOf (place_of_cell_in old team) (place_of_cell_in new team) (IsLegalIn old team) (length s.cells) reported
+
+-- ---- means
+
+-- the first number divided by the second, rounded down; 0 if the second is 0
+abbrev pub quotient : ℕ → ℕ → ℕ
+quotient a b = if b == 0 then 0 else a / b
+
+-- the mean of `count` displacements with this total, in thousandths of the height of a row, rounded
+-- down; 0 for no displacements. The thousandths of a total are at most 2^64 - 1
+abbrev pub mean_in_rows : ℕ → ℕ → ℕ → ℕ
+mean_in_rows row total count = quotient (quotient (min (total * 1000) (2 ^ 64 - 1)) row) count
+
+-- the height of a row
+abbrev pub row_height : Frame → ℕ
+row_height f = unsigned_abs f.pitch.y
+
+-- how many rows high the cell at this position is, rounded down; 0 if there is no such cell
+abbrev pub rows_at : Frame → List Cell → ℕ → ℕ
+rows_at f cells own = option_map_or
+    (λ c. quotient (unsigned_abs (size_of f (macro_of f c.mac)).y) (row_height f)) (slice_get cells own) 0
+
+-- how many of the first `all` cells are so many rows high
+abbrev pub count_of_height : (ℕ → ℕ) → ℕ → ℕ → ℕ
+count_of_height rows all height = sum (map (λ own. if rows own == height then 1 else 0) (range_with_len 0 all))
+
+-- the total displacement of those
+abbrev pub total_of_height : (ℕ → ℕ) → (ℕ → ℕ) → ℕ → ℕ → ℕ
+total_of_height rows way all height =
+    sum (map (λ own. if rows own == height then way own else 0) (range_with_len 0 all))
+
+-- the mean over the heights from 1 to 8 rows that occur, of the means over the cells of each height
+abbrev pub mean_by_height : ℕ → (ℕ → ℕ) → (ℕ → ℕ) → ℕ → ℕ
+mean_by_height row rows way all = quotient
+    (sum (map (λ height. mean_in_rows row (total_of_height rows way all height) (count_of_height rows all height))
+    (range_with_len 1 8)))
+    (sum (map (λ height. min (count_of_height rows all height) 1) (range_with_len 1 8)))
+
+-- the means of cells with these original and present places
+abbrev pub means_of : Frame → List Cell → (ℕ → Option Place) → (ℕ → Option Place) → DisplacementMeans
+means_of f cells wanted_place now = record {
+  all = mean_in_rows (row_height f) (sum (all_displacements wanted_place now (length cells))) (length cells);
+  by_height = mean_by_height (row_height f) (rows_at f cells) (λ own. displacement (wanted_place own) (now own))
+      (length cells);
+}
+
+-- the means of the team's cells, from one floor to the other
+abbrev pub AreTeamMeans : List ℕ → FloorState → FloorState → DisplacementMeans → Type 0
+AreTeamMeans team old new means = (s : TeamState) → state_of new team ≡ Some s
+    → means ≡ means_of new.frame s.cells (place_of_cell_in old team) (place_of_cell_in new team)

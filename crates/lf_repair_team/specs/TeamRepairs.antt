@@ -1,8 +1,9 @@
 -- The result of repairing a team.
-use Rattle.std.specs.Prelude.{◌≡◌, ◌≢◌, ◌⊎◌, ℕ, ◌<◌, IsTrue, List, Option, None, Some, All, Contains, length, map, slice_get, option_and_then, option_map}
+use Rattle.std.specs.Prelude.{◌≡◌, ◌≢◌, ◌⊎◌, ℕ, ℤ, pos, ◌<◌, ◌<ℤ◌, IsTrue, List, Option, None, Some, All, Contains, length, map, slice_get, option_and_then, option_map}
+use Rattle.lf_units.specs.declared.geometry.Point.{Point}
 use Rattle.lf_floorplan.specs.declared.place.Place.{Place}
 use Rattle.lf_floorplan.specs.Ground.{OverlapsSoft}
-use Rattle.lf_rules.specs.Choice.{SpotPlace, IsAllowedPlace, spot_of}
+use Rattle.lf_rules.specs.Choice.{SpotPlace, IsAllowedPlace, distance, spot_of}
 use Rattle.lf_rules.specs.Team.{IsLegalCell, box_in, query_from}
 use Rattle.lf_cells.specs.declared.cell.Cell.{Cell}
 use Rattle.lf_cells.specs.Cells.{working_at}
@@ -95,9 +96,33 @@ pub record IsIllegalIn (floor : FloorState) (team : List ℕ) (own : ℕ) : Type
   pub within : (s : TeamState) → state_of floor team ≡ Some s → own < length s.cells
   pub illegal : IsLegalIn floor team own → ⊥
 
--- the team's cell at this position is unplaced, and has no place: next to the team's other cells no
--- place off soft blockages is legal for it
-pub record HasNoPlace (floor : FloorState) (team : List ℕ) (own : ℕ) : Type 0 where
+-- ---- the reach of a repair
+
+-- the corner of a place
+abbrev pub corner_of : Place → Point
+corner_of place = record { x = place.x; y = place.y }
+
+-- |dx| + |dy| from the place that a cell had to another place; 0 if it had none
+abbrev pub way_to : Option Place → SpotPlace → ℕ
+way_to None p = 0
+way_to (Some old) p = distance (corner_of old) p
+
+-- the way is longer than the reach; none is without a reach, and a way of 0 never is
+abbrev pub IsBeyond : Option ℤ → ℕ → Type 0
+IsBeyond None way = ⊥
+IsBeyond (Some reach) way = (0 < way) × (reach <ℤ pos way)
+
+-- each cell that had a place and has one is within reach of the place that it had
+abbrev pub StaysWithin : Option ℤ → List ℕ → FloorState → FloorState → Type 0
+StaysWithin reach team old new = (own : ℕ) (p : Place) → place_of_cell_in new team own ≡ Some p
+    → IsBeyond reach (way_to (place_of_cell_in old team own) (spot_of p)) → ⊥
+
+-- ---- unrepaired cells
+
+-- the team's cell at this position, which had this place, is unplaced and has no place: next to the
+-- team's other cells each place off soft blockages that is legal for it is beyond reach
+pub record HasNoPlace (reach : Option ℤ) (old : Option Place) (floor : FloorState) (team : List ℕ) (own : ℕ)
+    : Type 0 where
   pub number : ℕ
   pub state : TeamState
   pub cell : Cell
@@ -106,11 +131,14 @@ pub record HasNoPlace (floor : FloorState) (team : List ℕ) (own : ℕ) : Type 
   pub cell_is : slice_get state.cells own ≡ Some cell
   pub unplaced : cell.working ≡ None
   pub none : (p : SpotPlace)
-      → IsAllowedPlace (query_from floor.frame number state.padding (map member_of state.cells) own cell.mac) p → ⊥
+      → IsAllowedPlace (query_from floor.frame number state.padding (map member_of state.cells) own cell.mac) p
+      → IsBeyond reach (way_to old p)
 
--- the team's cell at this position has no place, or is of a macro that is listed for the team
-abbrev pub HasNoPlaceOrIsListed : List ImpossibleMacro → FloorState → List ℕ → ℕ → Type 0
-HasNoPlaceOrIsListed list floor team own = HasNoPlace floor team own ⊎ IsListedIn list floor team own
+-- the team's cell at this position has no place within reach of the place that it had on the old
+-- floor, or is of a macro that is listed for the team
+abbrev pub HasNoPlaceOrIsListed : Option ℤ → List ImpossibleMacro → FloorState → FloorState → List ℕ → ℕ → Type 0
+HasNoPlaceOrIsListed reach list old new team own =
+    HasNoPlace reach (place_of_cell_in old team own) new team own ⊎ IsListedIn list new team own
 
 -- the team's cell at this position is placed, and its box shares no point with a soft blockage
 pub record IsOffSoft (floor : FloorState) (team : List ℕ) (own : ℕ) : Type 0 where

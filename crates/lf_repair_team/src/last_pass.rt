@@ -1,28 +1,32 @@
 //! The last pass of a repair, over the cells that are still illegal: it unplaces them all, and then
 //! moves each to its best place, if there is one.
 
-ghost use Rattle.std.specs.Prelude.{◌≡◌, ◌≢◌, [], All, Contains, IfOk, OnErr, OnOk, None, Some, ℕ};
+ghost use Rattle.std.specs.Prelude.{◌≡◌, ◌≢◌, [], All, Contains, IfOk, OnErr, OnOk, None, Option, Some, ℕ, ℤ};
+ghost use Rattle.lf_floorplan.specs.declared.place.Place.{Place};
 ghost use Rattle.lf_proto.specs.Lines.{IsLineName};
+ghost use Rattle.lf_proto.specs.Requests.{IsTarget};
 ghost use Rattle.lf_rules.specs.Legalizer.{Legalizer};
 ghost use Rattle.lf_cells.specs.Cells.{cell_named, working_at};
 ghost use Rattle.lf_floor_model.specs.States.{TeamState};
 ghost use Rattle.lf_floor_model.specs.Outcomes.{name_at};
 ghost use Rattle.lf_floor_model.specs.Teams.{state_of, team_number};
-ghost use Rattle.lf_repair_team.specs.CellEdits.{AreMovable, AreUnrepaired, HoldsOrIsListed, IsAnotherCell, IsFlagged, IsLegalOrUnplaced, IsLegalOrWithoutPlace, IsUnplacedOrOffSoft, KeepsCommittedAndSlots, KeepsLegalCells, KeepsLockedPlaces, MovesOffSoft, RemainsLegal, SaysNoPlace};
-ghost use Rattle.lf_repair_team.specs.TeamRepairs.{ChangesOnly, HasNoPlace, IsIllegalIn, KeepsLegalPlaces, place_of_cell_in};
+ghost use Rattle.lf_repair_strategy.specs.Targets.{target_at};
+ghost use Rattle.lf_repair_team.specs.CellEdits.{AreMovable, AreUnrepaired, HoldsOrIsListed, IsAnotherCell, IsFlagged, IsLegalOrUnplaced, IsLegalOrWithoutPlace, IsUnplacedOrAtBest, IsUnplacedOrOffSoft, IsWithoutPlace, KeepsCommittedAndSlots, KeepsLegalCells, KeepsLockedPlaces, KeepsWithin, MovesOffSoft, RemainsLegal, SaysNoPlace};
+ghost use Rattle.lf_repair_team.specs.TeamRepairs.{ChangesOnly, HasNoPlace, IsIllegalIn, KeepsLegalPlaces, corner_of, place_of_cell_in};
 ghost use Rattle.lf_repair_team.specs.Runs.{IsRunWithCutLine, IsWrittenRun};
 
 use crate::cell_edits::{
     Buffers, TeamSession, copy_name, is_locked, run_action, run_edit, target_in_range,
 };
 use crate::outcome::{illegal_cells, target_place};
+use crate::reach::{corner_of, is_best_within};
 use crate::run_command::RepairFault;
 use lf_floor::{Floor, best_is_found, refusal_keeps_state};
 use lf_floorplan::Place;
 use lf_io::Sink;
 use lf_legalize::{Seeker, anchor};
 use lf_proto::{Action, Change, Refusal, Reply};
-use lf_repair_strategy::Edit;
+use lf_repair_strategy::{Edit, RepairSearch};
 use lf_rules::{legal_in_range, legalizer_exists};
 use lf_units::Point;
 use std::alloc::{AllocError, Global};
@@ -62,6 +66,8 @@ fn unplace_cells<S: Seeker + Drop, K: Sink>(
     floor: &mut Floor<S>,
     seat: &TeamSession<'_>,
     cells: &[u32],
+    targets: &[Option<Place>],
+    search: &RepairSearch<'_>,
     texts: &mut Buffers,
     lines: &mut K,
 ) -> Result<(), RepairFault>
@@ -77,6 +83,7 @@ fn unplace_cells<S: Seeker + Drop, K: Sink>(
     ensures committed { KeepsCommittedAndSlots seat.now.team.now seat.now.session floor.old floor.new }
     ensures unplaced { OnOk result (All (λ own. place_of_cell_in floor.new seat.now.team.now own ≡ None) cells.now) }
     ensures off_soft { OnOk result (MovesOffSoft seat.now.team.now floor.old floor.new) }
+    ensures within { OnOk result (KeepsWithin search.now.reach targets.now seat.now.team.now floor.old floor.new) }
 {
     for own in cells {
         match unplace_cell(floor, seat, *own as usize, texts, lines) {
@@ -96,7 +103,8 @@ fn legalize_named<S: Seeker + Drop, K: Sink>(
     line: &mut Vec<u8>,
     lines: &mut K,
 ) -> Result<Reply, RepairFault>
-    requires { IsLineName cell.now }
+    requires name { IsLineName cell.now }
+    requires target { IsTarget target.now }
     ensures run { (l : Legalizer) → IfOk result (λ _.
         IsWrittenRun l seat.now.team.now floor.old (K.contents lines.old) (K.contents lines.new) floor.new) }
     ensures err { (l : Legalizer) → OnErr result (
@@ -107,13 +115,19 @@ fn legalize_named<S: Seeker + Drop, K: Sink>(
     ensures legal { (other : ℕ) → IsAnotherCell floor.old seat.now.team.now cell.now other
         → RemainsLegal seat.now.team.now floor.old floor.new other }
     ensures committed { KeepsCommittedAndSlots seat.now.team.now seat.now.session floor.old floor.new }
-    ensures without { (other : ℕ) → IsAnotherCell floor.old seat.now.team.now cell.now other
+    ensures without { (reach : Option ℤ) (old : Option Place) (other : ℕ)
+        → IsAnotherCell floor.old seat.now.team.now cell.now other
         → ((s : TeamState) (own : ℕ) → state_of floor.old seat.now.team.now ≡ Some s
         → cell_named cell.now s.cells ≡ Some own → working_at s.cells own ≡ None)
-        → HasNoPlace floor.old seat.now.team.now other → HasNoPlace floor.new seat.now.team.now other }
-    ensures refused { (s : TeamState) (own : ℕ) → state_of floor.old seat.now.team.now ≡ Some s
+        → HasNoPlace reach old floor.old seat.now.team.now other
+        → HasNoPlace reach old floor.new seat.now.team.now other }
+    ensures refused { (reach : Option ℤ) (old : Option Place) (s : TeamState) (own : ℕ)
+        → state_of floor.old seat.now.team.now ≡ Some s
         → name_at s.cells own ≡ Some cell.now → working_at s.cells own ≡ None
-        → IfOk result (λ reply. SaysNoPlace reply → HasNoPlace floor.new seat.now.team.now own) }
+        → IfOk result (λ reply. SaysNoPlace reply → HasNoPlace reach old floor.new seat.now.team.now own) }
+    ensures best { (s : TeamState) (own : ℕ) → state_of floor.old seat.now.team.now ≡ Some s
+        → name_at s.cells own ≡ Some cell.now → working_at s.cells own ≡ None
+        → IsUnplacedOrAtBest floor.old seat.now.team.now own target.now floor.new }
     ensures off_soft { (s : TeamState) (own : ℕ) → state_of floor.old seat.now.team.now ≡ Some s
         → name_at s.cells own ≡ Some cell.now → working_at s.cells own ≡ None
         → IsUnplacedOrOffSoft floor.new seat.now.team.now own }
@@ -125,7 +139,7 @@ fn legalize_named<S: Seeker + Drop, K: Sink>(
     floor.teams_match_frame();
     let action = Action::Change(Change::Legalize {
         cell,
-        target: target_in_range(target),
+        target: *target,
     });
     run_action(floor, seat, action, line, lines)
 }
@@ -141,29 +155,46 @@ fn stop_unless_no_place(reply: &Reply) -> Result<(), RepairFault>
     }
 }
 
-/// The target of a cell: its place in `targets`, or the team's anchor if it has none there.
+/// The target of a cell that had no place: that of the search, or the team's anchor if it has none.
+fn target_without_place<S: Seeker + Drop>(
+    floor: &Floor<S>,
+    number: usize,
+    own: usize,
+    search: &RepairSearch<'_>,
+) -> Point {
+    match search.targets.get(own) {
+        Some(Some(target)) => *target,
+        _ => anchor(floor.placement().frame(), number),
+    }
+}
+
+/// The target of a cell: its place in `targets`, or if it has none there that of a cell that had no
+/// place.
 fn target_in_last_pass<S: Seeker + Drop>(
     floor: &Floor<S>,
     number: usize,
     own: usize,
     targets: &[Option<Place>],
-) -> Point {
+    search: &RepairSearch<'_>,
+) -> Point
+    ensures target { IsTarget result }
+    ensures corner { (p : Place) → target_at targets.now own ≡ Some p → result ≡ corner_of p }
+{
     match target_place(targets, own) {
-        Some(place) => Point {
-            x: place.x as i64,
-            y: place.y as i64,
-        },
-        None => anchor(floor.placement().frame(), number),
+        Some(place) => corner_of(&place),
+        None => target_in_range(&target_without_place(floor, number, own, search)),
     }
 }
 
 /// Moves the cell at position `own`, which is legal or unplaced, to its best place, unless it is
-/// legal or has no place.
+/// legal or has no place within reach.
 fn legalize_cell<S: Seeker + Drop, K: Sink>(
+    alloc: Global,
     floor: &mut Floor<S>,
     seat: &TeamSession<'_>,
     own: usize,
     targets: &[Option<Place>],
+    search: &RepairSearch<'_>,
     texts: &mut Buffers,
     lines: &mut K,
 ) -> Result<(), RepairFault>
@@ -178,22 +209,28 @@ fn legalize_cell<S: Seeker + Drop, K: Sink>(
     ensures others { (other : ℕ) → other ≢ own
         → place_of_cell_in floor.new seat.now.team.now other ≡ place_of_cell_in floor.old seat.now.team.now other }
     ensures without { IsLegalOrUnplaced floor.old seat.now.team.now own
-        → (other : ℕ) → HasNoPlace floor.old seat.now.team.now other → other ≢ own
-        → HasNoPlace floor.new seat.now.team.now other }
+        → (other : ℕ) → IsWithoutPlace search.now.reach targets.now floor.old seat.now.team.now other → other ≢ own
+        → IsWithoutPlace search.now.reach targets.now floor.new seat.now.team.now other }
     ensures done { IsLegalOrUnplaced floor.old seat.now.team.now own → OnOk result (
-        IsLegalOrWithoutPlace floor.new seat.now.team.now own) }
+        IsLegalOrWithoutPlace search.now.reach targets.now floor.new seat.now.team.now own) }
     ensures off_soft { MovesOffSoft seat.now.team.now floor.old floor.new }
+    ensures within { OnOk result (KeepsWithin search.now.reach targets.now seat.now.team.now floor.old floor.new) }
 {
     floor.teams_match_frame();
     match floor.place_of(seat.team, own) {
         Some(_) => return Ok(()),
         None => {}
     }
-    let target = target_in_last_pass(floor, seat.number, own, targets);
+    let target = target_in_last_pass(floor, seat.number, own, targets, search);
     let Buffers { name, line } = texts;
     match copy_name(floor, seat.team, own, name) {
         Ok(true) => {}
         Ok(false) => return Err(RepairFault::Refused(Refusal::NoCell)),
+        Err(_) => return Err(RepairFault::OutOfMemory),
+    }
+    match is_best_within(alloc, floor, seat, own, targets, search, &target) {
+        Ok(true) => {}
+        Ok(false) => return Ok(()),
         Err(_) => return Err(RepairFault::OutOfMemory),
     }
     let reply = match legalize_named(floor, seat, name.as_slice(), &target, line, lines) {
@@ -206,12 +243,15 @@ fn legalize_cell<S: Seeker + Drop, K: Sink>(
     stop_unless_no_place(&reply)
 }
 
-/// Moves each of the cells at these positions to its best place, unless it is legal or has no place.
+/// Moves each of the cells at these positions to its best place, unless it is legal or has no place
+/// within reach.
 fn legalize_cells<S: Seeker + Drop, K: Sink>(
+    alloc: Global,
     floor: &mut Floor<S>,
     seat: &TeamSession<'_>,
     cells: &[u32],
     targets: &[Option<Place>],
+    search: &RepairSearch<'_>,
     texts: &mut Buffers,
     lines: &mut K,
 ) -> Result<(), RepairFault>
@@ -226,11 +266,22 @@ fn legalize_cells<S: Seeker + Drop, K: Sink>(
     ensures legal { KeepsLegalCells seat.now.team.now floor.old floor.new }
     ensures flagged { KeepsLockedPlaces seat.now.team.now seat.now.impossible.now floor.old floor.new }
     ensures committed { KeepsCommittedAndSlots seat.now.team.now seat.now.session floor.old floor.new }
-    ensures done { OnOk result (All (λ own. IsLegalOrWithoutPlace floor.new seat.now.team.now own) cells.now) }
+    ensures done { OnOk result (All (λ own.
+        IsLegalOrWithoutPlace search.now.reach targets.now floor.new seat.now.team.now own) cells.now) }
     ensures off_soft { OnOk result (MovesOffSoft seat.now.team.now floor.old floor.new) }
+    ensures within { OnOk result (KeepsWithin search.now.reach targets.now seat.now.team.now floor.old floor.new) }
 {
     for own in cells {
-        match legalize_cell(floor, seat, *own as usize, targets, texts, lines) {
+        match legalize_cell(
+            alloc,
+            floor,
+            seat,
+            *own as usize,
+            targets,
+            search,
+            texts,
+            lines,
+        ) {
             Ok(()) => {}
             Err(fault) => return Err(fault),
         }
@@ -262,14 +313,15 @@ fn movable_of(alloc: Global, cells: &[u32], flags: &[bool]) -> Result<Vec<u32>, 
 }
 
 /// Runs the last pass: unplaces the cells that are not legal, except those that no place can hold,
-/// and then moves each to its best place, if there is one. Returns the positions of those without a
-/// place and of those that no place can hold, in loading order. The other cells are legal. Legal
-/// cells do not move, and the cells that move are then off soft blockages.
+/// and then moves each to its best place, if there is one within reach. Returns the positions of those
+/// without a place and of those that no place can hold, in loading order. The other cells are legal.
+/// Legal cells do not move, and the cells that move are then off soft blockages and within reach.
 pub(crate) fn run_last_pass<S: Seeker + Drop, K: Sink>(
     alloc: Global,
     floor: &mut Floor<S>,
     seat: &TeamSession<'_>,
     targets: &[Option<Place>],
+    search: &RepairSearch<'_>,
     texts: &mut Buffers,
     lines: &mut K,
 ) -> Result<Vec<u32>, RepairFault>
@@ -283,8 +335,9 @@ pub(crate) fn run_last_pass<S: Seeker + Drop, K: Sink>(
     ensures flagged { KeepsLockedPlaces seat.now.team.now seat.now.impossible.now floor.old floor.new }
     ensures committed { KeepsCommittedAndSlots seat.now.team.now seat.now.session floor.old floor.new }
     ensures unrepaired { IfOk result (λ left.
-        AreUnrepaired seat.now.team.now seat.now.impossible.now floor.new left.items) }
+        AreUnrepaired search.now.reach targets.now seat.now.team.now seat.now.impossible.now floor.new left.items) }
     ensures off_soft { OnOk result (MovesOffSoft seat.now.team.now floor.old floor.new) }
+    ensures within { OnOk result (KeepsWithin search.now.reach targets.now seat.now.team.now floor.old floor.new) }
 {
     let Ok(left) = illegal_cells(alloc, floor, seat) else {
         return Err(RepairFault::OutOfMemory);
@@ -295,11 +348,28 @@ pub(crate) fn run_last_pass<S: Seeker + Drop, K: Sink>(
     if movable.as_slice().is_empty() {
         return Ok(left);
     }
-    match unplace_cells(floor, seat, movable.as_slice(), texts, lines) {
+    match unplace_cells(
+        floor,
+        seat,
+        movable.as_slice(),
+        targets,
+        search,
+        texts,
+        lines,
+    ) {
         Ok(()) => {}
         Err(fault) => return Err(fault),
     }
-    match legalize_cells(floor, seat, movable.as_slice(), targets, texts, lines) {
+    match legalize_cells(
+        alloc,
+        floor,
+        seat,
+        movable.as_slice(),
+        targets,
+        search,
+        texts,
+        lines,
+    ) {
         Ok(()) => {}
         Err(fault) => return Err(fault),
     }

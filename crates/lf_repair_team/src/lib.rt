@@ -5,8 +5,8 @@
 //! (`lf_repair_bounds`) do not move. Each command is sent to the floor, and its line is
 //! written exactly if the floor accepts it. So the lines are a run of the floor, all laws on runs
 //! hold for it, and they are a journal that `replay` reads. A plan of `lf_repair_planner` places
-//! the cells of one row's height. Other cells, and those whose place is refused or on a soft
-//! blockage, move to their best places.
+//! the cells of one row's height. Other cells, and those whose place is refused, on a soft blockage
+//! or beyond reach, move to their best places.
 //!
 //! Used by `lf_improve_team`, `lf_task_repair` and `lf_task_improve`.
 //!
@@ -17,8 +17,11 @@
 //! - `session`: the session of a team, its commit and its revert
 //! - `repair_input`: a team at the start of its repair
 //! - `outcome`: the changed and the unrepaired cells
+//! - `reach`: the longest displacement of a cell
 //! - `last_pass`: the last pass, over cells that are still illegal
-//! - `soft_pass`: the pass in front of it, over cells that have moved onto soft blockages
+//! - `misplaced_pass`: the pass before it, over cells that have moved onto soft blockages or beyond
+//!   reach
+//! - `means`: means of displacements, over all cells and by height
 //! - `stats`: the result of a repair, counted
 //! - `team`: the repair of one team
 //!
@@ -26,22 +29,24 @@
 //!
 //! ```
 //! let mut lines = ToWrite::new(writer);
-//! repair_team(alloc, floor, b"A", how, &[], &mut lines)
+//! repair_team(alloc, floor, b"A", how, &search, &[], &mut lines)
 //! ```
 #![tactic(auto)]
 
 mod cell_edits;
 mod last_pass;
+mod means;
+mod misplaced_pass;
 mod outcome;
+mod reach;
 mod repair_input;
 mod run_command;
 mod session;
-mod soft_pass;
 mod stats;
 mod team;
 
 pub use cell_edits::{Buffers, TeamSession, run_edits};
-pub use lf_repair_strategy::{MovePolicy, RepairStats};
+pub use lf_repair_strategy::{MovePolicy, RepairSearch, RepairStats};
 pub use outcome::RepairOutcome;
 pub use repair_input::{is_team_legal, team_input};
 pub use run_command::RepairFault;

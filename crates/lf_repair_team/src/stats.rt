@@ -1,21 +1,23 @@
 //! Counts the result of repairing a team.
 
-ghost use Rattle.std.specs.Prelude.{◌≡◌, ◌≢◌, ◌≤◌, ◌↔◌, IsSome, IsTrue, None, Some, length, slice_get};
-ghost use Rattle.lf_cells.specs.Cells.{cells_of};
+ghost use Rattle.std.specs.Prelude.{◌≡◌, ◌≢◌, ◌≤◌, ◌↔◌, IsSome, IsTrue, None, Some, length, slice_get, sum};
+ghost use Rattle.lf_cells.specs.Cells.{cells_of, working_at};
 ghost use Rattle.lf_floor_model.specs.States.{TeamState};
 ghost use Rattle.lf_repair_team.specs.CellEdits.{CountsIf, CountsOneCell, AreStatsOfFirst};
-ghost use Rattle.lf_repair_team.specs.Stats.{AreTurned, displacement};
+ghost use Rattle.lf_repair_strategy.specs.Targets.{target_at};
+ghost use Rattle.lf_repair_team.specs.Stats.{AreTurned, all_displacements, displacement, means_of};
 
 use crate::cell_edits::is_locked;
+use crate::means::{mean_by_height, mean_in_rows, row_height};
 use crate::outcome::{RepairOutcome, target_place};
 use lf_floor::Floor;
 use lf_floorplan::{Place, same_place};
 use lf_legalize::Seeker;
 use lf_placement::Placement;
-use lf_repair_strategy::{RepairInput, RepairStats};
+use lf_repair_strategy::{DisplacementMeans, RepairInput, RepairStats};
 
 /// The distance |dx| + |dy| between two places. 0 if one of them is `None`.
-fn displacement(wanted_place: Option<Place>, now: Option<Place>) -> u64
+pub(crate) fn displacement(wanted_place: Option<Place>, now: Option<Place>) -> u64
     ensures way { result ≡ displacement wanted_place now }
     ensures short { result ≤ 8589934590 }
 {
@@ -117,6 +119,10 @@ fn count_cells(
         turned: 0,
         total_displacement: 0,
         max_displacement: 0,
+        means: DisplacementMeans {
+            all: 0,
+            by_height: 0,
+        },
         changed,
         unrepaired: left,
     };
@@ -127,6 +133,26 @@ fn count_cells(
         count_cell(wanted_place, now, was_legal, &mut reported);
     }
     reported
+}
+
+/// The means of the displacements of the cells of the team with this number, given the original place
+/// of each and their total displacement.
+fn means_of(
+    placement: &Placement,
+    number: usize,
+    targets: &[Option<Place>],
+    total: u64,
+) -> DisplacementMeans
+    requires { total ≡ sum (all_displacements (target_at targets.now)
+        (working_at (cells_of placement.now.cells number)) (length (cells_of placement.now.cells number))) }
+    ensures { result ≡ means_of placement.now.frame (cells_of placement.now.cells number) (target_at targets.now)
+        (working_at (cells_of placement.now.cells number)) }
+{
+    let count = placement.cells().cells_of(number).len() as u64;
+    DisplacementMeans {
+        all: mean_in_rows(row_height(placement.frame()), total, count),
+        by_height: mean_by_height(placement, number, targets),
+    }
 }
 
 /// Statistics of the repair of the team with this number, given its outcome.
@@ -140,12 +166,13 @@ pub fn stats_of<S: Seeker + Drop>(
     ensures left { result.unrepaired ≡ found.left }
     ensures tally { (s : TeamState) → slice_get floor.now.teams number ≡ Some s
         → AreStatsOfFirst start.now.pass.targets.items start.now.legal.items s.cells (length s.cells) result }
+    ensures means { (s : TeamState) → slice_get floor.now.teams number ≡ Some s
+        → result.means ≡ means_of floor.now.frame s.cells (target_at start.now.pass.targets.items)
+        (working_at s.cells) }
 {
-    count_cells(
-        floor.placement(),
-        number,
-        start.pass.targets.as_slice(),
-        start.legal.as_slice(),
-        found,
-    )
+    let placement = floor.placement();
+    let targets = start.pass.targets.as_slice();
+    let mut stats = count_cells(placement, number, targets, start.legal.as_slice(), found);
+    stats.means = means_of(placement, number, targets, stats.total_displacement);
+    stats
 }

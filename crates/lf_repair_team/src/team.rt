@@ -1,23 +1,23 @@
 //! The repair of one team.
 
-ghost use Rattle.std.specs.Prelude.{◌≡◌, ◌≢◌, ◌↔◌, ◌<◌, [], All, AllPairs, IfOk, OnErr, OnOk, Some, false, true};
+ghost use Rattle.std.specs.Prelude.{◌≡◌, ◌≢◌, ◌↔◌, ◌<◌, [], All, AllPairs, IfOk, OnErr, OnOk, Option, Some, false, true, ℤ};
 ghost use Rattle.lf_rules.specs.Legalizer.{Legalizer};
 ghost use Rattle.lf_floor_model.specs.Steps.{AllCommittedIn};
 ghost use Rattle.lf_floor_model.specs.Teams.{team_number};
 ghost use Rattle.lf_floor_model.specs.VerbLaws.{is_ok};
 ghost use Rattle.lf_repair_strategy.specs.declared.pass.MovePolicy.TheVariants.{KeepLegal};
-ghost use Rattle.lf_repair_team.specs.CellEdits.{AreAtTargetsOrOffSoft, AreFlaggedAtTargets, AreLockedInPlace, AreUnrepaired, KeepsCommittedAndSlots, KeepsCommittedPlaces, KeepsLockedLegal, KeepsLockedPlaces, KeepsOtherSlots, KeepsPlaces, SameCells, SaysOpened, TeamHasLeftTargets, TeamIsAtTargetsExcept, session_slots_without};
-ghost use Rattle.lf_repair_team.specs.TeamRepairs.{AllListedMove, AreLegalExcept, AreMovedOffSoft, ChangesOnly, HasNoPlaceOrIsListed, IsIllegalIn, KeepsLegalPlaces, KeepsListedPlaces, OnlyListedMove, committed_in, session_slots_in};
+ghost use Rattle.lf_repair_team.specs.CellEdits.{AreAtTargetsOrOffSoft, AreFlaggedAtTargets, AreLockedInPlace, AreUnrepaired, AreWithin, KeepsCommittedAndSlots, KeepsCommittedPlaces, KeepsLockedLegal, KeepsLockedPlaces, KeepsOtherSlots, KeepsPlaces, SameCells, SaysOpened, TeamHasLeftTargets, TeamIsAtTargetsExcept, session_slots_without};
+ghost use Rattle.lf_repair_team.specs.TeamRepairs.{AllListedMove, AreLegalExcept, AreMovedOffSoft, ChangesOnly, HasNoPlaceOrIsListed, IsIllegalIn, KeepsLegalPlaces, KeepsListedPlaces, OnlyListedMove, StaysWithin, committed_in, session_slots_in};
 ghost use Rattle.lf_repair_team.specs.Runs.{IsRunWithCutLine, IsWrittenRun};
-ghost use Rattle.lf_repair_team.specs.Stats.{AreTeamStats};
+ghost use Rattle.lf_repair_team.specs.Stats.{AreTeamMeans, AreTeamStats};
 
 use crate::cell_edits::{Buffers, TeamSession, run_edits};
 use crate::last_pass::run_last_pass;
+use crate::misplaced_pass::run_misplaced_pass;
 use crate::outcome::{RepairOutcome, found_of};
 use crate::repair_input::team_input;
 use crate::run_command::RepairFault;
 use crate::session::{close, commit, open};
-use crate::soft_pass::run_soft_pass;
 use crate::stats::stats_of;
 use lf_floor::Floor;
 use lf_floorplan::Place;
@@ -25,8 +25,8 @@ use lf_io::Sink;
 use lf_legalize::Seeker;
 use lf_repair_bounds::ImpossibleMacro;
 use lf_repair_strategy::{
-    CellEdit, MovePolicy, Neighborhood, PaddedTeam, Pass, Phase, RepairInput, RepairStats,
-    edits_for, plan_local_pass, undo_edits,
+    CellEdit, LocalPass, MovePolicy, Neighborhood, PaddedTeam, Pass, Phase, RepairInput,
+    RepairSearch, RepairStats, edits_for, plan_local_pass, plan_window_pass, undo_edits,
 };
 use lf_rules::legalizer_exists;
 use std::alloc::{AllocError, Global};
@@ -68,7 +68,6 @@ fn finish<S: Seeker + Drop, K: Sink>(
     lines: &mut K,
 ) -> Result<RepairOutcome, RepairFault>
     requires number { team_number floor.old.frame seat.now.team.now ≡ Some seat.now.number }
-    requires unrepaired { AreUnrepaired seat.now.team.now seat.now.impossible.now floor.old left.items }
     ensures run { (l : Legalizer) → IfOk result (λ _.
         IsWrittenRun l seat.now.team.now floor.old (K.contents lines.old) (K.contents lines.new) floor.new) }
     ensures err { (l : Legalizer) → OnErr result (
@@ -79,8 +78,10 @@ fn finish<S: Seeker + Drop, K: Sink>(
         TeamIsAtTargetsExcept seat.now.team.now targets.now floor.new found.changed.items) }
     ensures moved { IfOk result (λ found.
         TeamHasLeftTargets seat.now.team.now targets.now floor.new found.changed.items) }
-    ensures unrepaired { IfOk result (λ found.
-        AreUnrepaired seat.now.team.now seat.now.impossible.now floor.new found.left.items) }
+    ensures unrepaired { (reach : Option ℤ)
+        → AreUnrepaired reach targets.now seat.now.team.now seat.now.impossible.now floor.old left.items
+        → IfOk result (λ found.
+        AreUnrepaired reach targets.now seat.now.team.now seat.now.impossible.now floor.new found.left.items) }
     ensures committed { (l : Legalizer) → IfOk result (λ found.
         found.left.items ≡ [] → AllCommittedIn l floor.new seat.now.team.now) }
     ensures uncommitted { IfOk result (λ found.
@@ -118,10 +119,11 @@ fn cell_edits_in<S: Seeker + Drop>(
     number: usize,
     pass: &Pass,
     phase: Phase,
+    search: &RepairSearch<'_>,
 ) -> Result<Vec<CellEdit>, AllocError> {
     let placement = floor.placement();
     let owner = PaddedTeam::new(placement.frame(), number, floor.padding_of(number));
-    edits_for(alloc, placement, &owner, pass, phase)
+    edits_for(alloc, placement, &owner, pass, phase, search)
 }
 
 /// Runs all phases of a pass. The edits of each phase are computed from the floor after the
@@ -131,6 +133,7 @@ fn run_pass<S: Seeker + Drop, K: Sink>(
     floor: &mut Floor<S>,
     seat: &TeamSession<'_>,
     pass: &Pass,
+    search: &RepairSearch<'_>,
     texts: &mut Buffers,
     lines: &mut K,
 ) -> Result<(), RepairFault>
@@ -145,7 +148,7 @@ fn run_pass<S: Seeker + Drop, K: Sink>(
     ensures committed { KeepsCommittedAndSlots seat.now.team.now seat.now.session floor.old floor.new }
 {
     for phase in &PHASES {
-        let Ok(cell_edits) = cell_edits_in(alloc, floor, seat.number, pass, *phase) else {
+        let Ok(cell_edits) = cell_edits_in(alloc, floor, seat.number, pass, *phase, search) else {
             return Err(RepairFault::OutOfMemory);
         };
         match run_edits(
@@ -163,8 +166,10 @@ fn run_pass<S: Seeker + Drop, K: Sink>(
     Ok(())
 }
 
-/// The local passes, each over a larger region than the previous one.
-const REACHES: [Neighborhood; 5] = [
+/// The local passes, each over a larger region than the previous one. The first one lets cells at
+/// fault push legal cells aside.
+const REACHES: [Neighborhood; 6] = [
+    Neighborhood::Windows,
     Neighborhood::Near { rows: 2, sites: 16 },
     Neighborhood::Near { rows: 8, sites: 64 },
     Neighborhood::Near {
@@ -175,6 +180,23 @@ const REACHES: [Neighborhood; 5] = [
     Neighborhood::Whole,
 ];
 
+/// The local pass with this reach for the team with this number, at the present places.
+fn local_plan_in<S: Seeker + Drop>(
+    alloc: Global,
+    floor: &Floor<S>,
+    number: usize,
+    start: &RepairInput,
+    reach: &Neighborhood,
+    search: &RepairSearch<'_>,
+) -> Result<Option<LocalPass>, AllocError> {
+    let placement = floor.placement();
+    if matches!(reach, Neighborhood::Windows) {
+        let owner = PaddedTeam::new(placement.frame(), number, floor.padding_of(number));
+        return plan_window_pass(alloc, placement, &owner, start, search);
+    }
+    plan_local_pass(alloc, placement, number, start, reach, search)
+}
+
 /// Runs a local pass, in which legal cells may move too: its cells are unplaced and planned again.
 /// It is undone if it has improved nothing.
 fn run_local_pass<S: Seeker + Drop, K: Sink>(
@@ -183,6 +205,7 @@ fn run_local_pass<S: Seeker + Drop, K: Sink>(
     seat: &TeamSession<'_>,
     start: &RepairInput,
     reach: &Neighborhood,
+    search: &RepairSearch<'_>,
     lines: &mut K,
 ) -> Result<(), RepairFault>
     ensures run { (l : Legalizer) → IfOk result (λ _.
@@ -193,17 +216,32 @@ fn run_local_pass<S: Seeker + Drop, K: Sink>(
     ensures only { ChangesOnly seat.now.team.now floor.old floor.new }
     ensures committed { KeepsCommittedAndSlots seat.now.team.now seat.now.session floor.old floor.new }
 {
-    let local_plan = match plan_local_pass(alloc, floor.placement(), seat.number, start, reach) {
+    let local_plan = match local_plan_in(alloc, floor, seat.number, start, reach, search) {
         Ok(Some(local_plan)) => local_plan,
         Ok(None) => return Ok(()),
         Err(_) => return Err(RepairFault::OutOfMemory),
     };
     let mut texts = Buffers::new(alloc);
-    match run_pass(alloc, floor, seat, &local_plan.pass, &mut texts, lines) {
+    match run_pass(
+        alloc,
+        floor,
+        seat,
+        &local_plan.pass,
+        search,
+        &mut texts,
+        lines,
+    ) {
         Ok(()) => {}
         Err(fault) => return Err(fault),
     }
-    let Ok(back) = undo_edits(alloc, floor.placement(), seat.number, start, &local_plan) else {
+    let Ok(back) = undo_edits(
+        alloc,
+        floor.placement(),
+        seat.number,
+        start,
+        &local_plan,
+        search,
+    ) else {
         return Err(RepairFault::OutOfMemory);
     };
     run_edits(
@@ -232,6 +270,7 @@ fn run_local_passes<S: Seeker + Drop, K: Sink>(
     floor: &mut Floor<S>,
     seat: &TeamSession<'_>,
     start: &RepairInput,
+    search: &RepairSearch<'_>,
     lines: &mut K,
 ) -> Result<(), RepairFault>
     ensures run { (l : Legalizer) → IfOk result (λ _.
@@ -247,7 +286,7 @@ fn run_local_passes<S: Seeker + Drop, K: Sink>(
         return Ok(());
     }
     for reach in &REACHES {
-        match run_local_pass(alloc, floor, seat, start, reach, lines) {
+        match run_local_pass(alloc, floor, seat, start, reach, search, lines) {
             Ok(()) => {}
             Err(fault) => return Err(fault),
         }
@@ -261,6 +300,7 @@ fn run_passes<S: Seeker + Drop, K: Sink>(
     floor: &mut Floor<S>,
     seat: &TeamSession<'_>,
     start: &RepairInput,
+    search: &RepairSearch<'_>,
     lines: &mut K,
 ) -> Result<Vec<u32>, RepairFault>
     requires { team_number floor.old.frame seat.now.team.now ≡ Some seat.now.number }
@@ -277,25 +317,28 @@ fn run_passes<S: Seeker + Drop, K: Sink>(
         → KeepsLockedPlaces seat.now.team.now seat.now.impossible.now floor.old floor.new }
     ensures committed { KeepsCommittedAndSlots seat.now.team.now seat.now.session floor.old floor.new }
     ensures unrepaired { IfOk result (λ left.
-        AreUnrepaired seat.now.team.now seat.now.impossible.now floor.new left.items) }
+        AreUnrepaired search.now.reach start.now.pass.targets.items seat.now.team.now seat.now.impossible.now floor.new
+        left.items) }
+    ensures within { OnOk result (
+        AreWithin search.now.reach start.now.pass.targets.items seat.now.team.now floor.new) }
     ensures off_soft { OnOk result (
         AreAtTargetsOrOffSoft seat.now.team.now start.now.pass.targets.items floor.new) }
 {
     let mut texts = Buffers::new(alloc);
-    match run_pass(alloc, floor, seat, &start.pass, &mut texts, lines) {
+    match run_pass(alloc, floor, seat, &start.pass, search, &mut texts, lines) {
         Ok(()) => {}
         Err(fault) => return Err(fault),
     }
-    match run_local_passes(alloc, floor, seat, start, lines) {
+    match run_local_passes(alloc, floor, seat, start, search, lines) {
         Ok(()) => {}
         Err(fault) => return Err(fault),
     }
     let targets = start.pass.targets.as_slice();
-    match run_soft_pass(floor, seat, targets, &mut texts, lines) {
+    match run_misplaced_pass(floor, seat, targets, search, &mut texts, lines) {
         Ok(()) => {}
         Err(fault) => return Err(fault),
     }
-    run_last_pass(alloc, floor, seat, targets, &mut texts, lines)
+    run_last_pass(alloc, floor, seat, targets, search, &mut texts, lines)
 }
 
 /// Opens a session, runs all passes, and finishes.
@@ -305,6 +348,7 @@ fn repair_in_session<'a, S: Seeker + Drop, K: Sink>(
     team: &'a [u8],
     number: usize,
     start: &'a RepairInput,
+    search: &RepairSearch<'_>,
     lines: &mut K,
 ) -> Result<RepairOutcome, RepairFault>
     requires { team_number floor.old.frame team.now ≡ Some number }
@@ -324,7 +368,9 @@ fn repair_in_session<'a, S: Seeker + Drop, K: Sink>(
     ensures moved { IfOk result (λ found.
         TeamHasLeftTargets team.now start.now.pass.targets.items floor.new found.changed.items) }
     ensures unrepaired { IfOk result (λ found.
-        AreUnrepaired team.now start.now.pass.impossible.items floor.new found.left.items) }
+        AreUnrepaired search.now.reach start.now.pass.targets.items team.now start.now.pass.impossible.items floor.new
+        found.left.items) }
+    ensures within { OnOk result (AreWithin search.now.reach start.now.pass.targets.items team.now floor.new) }
     ensures committed { (l : Legalizer) → IfOk result (λ found.
         found.left.items ≡ [] → AllCommittedIn l floor.new team.now) }
     ensures uncommitted { IfOk result (λ found.
@@ -344,7 +390,7 @@ fn repair_in_session<'a, S: Seeker + Drop, K: Sink>(
         session,
         impossible: start.pass.impossible.as_slice(),
     };
-    let left = match run_passes(alloc, floor, &seat, start, lines) {
+    let left = match run_passes(alloc, floor, &seat, start, search, lines) {
         Ok(left) => left,
         Err(fault) => return Err(fault),
     };
@@ -363,9 +409,12 @@ fn repair_in_session<'a, S: Seeker + Drop, K: Sink>(
 /// line can contain the team's name, each line reads as its command.
 ///
 /// A cell is unrepaired only if it has no place, or is of a listed macro. It has no place if it is
-/// unplaced, and next to the team's other cells no place off soft blockages is legal for it. All
-/// other cells are legal. The unrepaired cells are listed in loading order. Each placed cell that is
-/// elsewhere than before is off soft blockages.
+/// unplaced, and next to the team's other cells no place off soft blockages is legal for it, or only
+/// places beyond reach. All other cells are legal. The unrepaired cells are listed in loading order.
+/// Each placed cell that is elsewhere than before is off soft blockages. Each cell that had a place
+/// and has one is within reach of the place that it had.
+///
+/// Nothing else depends on the search. It advises where cells go.
 ///
 /// The team is committed if and only if no cell is unrepaired. Otherwise its cells stay at their
 /// working places, and the committed places are unchanged. No other team changes, and a fully legal
@@ -379,6 +428,7 @@ pub fn repair_team<S: Seeker + Drop, K: Sink>(
     floor: &mut Floor<S>,
     team: &[u8],
     how: MovePolicy,
+    search: &RepairSearch<'_>,
     impossible: &[ImpossibleMacro],
     lines: &mut K,
 ) -> Result<RepairStats, RepairFault>
@@ -396,7 +446,9 @@ pub fn repair_team<S: Seeker + Drop, K: Sink>(
     ensures illegal { IfOk result
         (λ repaired. All (λ own. IsIllegalIn floor.new team.now own) repaired.unrepaired.items) }
     ensures complete { IfOk result
-        (λ repaired. All (HasNoPlaceOrIsListed impossible.now floor.new team.now) repaired.unrepaired.items) }
+        (λ repaired. All (HasNoPlaceOrIsListed search.now.reach impossible.now floor.old floor.new team.now)
+        repaired.unrepaired.items) }
+    ensures within { OnOk result (StaysWithin search.now.reach team.now floor.old floor.new) }
     ensures rise { IfOk result (λ repaired. AllPairs (λ own later. own < later) repaired.unrepaired.items) }
     ensures committed { (l : Legalizer) → IfOk result (λ repaired.
         repaired.unrepaired.items ≡ [] ↔ AllCommittedIn l floor.new team.now) }
@@ -405,6 +457,7 @@ pub fn repair_team<S: Seeker + Drop, K: Sink>(
     ensures slots { OnOk result (session_slots_in floor.new team.now ≡ session_slots_in floor.old team.now) }
     ensures off_soft { OnOk result (AreMovedOffSoft team.now floor.old floor.new) }
     ensures reported { IfOk result (λ repaired. AreTeamStats team.now floor.old floor.new repaired) }
+    ensures means { IfOk result (λ repaired. AreTeamMeans team.now floor.old floor.new repaired.means) }
 {
     let Some(number) = floor.team_number(team) else {
         return Err(RepairFault::NoTeam);
@@ -412,7 +465,7 @@ pub fn repair_team<S: Seeker + Drop, K: Sink>(
     let Ok(start) = team_input(alloc, floor, team, number, how, impossible) else {
         return Err(RepairFault::OutOfMemory);
     };
-    match repair_in_session(alloc, floor, team, number, &start, lines) {
+    match repair_in_session(alloc, floor, team, number, &start, search, lines) {
         Ok(found) => Ok(stats_of(floor, number, &start, found)),
         Err(fault) => Err(fault),
     }

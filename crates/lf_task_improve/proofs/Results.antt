@@ -20,7 +20,7 @@ use Rattle.lf_repair_strategy.specs.declared.stats.RepairStats.{RepairStats}
 use Rattle.lf_repair_team.specs.Stats.{displacement}
 use Rattle.lf_repair_team.specs.TeamRepairs.{committed_in, place_of_cell_in, session_slots_in}
 use Rattle.lf_repair_team.proofs.Legal.{committed_through}
-use Rattle.lf_improve_team.specs.FloorLengths.{IsWireLengthOn, WireLengthIsOne}
+use Rattle.lf_improve_team.specs.FloorLengths.{AreNetsOfFloor, IsWireLengthOn, WireLengthIsOne}
 use Rattle.lf_improve_team.specs.TeamImprovements.{IsImprovable, KeepsTeamPlaces}
 use Rattle.lf_improve_report.specs.declared.improved.ImprovedTeam.{ImprovedTeam}
 use Rattle.lf_improve_report.specs.ImproveReports.{improved_team_name}
@@ -217,3 +217,10 @@ pub settled_by : (is_improved : Bool) (L : Type 0) (P : L → Type 0) (Q : Type 
     → ((l : L) → P l) ⊎ Q
 settled_by true L P Q committed kept = inl (λ l. committed l refl)
 settled_by false L P Q committed kept = inr (kept refl)
+
+-- ---- the nets of teams
+
+-- commands keep the nets of the teams
+pub nets_kept : (lists : List (List ℕ)) (nets : List (List NetPin)) (old new : FloorState) → AreNetsOfFloor lists nets old → new.components ≡ old.components
+    → AreNetsOfFloor lists nets new
+nets_kept lists nets old new are same = record { design = are.design; entries = same ∙ are.entries; listed = are.listed }

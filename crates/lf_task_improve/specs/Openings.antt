@@ -1,19 +1,17 @@
 -- A design that is opened with its nets.
-use Rattle.std.specs.Prelude.{◌≡◌, ℕ, List, None, Ok, Option, Some, cond, is_some, map}
+use Rattle.std.specs.Prelude.{◌≡◌, ℕ, List, Ok, Some, is_some, map}
 use Rattle.lf_lef.specs.Contents.{Contents}
 use Rattle.lf_def.specs.Document.{Document, document_of}
 use Rattle.lf_floorplan.specs.declared.limits.Limits.{Limits}
 use Rattle.lf_floorplan.specs.declared.loaded.Loaded.{Loaded}
 use Rattle.lf_wire_length.specs.declared.pins.NetPin.{NetPin}
-use Rattle.lf_write.specs.Export.{ClauseFacts, clause_of}
+use Rattle.lf_wire_length.specs.TeamNets.{nets_of_teams}
 use Rattle.lf_floor_model.specs.Designs.{initial_floor}
 use Rattle.lf_cli.specs.Command.{RepairPaths}
 use Rattle.lf_task_designs.specs.Designs.{AreKept, IsLoadedIn, ReadsFile, no_library}
 use Rattle.lf_task_repair.specs.Repairs.{is_text_requested}
 use Rattle.lf_task_wires.specs.Readings.{IsKeptLibrary}
 use Rattle.lf_task_wires.specs.Wirelengths.{AreNetsOfTexts}
-use Rattle.lf_task_improve.specs.declared.opening.DesignParts.{DesignParts}
-use Rattle.lf_task_improve.specs.declared.opening.NettedDesign.{NettedDesign}
 use Rattle.lf_task_improve.specs.declared.opening.ReadyImprovement.{ReadyImprovement}
 
 -- the design of a DEF file over LEF files, with the DEF text, its document and its nets
@@ -31,41 +29,8 @@ pub record IsOpenedWithNets (limits : Limits) (gives : ReadsFile) (def : List �
 abbrev pub teams_of_cells : Loaded → List ℕ
 teams_of_cells loaded = map (λ c. c.team) loaded.cells
 
--- the clauses of the document's components, if a requested file is made from its text
-abbrev pub requested_clauses : RepairPaths → List ℕ → Document → Option (List ClauseFacts)
-requested_clauses files text document =
-    cond (is_text_requested files) (Some (map (clause_of text) document.components)) None
-
--- the design and its nets, of a DEF text over the library and its LEF texts, and the clauses of its
--- components, if they are requested
-pub record HasDesignParts (limits : Limits) (files : RepairPaths) (library : Contents) (lefs : List (List ℕ))
-    (text : List ℕ) (document : Document) (parts : DesignParts) : Type 0 where
-  pub loads : IsLoadedIn limits library document parts.loaded
-  pub nets_are : AreNetsOfTexts lefs text document parts.loaded parts.netlist.nets
-  pub clauses_are : parts.clauses ≡ requested_clauses files text document
-
--- the design and its nets, of a DEF text over the library and its LEF texts; the DEF text is kept if
--- and only if a requested file is made from it
-pub record IsNettedText (limits : Limits) (files : RepairPaths) (library : Contents) (lefs : List (List ℕ))
-    (text : List ℕ) (design : NettedDesign) : Type 0 where
-  pub document : Document
-  pub read : document_of text ≡ Ok document
-  pub loads : IsLoadedIn limits library document design.loaded
-  pub nets_are : AreNetsOfTexts lefs text document design.loaded design.netlist.nets
-  pub are : AreKept design.original text document
-  pub kept : is_some design.original ≡ is_text_requested files
-
--- the design is opened with its nets, and its DEF text is kept if and only if a requested file is
--- made from it
-pub record IsNettedDesign (limits : Limits) (gives : ReadsFile) (def : List ℕ) (lefs : List (List ℕ))
-    (files : RepairPaths) (design : NettedDesign) : Type 0 where
-  pub text : List ℕ
-  pub document : Document
-  pub opened : IsOpenedWithNets limits gives def lefs text document design.loaded design.netlist.nets
-  pub are : AreKept design.original text document
-  pub kept : is_some design.original ≡ is_text_requested files
-
--- the same, and the floor of the design is as loaded
+-- the design is opened with its nets, its floor is as loaded, and the nets of some number of teams are
+-- listed; its DEF text is kept if and only if a requested file is made from it
 pub record IsReadyImprovement (limits : Limits) (gives : ReadsFile) (def : List ℕ) (lefs : List (List ℕ))
     (files : RepairPaths) (ready : ReadyImprovement) : Type 0 where
   pub text : List ℕ
@@ -76,3 +41,4 @@ pub record IsReadyImprovement (limits : Limits) (gives : ReadsFile) (def : List 
   pub kept : is_some ready.original ≡ is_text_requested files
   pub begins : ready.floor ≡ initial_floor loaded
   pub teams : ready.wires.teams.items ≡ teams_of_cells loaded
+  pub listed : (count : ℕ) × (ready.wires.of_teams ≡ nets_of_teams (teams_of_cells loaded) ready.wires.netlist.nets count)

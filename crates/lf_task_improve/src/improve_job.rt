@@ -1,6 +1,6 @@
 //! The arguments of an improvement.
 
-use lf_cli::RepairFiles;
+use lf_cli::{ImproveOptions, RepairFiles};
 use lf_floorplan::Limits;
 
 /// Arguments of `lefence improve`.
@@ -15,8 +15,8 @@ pub struct ImproveJob<'a> {
     /// The greatest distance of a cell from its place in the DEF text, in rows. `None` if a cell may
     /// move as far as its team's ground reaches.
     pub within: Option<u32>,
-    /// The number of rounds of the search.
-    pub rounds: u32,
+    /// How places are searched for.
+    pub options: ImproveOptions,
     /// The paths of the files to write.
     pub files: RepairFiles<'a>,
     pub limits: Limits,

@@ -6,6 +6,7 @@ ghost use Rattle.lf_def.specs.Document.{Document};
 ghost use Rattle.lf_floorplan.specs.declared.place.Place.{Place};
 ghost use Rattle.lf_floor_model.specs.Places.{AreCommittedPlaces};
 ghost use Rattle.lf_floor_model.specs.States.{FloorState};
+ghost use Rattle.lf_improve_team.specs.FloorLengths.{AreNetsOfFloor};
 ghost use Rattle.lf_task_designs.specs.Designs.{AreKept};
 ghost use Rattle.lf_task_files.specs.Exits.{CanBePut};
 ghost use Rattle.lf_task_repair.specs.Repairs.{BlamesOutputs, WritesExportAlone, WritesNoFile, WritesNoText};
@@ -47,6 +48,7 @@ fn improve_on_floor<'a, E: OutputFiles, W: Sink, P: Progress>(
     writer: &mut W,
 ) -> Result<u8, Fault<'a>>
     requires teams { length floor.old.teams ≡ length floor.old.frame.teams + 1 }
+    requires nets { AreNetsOfFloor before.old.wires.of_teams before.old.wires.netlist.nets floor.old }
     requires kept { before.old.original ≡ None → WritesNoText (repair_paths requested.now.files) }
     requires fits { (s : FloorState) (places : List (ℕ × Option Place)) → s.components ≡ floor.old.components
         → AreCommittedPlaces s places → CanBePut before.old.original places }
@@ -91,6 +93,7 @@ fn improve_ready<'a, E: OutputFiles, W: Sink, P: Progress>(
     progress: &mut P,
 ) -> Result<u8, Fault<'a>>
     requires teams { length ready.floor.teams ≡ length ready.floor.frame.teams + 1 }
+    requires nets { AreNetsOfFloor ready.wires.of_teams ready.wires.netlist.nets ready.floor }
     requires kept { ready.original ≡ None → WritesNoText (repair_paths requested.now.files) }
     requires fits { (s : FloorState) (places : List (ℕ × Option Place)) → s.components ≡ ready.floor.components
         → AreCommittedPlaces s places → CanBePut ready.original places }

@@ -5,7 +5,7 @@ ghost use Rattle.lf_rules.specs.Legalizer.{Legalizer};
 ghost use Rattle.lf_cli.specs.Command.{repair_paths};
 ghost use Rattle.lf_floor_model.specs.Teams.{state_of, team_number};
 ghost use Rattle.lf_repair_team.specs.TeamRepairs.{ChangesOnly};
-ghost use Rattle.lf_improve_team.specs.FloorLengths.{IsWireLengthOn};
+ghost use Rattle.lf_improve_team.specs.FloorLengths.{AreNetsOfFloor, IsWireLengthOn};
 ghost use Rattle.lf_task_faults.specs.declared.faults.Fault.TheVariants.{SetupOutOfMemory};
 ghost use Rattle.lf_task_repair.specs.Repairs.{IsKeptRun, IsStatusOf, OnlySelectedChange, initial_lines, kept_text};
 ghost use Rattle.lf_task_repair.specs.Reports.{selected_at, selected_names};
@@ -17,8 +17,8 @@ use lf_floor::{Floor, team_name};
 use lf_floorplan::Frame;
 use lf_improve_report::{ImprovedTeam, LengthChange, improve_report};
 use lf_improve_team::{
-    CellsOnFloor, ImproveOptions, ImproveWish, TeamImprovement, WireNets, improve_team,
-    wire_length_is_one,
+    CellsOnFloor, ImproveOptions, ImproveSearch, ImproveWish, TeamImprovement, WireNets,
+    improve_team, wire_length_is_one,
 };
 use lf_legalize::IndexSeeker;
 use lf_rules::legalizer_exists;
@@ -46,6 +46,7 @@ struct ImprovePlan<'a> {
     teams: &'a [&'a str],
     wires: WireNets<'a>,
     options: ImproveOptions,
+    search: ImproveSearch,
 }
 
 /// The results so far.
@@ -67,7 +68,8 @@ fn improve_named<'f, P: Progress>(
     length: u64,
     lines: &mut ProgressSink<'_, P>,
 ) -> Result<TeamImprovement, Fault<'f>>
-    requires { IsWireLengthOn plan.now.wires.netlist.now.nets floor.old length }
+    requires measured { IsWireLengthOn plan.now.wires.netlist.now.nets floor.old length }
+    requires nets { AreNetsOfFloor plan.now.wires.of_teams.now plan.now.wires.netlist.now.nets floor.old }
     ensures run { (l : Legalizer)
         → OnOk result (IsKeptRun l floor.old (kept_text lines.old.lines) (kept_text lines.new.lines) floor.new) }
     ensures only { ChangesOnly name.now floor.old floor.new }
@@ -81,7 +83,7 @@ fn improve_named<'f, P: Progress>(
         options: plan.options,
         length,
     };
-    match improve_team(alloc, floor, name, &plan.wires, &wish, lines) {
+    match improve_team(alloc, floor, name, &plan.wires, &wish, &plan.search, lines) {
         Ok(done) => Ok(done),
         Err(_) => Err(Fault::SetupOutOfMemory),
     }
@@ -124,7 +126,8 @@ fn improve_numbered<'f, P: Progress>(
     lines: &mut ProgressSink<'_, P>,
     results: &mut ImproveResults,
 ) -> Result<(), Fault<'f>>
-    requires { IsWireLengthOn plan.now.wires.netlist.now.nets floor.old results.old.length }
+    requires measured { IsWireLengthOn plan.now.wires.netlist.now.nets floor.old results.old.length }
+    requires nets { AreNetsOfFloor plan.now.wires.of_teams.now plan.now.wires.netlist.now.nets floor.old }
     ensures run { (l : Legalizer)
         → OnOk result (IsKeptRun l floor.old (kept_text lines.old.lines) (kept_text lines.new.lines) floor.new) }
     ensures only { OnOk result
@@ -161,7 +164,8 @@ fn improve_teams<'f, P: Progress>(
     lines: &mut ProgressSink<'_, P>,
     results: &mut ImproveResults,
 ) -> Result<(), Fault<'f>>
-    requires { IsWireLengthOn plan.now.wires.netlist.now.nets floor.old results.old.length }
+    requires measured { IsWireLengthOn plan.now.wires.netlist.now.nets floor.old results.old.length }
+    requires nets { AreNetsOfFloor plan.now.wires.of_teams.now plan.now.wires.netlist.now.nets floor.old }
     ensures run { (l : Legalizer)
         → OnOk result (IsKeptRun l floor.old (kept_text lines.old.lines) (kept_text lines.new.lines) floor.new) }
     ensures only { OnOk result
@@ -202,7 +206,8 @@ fn results_of<'a, P: Progress>(
     length: u64,
     lines: &mut ProgressSink<'_, P>,
 ) -> Result<ImproveResults, Fault<'a>>
-    requires { IsWireLengthOn wires.now.netlist.nets floor.old length }
+    requires measured { IsWireLengthOn wires.now.netlist.nets floor.old length }
+    requires nets { AreNetsOfFloor wires.now.of_teams wires.now.netlist.nets floor.old }
     ensures run { (l : Legalizer)
         → OnOk result (IsKeptRun l floor.old (kept_text lines.old.lines) (kept_text lines.new.lines) floor.new) }
     ensures only { OnOk result
@@ -215,7 +220,7 @@ fn results_of<'a, P: Progress>(
     ensures err { IfErr result (λ fault. fault ≡ SetupOutOfMemory) }
 {
     let options = ImproveOptions {
-        rounds: requested.rounds,
+        rounds: requested.options.rounds,
         within: distance_of_rows(floor.placement().frame(), requested.within),
     };
     let plan = ImprovePlan {
@@ -225,6 +230,10 @@ fn results_of<'a, P: Progress>(
             of_teams: &wires.of_teams,
         },
         options,
+        search: ImproveSearch {
+            moves: requested.options.moves,
+            density: requested.options.density,
+        },
     };
     let mut results = ImproveResults {
         teams: Vec::new(alloc),
@@ -242,7 +251,8 @@ pub(crate) fn improve_selected<'a, P: Progress>(
     requested: &ImproveJob<'a>,
     progress: &mut P,
 ) -> Result<FinishedTask, Fault<'a>>
-    requires { length floor.old.teams ≡ length floor.old.frame.teams + 1 }
+    requires teams { length floor.old.teams ≡ length floor.old.frame.teams + 1 }
+    requires nets { AreNetsOfFloor wires.now.of_teams wires.now.netlist.nets floor.old }
     ensures run { (l : Legalizer) → IfOk result
         (λ done. IsKeptRun l floor.old (initial_lines (repair_paths requested.now.files).lines) (kept_text done.lines)
         floor.new) }

@@ -38,7 +38,13 @@ use Rattle.lf_task_faults.specs.Faults.{BlamesDevices, IsEarly, IsOfWriter}
 use Rattle.lf_task_faults.specs.declared.faults.OutputKind.{OutputKind}
 use Rattle.lf_task_files.specs.Faults.{IsOutputFault}
 use Rattle.lf_task_designs.specs.declared.opening.SourceText.{SourceText}
+use Rattle.lf_task_designs.specs.Designs.{ReadsFile}
+use Rattle.lf_task_files.proofs.WorkSteps.{floor_early}
+use Rattle.lf_task_wires.proofs.Steps.{files_early}
 use Rattle.lf_cli.specs.Command.{RepairPaths}
+use Rattle.lf_cli.specs.declared.parse.RepairOptions.{RepairOptions}
+use Rattle.lf_floorplan.specs.declared.limits.Limits.{Limits}
+use Rattle.lf_task_repair.specs.Exits.{IsOpeningFault}
 use Rattle.lf_task_repair.specs.Repairs.{KeepsAllLegalPlaces, IsKeptRun, IsPlainIfNamed, IsUnknown, OnlySelectedChange, WritesNoText, is_selected, is_text_requested}
 
 -- ---- runs
@@ -290,6 +296,12 @@ unknown_early f teams Accept is = absurd is
 unknown_early f teams (NotWritten its_kind path why) is = absurd is
 unknown_early f teams SetupOutOfMemory is = absurd is
 unknown_early f teams OutputOutOfMemory is = absurd is
+
+-- a fault of the design, the state or the nets is reported when nothing is written yet
+pub opening_early : (options : RepairOptions) (limits : Limits) (gives : ReadsFile) (def : List ℕ) (lefs : List (List ℕ)) (state : Option (List ℕ)) (fault : Fault)
+    → IsOpeningFault options limits gives def lefs state fault → IsEarly fault
+opening_early options limits gives def lefs state fault (inl floor) = floor_early limits gives def lefs state fault floor
+opening_early options limits gives def lefs state fault (inr files) = files_early limits gives def lefs state fault files.1
 
 -- a failed allocation in the repair is reported when nothing is written yet
 pub memory_early : (fault : Fault) → fault ≡ SetupOutOfMemory → IsEarly fault

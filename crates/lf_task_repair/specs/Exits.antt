@@ -1,5 +1,5 @@
 -- The results of repairs.
-use Rattle.std.specs.Prelude.{◌≡◌, ◌⊎◌, ℕ, List, Option, is_some, take}
+use Rattle.std.specs.Prelude.{◌≡◌, ◌⊎◌, ℕ, IsTrue, List, Option, is_some, take}
 use Rattle.std.specs.Io.KnownBytes.{Appends}
 use Rattle.lf_floorplan.specs.declared.limits.Limits.{Limits}
 use Rattle.lf_floorplan.specs.declared.loaded.Loaded.{Loaded}
@@ -8,7 +8,7 @@ use Rattle.lf_def.specs.Document.{Document}
 use Rattle.lf_io_files.specs.Shelf.{Put}
 use Rattle.lf_floor_model.specs.States.{FloorState}
 use Rattle.lf_cli.specs.Command.{RepairPaths}
-use Rattle.lf_cli.specs.declared.parse.LegalCells.{LegalCells}
+use Rattle.lf_cli.specs.declared.parse.RepairOptions.{RepairOptions}
 use Rattle.lf_cli.specs.declared.parse.LegalCells.TheVariants.{KeepLegal}
 use Rattle.lf_task_faults.specs.declared.faults.Fault.{Fault}
 use Rattle.lf_task_faults.specs.declared.faults.Fault.TheVariants.{Output}
@@ -20,9 +20,10 @@ use Rattle.lf_task_files.specs.Faults.{IsOutputFault}
 use Rattle.lf_task_files.specs.Measured.{IsMeasuredFloor}
 use Rattle.lf_task_repair.specs.declared.repair_task.ReadyRepair.{ReadyRepair}
 use Rattle.lf_task_files.specs.States.{IsFloorFault, IsSaved}
+use Rattle.lf_task_wires.specs.Wirelengths.{IsFilesFault}
 use Rattle.lf_task_repair.specs.Repairs.{KeepsAllLegalPlaces, AreKnown, IsStatusOf, IsKeptRun, WritesLines, IsRepairFault, OnlySelectedChange, first_file, initial_lines, is_text_requested, three_files, two_files}
 use Rattle.lf_task_files.specs.declared.measured.RepairLimits.{RepairLimits}
-use Rattle.lf_task_repair.specs.Reports.{IsReport}
+use Rattle.lf_task_repair.specs.Reports.{IsReport, reach_of_rows}
 
 -- the requested files are written: the text with the committed places, the text with the working
 -- places, the command lines, and the state of the floor
@@ -45,34 +46,35 @@ pub record IsPut (files : RepairPaths) (text : List ℕ) (document : Document) (
 
 -- the first floor is repaired and becomes this one: each requested name is a team's; accepted
 -- commands lead from the first floor to this one, and they are the lines that are kept; only
--- selected teams change, and no legal cell moves if legal cells are to stay; the report has each
+-- selected teams change, and no legal cell moves if legal cells are to stay; no cell goes farther than
+-- the requested number of rows; the report has each
 -- selected team with its bound and the result of its repair, and says whether the committed design
 -- is then fully legal
-pub record IsRepair (teams : List (List ℕ)) (legal : LegalCells) (lines : Option (List ℕ)) (limits : RepairLimits)
+pub record IsRepair (teams : List (List ℕ)) (options : RepairOptions) (lines : Option (List ℕ)) (limits : RepairLimits)
     (begin floor : FloorState)
     (kept : Option (List ℕ)) (report : List ℕ) : Type 0 where
   pub known : AreKnown begin.frame teams
   pub run : (l : Legalizer) → IsKeptRun l begin (initial_lines lines) kept floor
   pub only : OnlySelectedChange teams begin floor
-  pub stay : legal ≡ KeepLegal → KeepsAllLegalPlaces begin floor
-  pub decides : IsReport teams limits begin floor report
+  pub stay : options.legal ≡ KeepLegal → KeepsAllLegalPlaces begin floor
+  pub decides : IsReport (reach_of_rows begin.frame options.within) teams limits begin floor report
 
 -- the first floor is repaired; the report is written, and then the requested files; the status says
 -- whether the committed design is fully legal
-pub record IsRepaired (teams : List (List ℕ)) (legal : LegalCells) (files : RepairPaths) (text : List ℕ)
+pub record IsRepaired (teams : List (List ℕ)) (options : RepairOptions) (files : RepairPaths) (text : List ℕ)
     (document : Document) (limits : RepairLimits) (begin : FloorState) (before after : Option (List ℕ))
     (old_puts new_puts : Option (List Put)) (status : ℕ) : Type 0 where
   pub floor : FloorState
   pub kept : Option (List ℕ)
   pub report : List ℕ
-  pub repair : IsRepair teams legal files.lines limits begin floor kept report
+  pub repair : IsRepair teams options files.lines limits begin floor kept report
   pub put : IsPut files text document floor kept report before after old_puts new_puts
   pub committed_checked : IsStatusOf floor status
 
 -- the design is opened, its floor is brought into the given state, and its teams are repaired and
 -- reported with the limits of their repair from their first places
 pub record IsOpenRepaired (limits : Limits) (gives : ReadsFile) (def : List ℕ) (lefs : List (List ℕ))
-    (state : Option (List ℕ)) (teams : List (List ℕ)) (legal : LegalCells) (files : RepairPaths)
+    (state : Option (List ℕ)) (teams : List (List ℕ)) (options : RepairOptions) (files : RepairPaths)
     (before after : Option (List ℕ)) (old_puts new_puts : Option (List Put)) (status : ℕ) : Type 0 where
   pub text : List ℕ
   pub document : Document
@@ -81,7 +83,7 @@ pub record IsOpenRepaired (limits : Limits) (gives : ReadsFile) (def : List ℕ)
   pub begin : FloorState
   pub known : RepairLimits
   pub measured : IsMeasuredFloor gives state loaded begin known
-  pub repaired : IsRepaired teams legal files text document known begin before after old_puts new_puts status
+  pub repaired : IsRepaired teams options files text document known begin before after old_puts new_puts status
 
 -- the design is opened, and its floor is in the given state; its DEF text is kept if and only if a
 -- requested file is made from it
@@ -117,18 +119,18 @@ IsNotPut files text document floor kept report before after old new fault =
 
 -- the first floor is not repaired, and nothing is written; or it is, and the report or the
 -- requested files are not written
-abbrev pub IsUnrepaired : List (List ℕ) → LegalCells → RepairPaths → List ℕ → Document → RepairLimits → FloorState
+abbrev pub IsUnrepaired : List (List ℕ) → RepairOptions → RepairPaths → List ℕ → Document → RepairLimits → FloorState
     → Option (List ℕ) → Option (List ℕ) → Option (List Put) → Option (List Put) → Fault → Type 0
-IsUnrepaired teams legal files text document limits begin before after old new fault =
+IsUnrepaired teams options files text document limits begin before after old new fault =
     (IsRepairFault begin.frame teams files fault × (after ≡ before) × (new ≡ old))
     ⊎ ((floor : FloorState) × (kept : Option (List ℕ)) × (report : List ℕ)
-    × IsRepair teams legal files.lines limits begin floor kept report
+    × IsRepair teams options files.lines limits begin floor kept report
     × IsNotPut files text document floor kept report before after old new fault)
 
 -- the design is opened and its floor is in the given state, and it is not repaired or its results
 -- are not written
 pub record IsOpenUnrepaired (limits : Limits) (gives : ReadsFile) (def : List ℕ) (lefs : List (List ℕ))
-    (state : Option (List ℕ)) (teams : List (List ℕ)) (legal : LegalCells) (files : RepairPaths)
+    (state : Option (List ℕ)) (teams : List (List ℕ)) (options : RepairOptions) (files : RepairPaths)
     (before after : Option (List ℕ)) (old_puts new_puts : Option (List Put)) (fault : Fault) : Type 0 where
   pub text : List ℕ
   pub document : Document
@@ -137,12 +139,20 @@ pub record IsOpenUnrepaired (limits : Limits) (gives : ReadsFile) (def : List �
   pub begin : FloorState
   pub known : RepairLimits
   pub measured : IsMeasuredFloor gives state loaded begin known
-  pub unrepaired : IsUnrepaired teams legal files text document known begin before after old_puts new_puts fault
+  pub unrepaired : IsUnrepaired teams options files text document known begin before after old_puts new_puts fault
 
--- the design has no floor in the given state, and nothing is written; or it has one, and is not
--- repaired or its results are not written
-abbrev pub IsNotRepaired : Limits → ReadsFile → List ℕ → List (List ℕ) → Option (List ℕ) → List (List ℕ) → LegalCells
+-- why a repair has no floor: the design has none in the given state; or, if cells are to go near their
+-- nets, the pins or nets of its texts cannot be read
+abbrev pub IsOpeningFault : RepairOptions → Limits → ReadsFile → List ℕ → List (List ℕ) → Option (List ℕ) → Fault
+    → Type 0
+IsOpeningFault options limits gives def lefs state fault =
+    IsFloorFault limits gives def lefs state fault
+    ⊎ (IsTrue options.near_nets × IsFilesFault limits gives def lefs state fault)
+
+-- the repair has no floor, and nothing is written; or it has one, and is not repaired or its results are
+-- not written
+abbrev pub IsNotRepaired : Limits → ReadsFile → List ℕ → List (List ℕ) → Option (List ℕ) → List (List ℕ) → RepairOptions
     → RepairPaths → Option (List ℕ) → Option (List ℕ) → Option (List Put) → Option (List Put) → Fault → Type 0
-IsNotRepaired limits gives def lefs state teams legal files before after old new fault =
-    (IsFloorFault limits gives def lefs state fault × (after ≡ before) × (new ≡ old))
-    ⊎ IsOpenUnrepaired limits gives def lefs state teams legal files before after old new fault
+IsNotRepaired limits gives def lefs state teams options files before after old new fault =
+    (IsOpeningFault options limits gives def lefs state fault × (after ≡ before) × (new ≡ old))
+    ⊎ IsOpenUnrepaired limits gives def lefs state teams options files before after old new fault

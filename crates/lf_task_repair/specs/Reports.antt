@@ -1,5 +1,6 @@
 -- The report of a repair: the lines of its teams, and the line of all teams.
-use Rattle.std.specs.Prelude.{◌≡◌, ◌≢◌, ◌↔◌, ◌<◌, ◌++◌, ℕ, Bool, IsTrue, List, [], ◌∷◌, All, AllPairs, filter, flat_map, map, slice_get}
+use Rattle.std.specs.Prelude.{◌≡◌, ◌≢◌, ◌↔◌, ◌<◌, ◌++◌, ◌*◌, ◌^◌, ◌-◌, ℕ, ℤ, pos, Bool, IsTrue, List, [], ◌∷◌, All, AllPairs, Option, filter, flat_map, map, min, option_map, slice_get}
+use Rattle.std.specs.Int.RustNames.{unsigned_abs}
 use Rattle.std.specs.Option.{option_map_or}
 use Rattle.lf_floorplan.specs.declared.frame.Frame.{Frame}
 use Rattle.lf_rules.specs.Legalizer.{Legalizer}
@@ -7,8 +8,8 @@ use Rattle.lf_floor_model.specs.States.{FloorState}
 use Rattle.lf_floor_model.specs.Steps.{AllCommittedIn}
 use Rattle.lf_floor_model.specs.Teams.{team_names, team_number}
 use Rattle.lf_floor_model.specs.Committed.{IsCommittedLegal}
-use Rattle.lf_repair_team.specs.Stats.{AreTeamStats}
-use Rattle.lf_repair_team.specs.TeamRepairs.{AreLegalExcept, AreMovedOffSoft, HasNoPlaceOrIsListed, IsIllegalIn, KeepsListedPlaces, committed_in, session_slots_in}
+use Rattle.lf_repair_team.specs.Stats.{AreTeamMeans, AreTeamStats}
+use Rattle.lf_repair_team.specs.TeamRepairs.{AreLegalExcept, AreMovedOffSoft, HasNoPlaceOrIsListed, IsIllegalIn, KeepsListedPlaces, StaysWithin, committed_in, session_slots_in}
 use Rattle.lf_repair_strategy.specs.declared.stats.RepairStats.{RepairStats}
 use Rattle.lf_repair_report.specs.declared.report.RepairReport.{RepairReport}
 use Rattle.lf_repair_report.specs.declared.totals.Totals.{Totals}
@@ -42,20 +43,28 @@ abbrev pub selected_at : Frame → List (List ℕ) → ℕ → List (List ℕ)
 selected_at f teams number =
     filter (is_selected teams) (option_map_or (λ name. name ∷ []) (slice_get (team_names f) number) [])
 
+-- how far a cell may go, in database units, if this is given as a number of rows. It saturates at the
+-- greatest number of 63 bits
+abbrev pub reach_of_rows : Frame → Option ℕ → Option ℤ
+reach_of_rows f rows = option_map (λ n. pos (min (min (unsigned_abs f.pitch.y * n) (2 ^ 64 - 1)) (2 ^ 63 - 1))) rows
+
 -- the result of a team's repair that began on one floor, on the other, if no place can hold the
 -- listed macros: the unrepaired cells are listed in loading order, are exactly those that are not
--- legal, and have no place or are of a listed macro; the cells of listed macros are where they were;
--- the statistics are those of the team's cells from one floor to the other; the team is committed if
--- and only if no cell is unrepaired, and otherwise its committed places are as they were; its session
--- slots are as they were; each placed cell that is elsewhere is off soft blockages
-pub record IsRepairOf (list : List ImpossibleMacro) (team : List ℕ) (begin floor : FloorState) (became : RepairStats)
-    : Type 0 where
+-- legal, and have no place within reach or are of a listed macro; the cells of listed macros are where
+-- they were; no cell is farther than the reach from where it was; the statistics and the means are those
+-- of the team's cells from one floor to the other; the team is committed if and only if no cell is unrepaired,
+-- and otherwise its committed places are as they were; its session slots are as they were; each placed
+-- cell that is elsewhere is off soft blockages
+pub record IsRepairOf (reach : Option ℤ) (list : List ImpossibleMacro) (team : List ℕ) (begin floor : FloorState)
+    (became : RepairStats) : Type 0 where
   pub legal : AreLegalExcept team floor became.unrepaired.items
   pub illegal : All (IsIllegalIn floor team) became.unrepaired.items
-  pub complete : All (HasNoPlaceOrIsListed list floor team) became.unrepaired.items
+  pub complete : All (HasNoPlaceOrIsListed reach list begin floor team) became.unrepaired.items
+  pub within : StaysWithin reach team begin floor
   pub unmoved : KeepsListedPlaces list team begin floor
   pub rise : AllPairs (λ own later. own < later) became.unrepaired.items
   pub stats : AreTeamStats team begin floor became
+  pub means : AreTeamMeans team begin floor became.means
   pub committed : (l : Legalizer) → became.unrepaired.items ≡ [] ↔ AllCommittedIn l floor team
   pub uncommitted : became.unrepaired.items ≢ [] → committed_in floor team ≡ committed_in begin team
   pub slots : session_slots_in floor team ≡ session_slots_in begin team
@@ -63,19 +72,20 @@ pub record IsRepairOf (list : List ImpossibleMacro) (team : List ℕ) (begin flo
 
 -- the team is reported with its own bound, its unrepaired cells and their gaps, and the result of its
 -- repair from the first floor to the last one
-pub record IsTeamReport (bounds : List ℕ) (list : List ImpossibleMacro) (begin floor : FloorState) (t : TeamReport)
-    : Type 0 where
+pub record IsTeamReport (reach : Option ℤ) (bounds : List ℕ) (list : List ImpossibleMacro) (begin floor : FloorState)
+    (t : TeamReport) : Type 0 where
   pub least : t.least ≡ least_for bounds (team_number floor.frame t.name)
   pub left : t.left ≡ unrepaired_with list floor t.name t.became.unrepaired.items t.left.gaps
   pub gaps : AreGapsIn floor t.name t.became.unrepaired.items t.left.gaps
-  pub repaired : IsRepairOf list t.name begin floor t.became
+  pub repaired : IsRepairOf reach list t.name begin floor t.became
 
 -- the lines of the teams with these names are appended, each with the result of its repair from one
 -- floor to the other
-pub record AddsTeamLines (names : List (List ℕ)) (begin floor : FloorState) (old new : RepairReport) : Type 0 where
+pub record AddsTeamLines (reach : Option ℤ) (names : List (List ℕ)) (begin floor : FloorState)
+    (old new : RepairReport) : Type 0 where
   pub reported : List TeamReport
   pub named : map (λ t. t.name) reported ≡ names
-  pub each : All (IsTeamReport old.least.items old.impossible.items begin floor) reported
+  pub each : All (IsTeamReport reach old.least.items old.impossible.items begin floor) reported
   pub text : new.text.items ≡ old.text.items ++ flat_map line_of_team reported
   pub sums : new.sums ≡ sums_with old.sums reported
   pub least : new.least ≡ old.least
@@ -90,11 +100,11 @@ pub record AddsTotalLine (floor : FloorState) (old new : RepairReport) : Type 0 
 -- the text has the line of each selected team, with its own bound and the result of its repair from
 -- the first floor to the last one, and then the line of all teams, which says whether the committed
 -- design is fully legal
-pub record IsReport (teams : List (List ℕ)) (limits : RepairLimits) (begin floor : FloorState) (text : List ℕ)
-    : Type 0 where
+pub record IsReport (reach : Option ℤ) (teams : List (List ℕ)) (limits : RepairLimits) (begin floor : FloorState)
+    (text : List ℕ) : Type 0 where
   pub reported : List TeamReport
   pub named : map (λ t. t.name) reported ≡ selected_names floor.frame teams
-  pub each : All (IsTeamReport limits.least.items limits.impossible.items begin floor) reported
+  pub each : All (IsTeamReport reach limits.least.items limits.impossible.items begin floor) reported
   pub legal : Bool
   pub right : IsTrue legal ↔ IsCommittedLegal floor
   pub is : text ≡ flat_map line_of_team reported ++ all_line (sums_with no_sums reported) legal

@@ -1,7 +1,8 @@
 //! Repairs the teams of a design from files, reports the results, and writes the requested files.
 //!
 //! `repair` opens a design (`lf_task_designs`), and repairs the selected teams one after the other
-//! (`lf_repair_team`). The result of each is reported in a line of JSON (`lf_repair_report`). The
+//! (`lf_repair_team`). If cells without a place are to go near their nets, it opens the design with its
+//! nets (`lf_task_wires`), which give the targets of these cells (`lf_wire_targets`). The result of each is reported in a line of JSON (`lf_repair_report`). The
 //! requested files are written at the end: the DEF text with the committed and with the working
 //! places, the lines of all accepted commands, and the state. Their paths are tested first. A
 //! `Progress` reports how far the repair is. The exit status is 0, or 4 if the committed design is

@@ -1,7 +1,7 @@
 //! Repairs the teams of a design: the floor's own commands give their cells legal places.
 
-ghost use Rattle.std.specs.Prelude.{◌≡◌, ◌≢◌, ◌⊎◌, ◌+◌, ℕ, List, None, Option, Some, IfErr, IfOk, IsTrue, OnErr, OnOk};
-ghost use Rattle.std.specs.Prelude.{bytes_eq, is_some, length, map, option_copied, position, take, true};
+ghost use Rattle.std.specs.Prelude.{◌≡◌, ◌≢◌, ◌⊎◌, ◌+◌, ◌-◌, ◌^◌, ℕ, List, None, Option, Some, IfErr, IfOk, IsTrue, OnErr, OnOk};
+ghost use Rattle.std.specs.Prelude.{bytes_eq, is_some, length, map, min, option_copied, pos, position, take, true};
 ghost use Rattle.std.specs.Io.KnownBytes.{Appends};
 ghost use Rattle.lf_cli.specs.Command.{repair_paths};
 ghost use Rattle.lf_cli.specs.declared.parse.LegalCells.TheVariants.{KeepLegal};
@@ -21,14 +21,15 @@ ghost use Rattle.lf_task_files.specs.Exits.{CanBePut};
 ghost use Rattle.lf_task_files.specs.Faults.{ExportFails, IsDone};
 ghost use Rattle.lf_task_files.specs.States.{IsFloorFault};
 ghost use Rattle.lf_task_files.specs.Inputs.{path_of};
-ghost use Rattle.lf_task_repair.specs.Exits.{AreNotPut, AreWritten, IsNotPut, IsNotRepaired, IsOpenRepaired, IsPut, IsReadyRepair, IsRepaired, IsUnrepaired};
+ghost use Rattle.lf_task_wires.specs.Wirelengths.{IsFilesFault};
+ghost use Rattle.lf_task_repair.specs.Exits.{AreNotPut, AreWritten, IsNotPut, IsNotRepaired, IsOpenRepaired, IsOpeningFault, IsPut, IsReadyRepair, IsRepaired, IsUnrepaired};
 ghost use Rattle.lf_task_repair.specs.Repairs.{KeepsAllLegalPlaces, AreKnown, BlamesOutputs, IsStatusOf, IsFileOutputFault, IsKeptRun, IsUnknown, OnlySelectedChange, WritesExportAlone, WritesNoFile, WritesNoText};
 ghost use Rattle.lf_task_repair.specs.Repairs.{initial_lines, how_of, is_selected, is_text_requested, kept_text};
-ghost use Rattle.lf_task_repair.specs.Reports.{AddsTeamLines, IsRepairOf, IsReport, AddsTotalLine, selected_at, selected_names};
+ghost use Rattle.lf_task_repair.specs.Reports.{AddsTeamLines, IsRepairOf, IsReport, AddsTotalLine, reach_of_rows, selected_at, selected_names};
 
 use crate::command_log::{CommandLog, save_lines};
 use crate::progress::{Progress, ProgressSink};
-use lf_cli::{LegalCells, RepairFiles};
+use lf_cli::{LegalCells, RepairFiles, RepairOptions};
 use lf_floor::{Floor, team_name};
 use lf_floor_model::places_follow_design;
 use lf_floorplan::{Frame, Limits};
@@ -37,7 +38,7 @@ use lf_io_files::OutputFiles;
 use lf_laws_roundtrip::loaded_cells_are_exportable;
 use lf_legalize::IndexSeeker;
 use lf_repair_report::RepairReport;
-use lf_repair_team::{MovePolicy, repair_team};
+use lf_repair_team::{MovePolicy, RepairSearch, repair_team};
 use lf_rules::legalizer_exists;
 use lf_task_designs::{InputFiles, OpenedDesign, SourceText, open_design};
 use lf_task_faults::{Fault, OutputKind};
@@ -45,8 +46,13 @@ use lf_task_files::{
     ILLEGAL_STATUS, LEGAL_STATUS, MeasuredFloor, RepairLimits, check_output_path,
     is_committed_legal, open_measured, save_export, save_to, save_working,
 };
+use lf_task_wires::{NettedDesign, NettedInput, netted_design};
+use lf_wire_targets::TeamTargets;
 use lf_write::kept_clauses_suffice;
 use std::alloc::Global;
+
+/// The greatest distance that a cell may be allowed to go, in database units.
+const MOST_REACH: u64 = 9_223_372_036_854_775_807;
 
 /// Arguments of `lefence repair`.
 #[derive(Clone, Copy)]
@@ -59,8 +65,8 @@ pub struct RepairJob<'a> {
     pub state: Option<&'a str>,
     /// The names of the selected teams. All teams are repaired if it is empty.
     pub teams: &'a [&'a str],
-    /// Whether legal cells may move.
-    pub legal: LegalCells,
+    /// Which cells may move, and how places are searched for.
+    pub options: RepairOptions,
     /// The paths of the files to write.
     pub files: RepairFiles<'a>,
     pub limits: Limits,
@@ -122,6 +128,7 @@ fn repair_named<'f, P: Progress>(
     floor: &mut Floor<IndexSeeker>,
     name: &[u8],
     how: MovePolicy,
+    search: &RepairSearch<'_>,
     lines: &mut ProgressSink<'_, P>,
     report: &mut RepairReport,
 ) -> Result<(), Fault<'f>>
@@ -131,10 +138,11 @@ fn repair_named<'f, P: Progress>(
     ensures kept { how ≡ Keep → KeepsLegalPlaces name.now floor.old floor.new }
     ensures reported { OnOk result
         ((repaired : RepairStats) × IsOneMore floor.new name.now repaired report.old report.new
-        × IsRepairOf report.old.impossible.items name.now floor.old floor.new repaired) }
+        × IsRepairOf search.now.reach report.old.impossible.items name.now floor.old floor.new repaired) }
     ensures err { IfErr result (λ fault. fault ≡ SetupOutOfMemory) }
 {
-    match repair_team(alloc, floor, name, how, report.impossible.as_slice(), lines) {
+    let impossible = report.impossible.as_slice();
+    match repair_team(alloc, floor, name, how, search, impossible, lines) {
         Ok(repaired) => {
             report.add(alloc, floor, name, &repaired)?;
             Ok(())
@@ -155,6 +163,39 @@ pub fn announce_team<P: Progress>(
     progress.begin(work, name, number, teams);
 }
 
+/// Returns the distance, or the greatest number of 63 bits if it is greater.
+fn in_63_bits(distance: u64) -> i64
+    ensures { result ≡ pos (min distance (2 ^ 63 - 1)) }
+{
+    distance.min(MOST_REACH) as i64
+}
+
+/// Returns the distance in database units that a cell may move, given as a number of rows. `None` if
+/// there is no limit.
+fn reach_of_rows(frame: &Frame, rows: Option<u32>) -> Option<i64>
+    ensures { result ≡ reach_of_rows frame.now rows }
+{
+    let height = frame.pitch.y.unsigned_abs();
+    Some(in_63_bits(height.saturating_mul(u64::from(rows?))))
+}
+
+/// Returns how a repair of the team with this number searches for places.
+fn search_of<'t>(
+    frame: &Frame,
+    options: &RepairOptions,
+    targets: &'t TeamTargets,
+    number: usize,
+) -> RepairSearch<'t>
+    ensures { result.reach ≡ reach_of_rows frame.now options.now.within }
+{
+    RepairSearch {
+        tries: options.tries,
+        reach: reach_of_rows(frame, options.within),
+        balances_heights: options.balances_heights,
+        targets: targets.of_team(number),
+    }
+}
+
 /// Repairs the team with this number, if it is selected.
 #[tactic(auto, using(crate::proofs::Repairing::nothing_requested, crate::proofs::Repairing::none_changes))]
 fn repair_numbered<'a, P: Progress>(
@@ -162,6 +203,7 @@ fn repair_numbered<'a, P: Progress>(
     floor: &mut Floor<IndexSeeker>,
     number: usize,
     requested: &RepairJob<'a>,
+    targets: &TeamTargets,
     lines: &mut ProgressSink<'_, P>,
     report: &mut RepairReport,
 ) -> Result<(), Fault<'a>>
@@ -169,10 +211,10 @@ fn repair_numbered<'a, P: Progress>(
         → OnOk result (IsKeptRun l floor.old (kept_text lines.old.lines) (kept_text lines.new.lines) floor.new) }
     ensures only { OnOk result
         (OnlySelectedChange (map (λ team. team.now) requested.now.teams.now) floor.old floor.new) }
-    ensures reported { OnOk result (AddsTeamLines (selected_at floor.old.frame
+    ensures reported { OnOk result (AddsTeamLines (reach_of_rows floor.old.frame requested.now.options.within) (selected_at floor.old.frame
         (map (λ team. team.now) requested.now.teams.now) number) floor.old floor.new report.old report.new) }
     ensures err { IfErr result (λ fault. fault ≡ SetupOutOfMemory) }
-    ensures kept { requested.now.legal ≡ KeepLegal → (team : List ℕ) → team_number floor.old.frame team ≡ Some number
+    ensures kept { requested.now.options.legal ≡ KeepLegal → (team : List ℕ) → team_number floor.old.frame team ≡ Some number
         → KeepsLegalPlaces team floor.old floor.new }
     ensures others { (team : List ℕ) → team_number floor.old.frame team ≢ Some number
         → state_of floor.new team ≡ state_of floor.old team }
@@ -187,7 +229,9 @@ fn repair_numbered<'a, P: Progress>(
     }
     let frame = floor.placement().frame();
     announce_team(lines.progress, "repairing", frame, name, number);
-    repair_named(alloc, floor, name, how_of(requested.legal), lines, report)
+    let search = search_of(frame, &requested.options, targets, number);
+    let legal = requested.options.legal;
+    repair_named(alloc, floor, name, how_of(legal), &search, lines, report)
 }
 
 /// Repairs the selected teams in their order.
@@ -195,6 +239,7 @@ fn repair_teams<'a, P: Progress>(
     alloc: Global,
     floor: &mut Floor<IndexSeeker>,
     requested: &RepairJob<'a>,
+    targets: &TeamTargets,
     lines: &mut ProgressSink<'_, P>,
     report: &mut RepairReport,
 ) -> Result<(), Fault<'a>>
@@ -202,14 +247,14 @@ fn repair_teams<'a, P: Progress>(
         → OnOk result (IsKeptRun l floor.old (kept_text lines.old.lines) (kept_text lines.new.lines) floor.new) }
     ensures only { OnOk result
         (OnlySelectedChange (map (λ team. team.now) requested.now.teams.now) floor.old floor.new) }
-    ensures kept { requested.now.legal ≡ KeepLegal → OnOk result (KeepsAllLegalPlaces floor.old floor.new) }
-    ensures reported { OnOk result (AddsTeamLines (selected_names floor.old.frame
+    ensures kept { requested.now.options.legal ≡ KeepLegal → OnOk result (KeepsAllLegalPlaces floor.old floor.new) }
+    ensures reported { OnOk result (AddsTeamLines (reach_of_rows floor.old.frame requested.now.options.within) (selected_names floor.old.frame
         (map (λ team. team.now) requested.now.teams.now)) floor.old floor.new report.old report.new) }
     ensures err { IfErr result (λ fault. fault ≡ SetupOutOfMemory) }
 {
     let teams = floor.placement().frame().teams.len() + 1;
     for number in 0..teams {
-        repair_numbered(alloc, floor, number, requested, lines, report)?;
+        repair_numbered(alloc, floor, number, requested, targets, lines, report)?;
     }
     Ok(())
 }
@@ -249,12 +294,14 @@ pub struct FinishedTask {
     pub status: u8,
 }
 
-/// Repairs the selected teams, and reports the results with these limits.
+/// Repairs the selected teams, and reports the results with these limits. The targets are those of
+/// cells without a place.
 fn repair_selected<'a, P: Progress>(
     alloc: Global,
     floor: &mut Floor<IndexSeeker>,
     requested: &RepairJob<'a>,
     limits: &RepairLimits,
+    targets: &TeamTargets,
     progress: &mut P,
 ) -> Result<FinishedTask, Fault<'a>>
     requires { length floor.old.teams ≡ length floor.old.frame.teams + 1 }
@@ -263,10 +310,10 @@ fn repair_selected<'a, P: Progress>(
         floor.new) }
     ensures only { OnOk result
         (OnlySelectedChange (map (λ team. team.now) requested.now.teams.now) floor.old floor.new) }
-    ensures kept { requested.now.legal ≡ KeepLegal → OnOk result (KeepsAllLegalPlaces floor.old floor.new) }
+    ensures kept { requested.now.options.legal ≡ KeepLegal → OnOk result (KeepsAllLegalPlaces floor.old floor.new) }
     ensures committed_checked { IfOk result (λ done. IsStatusOf floor.new done.status) }
-    ensures reported { IfOk result (λ done. IsReport (map (λ team. team.now) requested.now.teams.now) limits.now
-        floor.old floor.new done.report.items) }
+    ensures reported { IfOk result (λ done. IsReport (reach_of_rows floor.old.frame requested.now.options.within)
+        (map (λ team. team.now) requested.now.teams.now) limits.now floor.old floor.new done.report.items) }
     ensures err { IfErr result (λ fault. fault ≡ SetupOutOfMemory) }
 {
     legalizer_exists();
@@ -275,7 +322,7 @@ fn repair_selected<'a, P: Progress>(
     let least = limits.least.as_slice();
     let impossible = limits.impossible.as_slice();
     let mut report = RepairReport::new(alloc, least, impossible)?;
-    repair_teams(alloc, floor, requested, &mut lines, &mut report)?;
+    repair_teams(alloc, floor, requested, targets, &mut lines, &mut report)?;
     let status = close_report(alloc, floor, &mut report)?;
     let ProgressSink { lines, .. } = lines;
     let RepairReport { text, .. } = report;
@@ -423,6 +470,8 @@ struct RepairContext<'p, P> {
     /// The DEF text, if it is kept.
     original: Option<SourceText>,
     limits: RepairLimits,
+    /// The targets of cells without a place.
+    targets: TeamTargets,
     /// The receiver of progress reports.
     progress: &'p mut P,
 }
@@ -443,12 +492,12 @@ fn repair_on_floor<'a, E: OutputFiles, W: Sink, P: Progress>(
         → AreCommittedPlaces s places
         → CanBePut before.old.original places }
     ensures ok { (text : List ℕ) (document : Document) → AreKept before.old.original text document
-        → IfOk result (IsRepaired (map (λ team. team.now) requested.now.teams.now) requested.now.legal
+        → IfOk result (IsRepaired (map (λ team. team.now) requested.now.teams.now) requested.now.options
         (repair_paths requested.now.files)
         text document before.old.limits floor.old
         (W.contents writer.old) (W.contents writer.new) (E.puts exports.old) (E.puts exports.new)) }
     ensures err { (text : List ℕ) (document : Document) → AreKept before.old.original text document
-        → IfErr result (IsUnrepaired (map (λ team. team.now) requested.now.teams.now) requested.now.legal
+        → IfErr result (IsUnrepaired (map (λ team. team.now) requested.now.teams.now) requested.now.options
         (repair_paths requested.now.files)
         text document before.old.limits floor.old
         (W.contents writer.old) (W.contents writer.new) (E.puts exports.old) (E.puts exports.new)) }
@@ -462,7 +511,14 @@ fn repair_on_floor<'a, E: OutputFiles, W: Sink, P: Progress>(
 {
     all_known(floor, requested.teams)?;
     try_files(&requested.files, exports)?;
-    let done = repair_selected(alloc, floor, requested, &before.limits, before.progress)?;
+    let done = repair_selected(
+        alloc,
+        floor,
+        requested,
+        &before.limits,
+        &before.targets,
+        before.progress,
+    )?;
     let status = put_results(
         floor,
         before.original.as_ref(),
@@ -481,6 +537,8 @@ struct ReadyRepair {
     measured: MeasuredFloor,
     /// The DEF text, if one of the requested files is made from it.
     original: Option<SourceText>,
+    /// The targets of cells without a place.
+    targets: TeamTargets,
 }
 
 /// Returns whether one of the requested files is made from the DEF text.
@@ -490,9 +548,45 @@ pub fn is_text_requested(files: &RepairFiles<'_>) -> bool
     files.export.is_some() || files.working.is_some()
 }
 
+/// Opens the design of the files with its nets, and the floor with which its repair begins. The cells
+/// without a place have targets near their nets. The DEF text is kept if one of the requested files is
+/// made from it.
+fn ready_near_nets<'a, T: InputFiles>(
+    alloc: Global,
+    texts: &T,
+    requested: &RepairJob<'a>,
+) -> Result<ReadyRepair, Fault<'a>>
+    ensures ok { IfOk result (IsReadyRepair requested.now.limits (T.gives texts.now) requested.now.def.now
+        (map (λ lef. lef.now) requested.now.lefs.now) (path_of requested.now.state)
+        (repair_paths requested.now.files)) }
+    ensures err { IfErr result (IsFilesFault requested.now.limits (T.gives texts.now) requested.now.def.now
+        (map (λ lef. lef.now) requested.now.lefs.now) (path_of requested.now.state)) }
+{
+    let is_text_kept = is_text_requested(&requested.files);
+    let input = NettedInput {
+        def: requested.def,
+        lefs: requested.lefs,
+        limits: requested.limits,
+        is_text_kept,
+    };
+    let NettedDesign {
+        loaded,
+        netlist,
+        original,
+    } = netted_design(alloc, texts, &input)?;
+    let begin = open_measured(alloc, texts, loaded, requested.state)?;
+    let netlist = netlist?;
+    let targets = TeamTargets::near_nets(alloc, &netlist, begin.floor.placement().cells())?;
+    Ok(ReadyRepair {
+        measured: begin,
+        original,
+        targets,
+    })
+}
+
 /// Opens the design of the files, and the floor with which its repair begins. Its DEF text is kept
 /// if one of the requested files is made from it.
-fn ready_repair<'a, T: InputFiles>(
+fn ready_without_nets<'a, T: InputFiles>(
     alloc: Global,
     texts: &T,
     requested: &RepairJob<'a>,
@@ -513,7 +607,31 @@ fn ready_repair<'a, T: InputFiles>(
     )?;
     let OpenedDesign { loaded, original } = opened;
     let measured = open_measured(alloc, texts, loaded, requested.state)?;
-    Ok(ReadyRepair { measured, original })
+    Ok(ReadyRepair {
+        measured,
+        original,
+        targets: TeamTargets::none(alloc),
+    })
+}
+
+/// Opens the design of the files, with its nets if cells are to go near them, and the floor with which
+/// its repair begins. Its DEF text is kept if one of the requested files is made from it.
+fn ready_repair<'a, T: InputFiles>(
+    alloc: Global,
+    texts: &T,
+    requested: &RepairJob<'a>,
+) -> Result<ReadyRepair, Fault<'a>>
+    ensures ok { IfOk result (IsReadyRepair requested.now.limits (T.gives texts.now) requested.now.def.now
+        (map (λ lef. lef.now) requested.now.lefs.now) (path_of requested.now.state)
+        (repair_paths requested.now.files)) }
+    ensures err { IfErr result (IsOpeningFault requested.now.options requested.now.limits (T.gives texts.now)
+        requested.now.def.now (map (λ lef. lef.now) requested.now.lefs.now) (path_of requested.now.state)) }
+{
+    let near_nets = requested.options.near_nets;
+    if near_nets {
+        return ready_near_nets(alloc, texts, requested);
+    }
+    ready_without_nets(alloc, texts, requested)
 }
 
 /// Repairs the teams of a floor of an opened text.
@@ -532,12 +650,12 @@ fn repair_opened<'a, E: OutputFiles, W: Sink, P: Progress>(
         → AreCommittedPlaces s places
         → CanBePut ready.original places }
     ensures ok { (text : List ℕ) (document : Document) → AreKept ready.original text document
-        → IfOk result (IsRepaired (map (λ team. team.now) requested.now.teams.now) requested.now.legal
+        → IfOk result (IsRepaired (map (λ team. team.now) requested.now.teams.now) requested.now.options
         (repair_paths requested.now.files)
         text document ready.measured.limits ready.measured.floor
         (W.contents writer.old) (W.contents writer.new) (E.puts exports.old) (E.puts exports.new)) }
     ensures err { (text : List ℕ) (document : Document) → AreKept ready.original text document
-        → IfErr result (IsUnrepaired (map (λ team. team.now) requested.now.teams.now) requested.now.legal
+        → IfErr result (IsUnrepaired (map (λ team. team.now) requested.now.teams.now) requested.now.options
         (repair_paths requested.now.files)
         text document ready.measured.limits ready.measured.floor
         (W.contents writer.old) (W.contents writer.new) (E.puts exports.old) (E.puts exports.new)) }
@@ -549,11 +667,16 @@ fn repair_opened<'a, E: OutputFiles, W: Sink, P: Progress>(
     ensures unasked { WritesNoFile (repair_paths requested.now.files) → exports.new ≡ exports.old }
     ensures held { W.holds writer.new ≡ W.holds writer.old }
 {
-    let ReadyRepair { measured, original } = ready;
+    let ReadyRepair {
+        measured,
+        original,
+        targets,
+    } = ready;
     let MeasuredFloor { mut floor, limits } = measured;
     let mut before = RepairContext {
         original,
         limits,
+        targets,
         progress,
     };
     repair_on_floor(alloc, &mut floor, &mut before, requested, exports, writer)
@@ -568,6 +691,7 @@ fn repair_opened<'a, E: OutputFiles, W: Sink, P: Progress>(
 /// - the files, LEF and then DEF
 /// - the design
 /// - the state
+/// - the pins of the LEF files, and then the nets of the DEF file, if cells are to go near their nets
 /// - a name that is not a team's
 /// - the paths of the requested files
 /// - memory
@@ -587,11 +711,11 @@ pub fn repair<'a, T: InputFiles, E: OutputFiles, W: Sink, P: Progress>(
 ) -> Result<u8, Fault<'a>>
     ensures ok { IfOk result (IsOpenRepaired requested.now.limits (T.gives texts.now) requested.now.def.now
         (map (λ lef. lef.now) requested.now.lefs.now) (path_of requested.now.state)
-        (map (λ team. team.now) requested.now.teams.now) requested.now.legal (repair_paths requested.now.files)
+        (map (λ team. team.now) requested.now.teams.now) requested.now.options (repair_paths requested.now.files)
         (W.contents writer.old) (W.contents writer.new) (E.puts exports.old) (E.puts exports.new)) }
     ensures err { IfErr result (λ fault. IsNotRepaired requested.now.limits (T.gives texts.now) requested.now.def.now
         (map (λ lef. lef.now) requested.now.lefs.now) (path_of requested.now.state)
-        (map (λ team. team.now) requested.now.teams.now) requested.now.legal (repair_paths requested.now.files)
+        (map (λ team. team.now) requested.now.teams.now) requested.now.options (repair_paths requested.now.files)
         (W.contents writer.old) (W.contents writer.new) (E.puts exports.old) (E.puts exports.new) fault
         × BlamesOutputs fault (writer.new ≡ writer.old) (W.has_failed writer.old) (W.has_failed writer.new)
         (E.has_failed exports.old) (E.has_failed exports.new)) }

@@ -1,2 +1,3 @@
-pub mod Keeping
+mod Keeping
+pub mod NettedSteps
 pub mod Steps

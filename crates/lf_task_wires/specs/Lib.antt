@@ -1,2 +1,3 @@
+pub mod Netted
 pub mod Readings
 pub mod Wirelengths

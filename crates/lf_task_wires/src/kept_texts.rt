@@ -53,7 +53,7 @@ fn add_all<'a, T: InputFiles>(
 }
 
 /// Reads the library of LEF files, given by their paths, and keeps their texts.
-pub fn kept_library<'a, T: InputFiles>(
+pub(crate) fn kept_library<'a, T: InputFiles>(
     alloc: Global,
     texts: &T,
     kept: &mut Vec<Vec<u8>>,

@@ -31,7 +31,7 @@ fn add_pins<'t, 'a>(
 }
 
 /// Reads the pins of the LEF texts of these files, in their order.
-pub fn pins_of<'t, 'a>(
+pub(crate) fn pins_of<'t, 'a>(
     alloc: Global,
     paths: &[&'a str],
     texts: &'t [Vec<u8>],
@@ -49,7 +49,7 @@ pub fn pins_of<'t, 'a>(
 }
 
 /// Reads the nets of a DEF text, of the file `path`.
-pub fn nets_in<'t, 'a>(
+pub(crate) fn nets_in<'t, 'a>(
     alloc: Global,
     path: &'a str,
     text: &'t [u8],

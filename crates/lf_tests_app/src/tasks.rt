@@ -7,8 +7,8 @@ ghost use Rattle.lf_server.specs.Devices.{writer};
 use crate::shelf::Shelf;
 use lf_app::{
     Acceptor, BindFailure, ClientReader, ClientWriter, Connection, Environment, FsInputFiles,
-    NetListener, NoProgress, PortListener, RepairFiles, ServiceConfig, Slots, Task, TaskExit,
-    perform, perform_over,
+    ImproveOptions, NetListener, NoProgress, PortListener, RepairFiles, ServiceConfig, Slots, Task,
+    TaskExit, perform, perform_over,
 };
 use lf_def::DEMO_DEF;
 use lf_io::{DeviceFault, FromRead, ToWrite};
@@ -738,7 +738,11 @@ fn a_design_is_improved(rt: HostRuntime) -> Result<(), Fail> {
         slots: Slots::standard(),
         teams: Sequence::new(rt.alloc()),
         within: None,
-        rounds: 4,
+        options: ImproveOptions {
+            rounds: 4,
+            moves: 0,
+            density: None,
+        },
         files: RepairFiles {
             export: None,
             working: None,

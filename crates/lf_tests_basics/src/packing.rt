@@ -1,6 +1,6 @@
 //! Cells packed into a span: candidates, and cells that are pushed apart.
 
-use lf_repair_packing::{CostCurve, PackedCell, PackedSpan, SearchEffort};
+use lf_repair_packing::{CostCurve, Insertion, PackedCell, PackedSpan, SearchEffort};
 use std::alloc::{AllocError, Global};
 use std::test::Fail;
 
@@ -13,6 +13,8 @@ fn three(alloc: Global) -> Result<PackedSpan, AllocError> {
             number,
             width: 4,
             wanted,
+            offset: 0,
+            reach: 40,
             at: wanted,
         };
         if gap < 3 && segment.has_room(4) {
@@ -28,6 +30,8 @@ fn one_more() -> PackedCell {
         number: 3,
         width: 4,
         wanted: 12,
+        offset: 0,
+        reach: 40,
         at: 12,
     }
 }
@@ -62,6 +66,8 @@ fn candidates_have_the_cost_of_gaps(rt: HostRuntime) -> Result<(), Fail> {
         most: 100,
         near: 1000,
         weight: 1,
+        pitch: 1,
+        factor: 1,
     };
     let mut costs = Vec::new(rt.alloc());
     assert!(rt; segment.len() == 3);
@@ -96,9 +102,52 @@ fn cells_are_found_and_changed(rt: HostRuntime) -> Result<(), Fail> {
         number: 4,
         width: 4,
         wanted: 12,
+        offset: 0,
+        reach: 40,
         at: 0,
     };
     segment.replace(0, other);
     assert!(rt; segment.displacement() == 2);
+    Ok(())
+}
+
+/// Returns an insertion in the first gap.
+fn insertion(at: u32, cost: i64) -> Insertion {
+    Insertion { gap: 0, at, cost }
+}
+
+/// A target between two sites costs its distance from either. A neighbour is not pushed beyond its
+/// reach.
+#[test]
+fn targets_between_sites_cost_exactly(rt: HostRuntime) -> Result<(), Fail> {
+    let mut segment = PackedSpan::new(rt.alloc(), 40);
+    let mut curve = CostCurve::new(rt.alloc());
+    let effort = SearchEffort {
+        reach: 1000,
+        most: 100,
+        near: 1000,
+        weight: 1,
+        pitch: 10,
+        factor: 1,
+    };
+    let cell = PackedCell {
+        offset: 7,
+        ..one_more()
+    };
+    assert!(rt; segment.len() == 0);
+    let found = segment.try_insertion(0, &cell, &effort, &mut curve)?;
+    assert!(rt; found == Some(insertion(13, 3)));
+    let neighbour = PackedCell {
+        number: 0,
+        wanted: 14,
+        reach: 1,
+        at: 14,
+        ..cell
+    };
+    assert!(rt; segment.has_room(neighbour.width));
+    segment.insert(0, neighbour)?;
+    assert!(rt; segment.len() == 1);
+    let found = segment.try_insertion(0, &cell, &effort, &mut curve)?;
+    assert!(rt; found == Some(insertion(11, 13)));
     Ok(())
 }

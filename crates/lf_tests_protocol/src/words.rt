@@ -1,6 +1,8 @@
 //! The words of the command line.
 
-use lf_cli::{LegalCells, RepairFiles, Task, UsageFault, command_of};
+use lf_cli::{
+    ImproveOptions, LegalCells, RepairFiles, RepairOptions, Task, UsageFault, command_of,
+};
 use std::alloc::{AllocError, Global};
 use std::test::Fail;
 
@@ -52,7 +54,7 @@ enum Named<'a> {
         state: Option<&'a str>,
         sessions: u32,
         teams: &'a [&'a str],
-        legal: LegalCells,
+        options: RepairOptions,
         files: RepairFiles<'a>,
     },
     Improve {
@@ -61,7 +63,7 @@ enum Named<'a> {
         sessions: u32,
         teams: &'a [&'a str],
         within: Option<u32>,
-        rounds: u32,
+        options: ImproveOptions,
         files: RepairFiles<'a>,
     },
     Nothing(UsageFault),
@@ -148,7 +150,7 @@ fn as_named<'a>(task: &'a Task<'a>) -> Named<'a> {
             state,
             slots,
             teams,
-            legal,
+            options,
             files,
         } => Named::Repair {
             def: *def,
@@ -156,7 +158,7 @@ fn as_named<'a>(task: &'a Task<'a>) -> Named<'a> {
             state: *state,
             sessions: slots.number,
             teams: teams.as_slice(),
-            legal: *legal,
+            options: *options,
             files: *files,
         },
         Task::Improve {
@@ -165,7 +167,7 @@ fn as_named<'a>(task: &'a Task<'a>) -> Named<'a> {
             slots,
             teams,
             within,
-            rounds,
+            options,
             files,
         } => Named::Improve {
             def: *def,
@@ -173,7 +175,7 @@ fn as_named<'a>(task: &'a Task<'a>) -> Named<'a> {
             sessions: slots.number,
             teams: teams.as_slice(),
             within: *within,
-            rounds: *rounds,
+            options: *options,
             files: *files,
         },
     }
@@ -396,12 +398,49 @@ fn words_name_the_files_of_a_repair(rt: HostRuntime) -> Result<(), Fail> {
         state: Some("s"),
         sessions: 9,
         teams: &["A"],
-        legal: LegalCells::KeepLegal,
+        options: RepairOptions {
+            legal: LegalCells::KeepLegal,
+            tries: 20,
+            within: None,
+            balances_heights: false,
+            near_nets: false,
+        },
         files,
     };
     let lines = [
         "lefence repair a b --state s --sessions 9 --team A --keep --export a --export-working w --lines l --save s",
         "lefence repair --save=s --lines=l --export-working=w --export=a --keep --team=A --sessions=9 --state=s a b",
+    ];
+    assert!(rt; all_name(rt.alloc(), lines.as_slice(), &repair)?);
+    Ok(())
+}
+
+/// The options of a repair's search.
+#[test]
+fn words_name_the_search_of_a_repair(rt: HostRuntime) -> Result<(), Fail> {
+    let repair = Named::Repair {
+        def: "a",
+        lefs: &["b"],
+        state: None,
+        sessions: 8,
+        teams: &[],
+        options: RepairOptions {
+            legal: LegalCells::MoveAsNeeded,
+            tries: 1_000_000,
+            within: Some(65_535),
+            balances_heights: true,
+            near_nets: true,
+        },
+        files: RepairFiles {
+            export: None,
+            working: None,
+            lines: None,
+            save: None,
+        },
+    };
+    let lines = [
+        "lefence repair a b --effort 10000 --within 65535 --balance-heights --near-nets",
+        "lefence repair --near-nets --balance-heights --within=65535 --effort=10000 a b",
     ];
     assert!(rt; all_name(rt.alloc(), lines.as_slice(), &repair)?);
     Ok(())
@@ -416,7 +455,11 @@ fn words_name_an_improvement(rt: HostRuntime) -> Result<(), Fail> {
         sessions: 8,
         teams: &[],
         within: None,
-        rounds: 4,
+        options: ImproveOptions {
+            rounds: 4,
+            moves: 0,
+            density: None,
+        },
         files: RepairFiles {
             export: None,
             working: None,
@@ -431,7 +474,11 @@ fn words_name_an_improvement(rt: HostRuntime) -> Result<(), Fail> {
         sessions: 9,
         teams: &["B", "A", "-"],
         within: Some(65_535),
-        rounds: 100,
+        options: ImproveOptions {
+            rounds: 100,
+            moves: 10_000,
+            density: Some(100),
+        },
         files: RepairFiles {
             export: Some("a"),
             working: None,
@@ -440,8 +487,8 @@ fn words_name_an_improvement(rt: HostRuntime) -> Result<(), Fail> {
         },
     };
     let lines = [
-        "lefence improve a b c --team B --team A --team - --within 65535 --rounds 100 --sessions 9 --export a --lines l",
-        "lefence improve --lines=l --export=a --sessions=9 --rounds=+100 --within=065535 --team=B --team=A --team=- a b c",
+        "lefence improve a b c --team B --team A --team - --within 65535 --rounds 100 --effort 10000 --density 100 --sessions 9 --export a --lines l",
+        "lefence improve --lines=l --export=a --sessions=9 --density=100 --effort=10000 --rounds=+100 --within=065535 --team=B --team=A --team=- a b c",
     ];
     assert!(rt; all_name(rt.alloc(), lines.as_slice(), &improve)?);
     Ok(())

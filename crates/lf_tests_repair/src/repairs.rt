@@ -8,7 +8,9 @@ use lf_io::ToWrite;
 use lf_legalize::PlainSeeker;
 use lf_orient::Orient;
 use lf_proto::{Command, Refusal, TeamCommand};
-use lf_repair_team::{MovePolicy, RepairFault, RepairStats, is_team_legal, repair_team};
+use lf_repair_team::{
+    MovePolicy, RepairFault, RepairSearch, RepairStats, is_team_legal, repair_team,
+};
 use lf_tests_support::{design_of, with_line};
 use std::alloc::{AllocError, Global};
 use std::test::Fail;
@@ -102,8 +104,14 @@ fn repair_to(
     how: MovePolicy,
     writer: &mut Room,
 ) -> Result<RepairStats, RepairFault> {
+    let search = RepairSearch {
+        tries: 0,
+        reach: None,
+        balances_heights: false,
+        targets: &[],
+    };
     let mut lines = ToWrite::new(writer);
-    repair_team(alloc, floor, b"A", how, &[], &mut lines)
+    repair_team(alloc, floor, b"A", how, &search, &[], &mut lines)
 }
 
 /// Repairs A with a writer that takes at most `left` bytes of its lines.

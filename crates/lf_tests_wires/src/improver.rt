@@ -4,10 +4,10 @@ ghost use Rattle.std.specs.Prelude.{◌<◌};
 
 use lf_repair_planner::{FreeRows, FreeSpan, PlannerRow, RowKind};
 use lf_wire_board::{
-    BoardNets, BoardPin, BoardPoint, CellPlace, ImprovableCell, Orientations, OrientedOffsets,
-    RowOrientations,
+    BinBox, Bins, BoardNets, BoardPin, BoardPoint, CellPlace, ImprovableCell, Orientations,
+    OrientedOffsets, RowOrientations,
 };
-use lf_wire_improver::{ImproveOptions, improved_places};
+use lf_wire_improver::{ImproveOptions, ImproveSearch, improved_places};
 use std::alloc::{AllocError, Global};
 use std::test::Fail;
 
@@ -136,13 +136,30 @@ impl Sample {
         alloc: Global,
         within: Option<u64>,
     ) -> Result<Vec<Option<CellPlace>>, AllocError> {
+        self.improved_by(alloc, within, 0, None)
+    }
+
+    /// Improves the board by four rounds, and then by this number of random moves of each cell.
+    fn improved_by(
+        &self,
+        alloc: Global,
+        within: Option<u64>,
+        moves: u32,
+        bins: Option<Bins>,
+    ) -> Result<Vec<Option<CellPlace>>, AllocError> {
         let options = ImproveOptions { rounds: 4, within };
+        let search = ImproveSearch {
+            moves,
+            density: None,
+        };
         improved_places(
             alloc,
             &self.rows,
             self.cells.as_slice(),
             &self.nets,
             &options,
+            &search,
+            bins,
         )
     }
 
@@ -369,5 +386,50 @@ fn random_boards_are_improved(rt: HostRuntime) -> Result<(), Fail> {
     let after = sample.length(places.as_slice());
     assert!(rt; are_apart(rt.alloc(), &sample, places.as_slice())?);
     assert!(rt; after.saturating_mul(3) < before.saturating_mul(2));
+    Ok(())
+}
+
+/// Random moves after the rounds shorten the wires further, and cells stay apart.
+#[test]
+fn annealing_shortens_wires(rt: HostRuntime) -> Result<(), Fail> {
+    let sample = scattered(rt.alloc())?;
+    let first = sample.improved(rt.alloc(), None)?;
+    let places = sample.improved_by(rt.alloc(), None, 20, None)?;
+    let before = sample.length(first.as_slice());
+    let after = sample.length(places.as_slice());
+    assert!(rt; are_apart(rt.alloc(), &sample, places.as_slice())?);
+    assert!(rt; after < before);
+    Ok(())
+}
+
+/// Returns the box from one corner to another.
+fn box_between(x1: i64, y1: i64, x2: i64, y2: i64) -> BinBox {
+    BinBox { x1, y1, x2, y2 }
+}
+
+/// Returns the width of all cells that are in the left half of the lower five rows.
+fn width_in_corner(sample: &Sample, places: &[Option<CellPlace>]) -> i64 {
+    let mut sum: i64 = 0;
+    for cell in 0..200u32 {
+        let place = sample.place_of(places, cell);
+        if place.y < 500 {
+            let x = place.x as i64;
+            sum = sum.saturating_add(500i64.saturating_sub(x).clamp(0, 30));
+        }
+    }
+    sum
+}
+
+/// A bin that has no room left gets no fuller.
+#[test]
+fn full_bins_get_no_fuller(rt: HostRuntime) -> Result<(), Fail> {
+    let sample = scattered(rt.alloc())?;
+    let mut bins = Bins::new(rt.alloc(), &box_between(0, 0, 1000, 1000), 500)?;
+    bins.add(&box_between(500, 0, 1000, 1000), 1000);
+    bins.add(&box_between(0, 500, 500, 1000), 1000);
+    let places = sample.improved_by(rt.alloc(), None, 4, Some(bins))?;
+    let before = width_in_corner(&sample, &[]);
+    assert!(rt; sample.length(places.as_slice()) < sample.length(&[]));
+    assert!(rt; width_in_corner(&sample, places.as_slice()) <= before);
     Ok(())
 }

@@ -1,6 +1,8 @@
 //! A board: which cell is on each site, and the place of each cell.
 
+use crate::bins::{BinBox, Bins};
 use crate::cells::{CellPlace, ImprovableCell};
+use crate::change::SiteMove;
 use crate::limits::{count_of, doubled, number_of};
 use crate::nets::BoardPoint;
 use crate::runs::{SiteRun, SiteRuns};
@@ -37,6 +39,9 @@ pub struct Board<'a> {
     /// The number of the cell on each site, run after run, or `FREE`.
     sites: Vec<u32>,
     places: Vec<Option<SitePlace>>,
+    /// The bins that must not become too full, and the height of a row in database units.
+    bins: Option<Bins>,
+    height: i64,
 }
 
 impl<'a> Board<'a> {
@@ -46,8 +51,10 @@ impl<'a> Board<'a> {
         land: &FreeRows,
         cells: &'a [ImprovableCell],
         within: Option<u64>,
+        bins: Option<Bins>,
     ) -> Result<Board<'a>, AllocError> {
         let runs = SiteRuns::new(alloc, land)?;
+        let height = runs.height();
         let sites = vec![in alloc; FREE; runs.sites]?;
         let mut board = Board {
             cells,
@@ -55,6 +62,8 @@ impl<'a> Board<'a> {
             within: within.unwrap_or(u64::MAX),
             sites,
             places: vec![in alloc; None; cells.len()]?,
+            bins,
+            height,
         };
         for (number, cell) in cells.iter().enumerate() {
             if let Some(place) = board.first_place(cell) {
@@ -144,6 +153,58 @@ impl<'a> Board<'a> {
         let dx = run.x_of(site).abs_diff(given.place.x as i64);
         let dy = (run.y as i64).abs_diff(given.place.y as i64);
         dx.saturating_add(dy) <= self.within
+    }
+
+    /// The box of a cell at a place, in database units.
+    fn box_at(&self, cell: u32, place: &SitePlace) -> Option<BinBox> {
+        let given = self.cells.get(cell as usize)?;
+        let run = self.runs.get(place.run)?;
+        let (x, y) = (run.x_of(place.site), run.y as i64);
+        Some(BinBox {
+            x1: x,
+            y1: y,
+            x2: x.saturating_add(given.width as i64),
+            y2: y.saturating_add(self.height),
+        })
+    }
+
+    /// Lists the boxes of moves, before and after each, if there are bins.
+    pub(crate) fn list_boxes(
+        &self,
+        moves: &[SiteMove],
+        boxes: &mut Vec<(BinBox, BinBox)>,
+    ) -> Result<(), AllocError> {
+        boxes.clear();
+        if self.bins.is_none() {
+            return Ok(());
+        }
+        for one in moves {
+            let Some(now) = self.place_of(one.cell) else {
+                continue;
+            };
+            if let (Some(before), Some(after)) = (
+                self.box_at(one.cell, &now),
+                self.box_at(one.cell, &one.place),
+            ) {
+                boxes.push((before, after))?;
+            }
+        }
+        Ok(())
+    }
+
+    /// Whether no bin that gets fuller by moves is too full after them.
+    pub(crate) fn has_room(&self, boxes: &[(BinBox, BinBox)]) -> bool {
+        match &self.bins {
+            Some(bins) => bins.have_room(boxes),
+            None => true,
+        }
+    }
+
+    /// Takes over the boxes of moves.
+    pub(crate) fn keep_boxes(&mut self, boxes: &[(BinBox, BinBox)]) {
+        if let Some(bins) = &mut self.bins {
+            bins.keep(boxes);
+        }
     }
 
     /// The point of a place in half database units.

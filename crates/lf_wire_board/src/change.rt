@@ -50,17 +50,24 @@ pub fn length_change(
     Ok(change)
 }
 
-/// Moves the cells if that lowers the length. `Err` if an allocation fails.
+/// Moves the cells if the length then grows by less than `limit`, and no bin of the board gets fuller
+/// that is too full then. `Err` if an allocation fails.
 pub fn make_moves(
     board: &mut Board,
     wires: &mut Wires,
     moves: &[SiteMove],
+    limit: i64,
 ) -> Result<(), AllocError> {
-    if 0 <= begin(board, wires, moves)? {
+    board.list_boxes(moves, &mut wires.boxes)?;
+    if !board.has_room(&wires.boxes) {
+        return Ok(());
+    }
+    if limit <= begin(board, wires, moves)? {
         undo(board, wires, moves);
         return Ok(());
     }
     wires.keep();
+    board.keep_boxes(&wires.boxes);
     for one in moves {
         if let Some(old) = board.place_of(one.cell) {
             board.mark(&old, FREE);

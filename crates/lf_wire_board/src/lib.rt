@@ -2,7 +2,7 @@
 //!
 //! The length of a net is half the perimeter of the least box around its pins, in half database
 //! units. A board has no floor. It is made of free spans of rows, and of cells of one row's height
-//! at their places. `make_moves` moves cells only if the nets become shorter. Neither it nor a
+//! at their places. `make_moves` moves cells only if the nets grow by less than a limit. Neither it nor a
 //! contract tests whether the sites of the new places are free: `lf_wire_improver` makes only such
 //! moves.
 //!
@@ -17,6 +17,7 @@
 //! - `nets`: nets, as the caller lists them
 //! - `limits`: numbers limited to the range of their types
 //! - `runs`: runs of free sites, and the levels that they form
+//! - `bins`: square bins, and the area that cells may still take in each
 //! - `board`: the cell on each site, and the place of each cell
 //! - `wires`: the nets that the search looks at, with the present points of their pins
 //! - `change`: the exact change of the length if a few cells move
@@ -25,12 +26,12 @@
 //! From `crates/lf_wire_improver/src/rounds.rt`:
 //!
 //! ```
-//! let mut board = Board::new(alloc, land, cells, options.within)?;
+//! let mut board = Board::new(alloc, land, cells, options.within, bins)?;
 //! let mut wires = Wires::new(alloc, nets, &board)?;
-//! improve(alloc, &mut board, &mut wires, options.rounds)?;
 //! ```
 #![tactic(auto)]
 
+mod bins;
 mod board;
 mod cells;
 mod change;
@@ -40,6 +41,7 @@ mod runs;
 mod wanted;
 mod wires;
 
+pub use bins::{BinBox, Bins};
 pub use board::{Board, FREE, SitePlace, free_after, free_before};
 pub use cells::{CellPlace, ImprovableCell, Orientations, RowOrientations, flipped};
 pub use change::{SiteMove, length_change, make_moves};

@@ -90,6 +90,15 @@ impl WantedRange {
     pub fn nearest(&self, number: i32) -> i32 {
         coordinate((number as i64).min(self.high).max(self.low))
     }
+
+    /// The number at this part of the range, in 256ths of its length from its lower end.
+    pub fn at_part(&self, part: u8) -> i32 {
+        let length = self.high.saturating_sub(self.low);
+        coordinate(
+            self.low
+                .saturating_add(length.saturating_mul(part as i64) / 256),
+        )
+    }
 }
 
 /// The nets of a cell.

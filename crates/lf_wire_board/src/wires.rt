@@ -2,6 +2,7 @@
 
 ghost use Rattle.std.specs.Prelude.{◌<ℤ◌, negsuc, pos};
 
+use crate::bins::BinBox;
 use crate::board::Board;
 use crate::limits::{doubled, number_of};
 use crate::nets::{BoardNets, BoardPin, BoardPoint, OrientedOffsets};
@@ -118,6 +119,8 @@ pub struct Wires<'a> {
     cell_pins: Vec<CellPin>,
     /// The nets that a change touches.
     touched: Vec<u32>,
+    /// The boxes of the cells that a change moves, before and after it.
+    pub(crate) boxes: Vec<(BinBox, BinBox)>,
 }
 
 impl<'a> Wires<'a> {
@@ -134,6 +137,7 @@ impl<'a> Wires<'a> {
             cell_starts: Vec::new(alloc),
             cell_pins: Vec::new(alloc),
             touched: Vec::new(alloc),
+            boxes: Vec::new(alloc),
         };
         for net in 0..given.count() {
             wires.push_net(given.pins_of(net), board)?;

@@ -17,7 +17,7 @@ const ROOM: usize = 128;
 
 /// Sites of a run, from `first` on and in front of `end`.
 #[derive(Clone, Copy)]
-struct Room {
+pub(crate) struct Room {
     first: i64,
     end: i64,
 }
@@ -25,7 +25,7 @@ struct Room {
 impl Room {
     /// The first site of `count` sites within the room, nearest to a site. `None` if they do not
     /// fit.
-    fn nearest(&self, site: i64, count: u32) -> Option<u32> {
+    pub(crate) fn nearest(&self, site: i64, count: u32) -> Option<u32> {
         let last = self.end.saturating_sub(count as i64);
         if last < self.first {
             return None;
@@ -34,13 +34,13 @@ impl Room {
     }
 
     /// Whether two rooms of one run overlap or touch.
-    fn touches(&self, other: &Room) -> bool {
+    pub(crate) fn touches(&self, other: &Room) -> bool {
         self.first <= other.end && other.first <= self.end
     }
 }
 
 /// The sites of a place and the free ones on both sides of it.
-fn room_around(sites: &[u32], place: &SitePlace) -> Room {
+pub(crate) fn room_around(sites: &[u32], place: &SitePlace) -> Room {
     let end = place.end() as usize;
     let before = free_before(sites, place.site as usize, ROOM);
     let after = free_after(sites, end, ROOM);
@@ -302,5 +302,5 @@ pub(crate) fn exchange(
     if scratch.moves.is_empty() {
         return Ok(());
     }
-    make_moves(board, wires, scratch.moves.as_slice())
+    make_moves(board, wires, scratch.moves.as_slice(), 0)
 }

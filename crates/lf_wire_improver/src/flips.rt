@@ -19,10 +19,15 @@ fn flip_of(board: &Board, cell: u32) -> Option<SiteMove> {
     Some(SiteMove { cell, place })
 }
 
-/// Flips a cell if that lowers the length.
-pub(crate) fn flip(board: &mut Board, wires: &mut Wires, cell: u32) -> Result<(), AllocError> {
+/// Flips a cell if the length then grows by less than `limit`.
+pub(crate) fn flip(
+    board: &mut Board,
+    wires: &mut Wires,
+    cell: u32,
+    limit: i64,
+) -> Result<(), AllocError> {
     match flip_of(board, cell) {
-        Some(one) => make_moves(board, wires, &[one]),
+        Some(one) => make_moves(board, wires, &[one], limit),
         None => Ok(()),
     }
 }

@@ -15,9 +15,9 @@ const MOST_PUSHED: usize = 28;
 /// A gap in front of a site, and the first site of the cell: the cells from the gap on are pushed
 /// to the right of the cell, and those in front of it to the left.
 #[derive(Clone, Copy)]
-struct Gap {
-    site: u32,
-    start: u32,
+pub(crate) struct Gap {
+    pub(crate) site: u32,
+    pub(crate) start: u32,
 }
 
 /// A cell of the run, pushed to a site.
@@ -102,6 +102,27 @@ fn push_left(
     Ok(true)
 }
 
+/// Lists the moves of a cell that is not on the board's sites into a gap, and of the cells that make
+/// room. Returns false if there is no room, or a cell would move too far.
+pub(crate) fn gap_moves(
+    board: &Board,
+    cell: u32,
+    target: &Target,
+    gap: &Gap,
+    moves: &mut Vec<SiteMove>,
+) -> Result<bool, AllocError> {
+    moves.clear();
+    let end = gap.start as u64 + target.count as u64;
+    if (target.run.count as u64) < end || !board.is_near(cell, &target.run, gap.start) {
+        return Ok(false);
+    }
+    moves.push(target.move_to(cell, gap.start))?;
+    if !push_right(board, &target.run, gap.site, end, moves)? {
+        return Ok(false);
+    }
+    push_left(board, &target.run, gap.site, gap.start, moves)
+}
+
 /// Tries the cell in a gap.
 fn try_gap(
     board: &Board,
@@ -111,24 +132,14 @@ fn try_gap(
     gap: &Gap,
     scratch: &mut Scratch,
 ) -> Result<(), AllocError> {
-    let end = gap.start as u64 + target.count as u64;
     let corner = target.corner(gap.start);
     let cost = scratch.nets.cost(&corner, target.orientation);
-    if (target.run.count as u64) < end
-        || !board.is_near(seeker.cell, &target.run, gap.start)
-        || scratch.best_change <= cost.saturating_sub(seeker.cost)
+    if scratch.best_change <= cost.saturating_sub(seeker.cost)
+        || !gap_moves(board, seeker.cell, target, gap, &mut scratch.moves)?
     {
         return Ok(());
     }
-    let moves = &mut scratch.moves;
-    moves.clear();
-    moves.push(target.move_to(seeker.cell, gap.start))?;
-    if !push_right(board, &target.run, gap.site, end, moves)?
-        || !push_left(board, &target.run, gap.site, gap.start, moves)?
-    {
-        return Ok(());
-    }
-    let change = length_change(board, wires, moves.as_slice())?;
+    let change = length_change(board, wires, scratch.moves.as_slice())?;
     if change < scratch.best_change {
         scratch.best_change = change;
         mem::swap(&mut scratch.moves, &mut scratch.best);
@@ -239,5 +250,5 @@ pub(crate) fn insert(
     if scratch.best.is_empty() {
         return Ok(());
     }
-    make_moves(board, wires, scratch.best.as_slice())
+    make_moves(board, wires, scratch.best.as_slice(), 0)
 }

@@ -2,8 +2,8 @@
 //!
 //! The search has no floor. It is given free spans of rows, cells of one row's height at their
 //! places, and nets. It makes a board of them (`lf_wire_board`), on which no two cells overlap at
-//! any time, and takes a change only if the nets become shorter. No contract says how short: a
-//! floor tests each place that is requested of it.
+//! any time. Its result never has longer nets. No contract says so: a floor tests each place that is
+//! requested of it.
 //!
 //! Used by `lf_improve_strategy`.
 //!
@@ -14,7 +14,9 @@
 //! - `exchange`: a cell moves to free sites, or exchanges places with another one
 //! - `insertion`: a cell moves between two others, which make room
 //! - `flips`: a cell is mirrored at its place
-//! - `rounds`: rounds of all three over all cells
+//! - `draws`: random numbers, the same on each run
+//! - `annealing`: random moves, of which those that make nets longer are made less and less often
+//! - `rounds`: rounds of exchanges, insertions and flips over all cells, and then annealing
 //!
 //! From `crates/lf_tests_wires/src/improver.rt`:
 //!
@@ -26,10 +28,14 @@
 //!     self.cells.as_slice(),
 //!     &self.nets,
 //!     &options,
+//!     &search,
+//!     None,
 //! )
 //! ```
 #![tactic(auto)]
 
+mod annealing;
+mod draws;
 mod exchange;
 mod flips;
 mod insertion;
@@ -37,4 +43,4 @@ mod rounds;
 mod scratch;
 mod target;
 
-pub use rounds::{ImproveOptions, improved_places};
+pub use rounds::{ImproveOptions, ImproveSearch, improved_places};

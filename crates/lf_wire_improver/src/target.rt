@@ -86,6 +86,26 @@ impl Target {
     }
 }
 
+/// The run with this number and a cell of this place in it, which is wanted at an x in half database
+/// units. `None` if the cell may not be placed there.
+pub(crate) fn target_at(
+    board: &Board,
+    cell: u32,
+    place: &SitePlace,
+    number: u32,
+    x: i32,
+) -> Option<Target> {
+    let run = *board.runs.get(number)?;
+    let given = board.cells.get(cell as usize)?;
+    Some(Target {
+        run,
+        number,
+        count: board.sites_in(cell, place, &run),
+        orientation: given.orientation_in(place.orientation, run.kind)?,
+        site: run.site_near(x),
+    })
+}
+
 /// The run with this number and the cell in it. `None` if the cell may not be placed there, or if
 /// its nets grow by no less than `limit` even at the wanted x.
 pub(crate) fn target_in(
@@ -95,22 +115,14 @@ pub(crate) fn target_in(
     number: u32,
     limit: i64,
 ) -> Option<Target> {
-    let run = *board.runs.get(number)?;
-    let given = board.cells.get(seeker.cell as usize)?;
-    let orientation = given.orientation_in(seeker.place.orientation, run.kind)?;
+    let target = target_at(board, seeker.cell, &seeker.place, number, seeker.wanted.x)?;
     let corner = BoardPoint {
         x: seeker.wanted.x,
-        y: run.doubled_y(),
+        y: target.run.doubled_y(),
     };
-    let least = nets.cost(&corner, orientation);
+    let least = nets.cost(&corner, target.orientation);
     if limit <= least.saturating_sub(seeker.cost) {
         return None;
     }
-    Some(Target {
-        run,
-        number,
-        count: board.sites_in(seeker.cell, &seeker.place, &run),
-        orientation,
-        site: run.site_near(seeker.wanted.x),
-    })
+    Some(target)
 }

@@ -4,3 +4,5 @@ pub mod BoxLemmas
 pub mod StoredLemmas
 pub mod ViewLemmas
 pub mod TeamLemmas
+pub mod TeamNetLemmas
+pub mod TeamListLemmas

@@ -6,3 +6,4 @@ pub mod Placed
 pub mod Laws
 pub mod Teams
 pub mod Counts
+pub mod TeamNets

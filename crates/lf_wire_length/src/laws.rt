@@ -1,6 +1,7 @@
 //! Laws on the length of nets.
 
 ghost use Rattle.lf_wire_length.specs.Laws.{MovingAllKeepsLength, OnePinHasNoLength, OrderKeepsLength, PinNeverShortens, PointsStayInBox, TurnsCompose};
+ghost use Rattle.lf_wire_length.specs.TeamNets.{TeamNetsDecide};
 
 /// The length of a net does not change if all its points are moved alike.
 pub fn moving_all_keeps_length()
@@ -31,4 +32,10 @@ pub fn points_stay_in_box()
 /// flipped over the y axis.
 pub fn turns_compose()
     ensures { TurnsCompose }
+{}
+
+/// If only cells of a team have other places, the wire length changes by as much as that of the
+/// team's nets, which are a part of it.
+pub fn team_nets_decide()
+    ensures { TeamNetsDecide }
 {}

@@ -23,6 +23,7 @@
 //! - `measure`: the length of stored nets
 //! - `joined`: the teams that a net joins
 //! - `team_lengths`: the lengths of nets by team
+//! - `team_nets`: the nets of each team
 //! - `counts`: counts of nets and of their pins
 //! - `netlist`: the nets of a design
 //! - `laws`: laws on the length of nets
@@ -46,14 +47,16 @@ mod placed;
 mod points;
 mod stored;
 mod team_lengths;
+mod team_nets;
 
 pub use counts::NetCounts;
 pub use laws::{
     moving_all_keeps_length, one_pin_has_no_length, order_keeps_length, pin_never_shortens,
-    points_stay_in_box, turns_compose,
+    points_stay_in_box, team_nets_decide, turns_compose,
 };
 pub use netlist::{Netlist, NetlistError, WireLengths};
 pub use pins::{NetPin, PinRow};
 pub use placed::PlacedCells;
 pub use points::{HalfPoint, PinOffset, pin_middle, point_of_cell_pin};
 pub use team_lengths::TeamLengths;
+pub use team_nets::TeamNets;

@@ -1,10 +1,11 @@
 //! The length of stored nets.
 
-ghost use Rattle.std.specs.Prelude.{◌≡◌, ◌-◌, ◌<◌, ◌≤◌, [], All, IfSome, List, None, drop, fold, length, map, option_map, slice_get, slice_index, slice_index_or, take};
+ghost use Rattle.std.specs.Prelude.{◌≡◌, ◌-◌, ◌<◌, ◌≤◌, ◌^◌, [], All, IfSome, List, None, drop, fold, length, map, min, option_map, slice_get, slice_index, slice_index_or, take};
 ghost use Rattle.lf_wire_length.specs.Bounds.{IsPinOffset};
 ghost use Rattle.lf_wire_length.specs.Boxes.{IsDesignBox, box_after};
 ghost use Rattle.lf_wire_length.specs.Length.{length_of_net, length_of_nets};
 ghost use Rattle.lf_wire_length.specs.Stored.{nets_from, pin_by_row, pin_stored, start_after};
+ghost use Rattle.lf_wire_length.specs.TeamNets.{length_of_listed};
 ghost use Rattle.lf_wire_length.specs.declared.points.PinOffset.{PinOffset};
 
 use crate::boxes::{PointBox, perimeter_half, widen_by};
@@ -98,6 +99,48 @@ pub(crate) fn length_of_stored_net<P: PlacedCells>(
         (slice_index_or (nets_from starts.now (map (pin_stored rows.now) pins.now)) net []) }
 {
     length_of_pins(rows, pins_of(starts, pins, net), places)
+}
+
+/// Returns the length of the net of this number. 0 if there is no such net.
+#[tactic(auto, using(crate::proofs::StoredLemmas::nets_counted))]
+fn length_if_stored<P: PlacedCells>(
+    rows: &[PinOffset],
+    starts: &[u32],
+    pins: &[PackedPin],
+    net: usize,
+    places: &P,
+) -> u64
+    requires rows { All IsPinOffset rows.now }
+    ensures { result ≡ length_of_net (P.place_of places.now)
+        (slice_index_or (nets_from starts.now (map (pin_stored rows.now) pins.now)) net []) }
+{
+    if net < starts.len() {
+        length_of_stored_net(rows, starts, pins, net, places)
+    } else {
+        0
+    }
+}
+
+/// Returns the sum of the lengths of the nets of these numbers, or the greatest number of 64 bits if
+/// that is less.
+#[tactic(auto, using(std::proofs::lemmas::List::Sums::sum_by_more))]
+pub(crate) fn length_of_some<P: PlacedCells>(
+    rows: &[PinOffset],
+    starts: &[u32],
+    pins: &[PackedPin],
+    nets: &[u32],
+    places: &P,
+) -> u64
+    requires rows { All IsPinOffset rows.now }
+    ensures { result ≡ min (length_of_listed (P.place_of places.now)
+        (nets_from starts.now (map (pin_stored rows.now) pins.now)) nets.now) (2 ^ 64 - 1) }
+{
+    let mut total: u64 = 0;
+    for net in nets {
+        let length = length_if_stored(rows, starts, pins, *net as usize, places);
+        total = total.saturating_add(length);
+    }
+    total
 }
 
 /// Returns the sum of the lengths of all nets.

@@ -1,21 +1,23 @@
 //! The nets of a design.
 
-ghost use Rattle.std.specs.Prelude.{◌≡◌, ◌≢◌, ◌<◌, ◌≤◌, ◌++◌, ◌∷◌, [], Err, IfOk, IfSome, OnErr, OnOk, length, option_map, slice_get, slice_index_or};
+ghost use Rattle.std.specs.Prelude.{◌≡◌, ◌≢◌, ◌<◌, ◌≤◌, ◌-◌, ◌^◌, ◌++◌, ◌∷◌, [], Err, IfOk, IfSome, OnErr, OnOk, length, min, option_map, slice_get, slice_index_or};
 ghost use Rattle.lf_wire_length.specs.Bounds.{IsPinOffset};
 ghost use Rattle.lf_wire_length.specs.Counts.{net_counts};
 ghost use Rattle.lf_wire_length.specs.Length.{length_of_net, length_of_nets};
 ghost use Rattle.lf_wire_length.specs.Stored.{HasRow, IsNetlist, net_view, pin_by_row, stored_nets, with_empty_net, with_pin_row, with_table_row};
+ghost use Rattle.lf_wire_length.specs.TeamNets.{length_of_listed, nets_of_teams};
 ghost use Rattle.lf_wire_length.specs.Teams.{lengths_of_teams};
 ghost use Rattle.lf_wire_length.specs.declared.netlist.NetlistError.TheVariants.{TooMany};
 
 use crate::counts::{NetCounts, counts_of_nets};
 use crate::joined::summaries;
-use crate::measure::{length_of_all, length_of_stored_net, pin_at, pins_of};
+use crate::measure::{length_of_all, length_of_some, length_of_stored_net, pin_at, pins_of};
 use crate::pins::{PackedPin, PinRow, packed_pin};
 use crate::placed::PlacedCells;
 use crate::points::PinOffset;
 use crate::stored::StoredNets;
 use crate::team_lengths::{TeamLengths, lengths_by_team};
+use crate::team_nets::{TeamNets, nets_by_team};
 use std::alloc::{AllocError, Global};
 use std::marker::Model;
 
@@ -303,6 +305,38 @@ impl Netlist {
             self.pins.as_slice(),
             places,
         )
+    }
+
+    /// Returns the sum of the lengths of the nets of these numbers, in half database units, or the
+    /// greatest number of 64 bits if that is less. A number that no net has counts for nothing.
+    pub fn length_of<P: PlacedCells>(&self, places: &P, nets: &[u32]) -> u64
+        ensures { result ≡ min (length_of_listed (P.place_of places.now) self.now.nets nets.now) (2 ^ 64 - 1) }
+    {
+        length_of_some(
+            self.rows.as_slice(),
+            self.starts.as_slice(),
+            self.pins.as_slice(),
+            nets,
+            places,
+        )
+    }
+
+    /// Returns for each of `teams` teams the nets that have a pin of one of its cells. `owners` has
+    /// the number of each cell's team. `Err` if an allocation fails.
+    pub fn nets_of_teams(
+        &self,
+        alloc: Global,
+        owners: &[u32],
+        teams: usize,
+    ) -> Result<TeamNets, AllocError>
+        ensures { IfOk result (λ nets. nets ≡ nets_of_teams owners.now self.now.nets teams) }
+    {
+        let stored = StoredNets {
+            rows: self.rows.as_slice(),
+            starts: self.starts.as_slice(),
+            pins: self.pins.as_slice(),
+        };
+        nets_by_team(alloc, &stored, owners, teams)
     }
 
     /// Returns the lengths of all nets, and of the teams with numbers below `teams`. `Err` if an

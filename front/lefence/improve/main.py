@@ -26,7 +26,7 @@ TOOL = "lefence-improve"
 # The exit status if a cell has no place or breaks a rule at the end, as of `lefence improve`.
 NOT_LEGAL = 4
 # Options that the program gets as they are.
-_NUMBERS = ("within", "rounds")
+_NUMBERS = ("within", "rounds", "effort", "density")
 
 
 class Improvement:
@@ -123,6 +123,8 @@ def parser() -> Parser:
     add("--team", metavar="NAME", action="append", help="improve only this team; may be repeated (default: all teams)")
     add("--within", metavar="ROWS", type=int, help="no cell ends farther than ROWS row heights from its place")
     add("--rounds", metavar="N", type=int, help="search at most N rounds, as `lefence improve --rounds`")
+    add("--effort", metavar="N", type=int, help="then try N random moves of each cell, as `lefence improve --effort`")
+    add("--density", metavar="P", type=int, help="no move makes a bin of the floor fuller than P percent")
     add_jobs(made)
     made.add_program()
     return made

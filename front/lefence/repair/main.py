@@ -27,6 +27,9 @@ from .side_by_side import add_jobs, jobs_of
 TOOL = "lefence-repair"
 # The exit status if a cell remains unrepaired, as of `lefence check`.
 NOT_LEGAL = 4
+# Options that the program gets as they are.
+_FLAGS = ("keep", "all", "balance-heights", "near-nets")
+_NUMBERS = ("effort", "within")
 
 
 def repair_design(options: argparse.Namespace) -> int:
@@ -48,7 +51,8 @@ def repair_design(options: argparse.Namespace) -> int:
 
 def _repair(options: argparse.Namespace, teams: list[str], program: Program) -> int:
     """Repairs teams of a design, or the team of a socket; returns the exit status."""
-    words = [f"--{option}" for option in ("keep", "all") if getattr(options, option)]
+    words = [f"--{option}" for option in _FLAGS if getattr(options, option.replace("-", "_"))]
+    words += [f"--{option}={value}" for option in _NUMBERS if (value := getattr(options, option)) is not None]
     if options.socket:
         repair = repair_remote(TOOL, options.socket, teams, program, words)
         return _end_of(repair.total, is_written=True, team=repair.teams[0]["team"])
@@ -113,6 +117,10 @@ def parser() -> Parser:
     scope = made.add_mutually_exclusive_group()
     scope.add_argument("--keep", action="store_true", help="do not move legal cells, as `lefence repair --keep`")
     scope.add_argument("--all", action="store_true", help="legal cells may move too, as `lefence repair --all`")
+    add("--effort", metavar="N", type=int, help="search with N tries for each cell, as `lefence repair --effort`")
+    add("--within", metavar="ROWS", type=int, help="no cell ends farther than ROWS row heights from its place")
+    add("--balance-heights", action="store_true", help="cells of a height that few cells have weigh more")
+    add("--near-nets", action="store_true", help="cells without a place go near the other cells of their nets")
     add_jobs(made)
     made.add_program()
     return made

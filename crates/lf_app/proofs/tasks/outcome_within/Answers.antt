@@ -99,14 +99,14 @@ pub returns-in-Repair-clause-ok : goal.returns-in-Repair-clause-ok
 returns-in-Repair-clause-ok g c =
     let i = rw c.in-Repair.is at c.input_of-inputs.ensures in
     let r = c.repair_job-requested.ensures in
-    let ok = rw (r.def, r.lefs, r.teams, r.legal, r.state, r.files, r.limits) at c.repair.ensures.ok in
+    let ok = rw (r.def, r.lefs, r.teams, r.options, r.state, r.files, r.limits) at c.repair.ensures.ok in
     rw c.in-Repair.is (rw (i.def_is, i.lefs_are, i.state_is, i.limits_are, c.as_slice.ensures) at ok)
 
 pub returns-in-Repair-clause-err : goal.returns-in-Repair-clause-err
 returns-in-Repair-clause-err g c =
     let i = rw c.in-Repair.is at c.input_of-inputs.ensures in
     let r = c.repair_job-requested.ensures in
-    let err = rw (r.def, r.lefs, r.teams, r.legal, r.state, r.files, r.limits) at c.repair.ensures.err in
+    let err = rw (r.def, r.lefs, r.teams, r.options, r.state, r.files, r.limits) at c.repair.ensures.err in
     rw c.in-Repair.is (also_fails c.repair.result _ _ _ (rw (i.def_is, i.lefs_are, i.state_is, i.limits_are, c.as_slice.ensures) at err)
     (λ fault blames. blames_as fault _ _ _ _ _ _ _ _ _ _ _ _ blames (λ k. k) (λ none. absurd none) (λ w. w) (λ e. e) (λ none. absurd none)
     (λ sound. record { exports = sound.1; services = refl; reader = refl; writer = sound.0 })))

@@ -1,3 +1,4 @@
+use Rattle.lf_repair_team.proofs.Runs.{unchanged}
 use Rattle.lf_improve_team.proofs.Improving.{near_kept}
 use Rattle.lf_improve_team.proofs.Lengths.{length_kept}
 use Rattle.lf_improve_team.proofs.team.commit_if_better.Goals as goal
@@ -9,6 +10,9 @@ returns-in-Ok-true-clause-improved g c =
     record {
       measured = length_kept team c.args.floor.now c.try_commit.new.floor c.in-Ok-true.ensures.only c.in-Ok-true.ensures.places attempt.wires.now.netlist.now.nets c.in-Some.length c.in-Some.ensures.measured;
       shorter = c.in-Some.ensures.shorter;
-      near = near_kept attempt.wish.now.options.within attempt.start.now.pass.targets.items team c.args.floor.now c.try_commit.new.floor c.in-Ok-true.ensures.places (c.in-Some.ensures.near team c.requires);
+      near = near_kept attempt.wish.now.options.within attempt.start.now.pass.targets.items team c.args.floor.now c.try_commit.new.floor c.in-Ok-true.ensures.places (c.in-Some.ensures.near team c.requires.number);
       committed = λ l. c.in-Ok-true.ensures.committed l c.in-Ok-true.field-0-test;
     }
+
+pub better_length-requires : goal.better_length-requires
+better_length-requires g c = record { decides = c.requires.decides c.args.floor.now (unchanged c.args.seat.now.team.now c.args.floor.now) }

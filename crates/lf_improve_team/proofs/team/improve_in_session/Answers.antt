@@ -1,4 +1,4 @@
-use Rattle.lf_repair_team.proofs.Runs.{then_cut, then_written}
+use Rattle.lf_repair_team.proofs.Runs.{then_cut, then_only, then_written}
 use Rattle.lf_improve_team.proofs.Improving.{improved_through, same_kept, then_kept}
 use Rattle.lf_improve_team.proofs.team.improve_in_session.Goals as goal
 
@@ -35,3 +35,7 @@ returns-in-Ok-close-clause-kept g c = λ none.
     then_kept team c.args.floor.now c.move_cells.new.floor c.close.new.floor
     (then_kept team c.args.floor.now c.open.new.floor c.move_cells.new.floor (same_kept team c.args.floor.now c.open.new.floor c.in-Ok.ensures.cells)
     (c.in-Ok-move_cells.ensures.kept none)) (same_kept team c.move_cells.new.floor c.close.new.floor c.in-Ok-close.ensures.cells)
+
+pub move_cells-requires-clause-decides : goal.move_cells-requires-clause-decides
+move_cells-requires-clause-decides g c = λ later only.
+    c.requires.decides later (then_only c.args.team.now c.args.floor.now c.open.new.floor later c.in-Ok.ensures.only only)

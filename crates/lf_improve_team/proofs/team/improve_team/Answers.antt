@@ -4,6 +4,7 @@ use Rattle.lf_repair_team.proofs.Runs.{none_cut, unchanged}
 use Rattle.lf_repair_team.proofs.StatsLemmas.{team_stats_of}
 use Rattle.lf_improve_team.specs.FloorLengths.{IsWireLengthOn}
 use Rattle.lf_improve_team.proofs.Improving.{committed_if, many_before, measured_of, near_in_any}
+use Rattle.lf_improve_team.proofs.TeamLengths.{decides}
 use Rattle.lf_improve_team.proofs.team.improve_team.Goals as goal
 
 pub returns-in_default-clause-err : goal.returns-in_default-clause-err
@@ -56,3 +57,9 @@ returns-in-Ok-improve_in_session-clause-cells g c = λ s was.
     let team = c.args.team.now in
     let named : team_number c.args.floor.now.frame team ≡ Some c.in-Some.number = sym c.team_number.ensures ∙ c.in-Some.is in
     many_before team c.args.floor.now c.improve_in_session.new.floor c.in-Some.number c.result_of-in-Ok-improve_in_session.result.cells named c.in-Ok-improve_in_session.ensures.only c.result_of-in-Ok-improve_in_session.ensures.cells s was
+
+pub improve_in_session-requires-clause-decides : goal.improve_in_session-requires-clause-decides
+improve_in_session-requires-clause-decides g c =
+    let named : team_number c.args.floor.now.frame c.args.team.now ≡ Some c.in-Some.number = sym c.team_number.ensures ∙ c.in-Some.is in
+    decides c.args.team.now c.in-Some.number c.args.wires.now.of_teams.now c.args.wires.now.netlist.now.nets c.args.wish.now.length c.length_of_team.result c.args.floor.now
+    c.requires.nets named c.length_is_bounded.ensures c.requires.measured c.length_of_team.ensures

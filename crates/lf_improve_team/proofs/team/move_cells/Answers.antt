@@ -2,7 +2,7 @@ use Rattle.std.proofs.Common.{◌≡◌}
 use Rattle.std.specs.Prelude.{None}
 use Rattle.lf_repair_team.specs.Runs.{IsRunWithCutLine, IsWrittenRun}
 use Rattle.lf_improve_team.proofs.Results.{err_then, ok_then, ok_weaker}
-use Rattle.lf_repair_team.proofs.Runs.{none_cut, then_cut, then_written}
+use Rattle.lf_repair_team.proofs.Runs.{none_cut, then_cut, then_only, then_written}
 use Rattle.lf_repair_team.proofs.Slots.{committed_kept}
 use Rattle.lf_improve_team.specs.TeamImprovements.{IsMovedBack, KeepsTeamPlaces}
 use Rattle.lf_improve_team.proofs.Improving.{back_is_kept}
@@ -40,3 +40,7 @@ returns-clause-kept g c =
     ok_weaker c.commit_or_move_back.result (λ found. found ≡ None → IsMovedBack team mid new) (λ found. found ≡ None → KeepsTeamPlaces team old new)
     (λ found back none. back_is_kept team old mid new c.requires.committed
     (committed_kept team c.args.seat.now.session old mid c.in-Ok-run_edits.ensures.committed) (back none)) c.commit_or_move_back.ensures.kept
+
+pub commit_or_move_back-requires-clause-decides : goal.commit_or_move_back-requires-clause-decides
+commit_or_move_back-requires-clause-decides g c = λ later only.
+    c.requires.decides later (then_only c.args.seat.now.team.now c.args.floor.now c.run_edits.new.floor later c.in-Ok-run_edits.ensures.only only)

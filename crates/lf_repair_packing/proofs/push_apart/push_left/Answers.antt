@@ -7,9 +7,9 @@ pub loop-own-preserved : goal.loop-own-preserved
 loop-own-preserved c =
     let s = c.loop-own.invariant in
     let i = c.loop-own.own - 1 in
-    let none : PackedCell = record { number = 0; width = 0; wanted = 0; at = 0 } in
+    let none : PackedCell = record { number = 0; width = 0; wanted = 0; offset = 0; reach = 0; at = 0 } in
     let x : PackedCell = get_or c.loop-own.cells i none in
-    let y : PackedCell = record { number = x.number; width = x.width; wanted = x.wanted; at = c.loop-own.end - x.width } in
+    let y : PackedCell = record { number = x.number; width = x.width; wanted = x.wanted; offset = x.offset; reach = x.reach; at = c.loop-own.end - x.width } in
     let within = s.within in
     let same_index : i + 1 ≡ c.loop-own.own = omega arith in
     record {

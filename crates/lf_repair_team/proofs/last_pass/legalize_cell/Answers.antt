@@ -1,18 +1,22 @@
 use Rattle.std.proofs.Common.{◌∙◌, ℕ, List, Some, ap, inl, inr, sym}
 use Rattle.std.proofs.lemmas.Result.{on_ok_weaker}
+use Rattle.lf_repair_strategy.specs.Targets.{target_at}
+use Rattle.lf_repair_team.specs.CellEdits.{KeepsWithin}
 use Rattle.lf_repair_team.specs.Runs.{IsRunWithCutLine, IsWrittenRun}
 use Rattle.lf_repair_team.proofs.LastPass.{another_cell, legal_unless, named_unplaced, none_affected, now_legal, placed_is_legal, state_named, unplaced_is_illegal}
 use Rattle.lf_repair_team.proofs.OffSoft.{none_moves_onto_soft, one_moves_off_soft}
-use Rattle.lf_repair_team.proofs.Results.{err_from, ok_from}
+use Rattle.lf_repair_team.proofs.ReachLemmas.{best_is_within, one_moves_within}
+use Rattle.lf_repair_team.proofs.Results.{err_from, ok_from, on_ok_from}
 use Rattle.lf_repair_team.proofs.Runs.{none_cut, nothing, unchanged, uncut}
 use Rattle.lf_repair_team.proofs.Steps.{place_of_state}
+use Rattle.lf_repair_team.proofs.WithoutPlace.{named_cell, working_of}
 use Rattle.lf_repair_team.proofs.last_pass.legalize_cell.Goals as goal
 
 pub returns-in-Some-clause-run : goal.returns-in-Some-clause-run
 returns-in-Some-clause-run g c = λ l. nothing l c.args.seat.now.team.now c.args.floor.now (g.K.Sink.contents c.args.lines.now)
 
 pub returns-in-Some-clause-done : goal.returns-in-Some-clause-done
-returns-in-Some-clause-done g c = placed_is_legal c.args.seat.now.team.now c.args.floor.now c.args.own _ (sym c.place_of.ensures ∙ c.in-Some.is)
+returns-in-Some-clause-done g c = placed_is_legal c.args.search.now.reach c.args.targets.now c.args.seat.now.team.now c.args.floor.now c.args.own _ (sym c.place_of.ensures ∙ c.in-Some.is)
 
 pub returns-in-Ok-false-clause-err : goal.returns-in-Ok-false-clause-err
 returns-in-Ok-false-clause-err g c = λ l. none_cut l c.args.seat.now.team.now c.args.floor.now (g.K.Sink.contents c.args.lines.now)
@@ -62,7 +66,7 @@ returns-in-Err-legalize_named-clause-legal g c =
 
 pub returns-in-Err-legalize_named-clause-without : goal.returns-in-Err-legalize_named-clause-without
 returns-in-Err-legalize_named-clause-without g c = λ ok other has differ.
-    c.in-Err-legalize_named.ensures.without other (another_cell c.args.seat.now.team.now c.as_slice.result.now c.args.floor.now c.args.own other c.teams_match_frame.ensures
+    c.in-Err-legalize_named.ensures.without c.args.search.now.reach (target_at c.args.targets.now other) other (another_cell c.args.seat.now.team.now c.as_slice.result.now c.args.floor.now c.args.own other c.teams_match_frame.ensures
     (λ s there. c.in-Ok-true.ensures.name s c.in-Ok-true.field-0-test there ∙ ap (λ (n : List ℕ). Some n) (sym c.as_slice.ensures.value)) differ)
     (named_unplaced c.args.seat.now.team.now c.as_slice.result.now c.args.floor.now c.args.own c.teams_match_frame.ensures
     (λ s there. c.in-Ok-true.ensures.name s c.in-Ok-true.field-0-test there ∙ ap (λ (n : List ℕ). Some n) (sym c.as_slice.ensures.value)) (sym c.place_of.ensures ∙ c.in-None.is)) has
@@ -82,7 +86,7 @@ returns-then-is_cell_legal-clause-legal g c =
 
 pub returns-then-is_cell_legal-clause-without : goal.returns-then-is_cell_legal-clause-without
 returns-then-is_cell_legal-clause-without g c = λ ok other has differ.
-    c.in-Ok.ensures.without other (another_cell c.args.seat.now.team.now c.as_slice.result.now c.args.floor.now c.args.own other c.teams_match_frame.ensures
+    c.in-Ok.ensures.without c.args.search.now.reach (target_at c.args.targets.now other) other (another_cell c.args.seat.now.team.now c.as_slice.result.now c.args.floor.now c.args.own other c.teams_match_frame.ensures
     (λ s there. c.in-Ok-true.ensures.name s c.in-Ok-true.field-0-test there ∙ ap (λ (n : List ℕ). Some n) (sym c.as_slice.ensures.value)) differ)
     (named_unplaced c.args.seat.now.team.now c.as_slice.result.now c.args.floor.now c.args.own c.teams_match_frame.ensures
     (λ s there. c.in-Ok-true.ensures.name s c.in-Ok-true.field-0-test there ∙ ap (λ (n : List ℕ). Some n) (sym c.as_slice.ensures.value)) (sym c.place_of.ensures ∙ c.in-None.is)) has
@@ -102,7 +106,7 @@ returns-clause-legal g c =
 
 pub returns-clause-without : goal.returns-clause-without
 returns-clause-without g c = λ ok other has differ.
-    c.in-Ok.ensures.without other (another_cell c.args.seat.now.team.now c.as_slice.result.now c.args.floor.now c.args.own other c.teams_match_frame.ensures
+    c.in-Ok.ensures.without c.args.search.now.reach (target_at c.args.targets.now other) other (another_cell c.args.seat.now.team.now c.as_slice.result.now c.args.floor.now c.args.own other c.teams_match_frame.ensures
     (λ s there. c.in-Ok-true.ensures.name s c.in-Ok-true.field-0-test there ∙ ap (λ (n : List ℕ). Some n) (sym c.as_slice.ensures.value)) differ)
     (named_unplaced c.args.seat.now.team.now c.as_slice.result.now c.args.floor.now c.args.own c.teams_match_frame.ensures
     (λ s there. c.in-Ok-true.ensures.name s c.in-Ok-true.field-0-test there ∙ ap (λ (n : List ℕ). Some n) (sym c.as_slice.ensures.value)) (sym c.place_of.ensures ∙ c.in-None.is)) has
@@ -125,7 +129,7 @@ pub returns-clause-done : goal.returns-clause-done
 returns-clause-done g c = λ ok.
     let s = state_named c.args.seat.now.team.now c.args.floor.now c.args.own _ (c.in-Ok-true.ensures.known c.in-Ok-true.field-0-test) in
     on_ok_weaker c.stop_unless_no_place.result
-    (λ says. inr (c.in-Ok.ensures.refused s.0 c.args.own s.1 (s.2 ∙ ap (λ (n : List ℕ). Some n) (sym c.as_slice.ensures.value))
+    (λ says. inr (c.in-Ok.ensures.refused c.args.search.now.reach (target_at c.args.targets.now c.args.own) s.0 c.args.own s.1 (s.2 ∙ ap (λ (n : List ℕ). Some n) (sym c.as_slice.ensures.value))
     (sym (place_of_state c.args.floor.now c.args.seat.now.team.now c.args.own s.0 s.1) ∙ (sym c.place_of.ensures ∙ c.in-None.is)) says))
     c.stop_unless_no_place.ensures
 
@@ -164,3 +168,70 @@ returns-clause-off_soft g c =
     (λ s there. c.in-Ok-true.ensures.name s c.in-Ok-true.field-0-test there ∙ ap (λ (n : List ℕ). Some n) (sym c.as_slice.ensures.value)) differ))
     (c.in-Ok.ensures.off_soft s.0 c.args.own s.1 (s.2 ∙ ap (λ (n : List ℕ). Some n) (sym c.as_slice.ensures.value))
     (sym (place_of_state c.args.floor.now c.args.seat.now.team.now c.args.own s.0 s.1) ∙ (sym c.place_of.ensures ∙ c.in-None.is)))
+
+pub returns-in-Ok-false-is_best_within-clause-run : goal.returns-in-Ok-false-is_best_within-clause-run
+returns-in-Ok-false-is_best_within-clause-run g c = λ l. nothing l c.args.seat.now.team.now c.args.floor.now (g.K.Sink.contents c.args.lines.now)
+
+pub returns-in-Ok-false-is_best_within-clause-only : goal.returns-in-Ok-false-is_best_within-clause-only
+returns-in-Ok-false-is_best_within-clause-only g c = unchanged c.args.seat.now.team.now c.args.floor.now
+
+pub returns-in-Ok-false-is_best_within-clause-legal : goal.returns-in-Ok-false-is_best_within-clause-legal
+returns-in-Ok-false-is_best_within-clause-legal g c = none_affected c.args.seat.now.team.now c.args.floor.now
+
+pub returns-in-Ok-false-is_best_within-clause-without : goal.returns-in-Ok-false-is_best_within-clause-without
+returns-in-Ok-false-is_best_within-clause-without g c = λ ok other has differ. has
+
+pub returns-in-Ok-false-is_best_within-clause-off_soft : goal.returns-in-Ok-false-is_best_within-clause-off_soft
+returns-in-Ok-false-is_best_within-clause-off_soft g c = none_moves_onto_soft c.args.seat.now.team.now c.args.floor.now
+
+pub returns-in-Ok-false-is_best_within-clause-within : goal.returns-in-Ok-false-is_best_within-clause-within
+returns-in-Ok-false-is_best_within-clause-within g c = λ within. within
+
+pub returns-in-Ok-false-is_best_within-clause-done : goal.returns-in-Ok-false-is_best_within-clause-done
+returns-in-Ok-false-is_best_within-clause-done g c = λ ok.
+    let s = state_named c.args.seat.now.team.now c.args.floor.now c.args.own _ (c.in-Ok-true.ensures.known c.in-Ok-true.field-0-test) in
+    let cell = named_cell s.0.cells c.args.own _ s.2 in
+    inr (c.in-Ok-false-is_best_within.ensures.none s.0 cell.0 s.1 cell.1
+    (sym (working_of s.0.cells c.args.own cell.0 cell.1) ∙ sym (place_of_state c.args.floor.now c.args.seat.now.team.now c.args.own s.0 s.1) ∙ (sym c.place_of.ensures ∙ c.in-None.is))
+    c.in-Ok-false-is_best_within.field-0-test)
+
+pub returns-in-Err-is_best_within-clause-err : goal.returns-in-Err-is_best_within-clause-err
+returns-in-Err-is_best_within-clause-err g c = λ l. none_cut l c.args.seat.now.team.now c.args.floor.now (g.K.Sink.contents c.args.lines.now)
+
+pub returns-in-Err-is_best_within-clause-only : goal.returns-in-Err-is_best_within-clause-only
+returns-in-Err-is_best_within-clause-only g c = unchanged c.args.seat.now.team.now c.args.floor.now
+
+pub returns-in-Err-is_best_within-clause-legal : goal.returns-in-Err-is_best_within-clause-legal
+returns-in-Err-is_best_within-clause-legal g c = none_affected c.args.seat.now.team.now c.args.floor.now
+
+pub returns-in-Err-is_best_within-clause-without : goal.returns-in-Err-is_best_within-clause-without
+returns-in-Err-is_best_within-clause-without g c = λ ok other has differ. has
+
+pub returns-in-Err-is_best_within-clause-off_soft : goal.returns-in-Err-is_best_within-clause-off_soft
+returns-in-Err-is_best_within-clause-off_soft g c = none_moves_onto_soft c.args.seat.now.team.now c.args.floor.now
+
+pub returns-in-Some-clause-within : goal.returns-in-Some-clause-within
+returns-in-Some-clause-within g c = λ within. within
+
+pub returns-then-is_cell_legal-clause-within : goal.returns-then-is_cell_legal-clause-within
+returns-then-is_cell_legal-clause-within g c =
+    let s = state_named c.args.seat.now.team.now c.args.floor.now c.args.own _ (c.in-Ok-true.ensures.known c.in-Ok-true.field-0-test) in
+    one_moves_within c.args.search.now.reach c.args.targets.now c.args.seat.now.team.now c.args.floor.now c.legalize_named.new.floor c.args.own
+    (λ other differ. c.in-Ok.ensures.cells other (another_cell c.args.seat.now.team.now c.as_slice.result.now c.args.floor.now c.args.own other c.teams_match_frame.ensures
+    (λ s there. c.in-Ok-true.ensures.name s c.in-Ok-true.field-0-test there ∙ ap (λ (n : List ℕ). Some n) (sym c.as_slice.ensures.value)) differ))
+    (best_is_within c.args.search.now.reach c.args.targets.now c.args.seat.now.team.now c.args.floor.now c.legalize_named.new.floor c.args.own c.target_in_last_pass-target.result
+    (c.in-Ok-true-is_best_within.ensures.near c.in-Ok-true-is_best_within.field-0-test)
+    (c.in-Ok.ensures.best s.0 c.args.own s.1 (s.2 ∙ ap (λ (n : List ℕ). Some n) (sym c.as_slice.ensures.value))
+    (sym (place_of_state c.args.floor.now c.args.seat.now.team.now c.args.own s.0 s.1) ∙ (sym c.place_of.ensures ∙ c.in-None.is))))
+
+pub returns-clause-within : goal.returns-clause-within
+returns-clause-within g c =
+    let s = state_named c.args.seat.now.team.now c.args.floor.now c.args.own _ (c.in-Ok-true.ensures.known c.in-Ok-true.field-0-test) in
+    on_ok_from c.stop_unless_no_place.result (KeepsWithin c.args.search.now.reach c.args.targets.now c.args.seat.now.team.now c.args.floor.now c.legalize_named.new.floor)
+    (one_moves_within c.args.search.now.reach c.args.targets.now c.args.seat.now.team.now c.args.floor.now c.legalize_named.new.floor c.args.own
+    (λ other differ. c.in-Ok.ensures.cells other (another_cell c.args.seat.now.team.now c.as_slice.result.now c.args.floor.now c.args.own other c.teams_match_frame.ensures
+    (λ s there. c.in-Ok-true.ensures.name s c.in-Ok-true.field-0-test there ∙ ap (λ (n : List ℕ). Some n) (sym c.as_slice.ensures.value)) differ))
+    (best_is_within c.args.search.now.reach c.args.targets.now c.args.seat.now.team.now c.args.floor.now c.legalize_named.new.floor c.args.own c.target_in_last_pass-target.result
+    (c.in-Ok-true-is_best_within.ensures.near c.in-Ok-true-is_best_within.field-0-test)
+    (c.in-Ok.ensures.best s.0 c.args.own s.1 (s.2 ∙ ap (λ (n : List ℕ). Some n) (sym c.as_slice.ensures.value))
+    (sym (place_of_state c.args.floor.now c.args.seat.now.team.now c.args.own s.0 s.1) ∙ (sym c.place_of.ensures ∙ c.in-None.is)))))

@@ -8,6 +8,7 @@ use Rattle.lf_repair_team.specs.CellEdits.{IsFlagged, IsLegalOrUnplaced, IsLegal
 use Rattle.lf_repair_team.specs.TeamRepairs.{place_of_cell_in}
 use Rattle.lf_repair_team.proofs.LastPass.{done_more, flagged_beside, none_affected, still_unplaced, then_legal}
 use Rattle.lf_repair_team.proofs.OffSoft.{none_moves_onto_soft, then_off_soft}
+use Rattle.lf_repair_team.proofs.ReachLemmas.{then_within}
 use Rattle.lf_repair_team.proofs.Runs.{none_moves, nothing, then_cut, then_only, then_stay, then_written, unchanged}
 use Rattle.lf_repair_team.proofs.last_pass.legalize_cells.Goals as goal
 
@@ -20,8 +21,9 @@ loop-own-init g c = record {
   committed = refl;
   all = All-weaker (λ own. place_of_cell_in c.args.floor.now c.args.seat.now.team.now own ≡ None) (λ own. IsLegalOrUnplaced c.args.floor.now c.args.seat.now.team.now own) (λ own none. inr none)
       c.args.cells.now c.requires.unplaced;
-  done = All-nil (λ own. IsLegalOrWithoutPlace c.args.floor.now c.args.seat.now.team.now own);
+  done = All-nil (λ own. IsLegalOrWithoutPlace c.args.search.now.reach c.args.targets.now c.args.floor.now c.args.seat.now.team.now own);
   off_soft = none_moves_onto_soft c.args.seat.now.team.now c.args.floor.now;
+  within = λ within. within;
 }
 
 pub returns-in-Err-clause-err : goal.returns-in-Err-clause-err
@@ -56,7 +58,7 @@ loop-own-preserved g c = record {
       (flagged_beside c.args.seat.now.team.now c.args.seat.now.impossible.now c.loop-own.floor c.legalize_cell.new.floor (get_or c.args.cells.now c.loop-own.own-index 0)
       (All-get_or (λ own. IsFlagged c.args.seat.now.impossible.now own → ⊥) c.args.cells.now c.loop-own.own-index 0 c.loop-own-test.true c.requires.free) c.in-Ok.ensures.others);
   committed = c.in-Ok.ensures.committed ∙ c.loop-own.invariant.committed;
-  all = still_unplaced c.args.seat.now.team.now c.loop-own.floor c.legalize_cell.new.floor c.args.cells.now (get_or c.args.cells.now c.loop-own.own-index 0)
+  all = still_unplaced c.args.search.now.reach c.args.targets.now c.args.seat.now.team.now c.loop-own.floor c.legalize_cell.new.floor c.args.cells.now (get_or c.args.cells.now c.loop-own.own-index 0)
       (record {
         legal = c.in-Ok.ensures.legal;
         places = c.in-Ok.ensures.others;
@@ -65,7 +67,7 @@ loop-own-preserved g c = record {
         done = c.in-Ok.ensures.done (All-get_or (λ own. IsLegalOrUnplaced c.loop-own.floor c.args.seat.now.team.now own) c.args.cells.now c.loop-own.own-index 0 c.loop-own-test.true
             c.loop-own.invariant.all);
       }) c.loop-own.invariant.all;
-  done = done_more c.args.seat.now.team.now c.loop-own.floor c.legalize_cell.new.floor c.args.cells.now c.loop-own.own-index 0 c.loop-own-test.true
+  done = done_more c.args.search.now.reach c.args.targets.now c.args.seat.now.team.now c.loop-own.floor c.legalize_cell.new.floor c.args.cells.now c.loop-own.own-index 0 c.loop-own-test.true
       (record {
         legal = c.in-Ok.ensures.legal;
         places = c.in-Ok.ensures.others;
@@ -75,6 +77,8 @@ loop-own-preserved g c = record {
             c.loop-own.invariant.all);
       }) c.loop-own.invariant.done;
   off_soft = then_off_soft c.args.seat.now.team.now c.loop-own.floor c.legalize_cell.new.floor c.in-Ok.ensures.only c.args.floor.now c.loop-own.invariant.off_soft c.in-Ok.ensures.off_soft;
+  within = then_within c.args.search.now.reach c.args.targets.now c.args.seat.now.team.now c.args.floor.now c.loop-own.floor c.legalize_cell.new.floor c.loop-own.invariant.within
+      c.in-Ok.ensures.within;
 }
 
 pub legalize_cell-requires : goal.legalize_cell-requires
@@ -82,5 +86,5 @@ legalize_cell-requires g c = ap (λ (f : Frame). team_number f c.args.seat.now.t
 
 pub returns-clause-done : goal.returns-clause-done
 returns-clause-done g c =
-    subst (λ (xs : List ℕ). All (λ own. IsLegalOrWithoutPlace c.loop-own.floor c.args.seat.now.team.now own) xs)
+    subst (λ (xs : List ℕ). All (λ own. IsLegalOrWithoutPlace c.args.search.now.reach c.args.targets.now c.loop-own.floor c.args.seat.now.team.now own) xs)
     (take_all c.loop-own.own-index c.args.cells.now (omega (arith, c.loop-own-test.false))) c.loop-own.invariant.done

@@ -1,7 +1,7 @@
 use Rattle.std.proofs.Common.{take}
 use Rattle.std.specs.Prelude.{All}
 use Rattle.lf_rules.specs.Legalizer.{Legalizer}
-use Rattle.lf_repair_team.specs.CellEdits.{IsLegalOrUnplaced, IsLegalOrWithoutPlace, KeepsCommittedAndSlots, KeepsLegalCells, KeepsLockedPlaces, MovesOffSoft}
+use Rattle.lf_repair_team.specs.CellEdits.{IsLegalOrUnplaced, IsLegalOrWithoutPlace, KeepsCommittedAndSlots, KeepsLegalCells, KeepsLockedPlaces, KeepsWithin, MovesOffSoft}
 use Rattle.lf_repair_team.specs.TeamRepairs.{ChangesOnly}
 use Rattle.lf_repair_team.specs.Runs.{IsWrittenRun}
 use Rattle.lf_repair_team.proofs.last_pass.legalize_cells.Given as goal
@@ -14,6 +14,7 @@ invariant-loop-own g l = record {
   flagged : KeepsLockedPlaces l.seat.team.now l.seat.impossible.now l.fn.floor l.floor;
   committed : KeepsCommittedAndSlots l.seat.team.now l.seat.session l.fn.floor l.floor;
   all : All (λ own. IsLegalOrUnplaced l.floor l.seat.team.now own) l.cells;
-  done : All (λ own. IsLegalOrWithoutPlace l.floor l.seat.team.now own) (take l.own-index l.cells);
+  done : All (λ own. IsLegalOrWithoutPlace l.search.reach l.targets l.floor l.seat.team.now own) (take l.own-index l.cells);
   off_soft : MovesOffSoft l.seat.team.now l.fn.floor l.floor;
+  within : KeepsWithin l.search.reach l.targets l.seat.team.now l.fn.floor l.floor;
 }

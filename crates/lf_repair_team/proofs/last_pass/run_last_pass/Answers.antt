@@ -6,6 +6,7 @@ use Rattle.lf_repair_team.specs.CellEdits.{AreMovable, IsFlagged, IsLegalOrWitho
 use Rattle.lf_repair_team.specs.TeamRepairs.{IsIllegalIn, place_of_cell_in}
 use Rattle.lf_repair_team.proofs.LastPass.{empty_none, illegal_have_none, legal_places, movable_illegal, none_unrepaired, some_there, then_legal}
 use Rattle.lf_repair_team.proofs.OffSoft.{none_moves_onto_soft, then_off_soft}
+use Rattle.lf_repair_team.proofs.ReachLemmas.{then_within}
 use Rattle.lf_repair_team.proofs.Runs.{none_cut, nothing, then_cut, then_only, then_stay, then_written, uncut}
 use Rattle.lf_repair_team.proofs.last_pass.run_last_pass.Goals as goal
 
@@ -17,7 +18,7 @@ returns-then-is_empty-clause-run g c = λ l. nothing l c.args.seat.now.team.now 
 
 pub returns-then-is_empty-clause-unrepaired : goal.returns-then-is_empty-clause-unrepaired
 returns-then-is_empty-clause-unrepaired g c =
-    none_unrepaired c.args.seat.now.team.now c.args.seat.now.impossible.now c.args.floor.now c.in-Ok.left.items c.in-Ok-movable_of.movable.items
+    none_unrepaired c.args.search.now.reach c.args.targets.now c.args.seat.now.team.now c.args.seat.now.impossible.now c.args.floor.now c.in-Ok.left.items c.in-Ok-movable_of.movable.items
     (sym c.as_slice-2.ensures.value ∙ empty_none c.as_slice-2.result.now c.is_empty.result c.is_empty.ensures c.if-is_empty.true)
     (subst (λ (xs : List ℕ). AreMovable c.args.seat.now.impossible.now xs c.in-Ok-movable_of.movable.items) c.as_slice.ensures.value c.in-Ok-movable_of.ensures)
     c.in-Ok.ensures.named c.in-Ok.ensures.illegal c.in-Ok.ensures.rise
@@ -84,12 +85,12 @@ pub returns-in-Ok-illegal_cells-clause-unrepaired : goal.returns-in-Ok-illegal_c
 returns-in-Ok-illegal_cells-clause-unrepaired g c = record {
   named = c.in-Ok-illegal_cells.ensures.named;
   illegal = c.in-Ok-illegal_cells.ensures.illegal;
-  without = illegal_have_none c.args.seat.now.team.now c.args.seat.now.impossible.now c.args.floor.now c.legalize_cells.new.floor c.in-Ok.left.items c.in-Ok-movable_of.movable.items
+  without = illegal_have_none c.args.search.now.reach c.args.targets.now c.args.seat.now.team.now c.args.seat.now.impossible.now c.args.floor.now c.legalize_cells.new.floor c.in-Ok.left.items c.in-Ok-movable_of.movable.items
       c.in-Ok-illegal_cells.left.items (λ none. some_there c.as_slice-2.result.now c.is_empty.result c.is_empty.ensures c.if-is_empty.false (c.as_slice-2.ensures.value ∙ none))
       (c.in-Ok-legalize_cells.ensures.only.names ∙ c.in-Ok-unplace_cells.ensures.only.names) c.in-Ok.ensures.named
       (subst (λ (xs : List ℕ). AreMovable c.args.seat.now.impossible.now xs c.in-Ok-movable_of.movable.items) c.as_slice.ensures.value c.in-Ok-movable_of.ensures)
       (then_legal c.args.seat.now.team.now c.args.floor.now c.unplace_cells.new.floor c.legalize_cells.new.floor c.in-Ok-unplace_cells.ensures.legal c.in-Ok-legalize_cells.ensures.legal)
-      (subst (λ (xs : List ℕ). All (λ own. IsLegalOrWithoutPlace c.legalize_cells.new.floor c.args.seat.now.team.now own) xs) c.as_slice-4.ensures.value c.in-Ok-legalize_cells.ensures.done)
+      (subst (λ (xs : List ℕ). All (λ own. IsLegalOrWithoutPlace c.args.search.now.reach c.args.targets.now c.legalize_cells.new.floor c.args.seat.now.team.now own) xs) c.as_slice-4.ensures.value c.in-Ok-legalize_cells.ensures.done)
       c.in-Ok-illegal_cells.ensures.illegal;
   rise = c.in-Ok-illegal_cells.ensures.rise;
 }
@@ -116,3 +117,11 @@ returns-clause-flagged g c =
 
 pub returns-in_default-movable_of-clause-err : goal.returns-in_default-movable_of-clause-err
 returns-in_default-movable_of-clause-err g c = λ l. none_cut l c.args.seat.now.team.now c.args.floor.now (g.K.Sink.contents c.args.lines.now)
+
+pub returns-then-is_empty-clause-within : goal.returns-then-is_empty-clause-within
+returns-then-is_empty-clause-within g c = λ within. within
+
+pub returns-in-Ok-illegal_cells-clause-within : goal.returns-in-Ok-illegal_cells-clause-within
+returns-in-Ok-illegal_cells-clause-within g c =
+    then_within c.args.search.now.reach c.args.targets.now c.args.seat.now.team.now c.args.floor.now c.unplace_cells.new.floor c.legalize_cells.new.floor c.in-Ok-unplace_cells.ensures.within
+    c.in-Ok-legalize_cells.ensures.within

@@ -6,6 +6,7 @@ use Rattle.lf_repair_team.specs.CellEdits.{IsFlagged}
 use Rattle.lf_repair_team.specs.TeamRepairs.{IsIllegalIn, place_of_cell_in}
 use Rattle.lf_repair_team.proofs.LastPass.{flagged_beside, legal_beside_illegal, none_affected, unplaced_more}
 use Rattle.lf_repair_team.proofs.OffSoft.{none_moves_onto_soft, one_moves_off_soft, then_off_soft}
+use Rattle.lf_repair_team.proofs.ReachLemmas.{one_moves_within, then_within, unplaced_is_within}
 use Rattle.lf_repair_team.proofs.Runs.{none_moves, nothing, then_cut, then_only, then_stay, then_written, unchanged}
 use Rattle.lf_repair_team.proofs.last_pass.unplace_cells.Goals as goal
 
@@ -18,6 +19,7 @@ loop-own-init g c = record {
   committed = refl;
   unplaced = All-nil (λ own. place_of_cell_in c.args.floor.now c.args.seat.now.team.now own ≡ None);
   off_soft = none_moves_onto_soft c.args.seat.now.team.now c.args.floor.now;
+  within = λ within. within;
 }
 
 pub returns-in-Err-clause-err : goal.returns-in-Err-clause-err
@@ -60,6 +62,10 @@ loop-own-preserved g c = record {
       c.loop-own.invariant.unplaced c.in-Ok.ensures.cells c.in-Ok.ensures.unplaced;
   off_soft = then_off_soft c.args.seat.now.team.now c.loop-own.floor c.unplace_cell.new.floor c.in-Ok.ensures.only c.args.floor.now c.loop-own.invariant.off_soft
       (one_moves_off_soft c.args.seat.now.team.now c.loop-own.floor c.unplace_cell.new.floor (get_or c.args.cells.now c.loop-own.own-index 0) c.in-Ok.ensures.cells (inl c.in-Ok.ensures.unplaced));
+  within = then_within c.args.search.now.reach c.args.targets.now c.args.seat.now.team.now c.args.floor.now c.loop-own.floor c.unplace_cell.new.floor c.loop-own.invariant.within
+      (one_moves_within c.args.search.now.reach c.args.targets.now c.args.seat.now.team.now c.loop-own.floor c.unplace_cell.new.floor (get_or c.args.cells.now c.loop-own.own-index 0)
+      c.in-Ok.ensures.cells (unplaced_is_within c.args.search.now.reach c.args.targets.now c.args.seat.now.team.now c.unplace_cell.new.floor (get_or c.args.cells.now c.loop-own.own-index 0)
+      c.in-Ok.ensures.unplaced));
 }
 
 pub returns-clause-unplaced : goal.returns-clause-unplaced

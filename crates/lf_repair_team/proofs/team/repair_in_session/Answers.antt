@@ -1,12 +1,13 @@
-use Rattle.std.proofs.Common.{◌≡◌, ◌≢◌, ◌∙◌, [], Bool, List, Option, subst}
+use Rattle.std.proofs.Common.{◌≡◌, ◌≢◌, ◌∙◌, [], Bool, List, Option, subst, sym}
 use Rattle.std.specs.Prelude.{IfOk}
 use Rattle.std.proofs.lemmas.Result.{on_ok_weaker}
 use Rattle.lf_floorplan.specs.declared.place.Place.{Place}
-use Rattle.lf_repair_team.specs.CellEdits.{AreAtTargetsOrOffSoft, AreFlaggedAtTargets, AreUnrepaired, KeepsCommittedPlaces, KeepsLockedPlaces, TeamHasLeftTargets, TeamIsAtTargetsExcept, session_slots_without}
+use Rattle.lf_repair_team.specs.CellEdits.{AreAtTargetsOrOffSoft, AreFlaggedAtTargets, AreUnrepaired, AreWithin, KeepsCommittedPlaces, KeepsLockedPlaces, TeamHasLeftTargets, TeamIsAtTargetsExcept, session_slots_without}
 use Rattle.lf_repair_team.specs.TeamRepairs.{session_slots_in}
 use Rattle.lf_repair_team.specs.Runs.{IsRunWithCutLine, IsWrittenRun}
 use Rattle.lf_repair_team.proofs.Legal.{same_committed, same_places}
 use Rattle.lf_repair_team.proofs.OffSoft.{flagged_in_session, locked_in_session, targets_stay}
+use Rattle.lf_repair_team.proofs.ReachLemmas.{reach_stays}
 use Rattle.lf_repair_team.proofs.Results.{err_then, ok_then, ok_weaker, on_ok_from}
 use Rattle.lf_repair_team.proofs.Runs.{then_cut, then_written}
 use Rattle.lf_repair_team.proofs.Slots.{committed_kept, other_slots_kept}
@@ -98,4 +99,18 @@ returns-in-Err-clause-unmoved g c = λ at own flag. same_places c.args.team.now 
 
 pub returns-clause-unrepaired : goal.returns-clause-unrepaired
 returns-clause-unrepaired g c =
-    subst (λ (flags : List Bool). IfOk c.finish.result (λ found. AreUnrepaired c.args.team.now flags c.finish.new.floor found.left.items)) c.as_slice.ensures.value c.finish.ensures.unrepaired
+    let team = c.args.team.now in
+    let reach = c.args.search.now.reach in
+    let targets = c.args.start.now.pass.targets.items in
+    let flags = c.args.start.now.pass.impossible.items in
+    let same = c.as_slice-targets.ensures.value in
+    subst (λ (places : List (Option Place)). IfOk c.finish.result (λ found. AreUnrepaired reach places team flags c.finish.new.floor found.left.items)) same
+    (subst (λ (fs : List Bool). IfOk c.finish.result (λ found. AreUnrepaired reach c.as_slice-targets.result.now team fs c.finish.new.floor found.left.items)) c.as_slice.ensures.value
+    (c.finish.ensures.unrepaired reach (subst (λ (places : List (Option Place)). AreUnrepaired reach places team c.as_slice.result.now c.run_passes.new.floor c.in-Ok-run_passes.left.items) (sym same)
+    c.in-Ok-run_passes.ensures.unrepaired)))
+
+pub returns-clause-within : goal.returns-clause-within
+returns-clause-within g c =
+    on_ok_from c.finish.result (AreWithin c.args.search.now.reach c.args.start.now.pass.targets.items c.args.team.now c.finish.new.floor)
+    (reach_stays c.args.search.now.reach c.args.start.now.pass.targets.items c.args.team.now c.run_passes.new.floor c.finish.new.floor c.finish.ensures.places
+    c.in-Ok-run_passes.ensures.within)

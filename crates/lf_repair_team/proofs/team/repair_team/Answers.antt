@@ -4,7 +4,9 @@ use Rattle.lf_floor_model.specs.Teams.{team_number}
 use Rattle.lf_repair_team.specs.TeamRepairs.{AllListedMove, AreLegalExcept, HasNoPlaceOrIsListed, IsIllegalIn, OnlyListedMove}
 use Rattle.lf_repair_team.proofs.Finding.{all_move, only_move}
 use Rattle.lf_repair_team.proofs.Legal.{none_left}
+use Rattle.lf_repair_team.proofs.MeanLemmas.{team_means_of}
 use Rattle.lf_repair_team.proofs.OffSoft.{flagged_at_start, locked_at_start, moved_off_soft, none_or_listed}
+use Rattle.lf_repair_team.proofs.ReachLemmas.{stays_within}
 use Rattle.lf_repair_team.proofs.Runs.{none_cut}
 use Rattle.lf_repair_team.proofs.StatsLemmas.{team_stats_of}
 use Rattle.lf_repair_team.proofs.team.repair_team.Goals as goal
@@ -51,10 +53,10 @@ returns-in-Ok-repair_in_session-clause-named g c =
 
 pub returns-in-Ok-repair_in_session-clause-complete : goal.returns-in-Ok-repair_in_session-clause-complete
 returns-in-Ok-repair_in_session-clause-complete g c =
-    subst (λ (xs : List ℕ). All (HasNoPlaceOrIsListed c.args.impossible.now c.repair_in_session.new.floor c.args.team.now) xs)
+    subst (λ (xs : List ℕ). All (HasNoPlaceOrIsListed c.args.search.now.reach c.args.impossible.now c.args.floor.now c.repair_in_session.new.floor c.args.team.now) xs)
     (sym (items_same c.stats_of.result.unrepaired c.in-Ok-repair_in_session.found.left c.stats_of.ensures.left))
-    (none_or_listed c.args.impossible.now c.args.floor.now c.repair_in_session.new.floor c.args.team.now c.in-Ok.start.pass.impossible.items
-    c.in-Ok-repair_in_session.found.left.items c.in-Ok-repair_in_session.ensures.only c.in-Ok.ensures.flagged c.in-Ok-repair_in_session.ensures.unrepaired.without)
+    (none_or_listed c.args.search.now.reach c.args.impossible.now c.args.floor.now c.repair_in_session.new.floor c.args.team.now c.in-Some.number c.in-Ok.start.pass.targets.items
+    c.in-Ok.start.pass.impossible.items c.in-Ok-repair_in_session.found.left.items (sym c.team_number.ensures ∙ c.in-Some.is) c.in-Ok.ensures.targets c.in-Ok-repair_in_session.ensures.only c.in-Ok.ensures.flagged c.in-Ok-repair_in_session.ensures.unrepaired.without)
 
 pub returns-in-Ok-repair_in_session-clause-illegal : goal.returns-in-Ok-repair_in_session-clause-illegal
 returns-in-Ok-repair_in_session-clause-illegal g c =
@@ -107,3 +109,13 @@ returns-clause-unmoved g c = λ own is.
 
 pub team_input-requires : goal.team_input-requires
 team_input-requires g c = sym c.team_number.ensures ∙ c.in-Some.is
+
+pub returns-in-Ok-repair_in_session-clause-within : goal.returns-in-Ok-repair_in_session-clause-within
+returns-in-Ok-repair_in_session-clause-within g c =
+    stays_within c.args.search.now.reach c.in-Ok.start.pass.targets.items c.args.team.now c.args.floor.now c.repair_in_session.new.floor c.in-Some.number
+    (sym c.team_number.ensures ∙ c.in-Some.is) c.in-Ok.ensures.targets c.in-Ok-repair_in_session.ensures.only.names c.in-Ok-repair_in_session.ensures.within
+
+pub returns-in-Ok-repair_in_session-clause-means : goal.returns-in-Ok-repair_in_session-clause-means
+returns-in-Ok-repair_in_session-clause-means g c =
+    team_means_of c.args.team.now c.args.floor.now c.repair_in_session.new.floor c.in-Some.number c.in-Ok.start.pass.targets.items c.stats_of.result.means
+    (sym c.team_number.ensures ∙ c.in-Some.is) c.in-Ok-repair_in_session.ensures.only.frame c.in-Ok-repair_in_session.ensures.only.names c.in-Ok.ensures.targets c.stats_of.ensures.means

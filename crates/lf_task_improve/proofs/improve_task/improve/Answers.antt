@@ -6,7 +6,7 @@ use Rattle.lf_task_files.proofs.KeptTexts.{can_be_put}
 use Rattle.lf_task_files.proofs.WorkSteps.{early_blames}
 use Rattle.lf_task_wires.proofs.Steps.{files_early}
 use Rattle.lf_task_repair.proofs.Repairing.{err_and, no_text}
-use Rattle.lf_task_improve.proofs.Openings.{begun_many}
+use Rattle.lf_task_improve.proofs.Openings.{begun_many, nets_begin}
 use Rattle.lf_task_improve.proofs.improve_task.improve.Goals as goal
 
 pub improve_ready-requires : goal.improve_ready-requires
@@ -15,6 +15,7 @@ improve_ready-requires g c =
     let ready = c.in_ok-ready.ready in
     record {
       teams = begun_many is.loaded ready.floor is.begins;
+      nets = nets_begin is.loaded ready.floor ready.wires.netlist.nets ready.wires.of_teams is.listed.0 is.begins is.listed.1;
       kept = no_text ready.original (repair_paths c.args.requested.now.files) is.kept;
       fits = λ s places same are.
           can_be_put ready.original is.text is.document places is.are

@@ -4,12 +4,15 @@ use Rattle.lf_task_improve.proofs.Results.{not_longer, wire_length_on}
 use Rattle.lf_task_improve.proofs.improving.improve_selected.Goals as goal
 
 pub results_of-requires : goal.results_of-requires
-results_of-requires g c = wire_length_on c.args.wires.now.teams.items c.args.wires.now.netlist.nets c.args.floor.now c.in_ok-before.before c.in_ok-before.ensures
+results_of-requires g c = record {
+  measured = wire_length_on c.args.wires.now.teams.items c.args.wires.now.netlist.nets c.args.floor.now c.in_ok-before.before c.in_ok-before.ensures;
+  nets = c.requires.nets;
+}
 
 pub is_committed_legal-requires : goal.is_committed_legal-requires
 is_committed_legal-requires g c =
     as_many c.legalizer_exists.ensures (map (λ team. team.now) c.args.requested.now.teams.now) c.args.floor.now c.results_of.new.floor _ _
-    (c.in_ok-results.ensures.run c.legalizer_exists.ensures) c.in_ok-results.ensures.only c.requires
+    (c.in_ok-results.ensures.run c.legalizer_exists.ensures) c.in_ok-results.ensures.only c.requires.teams
 
 pub returns-clause-run : goal.returns-clause-run
 returns-clause-run g c = λ l. rw c.new-lines.ensures at (c.in_ok-results.ensures.run l)

@@ -1,7 +1,7 @@
 use Rattle.std.proofs.Common.{◌∙◌, map, refl, rules, arith}
 use Rattle.lf_task_repair.specs.Repairs.{kept_text}
 use Rattle.lf_task_repair.proofs.Repairing.{none_changes, nothing_requested, one_more_untouched, then_requested, then_kept}
-use Rattle.lf_task_improve.proofs.Results.{all_added, next_added, none_added}
+use Rattle.lf_task_improve.proofs.Results.{all_added, nets_kept, next_added, none_added}
 use Rattle.lf_task_improve.proofs.improving.improve_teams.Goals as goal
 
 pub loop-number-init : goal.loop-number-init
@@ -10,7 +10,8 @@ loop-number-init g c = record {
   only = none_changes (map (λ team. team.now) c.args.plan.now.teams.now) c.args.floor.now;
   reported = none_added c.args.plan.now.options.within c.args.floor.now c.args.floor.now c.args.results.now.teams.items;
   untouched = λ team n named more. refl;
-  measured = c.requires;
+  measured = c.requires.measured;
+  nets = c.requires.nets;
   longer = omega arith;
 }
 
@@ -27,6 +28,8 @@ loop-number-preserved g c = record {
   untouched = one_more_untouched c.args.floor.now c.loop-number.floor c.improve_numbered.new.floor c.loop-number.number c.loop-number.invariant.only.frame
       c.loop-number.invariant.untouched c.improve_numbered.ensures.others;
   measured = c.in_ok-improve_numbered.ensures.measured;
+  nets = nets_kept c.args.plan.now.wires.of_teams.now c.args.plan.now.wires.netlist.now.nets c.loop-number.floor c.improve_numbered.new.floor
+      c.loop-number.invariant.nets c.in_ok-improve_numbered.ensures.only.components;
   longer = omega (arith, c.loop-number.invariant.longer, c.in_ok-improve_numbered.ensures.longer);
 }
 

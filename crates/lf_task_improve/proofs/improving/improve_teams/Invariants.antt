@@ -1,7 +1,7 @@
 use Rattle.std.proofs.Common.{map}
 use Rattle.std.specs.Prelude.{◌≤◌}
 use Rattle.lf_rules.specs.Legalizer.{Legalizer}
-use Rattle.lf_improve_team.specs.FloorLengths.{IsWireLengthOn}
+use Rattle.lf_improve_team.specs.FloorLengths.{AreNetsOfFloor, IsWireLengthOn}
 use Rattle.lf_task_repair.specs.Repairs.{IsKeptRun, OnlySelectedChange, kept_text}
 use Rattle.lf_task_repair.proofs.Repairing.{AreUntouched}
 use Rattle.lf_task_repair.proofs.TeamLines.{first_requested}
@@ -16,5 +16,6 @@ invariant-loop-number g l = record {
       l.fn.results.teams.items l.results.teams.items;
   untouched : AreUntouched l.fn.floor l.floor l.number;
   measured : IsWireLengthOn l.plan.wires.netlist.now.nets l.floor l.results.length;
+  nets : AreNetsOfFloor l.plan.wires.of_teams.now l.plan.wires.netlist.now.nets l.floor;
   longer : l.results.length ≤ l.fn.results.length;
 }

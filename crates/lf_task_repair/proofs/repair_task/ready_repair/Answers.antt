@@ -1,28 +1,9 @@
-use Rattle.std.proofs.Common.{◌∙◌, inl, inr}
-use Rattle.std.proofs.lemmas.Result.{err_from_is_err_and}
-use Rattle.lf_task_files.proofs.WorkSteps.{design_opened}
+use Rattle.std.proofs.Common.{inl, inr}
+use Rattle.std.proofs.lemmas.Result.{IfErr-weaker}
 use Rattle.lf_task_repair.proofs.repair_task.ready_repair.Goals as goal
 
-pub returns-clause-ok : goal.returns-clause-ok
-returns-clause-ok g c =
-    let of = c.in_ok-opened.ensures.ok in
-    record {
-      text = of.text;
-      document = of.document;
-      loaded = c.in_ok-opened.opened.loaded;
-      opened = of.opened;
-      are = of.are;
-      kept = of.kept ∙ c.is_text_requested.ensures;
-      measured = c.in_ok-measured.ensures.ok;
-    }
+pub returns-then-near_nets-clause-err : goal.returns-then-near_nets-clause-err
+returns-then-near_nets-clause-err g c = IfErr-weaker c.ready_near_nets.result _ _ (λ fault why. inr (c.if-near_nets.true, why)) c.ready_near_nets.ensures.err
 
-pub returns-in_err-opened-clause-err : goal.returns-in_err-opened-clause-err
-returns-in_err-opened-clause-err g c =
-    let p = err_from_is_err_and c.from_residual.result c.from_residual.ensures.1 in
-    rw (p.1, p.2) (inl c.in_err-opened.ensures.err)
-
-pub returns-in_err-measured-clause-err : goal.returns-in_err-measured-clause-err
-returns-in_err-measured-clause-err g c =
-    let p = err_from_is_err_and c.from_residual-in_err-measured.result c.from_residual-in_err-measured.ensures.1 in
-    let of = c.in_ok-opened.ensures.ok in
-    rw (p.1, p.2) (inr (c.in_ok-opened.opened.loaded, design_opened _ _ _ _ _ of.document c.in_ok-opened.opened.loaded of.opened, c.in_err-measured.ensures.err))
+pub returns-clause-err : goal.returns-clause-err
+returns-clause-err g c = IfErr-weaker c.ready_without_nets.result _ _ (λ fault why. inl why) c.ready_without_nets.ensures.err

@@ -5,8 +5,8 @@ use Rattle.lf_floor_model.specs.Designs.{initial_floor}
 use Rattle.lf_task_files.specs.Inputs.{path_of}
 use Rattle.lf_task_files.proofs.KeptTexts.{can_be_put}
 use Rattle.lf_task_files.proofs.Measuring.{begun_components}
-use Rattle.lf_task_files.proofs.WorkSteps.{early_blames, floor_early}
-use Rattle.lf_task_repair.proofs.Repairing.{err_and, no_text}
+use Rattle.lf_task_files.proofs.WorkSteps.{early_blames}
+use Rattle.lf_task_repair.proofs.Repairing.{err_and, no_text, opening_early}
 use Rattle.lf_task_repair.proofs.repair_task.repair.Goals as goal
 
 pub repair_opened-requires : goal.repair_opened-requires
@@ -70,5 +70,5 @@ returns-in_err-ready-clause-err g c =
     rw (p.1, p.2) (
       inl (why, refl, refl),
       early_blames _ _ _ _ _ _ _ refl (refl, refl)
-          (floor_early requested.limits gives requested.def.now (map (λ lef. lef.now) requested.lefs.now) (path_of requested.state) _ why),
+          (opening_early requested.options requested.limits gives requested.def.now (map (λ lef. lef.now) requested.lefs.now) (path_of requested.state) _ why),
     )

@@ -13,10 +13,12 @@ returns-in_ok-add-in-Ok-clause-reported g c = (
   record {
     legal = c.in-Ok.ensures.named;
     illegal = c.in-Ok.ensures.illegal;
-    complete = rw c.as_slice.ensures.value at c.in-Ok.ensures.complete;
-    unmoved = rw c.as_slice.ensures.value at c.in-Ok.ensures.unmoved;
+    complete = rw c.as_slice-impossible.ensures.value at c.in-Ok.ensures.complete;
+    within = c.in-Ok.ensures.within;
+    unmoved = rw c.as_slice-impossible.ensures.value at c.in-Ok.ensures.unmoved;
     rise = c.in-Ok.ensures.rise;
     stats = c.in-Ok.ensures.reported;
+    means = c.in-Ok.ensures.means;
     committed = c.in-Ok.ensures.committed;
     uncommitted = c.in-Ok.ensures.uncommitted;
     slots = c.in-Ok.ensures.slots;

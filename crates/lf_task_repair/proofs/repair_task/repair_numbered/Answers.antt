@@ -1,11 +1,12 @@
-use Rattle.std.proofs.Common.{◌≡◌, ◌∙◌, List, ℕ, Some, ap, false, map, rules, sym, true}
+use Rattle.std.proofs.Common.{◌≡◌, ◌∙◌, List, ℕ, ℤ, Option, Some, ap, false, map, rules, subst, sym, true}
 use Rattle.std.specs.Prelude.{slice_get}
 use Rattle.std.proofs.lemmas.Result.{on_ok_weaker}
 use Rattle.lf_floor_model.specs.Teams.{team_names, team_number}
 use Rattle.lf_task_repair.specs.Repairs.{how_of, is_selected}
+use Rattle.lf_task_repair.specs.Reports.{IsRepairOf, reach_of_rows}
 use Rattle.lf_task_repair.proofs.Named.{numbered}
 use Rattle.lf_task_repair.proofs.Repairing.{stay_alike}
-use Rattle.lf_task_repair.proofs.TeamLines.{one_reported}
+use Rattle.lf_task_repair.proofs.TeamLines.{one_reported, unselected_reported}
 use Rattle.lf_task_repair.proofs.repair_task.repair_numbered.Goals as goal
 
 clash : true ≡ false → ⊥
@@ -41,7 +42,15 @@ returns-clause-others g c = λ team differ.
 pub returns-clause-reported : goal.returns-clause-reported
 returns-clause-reported g c =
     let there : slice_get (team_names c.args.floor.now.frame) c.args.number ≡ Some c.as_slice-name.result.now = search rules in
+    let reach : c.search_of-search.result.reach ≡ reach_of_rows c.args.floor.now.frame c.args.requested.now.options.within = search rules in
     on_ok_weaker c.repair_named.result
-    (λ once. one_reported c.args.floor.now.frame (map (λ team. team.now) c.args.requested.now.teams.now) c.args.number c.as_slice-name.result.now
-    c.args.floor.now c.repair_named.new.floor once.0 c.args.report.now c.repair_named.new.report there (sym c.is_selected.ensures ∙ c.if-not-is_selected.false) once.1 once.2)
+    (λ once. one_reported _ c.args.floor.now.frame (map (λ team. team.now) c.args.requested.now.teams.now) c.args.number c.as_slice-name.result.now
+    c.args.floor.now c.repair_named.new.floor once.0 c.args.report.now c.repair_named.new.report there (sym c.is_selected.ensures ∙ c.if-not-is_selected.false) once.1
+    (subst (λ (r : Option ℤ). IsRepairOf r c.args.report.now.impossible.items c.as_slice-name.result.now c.args.floor.now c.repair_named.new.floor once.0) reach once.2))
     c.repair_named.ensures.reported
+
+pub returns-then-not-is_selected-clause-reported : goal.returns-then-not-is_selected-clause-reported
+returns-then-not-is_selected-clause-reported g c =
+    let there : slice_get (team_names c.args.floor.now.frame) c.args.number ≡ Some c.as_slice-name.result.now = search rules in
+    unselected_reported _ c.args.floor.now.frame (map (λ team. team.now) c.args.requested.now.teams.now) c.args.number c.as_slice-name.result.now
+    c.args.floor.now c.args.floor.now c.args.report.now there (sym c.is_selected.ensures ∙ c.if-not-is_selected.true)

@@ -1,5 +1,7 @@
-use Rattle.std.proofs.Common.{◌∙◌, map, refl, rules}
+use Rattle.std.proofs.Common.{◌∙◌, map, refl, rules, subst}
+use Rattle.lf_floorplan.specs.declared.frame.Frame.{Frame}
 use Rattle.lf_task_repair.specs.Repairs.{kept_text}
+use Rattle.lf_task_repair.specs.Reports.{AddsTeamLines, reach_of_rows, selected_at}
 use Rattle.lf_task_repair.proofs.Repairing.{all_stayed, none_changes, none_stayed, nothing_requested, one_more_stayed, one_more_untouched, then_requested, then_kept}
 use Rattle.lf_task_repair.proofs.TeamLines.{every_reported, next_reported, none_reported}
 use Rattle.lf_task_repair.proofs.repair_task.repair_teams.Goals as goal
@@ -8,7 +10,7 @@ pub loop-number-init : goal.loop-number-init
 loop-number-init g c = record {
   run = λ lz. nothing_requested lz c.args.floor.now (kept_text c.args.lines.now.lines);
   only = none_changes (map (λ team. team.now) c.args.requested.now.teams.now) c.args.floor.now;
-  reported = none_reported c.args.floor.now c.args.floor.now c.args.report.now;
+  reported = none_reported _ c.args.floor.now c.args.floor.now c.args.report.now;
   untouched = λ team n named more. refl;
   stayed = λ to_stay. none_stayed c.args.floor.now;
 }
@@ -19,10 +21,14 @@ loop-number-preserved g c = record {
       (kept_text c.repair_numbered.new.lines.lines) (c.loop-number.invariant.run lz) (c.in_ok-repair_numbered.ensures.run lz);
   only = then_requested (map (λ team. team.now) c.args.requested.now.teams.now) c.args.floor.now c.loop-number.floor c.repair_numbered.new.floor
       c.loop-number.invariant.only c.in_ok-repair_numbered.ensures.only;
-  reported = next_reported c.args.floor.now.frame (map (λ team. team.now) c.args.requested.now.teams.now) c.loop-number.number c.args.floor.now c.loop-number.floor
+  reported = next_reported _ c.args.floor.now.frame (map (λ team. team.now) c.args.requested.now.teams.now) c.loop-number.number c.args.floor.now c.loop-number.floor
       c.repair_numbered.new.floor c.args.report.now c.loop-number.report _ (search rules) refl c.loop-number.invariant.only.frame
       (c.in_ok-repair_numbered.ensures.only.frame ∙ c.loop-number.invariant.only.frame) c.loop-number.invariant.untouched c.repair_numbered.ensures.others
-      c.loop-number.invariant.reported c.in_ok-repair_numbered.ensures.reported;
+      c.loop-number.invariant.reported
+      (subst (λ (f : Frame). AddsTeamLines (reach_of_rows f c.args.requested.now.options.within)
+      (selected_at c.loop-number.floor.frame (map (λ team. team.now) c.args.requested.now.teams.now) c.loop-number.number)
+      c.loop-number.floor c.repair_numbered.new.floor c.loop-number.report c.repair_numbered.new.report)
+      c.loop-number.invariant.only.frame c.in_ok-repair_numbered.ensures.reported);
   untouched = one_more_untouched c.args.floor.now c.loop-number.floor c.repair_numbered.new.floor c.loop-number.number c.loop-number.invariant.only.frame
       c.loop-number.invariant.untouched c.repair_numbered.ensures.others;
   stayed = λ to_stay. one_more_stayed c.args.floor.now c.loop-number.floor c.repair_numbered.new.floor c.loop-number.number c.loop-number.invariant.only.frame
@@ -34,5 +40,5 @@ returns-clause-kept g c = λ to_stay. all_stayed c.args.floor.now c.loop-number.
 
 pub returns-clause-reported : goal.returns-clause-reported
 returns-clause-reported g c =
-    every_reported c.args.floor.now.frame (map (λ team. team.now) c.args.requested.now.teams.now) c.loop-number.number c.args.floor.now c.loop-number.floor c.args.report.now
+    every_reported _ c.args.floor.now.frame (map (λ team. team.now) c.args.requested.now.teams.now) c.loop-number.number c.args.floor.now c.loop-number.floor c.args.report.now
     c.loop-number.report (search rules) c.loop-number.invariant.reported

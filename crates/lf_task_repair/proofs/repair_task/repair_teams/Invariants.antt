@@ -2,7 +2,7 @@ use Rattle.std.proofs.Common.{◌≡◌, map}
 use Rattle.lf_rules.specs.Legalizer.{Legalizer}
 use Rattle.lf_cli.specs.declared.parse.LegalCells.TheVariants.{KeepLegal}
 use Rattle.lf_task_repair.specs.Repairs.{IsKeptRun, OnlySelectedChange, kept_text}
-use Rattle.lf_task_repair.specs.Reports.{AddsTeamLines}
+use Rattle.lf_task_repair.specs.Reports.{AddsTeamLines, reach_of_rows}
 use Rattle.lf_task_repair.proofs.Repairing.{AreUntouched, HaveStayed}
 use Rattle.lf_task_repair.proofs.TeamLines.{first_requested}
 use Rattle.lf_task_repair.proofs.repair_task.repair_teams.Given as goal
@@ -11,7 +11,7 @@ abbrev pub invariant-loop-number : goal.invariant-loop-number
 invariant-loop-number g l = record {
   run : (lz : Legalizer) → IsKeptRun lz l.fn.floor (kept_text l.fn.lines.lines) (kept_text l.lines.lines) l.floor;
   only : OnlySelectedChange (map (λ team. team.now) l.requested.teams.now) l.fn.floor l.floor;
-  reported : AddsTeamLines (first_requested l.fn.floor.frame (map (λ team. team.now) l.requested.teams.now) l.number) l.fn.floor l.floor l.fn.report l.report;
+  reported : AddsTeamLines (reach_of_rows l.fn.floor.frame l.requested.options.within) (first_requested l.fn.floor.frame (map (λ team. team.now) l.requested.teams.now) l.number) l.fn.floor l.floor l.fn.report l.report;
   untouched : AreUntouched l.fn.floor l.floor l.number;
-  stayed : l.requested.legal ≡ KeepLegal → HaveStayed l.fn.floor l.floor l.number;
+  stayed : l.requested.options.legal ≡ KeepLegal → HaveStayed l.fn.floor l.floor l.number;
 }

@@ -1,5 +1,5 @@
-use Rattle.std.proofs.Common.{◌≡◌, Some, None, [], ap, arith, option_map, sym, ◌∙◌}
-use Rattle.lf_wire_length.specs.Stored.{pin_by_row, pin_stored}
+use Rattle.std.proofs.Common.{Some, [], ap, arith, sym, ◌∙◌}
+use Rattle.lf_wire_length.specs.Stored.{pin_stored}
 use Rattle.lf_wire_length.proofs.StoredLemmas.{no_pin_mapped, pin_mapped}
 use Rattle.lf_wire_length.proofs.measure.pin_at.Goals as goal
 
