@@ -2,6 +2,7 @@
 
 from __future__ import annotations
 
+import json
 import os
 import resource
 import signal
@@ -24,6 +25,11 @@ LEF = TESTS / "data/w.lef"
 DESIGN = [str(DEF), str(LEF)]
 # Seconds after which a test stops waiting.
 PATIENCE = 90
+# The keys of the densities in the report of a repair or an improvement.
+DENSITY_KEYS = [
+    "fullest_10", "fullest_10_before", "fullest_2", "fullest_20", "fullest_20_before", "fullest_2_before", "fullest_5",
+    "fullest_5_before",
+]
 
 
 @dataclass(frozen=True)
@@ -60,6 +66,16 @@ def run(words: list[str], lines: str | bytes = "", start: Start = Start()) -> tu
         timeout=start.patience,
     )
     return ran.returncode, (ran.stdout or b"").decode(), ran.stderr.decode()
+
+
+def densities(before: Path, after: Path, lef: Path) -> dict[str, int]:
+    """Returns what a report has under the density keys, by `describe` of the texts before and after."""
+    found: dict[str, int] = {}
+    for path, suffix in (before, "_before"), (after, ""):
+        _, written, _ = run(["describe", str(path), str(lef)])
+        density = json.loads(next(line for line in written.splitlines() if '"kind":"density"' in line))
+        found |= {f"{key}{suffix}": density[key] for key in ("fullest_2", "fullest_5", "fullest_10", "fullest_20")}
+    return found
 
 
 def small_files() -> None:

@@ -11,7 +11,7 @@ import re
 import unittest
 from pathlib import Path
 
-from program import InFolder, Start, run
+from program import DENSITY_KEYS, InFolder, Start, densities, run
 
 Place = tuple[int, int, str]
 Line = dict[str, object]
@@ -22,8 +22,8 @@ TEAM_KEYS = [
     "turned",
 ]
 ALL_KEYS = [
-    "cells", "doubled", "doubled_before", "largest", "legal", "length", "length_before", "mean", "moved", "skipped",
-    "teams", "total", "turned",
+    "cells", "doubled", "doubled_before", *DENSITY_KEYS, "largest", "legal", "length", "length_before", "mean", "moved",
+    "skipped", "teams", "total", "turned",
 ]
 LEF = """VERSION 5.8 ;
 SITE core
@@ -262,6 +262,7 @@ class Improve(InFolder):
             self.assertEqual(report[number], wanted)
         wanted = {
             **moves_in(old, new, "abg"),
+            **densities(self.old, self.new, self.lef),
             "doubled": after[3]["doubled"],
             "doubled_before": before[3]["doubled"],
             "length": after[3]["length"],

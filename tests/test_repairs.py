@@ -12,7 +12,7 @@ import subprocess
 import unittest
 from pathlib import Path
 
-from program import DEF, LEF, PROGRAM, InFolder, Start, preloading, run
+from program import DEF, DENSITY_KEYS, LEF, PROGRAM, InFolder, Start, densities, preloading, run
 
 # The keys of the line of a team, and of the line of all teams, in order.
 TEAM_KEYS = [
@@ -20,8 +20,8 @@ TEAM_KEYS = [
     "moved", "placed", "pushed", "team", "total", "turned",
 ]
 ALL_KEYS = [
-    "cells", "kept", "largest", "least_largest", "left_cells", "legal", "mean", "moved", "placed", "pushed",
-    "teams", "total", "turned",
+    "cells", *DENSITY_KEYS, "kept", "largest", "least_largest", "left_cells", "legal", "mean", "moved", "placed",
+    "pushed", "teams", "total", "turned",
 ]
 # The cells of team A, with a2 one site right of a1 and overlapping it, and the other cells at legal places.
 PLACED_CELLS = {
@@ -185,6 +185,12 @@ class Repairs(InFolder):
             (last["cells"], last["kept"], last["teams"], last["left_cells"], last["legal"]), (2, 3, 3, 0, True)
         )
         self.assertEqual(last["total"], first["total"])
+
+    def test_the_report_has_the_density_before_and_after(self) -> None:
+        # (a3 is on b1 at first, so both are counted there)
+        crowded = {**PLACED_CELLS, "- a3 DBL + WEIGHT 3 ;": "- a3 DBL + WEIGHT 3 + PLACED ( 6000 0 ) N ;"}
+        _, report = self.repair(crowded, "--export", str(self.new))
+        self.assertEqual({key: report[-1][key] for key in DENSITY_KEYS}, densities(self.text, self.new, LEF))
 
     def test_a_cell_that_faces_the_wrong_way_turns(self) -> None:
         legal = {**PLACED_CELLS, "- a2 INV + UNPLACED ;": "- a2 INV + PLACED ( 400 0 ) N ;"}

@@ -42,7 +42,7 @@ FORMS = {
         "3 Unexpected line 5", "--lef-output lef --fix fakeram* --halos", 5, 0, {7: 2, 8: 2}, (3, 0, 0)
     ),
     "gf180": Form("9 NoRows spm", "--lef-output lef", 5, 0, {2: 1, 8: 2}, (2, 0, 0)),
-    "iccad2017": Form("", "--lef-output lef", 8, 0, {2: 7}, (7, 1, 0)),
+    "iccad2017": Form("", "--lef-output lef", 8, 0, {2: 7}, (7, 0, 0)),
     "icc2": Form("", "--fix SRAM1RW --halos", 5, 1, {7: 1, 8: 2}, (2, 0, 1)),
     "ihp": Form(
         "8 NoSite sg13g2_ioSite", "--drop-rows sg13g2_ioSite --as-fence PD_AON", 5, 0, {6: 2}, (2, 0, 0)

@@ -7,6 +7,8 @@ use Rattle.lf_wire_length.specs.declared.netlist.WireLengths.{WireLengths}
 use Rattle.lf_wire_length.specs.declared.team_lengths.TeamLengths.{TeamLengths}
 use Rattle.lf_wire_length.specs.Teams.{no_team_lengths}
 use Rattle.lf_describe.specs.Description.{count_data, described_team_name, line_text, text_data}
+use Rattle.lf_repair_report.specs.declared.density.DensityChange.{DensityChange}
+use Rattle.lf_repair_report.specs.Densities.{with_density}
 use Rattle.lf_repair_report.specs.RepairReports.{mean_displacement, saturating_sum}
 use Rattle.lf_improve_report.specs.declared.improved.ImprovedTeam.{ImprovedTeam}
 use Rattle.lf_improve_report.specs.declared.improved.ImprovementTotals.{ImprovementTotals}
@@ -84,10 +86,11 @@ improvement_members s before after =
     (member (codes "total") (count_data s.total_displacement)
     (member (codes "turned") (count_data s.turned) no_members)))))))))))
 
--- The line of all teams: these members, and whether the committed design is then fully legal.
-abbrev pub improvement_data : ImprovementTotals → WireLengths → WireLengths → Bool → Data
-improvement_data s before after legal =
-    object (put (codes "legal") (boolean legal) (improvement_members s before after))
+-- The line of all teams: these members, the densities, and whether the committed design is then fully
+-- legal.
+abbrev pub improvement_data : ImprovementTotals → WireLengths → WireLengths → DensityChange → Bool → Data
+improvement_data s before after density legal =
+    object (with_density density (put (codes "legal") (boolean legal) (improvement_members s before after)))
 
 -- The sums of these teams.
 abbrev pub improvement_totals : List ImprovedTeam → ImprovementTotals
@@ -95,9 +98,9 @@ improvement_totals teams = fold with_improved_team no_improvement teams
 
 -- ---- the report
 
--- The whole report of an improvement of these teams, given the lengths at the beginning and at the
--- end, and whether the committed design is then fully legal.
-abbrev pub improve_report : Frame → List ImprovedTeam → WireLengths → WireLengths → Bool → List ℕ
-improve_report f teams before after legal =
+-- The whole report of an improvement of these teams, given the lengths and densities at the beginning
+-- and at the end, and whether the committed design is then fully legal.
+abbrev pub improve_report : Frame → List ImprovedTeam → WireLengths → WireLengths → DensityChange → Bool → List ℕ
+improve_report f teams before after density legal =
     flat_map (improved_team_line f before after) teams
-    ++ line_text (improvement_data (improvement_totals teams) before after legal)
+    ++ line_text (improvement_data (improvement_totals teams) before after density legal)

@@ -6,8 +6,9 @@ ghost use Rattle.serde_json.specs.View.{view};
 ghost use Rattle.lf_improve_report.specs.ImproveReports.{improved_team_data, improvement_data, improvement_members};
 
 use crate::improved::{ImprovedTeam, ImprovementTotals};
-use lf_repair_report::mean_displacement;
-use lf_wire_length::{TeamLengths, WireLengths};
+use crate::report::LengthChange;
+use lf_repair_report::{DensityChange, mean_displacement, with_density};
+use lf_wire_length::TeamLengths;
 use serde_json::{Value, json};
 use std::alloc::{AllocError, Global};
 
@@ -36,16 +37,17 @@ pub(crate) fn team_value(
     })
 }
 
-/// Makes the line of all teams without `legal`, given the lengths at the beginning and at the end.
-/// `Err` if an allocation fails.
+/// Makes the line of all teams without `legal` and the densities, given the lengths at the beginning
+/// and at the end. `Err` if an allocation fails.
 fn sums_value(
     alloc: Global,
     sums: &ImprovementTotals,
-    before: &WireLengths,
-    after: &WireLengths,
+    lengths: LengthChange<'_>,
 ) -> Result<Value, AllocError>
-    ensures { IfOk result (λ v. view v ≡ object (improvement_members sums.now before.now after.now)) }
+    ensures { IfOk result (λ v. view v
+        ≡ object (improvement_members sums.now lengths.entry.before.now lengths.entry.after.now)) }
 {
+    let LengthChange { before, after } = lengths;
     let mean = mean_displacement(sums.total_displacement, sums.moved);
     let (cells, moved, turned) = (sums.cells, sums.moved, sums.turned);
     let (largest, total) = (sums.max_displacement, sums.total_displacement);
@@ -61,8 +63,8 @@ fn sums_value(
 
 /// Adds to the line whether the committed design is fully legal. `Err` if an allocation fails.
 fn with_legal(alloc: Global, line: Value, legal: bool) -> Result<Value, AllocError>
-    ensures { (ms : Members) → view line ≡ object ms
-        → IfOk result (λ v. view v ≡ object (put (codes "legal") (boolean legal) ms)) }
+    ensures { IfOk result (λ v. (ms : Members) → view line ≡ object ms
+        → view v ≡ object (put (codes "legal") (boolean legal) ms)) }
 {
     match line {
         Value::Object(mut members) => {
@@ -73,17 +75,19 @@ fn with_legal(alloc: Global, line: Value, legal: bool) -> Result<Value, AllocErr
     }
 }
 
-/// Makes the line of all teams, given the lengths at the beginning and at the end. `legal` says
-/// whether the committed design is then fully legal. `Err` if an allocation fails.
+/// Makes the line of all teams, given the lengths and the densities at the beginning and at the end.
+/// `legal` says whether the committed design is then fully legal. `Err` if an allocation fails.
 pub(crate) fn all_value(
     alloc: Global,
     sums: &ImprovementTotals,
-    before: &WireLengths,
-    after: &WireLengths,
+    lengths: LengthChange<'_>,
+    density: &DensityChange,
     legal: bool,
 ) -> Result<Value, AllocError>
-    ensures { IfOk result (λ v. view v ≡ improvement_data sums.now before.now after.now legal) }
+    ensures { IfOk result (λ v. view v
+        ≡ improvement_data sums.now lengths.entry.before.now lengths.entry.after.now density.now legal) }
 {
-    let line = sums_value(alloc, sums, before, after)?;
-    with_legal(alloc, line, legal)
+    let line = sums_value(alloc, sums, lengths)?;
+    let checked = with_legal(alloc, line, legal)?;
+    with_density(alloc, checked, density)
 }

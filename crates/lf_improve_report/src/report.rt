@@ -11,6 +11,7 @@ use crate::improved::{ImprovedTeam, improvement_totals};
 use crate::json::{all_value, team_value};
 use lf_describe::name_value;
 use lf_floorplan::Frame;
+use lf_repair_report::DensityChange;
 use lf_wire_length::{TeamLengths, WireLengths};
 use serde_json::Value;
 use std::alloc::{AllocError, Global};
@@ -101,22 +102,23 @@ fn push_teams(
 }
 
 /// Returns the report of an improvement of these teams of the frame: the line of each, in their
-/// order, and the line of all. `legal` says whether the committed design is then fully legal. `Err`
-/// if an allocation fails.
+/// order, and the line of all, with the densities before and after. `legal` says whether the
+/// committed design is then fully legal. `Err` if an allocation fails.
 pub fn improve_report(
     alloc: Global,
     frame: &Frame,
     teams: &[ImprovedTeam],
     lengths: LengthChange<'_>,
+    density: &DensityChange,
     legal: bool,
 ) -> Result<Vec<u8>, AllocError>
     ensures { IfOk result (λ text. text.items
-        ≡ improve_report frame.now teams.now lengths.entry.before.now lengths.entry.after.now legal) }
+        ≡ improve_report frame.now teams.now lengths.entry.before.now lengths.entry.after.now density.now legal) }
 {
     let mut text = Vec::new(alloc);
     push_teams(alloc, frame, &mut text, teams, lengths)?;
     let sums = improvement_totals(teams);
-    let value = all_value(alloc, &sums, lengths.before, lengths.after, legal)?;
+    let value = all_value(alloc, &sums, lengths, density, legal)?;
     push_line(alloc, &mut text, &value)?;
     Ok(text)
 }

@@ -1,7 +1,7 @@
 //! The cost of one more cell in a gap between others, and its best site there.
 //!
-//! A cell of several rows is inserted in a gap of each of its rows. `reachable_sites` narrows the sites that it may take, row
-//! by row, and `add_pushed` adds what the cells of each row cost that it then pushes.
+//! A cell of several rows is inserted in a gap of each of its rows. `reachable_sites` narrows the sites that it may
+//! take, row by row, and `add_pushed` adds what the cells of each row cost that it then pushes.
 
 ghost use Rattle.std.specs.Prelude.{◌≡◌, ◌+◌, ◌≤◌, ◌<◌, ◌↔◌, IfOk, IfSome, length};
 

@@ -1,3 +1,4 @@
+mod DensityLemmas
 mod NoFloat
 mod ReasonLemmas
 pub mod GapLemmas

@@ -1,1 +1,2 @@
+pub mod Densities
 pub mod RepairReports

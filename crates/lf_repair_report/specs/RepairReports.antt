@@ -15,7 +15,9 @@ use Rattle.lf_repair_bounds.specs.Gaps.{AreGaps, placed_team}
 use Rattle.lf_repair_bounds.specs.ImpossibleMacros.{is_of_macro}
 use Rattle.lf_repair_strategy.specs.declared.stats.DisplacementMeans.{DisplacementMeans}
 use Rattle.lf_repair_strategy.specs.declared.stats.RepairStats.{RepairStats}
+use Rattle.lf_repair_report.specs.declared.density.DensityChange.{DensityChange}
 use Rattle.lf_repair_report.specs.declared.totals.Totals.{Totals}
+use Rattle.lf_repair_report.specs.Densities.{with_density}
 use Rattle.lf_repair_report.specs.declared.report.RepairReport.{RepairReport}
 
 -- ---- values
@@ -187,9 +189,10 @@ totals_with_team s r least = record {
   least_largest = max s.least_largest least;
 }
 
-abbrev pub all_data : Totals → Bool → Data
-all_data s legal =
-    object (member (codes "cells") (report_number s.cells)
+-- the members of all teams, without the densities
+abbrev pub all_members : Totals → Bool → Members
+all_members s legal =
+    member (codes "cells") (report_number s.cells)
     (member (codes "kept") (report_number s.kept)
     (member (codes "largest") (report_number s.max_displacement)
     (member (codes "least_largest") (report_number s.least_largest)
@@ -201,11 +204,14 @@ all_data s legal =
     (member (codes "pushed") (report_number s.displaced_legal)
     (member (codes "teams") (report_number s.teams)
     (member (codes "total") (report_number s.total_displacement)
-    (member (codes "turned") (report_number s.turned) no_members)))))))))))))
+    (member (codes "turned") (report_number s.turned) no_members))))))))))))
+
+abbrev pub all_data : DensityChange → Totals → Bool → Data
+all_data density s legal = object (with_density density (all_members s legal))
 
 -- the line of all teams
-abbrev pub all_line : Totals → Bool → List ℕ
-all_line s legal = report_line_text (all_data s legal)
+abbrev pub all_line : DensityChange → Totals → Bool → List ℕ
+all_line density s legal = report_line_text (all_data density s legal)
 
 -- ---- the lines
 

@@ -2,15 +2,17 @@
 
 ghost use Rattle.std.specs.Prelude.{◌≡◌, ◌++◌, IfOk, OnOk, codes, map};
 ghost use Rattle.serde_json.specs.Data.{Members, array, object, put};
-ghost use Rattle.serde_json.specs.View.{items_of, view};
-ghost use Rattle.lf_repair_report.specs.RepairReports.{all_data, cell_names, counted_members, report_number, name_of_cell, report_text_value, with_means};
+ghost use Rattle.serde_json.specs.View.{items_of, members_view, view};
+ghost use Rattle.lf_repair_report.specs.Densities.{with_change, with_density};
+ghost use Rattle.lf_repair_report.specs.RepairReports.{all_data, all_members, cell_names, counted_members, report_number, name_of_cell, report_text_value, with_means};
 
+use crate::density::DensityChange;
 use crate::totals::{Totals, mean_displacement};
 use lf_describe::name_value;
 use lf_floor::Floor;
 use lf_legalize::Seeker;
 use lf_repair_strategy::{DisplacementMeans, RepairStats};
-use serde_json::{Value, json};
+use serde_json::{Map, Value, json};
 use std::alloc::{AllocError, Global};
 
 /// Appends the name of the team's cell at position `own`, if there is one.
@@ -139,9 +141,53 @@ pub(crate) fn with_impossible(
     }
 }
 
-/// The line of all teams. `legal` says whether the committed design is then fully legal.
-pub(crate) fn all_value(alloc: Global, sums: &Totals, legal: bool) -> Result<Value, AllocError>
-    ensures { IfOk result (λ v. view v ≡ all_data sums.now legal) }
+/// Puts a number into the members, and what it was before. `Err` if an allocation fails.
+fn put_change(
+    members: &mut Map<String, Value>,
+    alloc: Global,
+    key: &str,
+    key_before: &str,
+    before: u64,
+    after: u64,
+) -> Result<(), AllocError>
+    ensures { OnOk result (members_view members.new.entries
+        ≡ with_change key.now key_before.now before after (members_view members.old.entries)) }
+{
+    serde_json::put(members, alloc, key, count_value(after))?;
+    serde_json::put(members, alloc, key_before, count_value(before))?;
+    Ok(())
+}
+
+/// Adds the densities to the line: the mean utilization of the fullest bins, before and after. `Err`
+/// if an allocation fails.
+pub fn with_density(
+    alloc: Global,
+    line: Value,
+    density: &DensityChange,
+) -> Result<Value, AllocError>
+    ensures { (ms : Members) → view line ≡ object ms
+        → IfOk result (λ v. view v ≡ object (with_density density.now ms)) }
+{
+    let DensityChange { before, after } = density;
+    match line {
+        Value::Object(mut members) => {
+            let (b, a) = (before.fullest_10, after.fullest_10);
+            put_change(&mut members, alloc, "fullest_10", "fullest_10_before", b, a)?;
+            let (b, a) = (before.fullest_2, after.fullest_2);
+            put_change(&mut members, alloc, "fullest_2", "fullest_2_before", b, a)?;
+            let (b, a) = (before.fullest_20, after.fullest_20);
+            put_change(&mut members, alloc, "fullest_20", "fullest_20_before", b, a)?;
+            let (b, a) = (before.fullest_5, after.fullest_5);
+            put_change(&mut members, alloc, "fullest_5", "fullest_5_before", b, a)?;
+            Ok(Value::Object(members))
+        }
+        other => Ok(other),
+    }
+}
+
+/// Makes the line of all teams without the densities. `Err` if an allocation fails.
+fn sums_value(alloc: Global, sums: &Totals, legal: bool) -> Result<Value, AllocError>
+    ensures { IfOk result (λ v. view v ≡ object (all_members sums.now legal)) }
 {
     let mean = mean_displacement(sums.total_displacement, sums.moved);
     let (cells, kept, largest, left) = (
@@ -154,7 +200,22 @@ pub(crate) fn all_value(alloc: Global, sums: &Totals, legal: bool) -> Result<Val
     let (moved, placed, pushed) = (sums.moved, sums.placed, sums.displaced_legal);
     let (teams, total, turned) = (sums.teams, sums.total_displacement, sums.turned);
     json!(in alloc; {
-        "cells": cells, "kept": kept, "largest": largest, "least_largest": least, "left_cells": left, "legal": legal, "mean": mean,
-        "moved": moved, "placed": placed, "pushed": pushed, "teams": teams, "total": total, "turned": turned
+        "cells": cells, "kept": kept, "largest": largest, "least_largest": least, "left_cells": left,
+        "legal": legal, "mean": mean, "moved": moved, "placed": placed, "pushed": pushed,
+        "teams": teams, "total": total, "turned": turned
     })
+}
+
+/// Makes the line of all teams. `legal` says whether the committed design is then fully legal. `Err`
+/// if an allocation fails.
+pub(crate) fn all_value(
+    alloc: Global,
+    sums: &Totals,
+    density: &DensityChange,
+    legal: bool,
+) -> Result<Value, AllocError>
+    ensures { IfOk result (λ v. view v ≡ all_data density.now sums.now legal) }
+{
+    let line = sums_value(alloc, sums, legal)?;
+    with_density(alloc, line, density)
 }

@@ -5,6 +5,7 @@ ghost use Rattle.serde_json.specs.View.{view};
 ghost use Rattle.serde_json.specs.Written.{has_float};
 ghost use Rattle.lf_repair_report.specs.RepairReports.{HasTeamMembers, IsOneMore, IsTeamData, all_line, least_for, no_sums, report_line_text};
 
+use crate::density::DensityChange;
 use crate::gaps::gaps_near;
 use crate::json::{
     all_value, array_value, count_values, name_values, team_value, with_impossible, with_means,
@@ -134,12 +135,18 @@ impl RepairReport {
         Ok(())
     }
 
-    /// Appends the line of all teams. `legal` says whether the committed design is then fully
-    /// legal. `Err` if an allocation fails.
-    pub fn close(&mut self, alloc: Global, legal: bool) -> Result<(), AllocError>
-        ensures { OnOk result (self.new.text.items ≡ self.old.text.items ++ all_line self.old.sums legal) }
+    /// Appends the line of all teams, with the densities before and after. `legal` says whether the
+    /// committed design is then fully legal. `Err` if an allocation fails.
+    pub fn close(
+        &mut self,
+        alloc: Global,
+        density: &DensityChange,
+        legal: bool,
+    ) -> Result<(), AllocError>
+        ensures { OnOk result (self.new.text.items
+            ≡ self.old.text.items ++ all_line density.now self.old.sums legal) }
     {
-        let line = all_value(alloc, &self.sums, legal)?;
+        let line = all_value(alloc, &self.sums, density, legal)?;
         push_line(alloc, &mut self.text, &line)
     }
 }

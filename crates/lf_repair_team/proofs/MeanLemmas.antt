@@ -9,7 +9,7 @@ use Rattle.lf_floorplan.specs.declared.place.Place.{Place}
 use Rattle.lf_cells.specs.declared.cell.Cell.{Cell}
 use Rattle.lf_cells.specs.Cells.{working_at}
 use Rattle.lf_floor_model.specs.States.{FloorState, TeamState}
-use Rattle.lf_floor_model.specs.Teams.{state_of, team_number}
+use Rattle.lf_floor_model.specs.Teams.{team_number}
 use Rattle.lf_repair_strategy.specs.Targets.{AreWorkingPlaces, target_at}
 use Rattle.lf_repair_strategy.specs.declared.stats.DisplacementMeans.{DisplacementMeans}
 use Rattle.lf_repair_team.specs.Stats.{AreTeamMeans, count_of_height, displacement, mean_by_height, mean_in_rows, means_of, quotient, row_height, rows_at, total_of_height}

@@ -28,7 +28,7 @@ use Rattle.lf_floor_model.specs.VerbLaws.{BestIsFound}
 use Rattle.lf_floor_model.proofs.Forms.{legalized_at, legalized_own}
 use Rattle.lf_floor_model.proofs.LegalPlaces.{moved_here, none_some, sized_at, some_one}
 use Rattle.lf_repair_strategy.specs.Targets.{AreWorkingPlaces, target_at}
-use Rattle.lf_repair_team.specs.CellEdits.{AreWithin, BestIsWithin, IsBestIn, IsUnchangedOrStepped, IsUnplacedOrAtBest, IsWithin, IsWithoutPlace, KeepsPlaces, KeepsWithin}
+use Rattle.lf_repair_team.specs.CellEdits.{AreWithin, BestIsWithin, IsUnchangedOrStepped, IsUnplacedOrAtBest, IsWithin, IsWithoutPlace, KeepsPlaces, KeepsWithin}
 use Rattle.lf_repair_team.specs.TeamRepairs.{IsBeyond, StaysWithin, corner_of, place_of_cell_in, team_cell_macros, team_cell_names, way_to}
 use Rattle.lf_repair_team.proofs.Cells.{named_is}
 use Rattle.lf_repair_team.proofs.Finding.{team_was}

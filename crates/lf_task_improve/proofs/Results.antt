@@ -144,6 +144,14 @@ one_added teams name within begin floor t old new there selected list is = recor
   same : improved_team_name begin.frame t ≡ name
   same = described begin.frame t name there
 
+-- a team that is not selected has no result
+pub unselected_added : (teams : List (List ℕ)) (number : ℕ) (name : List ℕ) (within : Option ℕ) (begin floor : FloorState) (xs : List ImprovedTeam)
+    → slice_get (team_names begin.frame) number ≡ Some name → is_selected teams name ≡ false → AddsResults (selected_at begin.frame teams number) within begin floor xs xs
+unselected_added teams number name within begin floor xs there unasked =
+    subst (λ (names : List (List ℕ)). AddsResults names within begin floor xs xs)
+    (sym (ap (λ (o : Option (List ℕ)). filter (is_selected teams) (option_map_or (λ name. name ∷ []) o [])) there ∙ ap (λ (b : Bool). cond b (name ∷ []) []) unasked))
+    (none_added within begin floor xs)
+
 -- more results after the first ones
 then_added : (names more : List (List ℕ)) (within : Option ℕ) (begin mid floor : FloorState) (xs ys zs : List ImprovedTeam) → floor.frame ≡ mid.frame
     → All (λ name. state_of floor name ≡ state_of mid name) names → AddsResults names within begin mid xs ys → AddsResults more within begin floor ys zs

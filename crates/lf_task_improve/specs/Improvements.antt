@@ -18,6 +18,8 @@ use Rattle.lf_repair_team.specs.TeamRepairs.{session_slots_in}
 use Rattle.lf_repair_strategy.specs.declared.stats.RepairStats.{RepairStats}
 use Rattle.lf_improve_team.specs.FloorLengths.{listed_place}
 use Rattle.lf_improve_team.specs.TeamImprovements.{IsImprovable, KeepsTeamPlaces, StaysWithin}
+use Rattle.lf_repair_report.specs.declared.density.DensityChange.{DensityChange}
+use Rattle.lf_repair_report.specs.Densities.{IsDensityOn}
 use Rattle.lf_improve_report.specs.declared.improved.ImprovedTeam.{ImprovedTeam}
 use Rattle.lf_improve_report.specs.ImproveReports.{improve_report, improved_team_name}
 use Rattle.lf_task_repair.specs.Repairs.{AreKnown, IsKeptRun, OnlySelectedChange, initial_lines}
@@ -72,8 +74,8 @@ pub record AreLengthsOnFloor (teams : List ℕ) (nets : List (List NetPin)) (flo
 -- ---- the whole design
 
 -- the text is the report of an improvement from the first floor to the last one: it has the line of
--- each selected team, with its result, and the line of all teams, with the wire lengths on both
--- floors and whether the committed design is fully legal. The wire length has not grown
+-- each selected team, with its result, and the line of all teams, with the wire lengths and densities
+-- on both floors and whether the committed design is fully legal. The wire length has not grown
 pub record IsImproveReport (teams : List (List ℕ)) (within : Option ℕ) (owners : List ℕ) (nets : List (List NetPin))
     (begin floor : FloorState) (text : List ℕ) : Type 0 where
   pub results : List ImprovedTeam
@@ -83,9 +85,12 @@ pub record IsImproveReport (teams : List (List ℕ)) (within : Option ℕ) (owne
   pub after : WireLengths
   pub after_are : AreLengthsOnFloor owners nets floor after
   pub no_longer : after.length ≤ before.length
+  pub density : DensityChange
+  pub density_before : IsDensityOn begin density.before
+  pub density_after : IsDensityOn floor density.after
   pub legal : Bool
   pub right : IsTrue legal ↔ IsCommittedLegal floor
-  pub text_is : text ≡ improve_report floor.frame results before after legal
+  pub text_is : text ≡ improve_report floor.frame results before after density legal
 
 -- the first floor is improved and becomes this one: each requested name is a team's; accepted
 -- commands lead from the first floor to this one, and they are the lines that are kept; only

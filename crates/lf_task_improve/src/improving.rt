@@ -21,6 +21,7 @@ use lf_improve_team::{
     improve_team, wire_length_is_one,
 };
 use lf_legalize::IndexSeeker;
+use lf_repair_report::{density_on, density_since};
 use lf_rules::legalizer_exists;
 use lf_task_faults::Fault;
 use lf_task_files::is_committed_legal;
@@ -268,16 +269,18 @@ pub(crate) fn improve_selected<'a, P: Progress>(
     wire_length_is_one();
     let lines = CommandLog::new(alloc, requested.files.lines);
     let mut lines = ProgressSink { lines, progress };
+    let density_before = density_on(alloc, floor)?;
     let before = lengths_on(alloc, floor, wires)?;
     let results = results_of(alloc, floor, wires, requested, before.length, &mut lines)?;
     let after = lengths_on(alloc, floor, wires)?;
+    let density = density_since(alloc, floor, density_before)?;
     let legal = is_committed_legal(alloc, floor)?;
     let lengths = LengthChange {
         before: &before,
         after: &after,
     };
     let frame = floor.placement().frame();
-    let report = improve_report(alloc, frame, &results.teams, lengths, legal)?;
+    let report = improve_report(alloc, frame, &results.teams, lengths, &density, legal)?;
     let ProgressSink { lines, .. } = lines;
     Ok(FinishedTask {
         lines,

@@ -25,7 +25,9 @@ use Rattle.lf_repair_team.proofs.Legal.{committed_through}
 use Rattle.lf_repair_team.proofs.WithoutPlace.{none_through}
 use Rattle.lf_repair_strategy.specs.declared.stats.DisplacementMeans.{DisplacementMeans}
 use Rattle.lf_repair_strategy.specs.declared.stats.RepairStats.{RepairStats}
+use Rattle.lf_density.specs.declared.density.Density.{Density}
 use Rattle.lf_repair_report.specs.declared.report.RepairReport.{RepairReport}
+use Rattle.lf_repair_report.specs.Densities.{IsDensityOn}
 use Rattle.lf_repair_bounds.specs.declared.reasons.ImpossibleMacro.{ImpossibleMacro}
 use Rattle.lf_repair_bounds.specs.Gaps.{AreGaps, placed_team}
 use Rattle.lf_task_files.specs.declared.measured.RepairLimits.{RepairLimits}
@@ -339,17 +341,21 @@ module _ (reach : Option ℤ) where
       (take_all count (team_names f) (subst (λ (n : ℕ). n ≤ count) (sym (names_many f)) all))
 
   -- the line of all teams is the last one
-  pub all_reported : (f : Frame) (teams : List (List ℕ)) (limits : RepairLimits) (begin floor : FloorState) (a b c : RepairReport)
-      → floor.frame ≡ f → a.text.items ≡ [] → a.sums ≡ no_sums → a.least.items ≡ limits.least.items → a.impossible.items ≡ limits.impossible.items → AddsTeamLines reach (selected_names f teams) begin floor a b → AddsTotalLine floor b c
+  pub all_reported : (f : Frame) (teams : List (List ℕ)) (limits : RepairLimits) (begin floor : FloorState) (before : Density) (a b c : RepairReport)
+      → floor.frame ≡ f → a.text.items ≡ [] → a.sums ≡ no_sums → a.least.items ≡ limits.least.items → a.impossible.items ≡ limits.impossible.items
+      → IsDensityOn begin before → AddsTeamLines reach (selected_names f teams) begin floor a b → AddsTotalLine before floor b c
       → IsReport reach teams limits begin floor c.text.items
-  all_reported f teams limits begin floor a b c frame empty zero least impossible more last = record {
+  all_reported f teams limits begin floor before a b c frame empty zero least impossible measured more last = record {
     reported = more.reported;
     named = more.named ∙ ap (λ (g : Frame). selected_names g teams) (sym frame);
     each = subst (λ (bounds : List ℕ). All (IsTeamReport reach bounds limits.impossible.items begin floor) more.reported) least
         (subst (λ (list : List ImpossibleMacro). All (IsTeamReport reach a.least.items list begin floor) more.reported) impossible more.each);
+    density = last.density;
+    density_before = subst (λ (d : Density). IsDensityOn begin d) (sym last.density_before) measured;
+    density_after = last.density_after;
     legal = last.legal;
     right = last.right;
-    is = last.text ∙ ap (λ (text : List ℕ). text ++ all_line b.sums last.legal) (more.text ∙ ap (λ (text : List ℕ). text ++ flat_map line_of_team more.reported) empty)
-        ∙ ap (λ (s : Totals). flat_map line_of_team more.reported ++ all_line s last.legal)
+    is = last.text ∙ ap (λ (text : List ℕ). text ++ all_line last.density b.sums last.legal) (more.text ∙ ap (λ (text : List ℕ). text ++ flat_map line_of_team more.reported) empty)
+        ∙ ap (λ (s : Totals). flat_map line_of_team more.reported ++ all_line last.density s last.legal)
         (more.sums ∙ ap (λ (s : Totals). sums_with s more.reported) zero);
   }

@@ -11,6 +11,9 @@ use Rattle.lf_floor_model.specs.Committed.{IsCommittedLegal}
 use Rattle.lf_repair_team.specs.Stats.{AreTeamMeans, AreTeamStats}
 use Rattle.lf_repair_team.specs.TeamRepairs.{AreLegalExcept, AreMovedOffSoft, HasNoPlaceOrIsListed, IsIllegalIn, KeepsListedPlaces, StaysWithin, committed_in, session_slots_in}
 use Rattle.lf_repair_strategy.specs.declared.stats.RepairStats.{RepairStats}
+use Rattle.lf_density.specs.declared.density.Density.{Density}
+use Rattle.lf_repair_report.specs.declared.density.DensityChange.{DensityChange}
+use Rattle.lf_repair_report.specs.Densities.{IsDensityOn}
 use Rattle.lf_repair_report.specs.declared.report.RepairReport.{RepairReport}
 use Rattle.lf_repair_report.specs.declared.totals.Totals.{Totals}
 use Rattle.lf_repair_report.specs.RepairReports.{AreGapsIn, UnrepairedCells, all_line, least_for, no_sums, team_line, totals_with_team, unrepaired_with}
@@ -91,20 +94,27 @@ pub record AddsTeamLines (reach : Option ℤ) (names : List (List ℕ)) (begin f
   pub least : new.least ≡ old.least
   pub impossible : new.impossible ≡ old.impossible
 
--- the line of all teams is appended last, and says whether the committed design is fully legal
-pub record AddsTotalLine (floor : FloorState) (old new : RepairReport) : Type 0 where
+-- the line of all teams is appended last. It has the density before the repair and that of the floor,
+-- and says whether the committed design is fully legal
+pub record AddsTotalLine (before : Density) (floor : FloorState) (old new : RepairReport) : Type 0 where
+  pub density : DensityChange
+  pub density_before : density.before ≡ before
+  pub density_after : IsDensityOn floor density.after
   pub legal : Bool
   pub right : IsTrue legal ↔ IsCommittedLegal floor
-  pub text : new.text.items ≡ old.text.items ++ all_line old.sums legal
+  pub text : new.text.items ≡ old.text.items ++ all_line density old.sums legal
 
 -- the text has the line of each selected team, with its own bound and the result of its repair from
--- the first floor to the last one, and then the line of all teams, which says whether the committed
--- design is fully legal
+-- the first floor to the last one, and then the line of all teams, which has the densities of both
+-- floors and says whether the committed design is fully legal
 pub record IsReport (reach : Option ℤ) (teams : List (List ℕ)) (limits : RepairLimits) (begin floor : FloorState)
     (text : List ℕ) : Type 0 where
   pub reported : List TeamReport
   pub named : map (λ t. t.name) reported ≡ selected_names floor.frame teams
   pub each : All (IsTeamReport reach limits.least.items limits.impossible.items begin floor) reported
+  pub density : DensityChange
+  pub density_before : IsDensityOn begin density.before
+  pub density_after : IsDensityOn floor density.after
   pub legal : Bool
   pub right : IsTrue legal ↔ IsCommittedLegal floor
-  pub is : text ≡ flat_map line_of_team reported ++ all_line (sums_with no_sums reported) legal
+  pub is : text ≡ flat_map line_of_team reported ++ all_line density (sums_with no_sums reported) legal

@@ -30,6 +30,7 @@ ghost use Rattle.lf_task_repair.specs.Reports.{AddsTeamLines, IsRepairOf, IsRepo
 use crate::command_log::{CommandLog, save_lines};
 use crate::progress::{Progress, ProgressSink};
 use lf_cli::{LegalCells, RepairFiles, RepairOptions};
+use lf_density::Density;
 use lf_floor::{Floor, team_name};
 use lf_floor_model::places_follow_design;
 use lf_floorplan::{Frame, Limits};
@@ -37,7 +38,7 @@ use lf_io::{Sink, send};
 use lf_io_files::OutputFiles;
 use lf_laws_roundtrip::loaded_cells_are_exportable;
 use lf_legalize::IndexSeeker;
-use lf_repair_report::RepairReport;
+use lf_repair_report::{RepairReport, density_on, density_since};
 use lf_repair_team::{MovePolicy, RepairSearch, repair_team};
 use lf_rules::legalizer_exists;
 use lf_task_designs::{InputFiles, OpenedDesign, SourceText, open_design};
@@ -268,19 +269,22 @@ pub fn status_by(legal: bool) -> u8
     if legal { LEGAL_STATUS } else { ILLEGAL_STATUS }
 }
 
-/// Adds the line of all teams to the report, and returns the exit status.
+/// Adds the line of all teams to the report, given the density before the repair, and returns the
+/// exit status.
 fn close_report<'f>(
     alloc: Global,
     floor: &Floor<IndexSeeker>,
+    before: Density,
     report: &mut RepairReport,
 ) -> Result<u8, Fault<'f>>
     requires { length floor.now.teams ≡ length floor.now.frame.teams + 1 }
     ensures ok { IfOk result (IsStatusOf floor.now) }
-    ensures reported { OnOk result (AddsTotalLine floor.now report.old report.new) }
+    ensures reported { OnOk result (AddsTotalLine before floor.now report.old report.new) }
     ensures err { IfErr result (λ fault. fault ≡ SetupOutOfMemory) }
 {
+    let density = density_since(alloc, floor, before)?;
     let legal = is_committed_legal(alloc, floor)?;
-    report.close(alloc, legal)?;
+    report.close(alloc, &density, legal)?;
     Ok(status_by(legal))
 }
 
@@ -319,11 +323,12 @@ fn repair_selected<'a, P: Progress>(
     legalizer_exists();
     let lines = CommandLog::new(alloc, requested.files.lines);
     let mut lines = ProgressSink { lines, progress };
+    let before = density_on(alloc, floor)?;
     let least = limits.least.as_slice();
     let impossible = limits.impossible.as_slice();
     let mut report = RepairReport::new(alloc, least, impossible)?;
     repair_teams(alloc, floor, requested, targets, &mut lines, &mut report)?;
-    let status = close_report(alloc, floor, &mut report)?;
+    let status = close_report(alloc, floor, before, &mut report)?;
     let ProgressSink { lines, .. } = lines;
     let RepairReport { text, .. } = report;
     Ok(FinishedTask {

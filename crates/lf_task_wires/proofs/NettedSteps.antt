@@ -1,10 +1,10 @@
 -- Designs with nets, step by step.
-use Rattle.std.proofs.Common.{◌≡◌, ◌⊎◌, inl, inr, ℕ, List, Bool, false, true, cond, Option, None, Some, Ok, Err, is_some, map, refl, subst, sym}
+use Rattle.std.proofs.Common.{◌≡◌, ◌⊎◌, inl, inr, ℕ, List, Bool, false, true, Option, None, Some, Ok, Err, is_some, refl, subst, sym}
 use Rattle.std.specs.Prelude.{IfSome, option_map}
 use Rattle.lf_lef.specs.Contents.{Contents}
 use Rattle.lf_def.specs.Document.{Document, document_of}
 use Rattle.lf_floorplan.specs.declared.limits.Limits.{Limits}
-use Rattle.lf_write.specs.Export.{ClauseFacts, clause_of}
+use Rattle.lf_write.specs.Export.{ClauseFacts}
 use Rattle.lf_task_faults.specs.declared.faults.Fault.{Fault}
 use Rattle.lf_task_faults.specs.declared.faults.Fault.TheVariants.{SetupOutOfMemory}
 use Rattle.lf_task_faults.specs.declared.faults.TextKind.TheVariants.{Def}

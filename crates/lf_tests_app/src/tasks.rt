@@ -726,8 +726,11 @@ const IMPROVEMENT: &str = "\
     \"own\":0,\"own_before\":0,\"skipped\":false,\"team\":\"B\",\"total\":0,\"turned\":0}\n\
     {\"cells\":1,\"crossing\":2400,\"crossing_before\":3600,\"largest\":3200,\"mean\":3200,\"moved\":1,\
     \"own\":0,\"own_before\":0,\"skipped\":false,\"team\":\"-\",\"total\":3200,\"turned\":1}\n\
-    {\"cells\":5,\"doubled\":4800,\"doubled_before\":7200,\"largest\":3200,\"legal\":false,\"length\":2400,\
-    \"length_before\":3600,\"mean\":3200,\"moved\":1,\"skipped\":1,\"teams\":3,\"total\":3200,\"turned\":1}\n";
+    {\"cells\":5,\"doubled\":4800,\"doubled_before\":7200,\"fullest_10\":20,\
+    \"fullest_10_before\":20,\"fullest_2\":20,\"fullest_20\":20,\"fullest_20_before\":20,\
+    \"fullest_2_before\":20,\"fullest_5\":20,\"fullest_5_before\":20,\"largest\":3200,\
+    \"legal\":false,\"length\":2400,\"length_before\":3600,\"mean\":3200,\"moved\":1,\
+    \"skipped\":1,\"teams\":3,\"total\":3200,\"turned\":1}\n";
 
 #[test]
 fn a_design_is_improved(rt: HostRuntime) -> Result<(), Fail> {

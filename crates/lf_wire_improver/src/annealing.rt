@@ -36,10 +36,24 @@ const EXCHANGES: u32 = 32;
 /// others go near the cell's place.
 const WANTED: u32 = 70;
 
-/// How far moves near the rectangle and near the place go, in rows.
-const WANTED_ROWS: u32 = 2;
+/// How far moves near the rectangle and near the place go. Near the rectangle the wires decide, so
+/// these moves go less far along the rows.
+const WANTED_REACH: Reach = Reach {
+    rows: 2,
+    heights: 1,
+};
 
-const OWN_ROWS: u32 = 3;
+const OWN_REACH: Reach = Reach {
+    rows: 3,
+    heights: 3,
+};
+
+/// How far a move goes at most: in rows up and down, and to the left and right in heights of a row.
+#[derive(Clone, Copy)]
+struct Reach {
+    rows: u32,
+    heights: u32,
+}
 
 /// The number of moves of a cell at a stage: of `moves` moves at `stages` stages.
 fn moves_at(moves: u32, stage: u32, stages: u32) -> u32 {
@@ -130,13 +144,13 @@ fn target_near(
     draws: &mut Draws,
     stage: &Stage,
     (cell, place): (u32, &SitePlace),
-    (corner, rows): (&BoardPoint, u32),
+    (corner, reach): (&BoardPoint, Reach),
 ) -> Option<Target> {
-    let step = draws.below(rows.saturating_mul(2).saturating_add(1));
+    let step = draws.below(reach.rows.saturating_mul(2).saturating_add(1));
     let level = board.runs.level_by(board.runs.level_near(corner.y), step)?;
-    let reach = stage.height.saturating_mul(rows).saturating_mul(2);
+    let along = stage.height.saturating_mul(reach.heights).saturating_mul(2);
     let x = draws
-        .around(corner.x as i64, reach)
+        .around(corner.x as i64, along)
         .clamp(-2_147_483_648, 2_147_483_647) as i32;
     let number = board.runs.run_near(&level, x)?;
     target_at(board, cell, place, number, x)
@@ -156,11 +170,11 @@ fn random_target(
     };
     if draws.happens(WANTED) {
         if let Some(wanted) = wanted_corner(wires, draws, cell, place, &corner, nets)? {
-            let near = (&wanted, WANTED_ROWS);
+            let near = (&wanted, WANTED_REACH);
             return Ok(target_near(board, draws, stage, (cell, place), near));
         }
     }
-    let near = (&corner, OWN_ROWS);
+    let near = (&corner, OWN_REACH);
     Ok(target_near(board, draws, stage, (cell, place), near))
 }
 

@@ -1,11 +1,10 @@
 -- The lists of teams' nets, as they grow from net to net.
 use Rattle.std.proofs.Common.{◌≡◌, ◌≢◌, ◌⊎◌, ⊎_elim, ℕ, zero, suc, ◌+◌, ◌-◌, ◌==◌, ◌≤◌, ◌<◌, Bool, true, false, ◌||◌, List, [], ◌∷◌, ◌++◌, map, length, All, get_or, fold, filter, Option, Some, None, if◌then◌else◌, cond, set, arith, refl, ap, ap₂, sym, ◌∙◌, subst}
-use Rattle.std.specs.List.{list_any, range_with_len}
+use Rattle.std.specs.List.{range_with_len}
 use Rattle.std.proofs.lemmas.Bool.{cases_eq, cases_lt, eq-eqb, eqb-true}
 use Rattle.std.proofs.lemmas.List.{append-nil, get_or_past, get_or_push, get_or-set_other, get_or-set_same, length_push, map-id}
 use Rattle.std.proofs.lemmas.List.Elements.{All-cons, All-filter, All-nil, filter-append}
 use Rattle.std.proofs.lemmas.List.FromFn.{map-range_with_len_more}
-use Rattle.lf_wire_length.specs.declared.pins.NetPin.{NetPin}
 use Rattle.lf_wire_length.specs.declared.pins.PackedPin.{PackedPin}
 use Rattle.lf_wire_length.specs.declared.points.PinOffset.{PinOffset}
 use Rattle.lf_wire_length.specs.Stored.{pin_stored}

@@ -1,6 +1,6 @@
 -- The nets of a team are the ones whose lengths depend on its cells; and lists of them that grow.
-use Rattle.std.proofs.Common.{◌≡◌, ◌≢◌, ℕ, zero, suc, ◌+◌, ◌-◌, ◌==◌, ◌≤◌, ◌<◌, Bool, true, false, ◌||◌, List, [], ◌∷◌, ◌++◌, map, take, length, All, get_or, fold, filter_map, filter, sum_by, Option, Some, None, option_map, slice_get, if◌then◌else◌, cond, arith, refl, ap, ap₂, sym, ◌∙◌, zero-add}
-use Rattle.std.specs.List.{cons_option, list_any, range_with_len}
+use Rattle.std.proofs.Common.{◌≡◌, ◌≢◌, ℕ, ◌+◌, ◌-◌, ◌≤◌, Bool, true, false, ◌||◌, List, [], ◌∷◌, map, length, get_or, filter_map, filter, sum_by, Option, Some, None, option_map, slice_get, if◌then◌else◌, cond, arith, refl, ap, ap₂, sym, ◌∙◌, zero-add}
+use Rattle.std.specs.List.{cons_option, range_with_len}
 use Rattle.std.proofs.lemmas.Bool.{eq-eqb}
 use Rattle.std.proofs.lemmas.List.{get_or_default, same_lists}
 use Rattle.std.proofs.lemmas.List.FromFn.{get_or-map-range_with_len, length-map-range_with_len}
@@ -10,7 +10,7 @@ use Rattle.lf_wire_length.specs.declared.points.HalfPoint.{HalfPoint}
 use Rattle.lf_wire_length.specs.declared.pins.NetPin.{NetPin}
 use Rattle.lf_wire_length.specs.declared.pins.NetPin.TheVariants.{Fixed, OfCell, Unknown, Unplaced}
 use Rattle.lf_wire_length.specs.Length.{around, length_of_net, length_of_nets, point_at, point_of_pin}
-use Rattle.lf_wire_length.specs.TeamNets.{KeepsOtherCells, TeamNetsDecide, has_pin_of, is_net_of, is_pin_of, length_of_listed, nets_of_team}
+use Rattle.lf_wire_length.specs.TeamNets.{KeepsOtherCells, has_pin_of, is_net_of, is_pin_of, length_of_listed, nets_of_team}
 use Rattle.lf_wire_length.specs.Teams.{is_team}
 
 -- ---- the length of a net without pins of the team

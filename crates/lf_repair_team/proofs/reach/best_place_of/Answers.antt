@@ -1,14 +1,11 @@
-use Rattle.std.proofs.Common.{◌≡◌, ◌∙◌, List, None, Option, Some, ap, map, subst, sym}
+use Rattle.std.proofs.Common.{◌≡◌, ◌∙◌, List, Option, Some, ap, map, subst, sym}
 use Rattle.std.specs.Option.{option_map}
-use Rattle.lf_floorplan.specs.declared.place.Place.{Place}
 use Rattle.lf_rules.specs.Choice.{IsChoice, spot_of}
 use Rattle.lf_rules.specs.Team.{query_from}
 use Rattle.lf_cells.specs.declared.cell.Cell.{Cell}
 use Rattle.lf_cells.specs.declared.cell.CellId.{CellId}
 use Rattle.lf_cells.specs.Cells.{Cells, cells_of, id_in, id_of}
 use Rattle.lf_legalize.specs.Members.{best_of, member_of}
-use Rattle.lf_floor_model.specs.States.{TeamState}
-use Rattle.lf_floor_model.specs.Teams.{IsTeamOf}
 use Rattle.lf_floor_model.proofs.LegalPlaces.{none_some, some_one}
 use Rattle.lf_repair_team.proofs.ReachLemmas.{choice_of_best, team_of_floor}
 use Rattle.lf_repair_team.proofs.Results.{ok_weaker}

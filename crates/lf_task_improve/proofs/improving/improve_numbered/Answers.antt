@@ -3,7 +3,7 @@ use Rattle.std.specs.Prelude.{slice_get}
 use Rattle.lf_floor_model.specs.Teams.{team_names, team_number}
 use Rattle.lf_task_repair.specs.Repairs.{is_selected}
 use Rattle.lf_task_repair.proofs.Named.{numbered}
-use Rattle.lf_task_improve.proofs.Results.{one_added}
+use Rattle.lf_task_improve.proofs.Results.{one_added, unselected_added}
 use Rattle.lf_task_improve.proofs.improving.improve_numbered.Goals as goal
 
 clash : true ≡ false → ⊥
@@ -53,3 +53,9 @@ returns-clause-reported g c =
     (record { number = c.args.number; is_skipped = done.is_skipped; cells = done.cells; stats = done.stats })
     c.args.results.now.teams.items c.add_result.new.results.teams.items there (sym c.is_selected.ensures ∙ c.if-not-is_selected.false)
     c.in_ok-add_result.ensures.teams c.in_ok-done.ensures.done
+
+pub returns-then-not-is_selected-clause-reported : goal.returns-then-not-is_selected-clause-reported
+returns-then-not-is_selected-clause-reported g c =
+    let there : slice_get (team_names c.args.floor.now.frame) c.args.number ≡ Some c.as_slice-name.result.now = search rules in
+    unselected_added (map (λ team. team.now) c.args.plan.now.teams.now) c.args.number c.as_slice-name.result.now c.args.plan.now.options.within
+    c.args.floor.now c.args.floor.now c.args.results.now.teams.items there (sym c.is_selected.ensures ∙ c.if-not-is_selected.true)

@@ -1,4 +1,5 @@
-use Rattle.std.proofs.Common.{map}
+use Rattle.std.proofs.Common.{map, subst, sym}
+use Rattle.lf_repair_report.specs.Densities.{IsDensityOn}
 use Rattle.lf_task_repair.proofs.Repairing.{as_many}
 use Rattle.lf_task_improve.proofs.Results.{not_longer, wire_length_on}
 use Rattle.lf_task_improve.proofs.improving.improve_selected.Goals as goal
@@ -11,6 +12,11 @@ results_of-requires g c = record {
 
 pub is_committed_legal-requires : goal.is_committed_legal-requires
 is_committed_legal-requires g c =
+    as_many c.legalizer_exists.ensures (map (λ team. team.now) c.args.requested.now.teams.now) c.args.floor.now c.results_of.new.floor _ _
+    (c.in_ok-results.ensures.run c.legalizer_exists.ensures) c.in_ok-results.ensures.only c.requires.teams
+
+pub density_since-requires : goal.density_since-requires
+density_since-requires g c =
     as_many c.legalizer_exists.ensures (map (λ team. team.now) c.args.requested.now.teams.now) c.args.floor.now c.results_of.new.floor _ _
     (c.in_ok-results.ensures.run c.legalizer_exists.ensures) c.in_ok-results.ensures.only c.requires.teams
 
@@ -27,6 +33,9 @@ returns-clause-reported g c = record {
   after_are = c.in_ok-after.ensures;
   no_longer = not_longer c.wire_length_is_one.ensures c.args.wires.now.teams.items c.args.wires.now.netlist.nets c.results_of.new.floor c.in_ok-after.after
       c.in_ok-results.results.length c.in_ok-before.before.length c.in_ok-after.ensures c.in_ok-results.ensures.measured c.in_ok-results.ensures.longer;
+  density = c.in_ok-density.density;
+  density_before = subst (λ d. IsDensityOn c.args.floor.now d) (sym c.in_ok-density.ensures.before) c.in_ok-density_before.ensures;
+  density_after = c.in_ok-density.ensures.after;
   legal = c.in_ok-legal.legal;
   right = c.in_ok-legal.ensures;
   text_is = rw (c.frame-frame.ensures, c.placement.ensures.frame, c.deref.ensures.value) at c.in_ok-report.ensures;

@@ -1,4 +1,4 @@
-use Rattle.std.proofs.Common.{◌∙◌, ℕ, List, None, ap, map, refl}
+use Rattle.std.proofs.Common.{◌∙◌, ◌+◌, ℕ, List, None, ap, map, refl}
 use Rattle.std.proofs.lemmas.Result.{err_from_is_err_and}
 use Rattle.lf_wire_length.specs.TeamNets.{nets_of_teams}
 use Rattle.lf_task_wires.proofs.NettedSteps.{memory_fails, nets_fail}
@@ -8,6 +8,7 @@ use Rattle.lf_task_improve.proofs.opening.ready_improvement.Goals as goal
 pub returns-clause-ok : goal.returns-clause-ok
 returns-clause-ok g c =
     let netted = c.in_ok-loaded.ensures.ok in
+    let count : ℕ = c.len-count.result + 1 in
     record {
       text = netted.text;
       document = netted.is.document;
@@ -18,8 +19,8 @@ returns-clause-ok g c =
       begins = c.in_ok-floor.ensures;
       teams = c.in_ok-teams.ensures;
       listed = (
-        _,
-        c.in_ok-of_teams.ensures ∙ ap (λ (owners : List ℕ). nets_of_teams owners c.in_ok-netlist.netlist.nets _) (c.as_slice.ensures.value ∙ c.in_ok-teams.ensures),
+        count,
+        c.in_ok-of_teams.ensures ∙ ap (λ (owners : List ℕ). nets_of_teams owners c.in_ok-netlist.netlist.nets count) (c.as_slice.ensures.value ∙ c.in_ok-teams.ensures),
       );
     }
 

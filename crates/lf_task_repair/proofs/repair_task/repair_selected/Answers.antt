@@ -17,7 +17,7 @@ returns-clause-kept g c = λ to_stay. c.in_ok-repair_teams.ensures.kept to_stay
 
 pub returns-clause-reported : goal.returns-clause-reported
 returns-clause-reported g c =
-    all_reported _ c.args.floor.now.frame (map (λ team. team.now) c.args.requested.now.teams.now) c.args.limits.now c.args.floor.now c.repair_teams.new.floor
+    all_reported _ c.args.floor.now.frame (map (λ team. team.now) c.args.requested.now.teams.now) c.args.limits.now c.args.floor.now c.repair_teams.new.floor c.in_ok-before.before
     c.in_ok-report.report c.repair_teams.new.report c.close_report.new.report c.in_ok-repair_teams.ensures.only.frame c.in_ok-report.ensures.text c.in_ok-report.ensures.sums (c.in_ok-report.ensures.least ∙ c.as_slice-least.ensures.value)
     (c.in_ok-report.ensures.impossible ∙ c.as_slice-impossible.ensures.value)
-    c.in_ok-repair_teams.ensures.reported c.in_ok-status.ensures.reported
+    c.in_ok-before.ensures c.in_ok-repair_teams.ensures.reported c.in_ok-status.ensures.reported
