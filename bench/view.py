@@ -72,9 +72,9 @@ def until(browser: Any, code: str) -> float:
 
 
 def measure(shown: Any, flags: tuple[str, ...], folder: Path) -> None:
-    notes = {"is_live": True, "editable": [], "compare": None, "recent": []}
+    notes = {"is_live": True, "editable": [], "compare": None}
     parts = design.design_of(shown.frame, shown.table, {}, "bench", notes)
-    served = server.PageServer(0, shown, lambda: {**parts, "facts": [shown.facts_of(0)]}, None)
+    served = server.PageServer(0, shown, parts, None)
     threading.Thread(target=served.serve_forever, daemon=True).start()
     with browsers.Browser(folder / "browser", *flags) as browser:
         begin = time.monotonic()

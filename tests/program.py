@@ -2,8 +2,10 @@
 
 from __future__ import annotations
 
+import contextlib
 import json
 import os
+import random
 import resource
 import signal
 import socket
@@ -24,7 +26,7 @@ LEF = TESTS / "data/w.lef"
 # The paths of the small design, as words of a command line.
 DESIGN = [str(DEF), str(LEF)]
 # Seconds after which a test stops waiting.
-PATIENCE = 90
+PATIENCE = 300
 # The keys of the densities in the report of a repair or an improvement.
 DENSITY_KEYS = [
     "fullest_10", "fullest_10_before", "fullest_2", "fullest_20", "fullest_20_before", "fullest_2_before", "fullest_5",
@@ -196,11 +198,12 @@ class Client(Talk):
 
 
 def free_port() -> int:
-    """A port on which nobody listens."""
-    with socket.socket() as free:
-        free.bind(("127.0.0.1", 0))
-        port: int = free.getsockname()[1]
-        return port
+    """A port on which nobody listens. The system gives it to no connection: those have ports from 32768 on."""
+    while True:
+        port = random.randrange(10_000, 32_768)
+        with socket.socket() as free, contextlib.suppress(OSError):
+            free.bind(("127.0.0.1", port))
+            return port
 
 
 class Service:

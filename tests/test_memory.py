@@ -18,7 +18,7 @@ from collections.abc import Iterator
 from dataclasses import dataclass
 from pathlib import Path
 
-from program import DEF, LEF, PROGRAM, TESTS, Session
+from program import DEF, LEF, PATIENCE, PROGRAM, TESTS, Session
 from test_states import PLACED
 
 ALL = 2**63
@@ -240,7 +240,7 @@ class WithRefusals(unittest.TestCase):
         streams, and the number refused."""
         self.refusing.refuse(first, last)
         environment = self.refusing.environment
-        ran = subprocess.run(words, env=environment, input=lines, capture_output=True, text=True, timeout=60)
+        ran = subprocess.run(words, env=environment, input=lines, capture_output=True, text=True, timeout=PATIENCE)
         return ran.returncode, ran.stdout, ran.stderr, self.refusing.refused()
 
     def numbers(self, words: list[str], lines: str) -> Iterator[tuple[int, int]]:

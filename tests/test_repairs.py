@@ -12,7 +12,7 @@ import subprocess
 import unittest
 from pathlib import Path
 
-from program import DEF, DENSITY_KEYS, LEF, PROGRAM, InFolder, Start, densities, preloading, run
+from program import DEF, DENSITY_KEYS, LEF, PATIENCE, PROGRAM, InFolder, Start, densities, preloading, run
 
 # The keys of the line of a team, and of the line of all teams, in order.
 TEAM_KEYS = [
@@ -477,7 +477,7 @@ class Repairs(InFolder):
         self.assertEqual(run(["replay", *texts, "--save", str(saved)], "")[0], 0)
         script = 'exec "$0" repair "$1" "$2" --state <(cat "$3")'
         command = ["bash", "-c", script, str(PROGRAM), *texts, str(saved)]
-        piped = subprocess.run(command, capture_output=True, text=True, timeout=60, check=False)
+        piped = subprocess.run(command, capture_output=True, text=True, timeout=PATIENCE, check=False)
         whole = run(["repair", *texts])
         self.assertEqual((piped.returncode, piped.stdout, piped.stderr), whole)
 

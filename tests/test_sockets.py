@@ -16,7 +16,7 @@ import time
 import unittest
 from pathlib import Path
 
-from program import DEF, DESIGN, Client, Service, preloading, run
+from program import DEF, DESIGN, PATIENCE, Client, Service, preloading, run
 
 LISTENING = "listening\n"
 # Lines that change nothing, for teams without a session, and a last line that ends the connection.
@@ -48,7 +48,7 @@ class Listening(unittest.TestCase):
             self.assertEqual(service.first, LISTENING)
             self.assertEqual(listened_on(service.port), ["127.0.0.1"])
             with self.assertRaises(ConnectionRefusedError):
-                socket.create_connection(("127.0.0.2", service.port), timeout=5)
+                socket.create_connection(("127.0.0.2", service.port), timeout=PATIENCE)
             service.client().close()
             self.assertEqual(service.end(), (0, LISTENING, ""))
 
@@ -235,13 +235,13 @@ class Cut(unittest.TestCase):
             with Service(2, environment=hastened) as service, service.client() as silent, service.client() as next_one:
                 self.assertEqual(silent.ask("open A"), "ok 0 0")
                 silent.socket.setsockopt(socket.SOL_SOCKET, socket.SO_RCVBUF, 4_096)
-                # More replies than the system's own buffers take, so that the server has to wait.
+                # More replies than the system's own buffers take, so that the server has to wait, here for a second.
                 sender = threading.Thread(target=self.send_until_broken_off, args=(silent, b"def A 0\n" * 100_000))
+                begin = time.monotonic()
                 sender.start()
                 next_one.send(b"open A\n")
-                self.assertEqual(select.select([next_one.socket], [], [], 0.5)[0], [])
-                self.assertEqual(select.select([next_one.socket], [], [], 8)[0], [next_one.socket])
                 self.assertEqual(next_one.rest(), "ok 1 0\n")
+                self.assertGreater(time.monotonic() - begin, 0.9)
                 sender.join()
                 self.assertEqual(service.end(), (0, LISTENING, ""))
 

@@ -58,6 +58,7 @@ class Browser:
         self._session = self.ask("Target.attachToTarget", targetId=target, flatten=True)["sessionId"]
         for domain in ("Page", "Runtime", "Log", "Network"):
             self.ask(f"{domain}.enable")
+        self.ask("Page.setLifecycleEventsEnabled", enabled=True)
 
     def __enter__(self) -> Browser:
         return self
@@ -109,8 +110,15 @@ class Browser:
     def open(self, address: str) -> None:
         """Loads a page."""
         self.events.clear()
-        self.ask("Page.navigate", url=address)
-        while not any(event.get("method") == "Page.loadEventFired" for event in self.events):
+        # (the events of the page before may come late, so those of this one are told apart)
+        loader = self.ask("Page.navigate", url=address)["loaderId"]
+
+        def is_loaded(event: dict[str, Any]) -> bool:
+            fields = event.get("params", {})
+            is_load = event.get("method") == "Page.lifecycleEvent" and fields["name"] == "load"
+            return is_load and fields["loaderId"] == loader
+
+        while not any(map(is_loaded, self.events)):
             self.events.append(self._next())
         self.drawn()
 
@@ -129,12 +137,18 @@ class Browser:
         self.ask("Input.dispatchMouseEvent", type=kind, x=x, y=y, **fields)
 
     def click(self, selector: str) -> None:
-        """Clicks into the middle of an element."""
-        code = f"const e = document.querySelector({json.dumps(selector)}); e.scrollIntoView({{block: 'center'}});"
-        code += "const b = e.getBoundingClientRect(); return [b.x + b.width / 2, b.y + b.height / 2];"
-        x, y = self.value(f"(() => {{ {code} }})()")
-        for kind in ("mousePressed", "mouseReleased"):
-            self.mouse(kind, x, y, button="left", clickCount=1)
+        """Clicks into the middle of an element. If the element has moved meanwhile, it is clicked where it is now."""
+        name = json.dumps(selector)
+        note = f"(event) => {{ window.isClicked ||= !!event.target.closest({name}); }}"
+        self.value(f"window.isClicked = false; document.addEventListener('click', {note}, {{ capture: true }})")
+        find = f"const e = document.querySelector({name}); e.scrollIntoView({{ block: 'center' }});"
+        find += "const b = e.getBoundingClientRect(); return [b.x + b.width / 2, b.y + b.height / 2];"
+        last = time.monotonic() + PATIENCE
+        while not self.value("window.isClicked"):
+            assert time.monotonic() < last, f"{selector} cannot be clicked"
+            x, y = self.value(f"(() => {{ {find} }})()")
+            for kind in ("mousePressed", "mouseReleased"):
+                self.mouse(kind, x, y, button="left", clickCount=1)
         self.drawn()
 
     def key(self, key: str) -> None:

@@ -39,7 +39,10 @@ JobAcctGatherType=jobacct_gather/none
 MpiDefault=none
 JobRequeue=1
 ReturnToService=2
-SlurmdTimeout=30
+SlurmdTimeout=300
+SlurmctldTimeout=300
+MessageTimeout=100
+BatchStartTimeout=300
 CommunicationParameters=NoCtldInAddrAny
 NodeName={host} NodeAddr=127.0.0.1 NodeHostname={host} CPUs={processors} RealMemory={memory} State=UNKNOWN
 PartitionName=batch Nodes={host} Default=YES MaxTime=INFINITE State=UP

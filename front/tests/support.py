@@ -15,6 +15,7 @@ import random
 import re
 import select
 import shutil
+import signal
 import socket
 import struct
 import subprocess
@@ -49,6 +50,8 @@ MACRO BUF CLASS CORE ; ORIGIN 0 0 ; SIZE 0.6 BY 2.0 ; SYMMETRY X Y ; SITE core ;
 END LIBRARY
 """
 
+# A line of progress, which a tool prints on a slow machine.
+PROGRESS = re.compile(rb"^lefence-[a-z]+: .*, \d+ s\n", re.M)
 KLAYOUT = shutil.which("klayout")
 with_klayout = unittest.skipIf(KLAYOUT is None, "klayout is not here; Debian has it as the package klayout")
 
@@ -290,7 +293,7 @@ def slow_program(folder: Path, program: str, start: bytes, wait: str) -> str:
     script = folder / "slow"
     script.write_text(
         "#!/usr/bin/env python3\nimport os, subprocess, sys, time\n"
-        f"words = [{program!r}, *sys.argv[1:]]\n"
+        f"words, parent = [{program!r}, *sys.argv[1:]], os.getppid()\n"
         "if sys.argv[1] != 'replay':\n    sys.exit(subprocess.run(words).returncode)\n"
         "with subprocess.Popen(words, stdin=subprocess.PIPE) as process:\n"
         "    for line in sys.stdin.buffer:\n"
@@ -301,10 +304,16 @@ def slow_program(folder: Path, program: str, start: bytes, wait: str) -> str:
     return str(script)
 
 
-def waiting_program(folder: Path, program: str, start: bytes) -> tuple[str, Path]:
-    """A slow program whose lines that start so wait until there is a file, and the path of that file."""
+def waiting_program(folder: Path, program: str, start: bytes, is_gate_closed: bool = False) -> tuple[str, Path]:
+    """A slow program whose lines that start so wait until there is a file, and the path of that file.
+
+    If the gate is closed, each line removes the file, so that the next line waits for another one.
+    """
     gate = folder / "gate"
-    wait = f"while not os.path.exists({str(gate)!r}): time.sleep(0.01)"
+    # (it ends with the hub)
+    wait = f"while os.getppid() == parent and not os.path.exists({str(gate)!r}): time.sleep(0.01)"
+    if is_gate_closed:
+        wait += f"\n            if os.path.exists({str(gate)!r}): os.unlink({str(gate)!r})"
     return slow_program(folder, program, start, wait), gate
 
 
@@ -316,6 +325,15 @@ def converse(talker: Talker, text: bytes) -> bytes:
 def without_table(output: str) -> str:
     """What lefence-prepare prints, without the table of teams at its end."""
     return re.sub(r"^team +cells  utilization .*\Z", "", output, flags=re.M | re.S)
+
+
+def free_port() -> int:
+    """A port on which nobody listens. The system gives it to no connection: those have ports from 32768 on."""
+    while True:
+        port = random.randrange(10_000, 32_768)
+        with socket.socket() as free, contextlib.suppress(OSError):
+            free.bind(("127.0.0.1", port))
+            return port
 
 
 class FrontCase(unittest.TestCase):
@@ -342,6 +360,14 @@ class FrontCase(unittest.TestCase):
         return str(made)
 
     def tool(self, name: str, *words: str | Path | bytes, lines: bytes = b"") -> subprocess.CompletedProcess[bytes]:
+        """Runs a tool to its end. Its progress, which a slow machine has more of, is left out."""
+        done = self.tool_with_progress(name, *words, lines=lines)
+        done.stderr = PROGRESS.sub(b"", done.stderr)
+        return done
+
+    def tool_with_progress(
+        self, name: str, *words: str | Path | bytes, lines: bytes = b""
+    ) -> subprocess.CompletedProcess[bytes]:
         """Runs a tool to its end."""
         command = [*tool_words(name), *words]
         return subprocess.run(command, input=lines, capture_output=True, timeout=PATIENCE, cwd=self.folder)
@@ -349,9 +375,7 @@ class FrontCase(unittest.TestCase):
     @contextlib.contextmanager
     def service(self, connections: int) -> Iterator[int]:
         """Runs `lefence serve` on the design for this many connections; yields its port."""
-        with socket.socket() as free:
-            free.bind(("127.0.0.1", 0))
-            port = free.getsockname()[1]
+        port = free_port()
         words = [
             PROGRAM,
             "serve",
@@ -453,6 +477,10 @@ class Hub:
 
     def kill_alone(self) -> list[int]:
         """Kills only the hub; returns its programs, which will end by themselves."""
+        if self.process.poll() is None:
+            # (a hub that stands still starts no other program)
+            self.process.send_signal(signal.SIGSTOP)
+            os.waitid(os.P_PID, self.process.pid, os.WSTOPPED | os.WEXITED | os.WNOWAIT)
         programs = self.children()
         self.process.kill()
         self.process.wait()
@@ -471,8 +499,12 @@ class Hub:
         ]
 
     def replay_pid(self) -> int:
-        """The process id of its program."""
-        return self.children()[0]
+        """The process id of its program that serves, which neither saves a state nor exports."""
+        for pid in self.children():
+            words = Path(f"/proc/{pid}/cmdline").read_bytes().split(b"\0")
+            if not {b"--save", b"--export"}.intersection(words):
+                return pid
+        raise AssertionError(f"no program serves: {self.log_text()}")
 
 
 class HubCase(FrontCase):

@@ -403,13 +403,13 @@ class Others(HubCase):
     def test_an_end_with_another_protocol_is_reported(self) -> None:
         for reply in (b"hello\n", b"ok\n", b"ok x y\n", b"\xff\xfe\n", b"no\n"):
             near, far = socket.socketpair()
-            with far, lefence.Connection(near, timeout=5) as connection:
+            with far, lefence.Connection(near, timeout=PATIENCE) as connection:
                 far.sendall(reply)
                 with self.assertRaises(lefence.ProtocolError):
                     connection.session("A").open()
         near, far = socket.socketpair()
         far.sendall(b"ok 0 0\nhello\nok abc\n")
-        with far, lefence.Connection(near, timeout=5) as connection, connection.session("A") as session:
+        with far, lefence.Connection(near, timeout=PATIENCE) as connection, connection.session("A") as session:
             with self.assertRaisesRegex(lefence.ProtocolError, "hello"), session.pipeline() as pipeline:
                 pipeline.place("u", 0, 0, "N")
             with self.assertRaisesRegex(lefence.ProtocolError, "abc"):
@@ -427,8 +427,9 @@ class Others(HubCase):
 
         answering = threading.Thread(target=answer)
         answering.start()
-        with lefence.Connection(near, timeout=5) as connection, self.assertRaisesRegex(lefence.ProtocolError, "hello"):
-            connection.session("A", microns=True).open()
+        with lefence.Connection(near, timeout=PATIENCE) as connection:
+            with self.assertRaisesRegex(lefence.ProtocolError, "hello"):
+                connection.session("A", microns=True).open()
         answering.join()
         self.assertEqual(received, [b"open A\n", b"units\n", b"close A 3\n"])
 

@@ -101,6 +101,11 @@ class Crashes(HubCase):
     def kill_9_of_server(self) -> None:
         os.kill(self.a_server(), signal.SIGKILL)
 
+    def kill_9_of_a_program(self) -> None:
+        """Kills the program that serves, or the one that saves a state, which may just have ended."""
+        with contextlib.suppress(ProcessLookupError):
+            os.kill(self.rng.choice([self.a_server(), *self.hub.children()]), signal.SIGKILL)
+
     def a_server(self) -> int:
         """The process id of a program that serves."""
         return int(self.rng.choice(read_status(self.folder / "s")["programs"])["pid"])
@@ -135,8 +140,7 @@ class Crashes(HubCase):
 
     def test_kill_9_of_a_program_amid_checkpoints_is_not_noticed(self) -> None:
         self.extra = ("--tail-bytes", "1")
-        # The program that serves, or the one that saves a state.
-        self.under_load(lambda: os.kill(self.rng.choice(self.hub.children()), signal.SIGKILL), keeps_clients=True)
+        self.under_load(self.kill_9_of_a_program, keeps_clients=True)
 
     def test_undo_and_padding_are_there_after_a_crash(self) -> None:
         self.start()

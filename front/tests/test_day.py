@@ -13,14 +13,12 @@ import sys
 import unittest
 from pathlib import Path
 
-from support import FRONT, PATIENCE, PROGRAM, FrontCase
+from support import FRONT, PATIENCE, PROGRAM, PROGRESS, FrontCase
 
 SCRIPT = FRONT / "examples/day.sh"
 # A command that needs KLayout, and what it prints.
 KLAYOUT = re.compile(r"^(?:klayout|lefence-view) .*\n(?:#> .*\n)+", re.M)
 PRINTED = re.compile(r"^#> (.*\n)", re.M)
-# The progress that a tool prints on a slow machine.
-PROGRESS = re.compile(r"^lefence-\w+: .*, \d+ s\n", re.M)
 
 
 class Day(FrontCase):
@@ -38,7 +36,7 @@ class Day(FrontCase):
             start_new_session=True,
         ) as process:
             try:
-                return PROGRESS.sub("", process.communicate(timeout=10 * PATIENCE)[0].decode())
+                return PROGRESS.sub(b"", process.communicate(timeout=10 * PATIENCE)[0]).decode()
             finally:
                 with contextlib.suppress(ProcessLookupError):
                     os.killpg(process.pid, signal.SIGKILL)

@@ -53,10 +53,10 @@ class Improvements(FrontCase):
         self.lef.write_text(LEF)
 
     def improve(self, *words: str, program: str = PROGRAM) -> tuple[int, str]:
-        """Improves the design. Returns the status and what is printed on standard error, without lines of progress."""
+        """Improves the design. Returns the status and what is printed on standard error."""
         done = self.tool("lefence-improve", self.design, self.lef, *words, "--program", program)
         self.assertEqual(done.stdout, b"")
-        return done.returncode, re.sub(r"(?m)^.*, \d+ s\n", "", done.stderr.decode())
+        return done.returncode, done.stderr.decode()
 
     def doubled(self, text: str) -> int:
         """The wire length of a text in half database units."""

@@ -6,7 +6,7 @@ import socket
 import unittest
 from unittest import mock
 
-from support import HubCase, slow_program, spot
+from support import HubCase, spot, waiting_program
 
 from lefence.hub.connection import PENDING, Client
 from lefence.hub.line_queue import LineQueue
@@ -133,18 +133,22 @@ class Floods(HubCase):
     """A team's clients that send whole-team commands without pause."""
 
     def test_another_team_waits_for_one_of_them_at_most(self) -> None:
-        # Each line of a whole team takes 50 ms.
-        self.program = slow_program(self.folder, self.program, b"tidy", "time.sleep(0.05)")
+        # Each line of a whole team takes as long as the gate is closed.
+        self.program, gate = waiting_program(self.folder, self.program, b"tidy", is_gate_closed=True)
         self.start("--no-sync")
         quick, flood = self.talk("f1"), [self.talk("f0") for _ in range(24)]
         self.assertEqual(quick.ask("open f1"), ["ok 0 0"])
         self.assertEqual(flood[0].ask("open f0"), ["ok 0 0"])
         for talker in flood:
             talker.socket.sendall(b"tidy f0 0\n" * 20)
+        for talker in flood:
+            talker.wait_read()
         for turn in range(10):
-            self.assertEqual(quick.ask(f"place f1 0 f1c{turn % 2} {spot(1, turn % 2)}"), [f"ok {turn + 1}"])
-        # Ten lines of the one waited for few of the other, not for one of each of its clients.
-        self.assertLess(int(self.talk("operator").ask("open f0")[0].split()[2]), 120)
+            quick.socket.sendall(f"place f1 0 f1c{turn % 2} {spot(1, turn % 2)}\n".encode())
+            quick.wait_read()
+            # One line of the flood may end; the next one that began would wait for ever.
+            gate.touch()
+            self.assertEqual(quick.replies.readline(), b"ok %d\n" % (turn + 1))
 
 
 if __name__ == "__main__":

@@ -2,6 +2,7 @@
 
 from __future__ import annotations
 
+import json
 import os
 import subprocess
 import threading
@@ -69,6 +70,10 @@ class ViewCase(HubCase):
     def value(self, code: str, browser: Browser | None = None) -> Any:
         """Evaluates JavaScript in the page; `l` is what the page shows to tests."""
         return (browser or self.browser).value(f"(() => {{ const l = window.lefence; return {code}; }})()")
+
+    def until_text(self, selector: str, words: str) -> None:
+        """Waits until the text of an element has these words."""
+        self.until(f"document.querySelector({selector!r})?.textContent.includes({json.dumps(words)})")
 
     def until(self, code: str, browser: Browser | None = None) -> None:
         """Waits until an expression of the page is true."""
@@ -144,15 +149,17 @@ class HubPages(ViewCase):
         self.assertEqual(self.place("f0c4"), [None])
         self.value("l.fit([0, 0, 8000, 8000])")
         self.assertEqual(self.pixel(100, 400), rgb(colour_of(0, "f0")))
+        # (a glow fades after seconds: this page keeps all of them)
+        self.value("(l.state.glows.delete = () => false, true)")
         # each change, of the team's socket or the operator's
         self.user.ask("place f0 0 f0c4 1000 0 N")
         self.until_at("f0c4", 1000, 0)
-        self.assertIn("place f0c4 1000 0 N", self.text("#changes tr"))
-        self.assertIn(f", pid {os.getpid()} · socket f0", self.text("#changes tr"))
+        self.until_text("#changes tr", "place f0c4 1000 0 N")
+        self.until_text("#changes tr", f", pid {os.getpid()} · socket f0")
         self.assertTrue(self.value("l.state.glows.has(l.cellNamed('f0c4'))"))
         self.talk("operator").ask("open f0", "legalize f0 1 f0c4 6000 0")
         self.until_at("f0c4", 6000, 0)
-        self.assertIn("operator's socket", self.text("#changes tr"))
+        self.until_text("#changes tr", "operator's socket")
         self.user.ask("sync f0 0", "swap f0 0 f0c1 f0c2")
         self.until_at("f0c1", 2000, 0)
         self.until_at("f0c2", 0, 0)
@@ -203,18 +210,17 @@ class HubPages(ViewCase):
         ghost: list[Any] = []
 
         def look() -> None:
-            self.until("l.shown.ghost !== null && document.getElementById('measure').textContent.includes('legal at')")
-            last = time.monotonic() + PATIENCE
             # (the ghost of the last target: onto f0c2)
-            while self.value("Math.abs(l.shown.ghost[0] - 2000) > 600") and time.monotonic() < last:
-                time.sleep(0.02)
+            self.until("l.shown.ghost !== null && Math.abs(l.shown.ghost[0] - 2000) <= 600")
+            self.until_text("#measure", "legal at")
             ghost.extend(self.value("l.shown.ghost"))
 
         self.drag(self.point(200, 1000), self.point(2200, 1000), look)
         self.until("l.state.facts[0].revision === 4")
         self.assertEqual(self.place("f0c1")[:2], ghost[:2])
         self.assertEqual(self.user.ask("sync f0 0", "where f0 0 f0c1")[1], "ok %d %d N" % (ghost[0], ghost[1]))
-        self.assertIn(f"legalize f0 1 f0c1 2000 0ok 4 {ghost[0]} {ghost[1]} N", self.text("#lines"))
+        # (the reply to the page and the event of the change come in any order)
+        self.until_text("#lines", f"legalize f0 1 f0c1 2000 0ok 4 {ghost[0]} {ghost[1]} N")
         # a cell of a team that the page may not change stays
         self.talk("f1").ask("open f1", f"place f1 0 f1c1 {WIDTH} 0 N")
         self.until_at("f1c1", WIDTH, 0)
@@ -239,8 +245,8 @@ class HubPages(ViewCase):
         self.user.ask("sync f0 0", "place f0 0 f0c1 400 4000 N")
         self.until_at("f0c1", 400, 4000)
         self.browser.value("lefence.send('f0', 'undo')")
-        self.until("document.getElementById('lines').textContent.includes('sync f0 1')")
-        self.assertIn("Stale: another session has changed team f0", self.text("#notice"))
+        self.until_text("#lines", "sync f0 1")
+        self.until_text("#notice", "Stale: another session has changed team f0")
         self.assertEqual(self.user.ask("where f0 0 f0c1"), ["ok 400 4000 N"])
         # then the page may work again
         self.until("document.getElementById('lines').textContent.endsWith('ok 5')")
@@ -262,7 +268,8 @@ class HubPages(ViewCase):
         self.until("l.state.facts[0].unplaced === 0")
         self.browser.click("#work-commit")
         self.until("l.state.facts[0].uncommitted === 0")
-        self.assertEqual(self.text("#work-revision"), "revision 8")
+        self.until_text("#work-revision", "revision 8")
+        self.until_text("#lines", "commit f0 1ok 8")
         self.browser.click("[data-tab='console']")
         self.browser.value("document.getElementById('ask-line').value = 'where f0c2'")
         self.browser.click("#ask button")
@@ -287,8 +294,8 @@ class HubPages(ViewCase):
         self.until("document.getElementById('state').textContent === 'live'")
         self.talk("f0").ask("open f0", "place f0 0 f0c1 800 0 N")
         self.until_at("f0c1", 800, 0)
-        self.assertIn("place f0c1 800 0 N", self.text("#changes tr"))
-        self.assertEqual(self.value("l.state.uncommitted.size"), 3)
+        self.until_text("#changes tr", "place f0c1 800 0 N")
+        self.until("l.state.uncommitted.size === 3")
 
     def test_two_pages_and_one_that_closes(self) -> None:
         address = self.view("s", "--edit", "f0")
@@ -495,8 +502,8 @@ class LargePages(ViewCase):
 
     def test_a_million_cells(self) -> None:
         board = self.board()
-        design = {**design_of(board.frame, board.table, {}, "x", {"is_live": True, "editable": [], "compare": None})}
-        server = PageServer(0, board, lambda: {**design, "facts": [board.facts_of(0)], "recent": []}, None)
+        design = design_of(board.frame, board.table, {}, "x", {"is_live": True, "editable": [], "compare": None})
+        server = PageServer(0, board, design, None)
         threading.Thread(target=server.serve_forever, daemon=True).start()
         self.addCleanup(server.server_close)
         self.addCleanup(server.shutdown)
@@ -513,6 +520,7 @@ class LargePages(ViewCase):
         board.move(0, [(777_777, Place(777_400, 1_554_000, 0))])
         self.until_at("block/u777777", 777_400, 1_554_000)
         self.assertEqual(self.pixel(777_500, 1_554_400), rgb(colour_of(0, "-")))
+        self.browser.ask("HeapProfiler.collectGarbage")
         heap = self.browser.ask("Runtime.getHeapUsage")
         self.assertLess(heap["usedSize"] + heap.get("backingStorageSize", 0), 500 << 20, heap)
 

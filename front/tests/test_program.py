@@ -10,7 +10,7 @@ import unittest
 from pathlib import Path
 from unittest import mock
 
-from support import FRONT, PROGRAM, FrontCase, tool_words
+from support import FRONT, PROGRAM, PROGRESS, FrontCase, tool_words
 
 from lefence.base import program
 from lefence.base.faults import Fault
@@ -73,7 +73,7 @@ class Found(FrontCase):
         environment = {**os.environ, "LEFENCE": PROGRAM, "PATH": os.defpath}
         words = [*tool_words("lefence-check"), str(self.design), str(self.lef)]
         done = subprocess.run(words, capture_output=True, env=environment, cwd=self.folder)
-        self.assertEqual((done.returncode, done.stderr), (4, b""))
+        self.assertEqual((done.returncode, PROGRESS.sub(b"", done.stderr)), (4, b""))
         self.assertIn(b"NOT LEGAL", done.stdout)
 
 

@@ -235,9 +235,11 @@ class Repairs(FrontCase):
         slow = self.folder / "slow"
         slow.write_text(f"#!/bin/sh\n[ $1 = repair ] && sleep 2.5\nexec '{PROGRAM}' \"$@\"\n")
         slow.chmod(0o755)
-        done = self.repair("--output", self.target, program=str(slow))
+        words = ("-o", self.target, "--program", slow)
+        done = self.tool_with_progress("lefence-repair", self.design, self.lef, *words)
         self.assertEqual(done.returncode, 0)
-        self.assertRegex(done.stderr, rb"^(lefence-repair: the program repairs, \d+ s\n)+lefence-repair: team ")
+        self.assertRegex(done.stderr, rb"^(lefence-repair: .*, \d+ s\n)+lefence-repair: team ")
+        self.assertIn(b"lefence-repair: the program repairs, ", done.stderr)
 
     def test_a_refusal_is_reported_and_no_file_remains(self) -> None:
         text = self.design.read_text()

@@ -844,12 +844,12 @@ class Operator(HubCase):
 
     def test_a_program_that_hangs_is_restored_and_cannot_hold_the_end(self) -> None:
         # (on a busy machine the program may need seconds to start; shorter times are tested with a clock that is set)
-        self.start("--deadline", "5", "--idle", "5", "--grace", "1")
+        self.start("--deadline", "15", "--idle", "15", "--grace", "1")
         talker, idle = self.talk("f0"), self.talk("f1")
         self.assertEqual(talker.ask("open f0", "place f0 0 f0c1 0 0 N"), ["ok 0 0", "ok 1"])
         os.kill(self.hub.replay_pid(), signal.SIGSTOP)
         self.assertEqual(talker.ask("where f0 0 f0c1"), ["ok 0 0 N"])
-        self.assertIn("was silent for 5 seconds", self.hub.log_text())
+        self.assertIn("was silent for 15 seconds", self.hub.log_text())
         # A silent client without a session is dropped.
         self.assertEqual(idle.replies.read(), b"")
         self.assertEqual(talker.ask("where f0 0 f0c1"), ["ok 0 0 N"])

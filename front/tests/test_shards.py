@@ -282,12 +282,13 @@ class Losses(SeveralPrograms):
         self.assertEqual([first.replies.readline() for _ in range(2)], [b"ok 1\n", b"ok 200 0 N\n"])
 
     def test_a_program_that_hangs_is_restored(self) -> None:
-        self.start("--programs", "2", "--deadline", "5")
+        # (a busy program is not silent for so long)
+        self.start("--programs", "2", "--deadline", "15")
         talker = self.talk("f0")
         self.assertEqual(talker.ask("open f0", "place f0 0 f0c1 0 0 N"), ["ok 0 0", "ok 1"])
         os.kill(self.pid_of("f0"), signal.SIGSTOP)
         self.assertEqual(talker.ask("place f0 0 f0c1 200 0 N", "where f0 0 f0c1"), ["ok 2", "ok 200 0 N"])
-        self.assertIn("was silent for 5 seconds", self.hub.log_text())
+        self.assertIn("was silent for 15 seconds", self.hub.log_text())
         self.assertRegex(self.hub.log_text(), r" \(program \d of 2\); restarting it")
         self.assertEqual(sorted(each["restores"] for each in self.programs()), [0, 1])
 

@@ -35,10 +35,10 @@ class SideBySide(FrontCase):
         self.design.write_text(text)
 
     def repair(self, *words: str, program: str = PROGRAM) -> tuple[int, str, str]:
-        """Repairs the design. Returns the status and what is printed, without lines of progress."""
+        """Repairs the design. Returns the status and what is printed."""
         done = self.tool("lefence-repair", self.design, self.lef, *words, "--program", program)
         self.assertNotIn(b"Traceback", done.stderr)
-        return done.returncode, done.stdout.decode(), re.sub(r"(?m)^.*, \d+ s\n", "", done.stderr.decode())
+        return done.returncode, done.stdout.decode(), done.stderr.decode()
 
     def is_as_one_run(self, *words: str) -> tuple[int, str, str]:
         """Checks that several runs print and write the same as one. Returns it."""

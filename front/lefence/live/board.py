@@ -51,9 +51,10 @@ class Board:
         return self.table.numbers[team][name.encode()]
 
     def packed(self) -> bytes:
-        """The table as bytes, and the number of the last event before it."""
+        """The table, the facts of the teams and the last changes as bytes, with the number of the last event before."""
         with self._lock:
-            return self.table.packed(self.events.sequence)
+            facts = [self.facts_of(team) for team in range(len(self.facts))]
+            return self.table.packed({"sequence": self.events.sequence, "facts": facts, "recent": [*self.recent]})
 
     def facts_of(self, team: int) -> dict[str, Any]:
         """What pages show of a team."""

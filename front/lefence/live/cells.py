@@ -8,7 +8,7 @@ import sys
 from array import array
 from collections.abc import Iterable
 from dataclasses import dataclass, field
-from typing import NamedTuple
+from typing import Any, NamedTuple
 
 from ..base.description import Cell
 from ..base.protocol import ORIENTS
@@ -131,11 +131,10 @@ class CellTable:
         _, width, height = self.macros[self.macro[number]]
         return (height, width) if orient != UNPLACED and ORIENTS[orient].endswith(("E", "W")) else (width, height)
 
-    def packed(self, sequence: int) -> bytes:
+    def packed(self, notes: dict[str, Any]) -> bytes:
         """The table as bytes for the page: the length of a JSON object, the object, then the arrays that it lists.
 
-        All are little-endian, and each array begins at a multiple of 8 bytes. The page has all events up to `sequence`
-        then.
+        All are little-endian, and each array begins at a multiple of 8 bytes. `notes` come into the object too.
         """
         parts: list[tuple[str, str, bytes]] = []
 
@@ -155,7 +154,7 @@ class CellTable:
         add("rule", self.rules)
         add("names", b"\n".join(self.names))
         sizes = [[name, kind, len(data)] for name, kind, data in parts]
-        head = {"count": len(self), "sequence": sequence, "parts": sizes, "others": list(self.others.items())}
+        head = {"count": len(self), "parts": sizes, "others": list(self.others.items()), **notes}
         text = json.dumps(head, separators=(",", ":")).encode()
         text += b" " * (-(len(text) + 4) % 8)
         padded = (data + bytes(-len(data) % 8) for _, _, data in parts)

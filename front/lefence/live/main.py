@@ -167,12 +167,8 @@ def serve(options: argparse.Namespace, board: Board, texts: list[Path], work: Wo
     source = str(options.where) if work else texts[0].name
     design = design_of(board.frame, board.table, pins_in(texts[1:]), source, notes)
 
-    def with_facts() -> dict[str, Any]:
-        facts = [board.facts_of(team) for team in range(len(board.frame.teams))]
-        return {**design, "facts": facts, "recent": list(board.recent)}
-
     try:
-        server = PageServer(options.port, board, with_facts, work)
+        server = PageServer(options.port, board, design, work)
     except OSError as error:
         raise Fault(FAILED, f"cannot listen on port {options.port} of 127.0.0.1: {error.strerror}") from None
     log(TOOL, "open this address in a browser on this machine; whoever has it sees the page")

@@ -13,7 +13,6 @@ import re
 import secrets
 import sys
 import threading
-from collections.abc import Callable
 from http.server import BaseHTTPRequestHandler, ThreadingHTTPServer
 from pathlib import Path
 from typing import Any
@@ -51,7 +50,7 @@ class PageServer(ThreadingHTTPServer):
     # (a restart on the same port)
     allow_reuse_address = True
 
-    def __init__(self, port: int, board: Board, design: Callable[[], dict[str, Any]], work: Work | None) -> None:
+    def __init__(self, port: int, board: Board, design: dict[str, Any], work: Work | None) -> None:
         """Listens on a port, or any for 0. Raises OSError if it is in use."""
         super().__init__(("127.0.0.1", port), _Handler)
         self.token = secrets.token_urlsafe(24)
@@ -86,7 +85,7 @@ class _Handler(BaseHTTPRequestHandler):
             return
         name, query = path
         if name == "design":
-            self._send_json(self.server.design())
+            self._send_json(self.server.design)
         elif name == "cells":
             self._send(200, "application/octet-stream", self.server.board.packed())
         elif name == "events":

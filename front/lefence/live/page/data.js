@@ -4,7 +4,7 @@
 export const UNPLACED = 255;
 // What the page knows. `uncommitted` has the cells that are not at their committed places, `glows` those that moved last.
 export const state = {
-  design: null, count: 0, sequence: 0, facts: [], uncommitted: new Set(), glows: new Map(), others: new Map(),
+  design: null, count: 0, sequence: 0, facts: [], recent: [], uncommitted: new Set(), glows: new Map(), others: new Map(),
   now: null, committed: null, before: null, opened: null, rule: null, macro: null, team: null,
 };
 
@@ -13,7 +13,6 @@ let names, offsets, table, widths, heights;
 
 export async function loadDesign() {
   state.design = await fetched("design").then((answer) => answer.json());
-  state.facts = state.design.facts;
   widths = Float64Array.from(state.design.macros, (macro) => macro[1]);
   heights = Float64Array.from(state.design.macros, (macro) => macro[2]);
 }
@@ -24,7 +23,7 @@ async function fetched(path) {
   return answer;
 }
 
-// Reads all cells; also again, if too much has changed.
+// Reads all cells, the facts of the teams and the last changes, all of one moment; also again, if too much has changed.
 export async function loadCells() {
   const buffer = await fetched("cells").then((answer) => answer.arrayBuffer());
   const length = new DataView(buffer).getUint32(0, true);
@@ -36,7 +35,8 @@ export async function loadCells() {
     at += bytes + ((8 - (bytes % 8)) % 8);
   }
   const places = (prefix) => found[prefix + "x"] && { x: found[prefix + "x"], y: found[prefix + "y"], orient: found[prefix + "orient"] };
-  Object.assign(state, { count: head.count, sequence: head.sequence, now: places(""), committed: places("committed_") });
+  Object.assign(state, { count: head.count, sequence: head.sequence, facts: head.facts, recent: head.recent });
+  Object.assign(state, { now: places(""), committed: places("committed_") });
   Object.assign(state, { before: places("before_") || null, rule: found.rule, macro: found.macro, others: new Map(head.others) });
   state.opened ||= copyOf(state.now);
   state.team = new Uint16Array(head.count);

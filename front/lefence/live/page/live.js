@@ -162,7 +162,7 @@ export function follow() {
 
 export function startLive() {
   document.addEventListener("visibilitychange", () => { if (document.hidden) stream?.close(); else follow(); });
-  for (const [team, change, moved] of state.design.recent || []) addChange(team, change, moved);
+  for (const [team, change, moved] of state.recent) addChange(team, change, moved);
   drawTeams();
   showState();
   follow();

@@ -9,6 +9,7 @@ import { shown } from "./view.js";
 
 const byId = (id) => document.getElementById(id);
 const MOST_LINES = 500, NOTICE = 7000;
+const BUTTONS = { undo: "Undo", tidy: "Tidy", commit: "Commit", revert: "Revert", unplace: "Unplace", swap: "Swap", nearest: "Legalize here" };
 // The revision of each team that this page shows, from its events and its own replies.
 const seen = new Map();
 // The cell that is dragged, and where in it the pointer is; whether a `find` is under way, and the next target for one.
@@ -119,24 +120,27 @@ async function find(cell) {
   isFinding = false;
 }
 
+// The bar is made once, and then only what its parts say and do: a part that is replaced while the mouse is down gets no click.
+function makeWork() {
+  const choice = element("select", { id: "work-team", ariaLabel: "Team" }, ...state.design.editable.map((name) => element("option", { value: name }, name)));
+  choice.addEventListener("change", () => { shown.selected = -1; drawWork(); });
+  const buttons = Object.entries(BUTTONS).map(([id, text]) => element("button", { id: `work-${id}` }, text));
+  byId("work").replaceChildren(choice, element("span", { className: "faint", id: "work-revision" }), ...buttons);
+  byId("work-swap").title = "Exchanges the places of two cells: choose the other one next";
+}
+
 function drawWork() {
   const cell = shown.selected, own = cell >= 0 && isEditable(teamName(cell)) ? teamName(cell) : null;
-  const team = own || byId("work-team")?.value || state.design.editable[0];
-  if (!team) return;
-  const choice = element("select", { id: "work-team", ariaLabel: "Team" }, ...state.design.editable.map((name) => element("option", { value: name }, name)));
-  choice.value = team;
-  choice.addEventListener("change", () => { shown.selected = -1; drawWork(); });
-  const button = (id, text, line, isOff = false, title = "") => element("button", { id: `work-${id}`, title: title || line, disabled: isOff, onclick: () => send(team, line) }, text);
+  const team = own || byId("work-team").value, name = own ? nameOf(cell) : "";
   const other = partner >= 0 && partner !== cell && own && teamName(partner) === own ? partner : -1;
-  const name = own ? nameOf(cell) : "";
-  const swap = element("button", { id: "work-swap", disabled: !own, title: "Exchanges the places of two cells: choose the other one next" }, partner >= 0 ? "Swap with .." : "Swap");
-  swap.addEventListener("click", () => { partner = partner >= 0 ? -1 : cell; notice("Choose the cell to swap with."); drawWork(); });
-  byId("work").replaceChildren(
-    choice, element("span", { className: "faint", id: "work-revision" }, `revision ${revisionOf(team)}`),
-    button("undo", "Undo", "undo"), button("tidy", "Tidy", "tidy"), button("commit", "Commit", "commit"), button("revert", "Revert", "revert"),
-    button("unplace", "Unplace", `unplace ${name}`, !own || !isPlaced(cell)), swap,
-    button("nearest", "Legalize here", own ? `legalize ${name} ${state.now.x[cell]} ${state.now.y[cell]}` : "", !own, "Moves the cell to the nearest legal place"),
-  );
+  const set = (id, line, isOff = false, title = line) => Object.assign(byId(`work-${id}`), { title, disabled: isOff, onclick: () => send(team, line) });
+  byId("work-team").value = team;
+  byId("work-revision").textContent = `revision ${revisionOf(team)}`;
+  for (const verb of ["undo", "tidy", "commit", "revert"]) set(verb, verb);
+  set("unplace", `unplace ${name}`, !own || !isPlaced(cell));
+  set("nearest", own ? `legalize ${name} ${state.now.x[cell]} ${state.now.y[cell]}` : "", !own, "Moves the cell to the nearest legal place");
+  const choose = () => { partner = partner >= 0 ? -1 : cell; notice("Choose the cell to swap with."); drawWork(); };
+  Object.assign(byId("work-swap"), { textContent: partner >= 0 ? "Swap with .." : BUTTONS.swap, disabled: !own, onclick: choose });
   if (other >= 0) {
     const line = `swap ${nameOf(other)} ${name}`;
     partner = -1;
@@ -160,6 +164,7 @@ export function startWork() {
   if (!editable.length) return;
   byId("ask-team").value = editable[0];
   byId("work").hidden = byId("mode-move").hidden = false;
+  makeWork();
   onSelect(drawWork);
   onChange(drawWork);
   drawWork();
