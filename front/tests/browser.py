@@ -129,6 +129,14 @@ class Browser:
             raise AssertionError(f"{code}: {result['exceptionDetails']}")
         return result["result"].get("value")
 
+    def until(self, code: str) -> None:
+        """Waits until an expression of the page is true."""
+        last = time.monotonic() + PATIENCE
+        while not self.value(code):
+            if time.monotonic() > last:
+                raise AssertionError(f"not true in the page: {code}; faults: {self.faults()[:3]}")
+            time.sleep(0.02)
+
     def drawn(self) -> None:
         """Waits until changes are drawn."""
         self.value("new Promise((done) => requestAnimationFrame(() => requestAnimationFrame(() => done(0))))")
@@ -145,7 +153,8 @@ class Browser:
         find += "const b = e.getBoundingClientRect(); return [b.x + b.width / 2, b.y + b.height / 2];"
         last = time.monotonic() + PATIENCE
         while not self.value("window.isClicked"):
-            assert time.monotonic() < last, f"{selector} cannot be clicked"
+            if time.monotonic() > last:
+                raise AssertionError(f"{selector} cannot be clicked")
             x, y = self.value(f"(() => {{ {find} }})()")
             for kind in ("mousePressed", "mouseReleased"):
                 self.mouse(kind, x, y, button="left", clickCount=1)

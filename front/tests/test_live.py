@@ -28,6 +28,11 @@ NO_GL: tuple[str, ...] = ("--disable-3d-apis",)
 HOSTILE = ("f0<script>alert(1)</script>", "f0<img/src=x/onerror=alert(1)>", "f0&amp;\"'`${1}", "f0#s=%41&v=1")
 
 
+def in_page(code: str) -> str:
+    """An expression in which `l` is what the page shows to tests."""
+    return f"(() => {{ const l = window.lefence; return {code}; }})()"
+
+
 def rgb(colour: str) -> list[int]:
     return [int(colour[at : at + 2], 16) for at in (1, 3, 5)]
 
@@ -69,7 +74,7 @@ class ViewCase(HubCase):
 
     def value(self, code: str, browser: Browser | None = None) -> Any:
         """Evaluates JavaScript in the page; `l` is what the page shows to tests."""
-        return (browser or self.browser).value(f"(() => {{ const l = window.lefence; return {code}; }})()")
+        return (browser or self.browser).value(in_page(code))
 
     def until_text(self, selector: str, words: str) -> None:
         """Waits until the text of an element has these words."""
@@ -77,11 +82,7 @@ class ViewCase(HubCase):
 
     def until(self, code: str, browser: Browser | None = None) -> None:
         """Waits until an expression of the page is true."""
-        last = time.monotonic() + PATIENCE
-        while not self.value(code, browser):
-            if time.monotonic() > last:
-                raise AssertionError(f"not true in the page: {code}; faults: {(browser or self.browser).faults()[:3]}")
-            time.sleep(0.02)
+        (browser or self.browser).until(in_page(code))
 
     def place(self, cell: str) -> list[Any]:
         """A cell's place in the page."""

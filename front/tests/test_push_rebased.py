@@ -10,7 +10,7 @@ import unittest
 from collections.abc import Iterator
 from pathlib import Path
 
-from support import Hub, HubCase
+from support import Hub, HubCase, wait_until
 
 import lefence
 from lefence.journal.frames import Reader
@@ -108,6 +108,7 @@ class Rebased(HubCase):
         disturbing = threading.Thread(target=disturb)
         disturbing.start()
         try:
+            wait_until(lambda: turns)
             status, output = self.push(journal, "--rebase")
         finally:
             stopped.set()
@@ -147,12 +148,12 @@ class NewPlaces(HubCase):
             }
 
     def lines_without_place(self) -> Iterator[int]:
-        """For how many lines of the journal each cell that had a place was without one."""
+        """For how many lines of the journal each cell that had a place was without one; a colleague's do not count."""
         placed, without = set[bytes](), dict[bytes, int]()
         with open(self.journal, "rb") as file:
             reader = Reader(file.fileno(), self.journal)
             frames = [*reader.frames(reader.header().length)]
-        records = [record for frame in frames for record in frame.records()]
+        records = [each for frame in frames for each in frame.records() if not each.line.startswith(b"pad ")]
         for number, record in enumerate(records):
             verb, _, *words = record.line.split()
             if verb == b"unplace":

@@ -259,8 +259,8 @@ class InABrowser(ReportCase):
         light = browser.value("colours.row")
         for width in (1400, 800, 360):
             browser.screen(width, dark=True)
-            self.assertLessEqual(browser.value("document.documentElement.scrollWidth"), width)
-        self.assertNotEqual(browser.value("colours.row"), light)
+            browser.until(f"document.documentElement.scrollWidth <= {width}")
+        browser.until(f"colours.row !== {json.dumps(light)}")
         self.assertEqual(browser.faults(), [])
 
     def look_around(self, scale: float) -> None:
@@ -301,7 +301,7 @@ class InABrowser(ReportCase):
         self.browser.click("#ways")
         self.assertFalse(self.browser.value("arrowsShown"))
         self.browser.screen(360)
-        self.assertLessEqual(self.browser.value("document.documentElement.scrollWidth"), 360)
+        self.browser.until("document.documentElement.scrollWidth <= 360")
         self.assertEqual(self.browser.faults(), [])
 
     def test_an_address_leads_to_a_place(self) -> None:

@@ -3,7 +3,6 @@
 from __future__ import annotations
 
 import re
-import time
 from unittest import main
 
 from support import LEF, PROGRAM, TEAMS, WIDTH, FrontCase
@@ -98,11 +97,9 @@ class SideBySide(FrontCase):
         odd = self.folder / "odd"
         odd.write_text(f"#!/bin/sh\n{script}\nexec '{PROGRAM}' \"$@\"\n")
         odd.chmod(0o755)
-        begin = time.monotonic()
         for words in (("-o", str(self.target)), ("--dry-run",)):
             self.assertEqual(self.repair(*words, "--jobs", "3", program=str(odd)), (status, "", expected))
             self.assertEqual([path.name for path in sorted(self.folder.iterdir())], ["odd", "t.def", "t.lef"])
-        self.assertLess(time.monotonic() - begin, 300)
 
     def test_a_run_that_fails_ends_the_others_and_leaves_no_file(self) -> None:
         """All other runs would take an hour."""
