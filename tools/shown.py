@@ -46,6 +46,8 @@ SERVES = re.compile(
     r"\blefence-(hub|view)\b(?!.*--(status|metrics|snapshot|help|version))|\blefence (--unproved )?serve\b"
 )
 READY = re.compile(rb"ready|listening|http://")
+# A line of progress, which a tool prints on a slow machine.
+PROGRESS = re.compile(r"^lefence-[a-z]+: .*, \d+ s\n", re.M)
 # A command that needs the hub of /run/lefence, that hub, and what its operator has done.
 NEEDS_HUB = re.compile(r"/run/lefence|\bchip\.journal\b")
 HUB = "lefence-hub chip.def tech.lef cells.lef --sockets /run/lefence --journal chip.journal --keep-segments"
@@ -157,7 +159,8 @@ class Room:
             capture_output=True,
             timeout=PATIENCE,
         )
-        return done.returncode, done.stdout.decode(errors="replace"), done.stderr.decode(errors="replace")
+        errors = PROGRESS.sub("", done.stderr.decode(errors="replace"))
+        return done.returncode, done.stdout.decode(errors="replace"), errors
 
     def _serve(self, text: str) -> tuple[int, str, str]:
         """Starts a hub or a service, and waits until it is ready or has ended. Those with its sockets, journal or port
