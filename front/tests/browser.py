@@ -144,18 +144,23 @@ class Browser:
     def mouse(self, kind: str, x: float, y: float, **fields: Any) -> None:
         self.ask("Input.dispatchMouseEvent", type=kind, x=x, y=y, **fields)
 
+    def middle(self, selector: str) -> list[float]:
+        """Brings an element into sight; returns its middle."""
+        code = f"const e = document.querySelector({json.dumps(selector)}); e.scrollIntoView({{ block: 'center' }});"
+        code += "const b = e.getBoundingClientRect(); return [b.x + b.width / 2, b.y + b.height / 2];"
+        found: list[float] = self.value(f"(() => {{ {code} }})()")
+        return found
+
     def click(self, selector: str) -> None:
         """Clicks into the middle of an element. If the element has moved meanwhile, it is clicked where it is now."""
         name = json.dumps(selector)
         note = f"(event) => {{ window.isClicked ||= !!event.target.closest({name}); }}"
         self.value(f"window.isClicked = false; document.addEventListener('click', {note}, {{ capture: true }})")
-        find = f"const e = document.querySelector({name}); e.scrollIntoView({{ block: 'center' }});"
-        find += "const b = e.getBoundingClientRect(); return [b.x + b.width / 2, b.y + b.height / 2];"
         last = time.monotonic() + PATIENCE
         while not self.value("window.isClicked"):
             if time.monotonic() > last:
                 raise AssertionError(f"{selector} cannot be clicked")
-            x, y = self.value(f"(() => {{ {find} }})()")
+            x, y = self.middle(selector)
             for kind in ("mousePressed", "mouseReleased"):
                 self.mouse(kind, x, y, button="left", clickCount=1)
         self.drawn()

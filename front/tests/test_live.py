@@ -278,6 +278,15 @@ class HubPages(ViewCase):
         refused = self.browser.value("lefence.send('f0', 'export x')")
         self.assertEqual(refused["refusal"], "a page cannot send export")
 
+    def test_a_button_that_is_pressed_while_something_moves_does_its_work(self) -> None:
+        self.open(self.view("s", "--edit", "f0"))
+        x, y = self.browser.middle("#work-tidy")
+        self.browser.mouse("mousePressed", x, y, button="left", clickCount=1)
+        self.talk("f1").ask("open f1", f"place f1 0 f1c1 {WIDTH} 0 N")
+        self.until_at("f1c1", WIDTH, 0)
+        self.browser.mouse("mouseReleased", x, y, button="left", clickCount=1)
+        self.until("l.state.facts[0].unplaced === 0")
+
     def test_a_page_that_only_looks_changes_nothing(self) -> None:
         self.open(self.view("s"))
         answer = self.browser.value("lefence.send('f0', 'find f0c1 1000 0')")

@@ -170,6 +170,8 @@ class Server(HubCase):
         [length] = struct.unpack_from("<I", data)
         head = json.loads(data[4 : 4 + length])
         self.assertEqual((head["count"], (4 + length) % 8), (90, 0))
+        # (the facts of the teams are of the same moment)
+        self.assertEqual((len(head["facts"]), head["facts"][0]["revision"], head["recent"]), (9, 1, []))
         sizes = {name: size for name, _, size in head["parts"]}
         self.assertEqual((sizes["x"], sizes["orient"]), (360, 90))
         self.assertEqual(len(data), 4 + length + sum(-(-size // 8) * 8 for size in sizes.values()))
