@@ -514,7 +514,8 @@ class HubCase(FrontCase):
 
     def words(self, *extra: str, sockets: str = "s", journal: str = "journal", design: Path | None = None) -> list[str]:
         places = ["--sockets", str(self.folder / sockets), "--journal", str(self.folder / journal)]
-        options = ["--program", self.program, "--programs", "1", *places]
+        # (no state is saved only because the machine is slow)
+        options = ["--program", self.program, "--programs", "1", "--tail-seconds", "1000000", *places]
         return [str(design or self.design), str(self.lef), *options, *extra]
 
     def start(self, *extra: str) -> str:

@@ -136,7 +136,8 @@ class Crashes(HubCase):
     def test_kill_9_amid_checkpoints(self) -> None:
         self.extra = ("--tail-bytes", "1")
         self.under_load(self.kill_9_of_both)
-        self.assertTrue(Archive(self.journal).numbers("state"))
+        # (the last hub may still be at its first state)
+        wait_until(lambda: Archive(self.journal).numbers("state"), self.hub.log_text)
 
     def test_kill_9_of_a_program_amid_checkpoints_is_not_noticed(self) -> None:
         self.extra = ("--tail-bytes", "1")
