@@ -71,7 +71,7 @@ class WholeFiles(FrontCase):
             self.assertEqual(sorted(os.listdir(self.folder)), ["t.def", "t.lef", "x.svg"])
 
     def test_a_terminated_tool_leaves_no_partial_file(self) -> None:
-        words = ["t.def", "t.lef", "--output", "x", "--program", self.describing("exec sleep 10")]
+        words = ["t.def", "t.lef", "--output", "x", "--program", self.describing("exec sleep 3600")]
         before = sorted(os.listdir(self.folder))
         with subprocess.Popen([*tool_words("lefence-markers"), *words], cwd=self.folder) as tool:
             wait_until((self.folder / "x.partial0").exists)

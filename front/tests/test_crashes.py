@@ -246,7 +246,7 @@ class Programs(HubCase):
             self.talk("f0").ask("open f0", "open f0", "place f0 0 f0c1 0 0 N"), ["ok 0 0", "ok 1 0", "ok 1"]
         )
         self.hub.kill()
-        self.wrap("sleep 20")
+        self.wrap("exec sleep 3600")
         for words, status in ((("--tail-bytes", "1"), 0), (("--roll",), 3)):
             (self.folder / "starts").unlink(missing_ok=True)
             hub = Hub(self.folder, self.words(*words))

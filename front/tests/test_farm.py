@@ -225,7 +225,7 @@ class Farms(FarmCase):
         )
 
     def test_a_signal_ends_the_teams_at_work(self) -> None:
-        words = ["work", "t.def", "t.lef", "--program", PROGRAM, "--processes", "3", "--", "sleep", "60"]
+        words = ["work", "t.def", "t.lef", "--program", PROGRAM, "--processes", "3", "--", "sleep", "3600"]
         with subprocess.Popen(
             [*tool_words("lefence-farm"), *words], cwd=self.folder, stderr=subprocess.DEVNULL
         ) as farm:

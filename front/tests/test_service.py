@@ -868,7 +868,7 @@ class Operator(HubCase):
 
     def test_a_program_that_hangs_in_the_last_export_cannot_hold_the_end(self) -> None:
         script = self.folder / "hanging"
-        script.write_text(f"#!/bin/sh\ncase \"$*\" in *--export*) sleep 30;; esac\nexec '{PROGRAM}' \"$@\"\n")
+        script.write_text(f"#!/bin/sh\ncase \"$*\" in *--export*) exec sleep 3600;; esac\nexec '{PROGRAM}' \"$@\"\n")
         script.chmod(0o755)
         self.program = str(script)
         self.start("--grace", "1", "--export", str(self.folder / "new.def"))
