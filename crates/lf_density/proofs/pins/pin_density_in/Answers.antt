@@ -1,4 +1,4 @@
-use Rattle.std.proofs.Common.{◌≡◌, ◌∙◌, ℕ, ◌*◌, List, length, ap, subst, arith}
+use Rattle.std.proofs.Common.{◌∙◌, ℕ, List, length, ap, subst, arith}
 use Rattle.std.specs.List.Sorted.{IsPermutation}
 use Rattle.std.proofs.lemmas.List.Sorted.{IsNonDecreasingBy-from_sort, length_permutation}
 use Rattle.lf_density.specs.Pins.{bin_counts, pin_density_by}
