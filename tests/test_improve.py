@@ -16,14 +16,17 @@ from program import DENSITY_KEYS, InFolder, Start, densities, run
 Place = tuple[int, int, str]
 Line = dict[str, object]
 
-# The keys of the line of a team, and of the line of all teams, in order.
+# The keys of the numbers of pins, of the line of a team, and of the line of all teams, in order.
+PIN_KEYS = [
+    "pins_10", "pins_10_before", "pins_2", "pins_20", "pins_20_before", "pins_2_before", "pins_5", "pins_5_before",
+]
 TEAM_KEYS = [
     "cells", "crossing", "crossing_before", "largest", "mean", "moved", "own", "own_before", "skipped", "team", "total",
     "turned",
 ]
 ALL_KEYS = [
     "cells", "doubled", "doubled_before", *DENSITY_KEYS, "largest", "legal", "length", "length_before", "mean", "moved",
-    "skipped", "teams", "total", "turned",
+    *PIN_KEYS, "skipped", "teams", "total", "turned",
 ]
 LEF = """VERSION 5.8 ;
 SITE core
@@ -78,6 +81,9 @@ END DBL
 END LIBRARY
 """
 SITES = {"INV": 2, "NAND": 3}
+# The size of each macro, and the middle of its pin A, in database units.
+SIZES = {"INV": (400, 2000), "NAND": (600, 2000), "DBL": (600, 4000)}
+MIDDLES = {"INV": (200, 1000), "NAND": (100, 400), "DBL": (300, 2000)}
 TEAMS = {"a": "A", "b": "B", "g": "-"}
 
 
@@ -217,6 +223,36 @@ def moves_in(old: dict[str, Place], new: dict[str, Place], firsts: str) -> Line:
     }
 
 
+def pin_point(macro: str, place: Place) -> tuple[int, int]:
+    """The middle of the pin A of a cell at this place."""
+    x, y, orient = place
+    (width, height), (across, up) = SIZES[macro], MIDDLES[macro]
+    return x + (width - across if orient in ("S", "FN") else across), y + (height - up if orient in ("S", "FS") else up)
+
+
+def pins_of(text: str, places: dict[str, Place], suffix: str) -> Line:
+    """What a report has of the pins of a DEF text with these places, by the definition: each pin of a cell that a net
+    names is in a bin of five rows' height."""
+    rows = re.findall(r"^ROW \S+ core (\S+) (\S+) \S+ DO (\d+) ", text, re.MULTILINE)
+    macros = dict(re.findall(r"^- (\S+) (\S+) \+ PLACED ", text, re.MULTILINE))
+    side = 10_000
+    left, bottom = min(int(x) for x, _, _ in rows), min(int(y) for _, y, _ in rows)
+    columns = -((left - max(int(x) + 200 * int(sites) for x, _, sites in rows)) // side)
+    lines = -((bottom - max(int(y) + 2000 for _, y, _ in rows)) // side)
+    found = [0] * (columns * lines)
+    for name in re.findall(r"\( (\w+) A \)", text):
+        x, y = pin_point(macros[name], places[name])
+        column, line = (x - left) // side, (y - bottom) // side
+        if 0 <= column < columns and 0 <= line < lines:
+            found[line * columns + column] += 1
+    found.sort(reverse=True)
+    numbers: Line = {}
+    for percent in (2, 5, 10, 20):
+        fullest = found[: max(1, len(found) * percent // 100)]
+        numbers[f"pins_{percent}{suffix}"] = sum(fullest) // len(fullest)
+    return numbers
+
+
 class Improve(InFolder):
     """Improvements, each in its own folder."""
 
@@ -246,6 +282,12 @@ class Improve(InFolder):
         """The places before and after."""
         return places_in(self.old.read_text()), places_in(self.new.read_text())
 
+    def pins(self) -> Line:
+        """What the report has of the pins of the texts."""
+        old, new = self.places()
+        text = self.old.read_text()
+        return {**pins_of(text, old, "_before"), **pins_of(text, new, "")}
+
     def test_the_report_is_what_the_exported_text_has(self) -> None:
         report = self.improve(Chip(1, 6, 10).text())
         self.assertEqual(run(["check", str(self.new), str(self.lef)])[0], 0)
@@ -263,6 +305,7 @@ class Improve(InFolder):
         wanted = {
             **moves_in(old, new, "abg"),
             **densities(self.old, self.new, self.lef),
+            **self.pins(),
             "doubled": after[3]["doubled"],
             "doubled_before": before[3]["doubled"],
             "length": after[3]["length"],
@@ -375,6 +418,20 @@ class Improve(InFolder):
         self.assertEqual((report[-1]["doubled_before"], report[-1]["doubled"], report[-1]["moved"]), (4000, 800, 2))
         new = self.places()[1]
         self.assertEqual([new[name][:2] for name in "pqrc"], [(0, 0), (800, 0), (1200, 0), (400, 0)])
+
+    def test_the_pins_of_the_fullest_bins_are_counted(self) -> None:
+        report = self.improve(Chip(2, 20, 40).text())
+        pins = self.pins()
+        self.assertEqual({key: report[-1][key] for key in PIN_KEYS}, pins)
+        self.assertEqual(len({pins[f"pins_{percent}_before"] for percent in (5, 10, 20)}), 3)
+        self.assertNotEqual(pins["pins_20"], pins["pins_20_before"])
+
+    def test_pins_are_counted_where_the_cells_are(self) -> None:
+        nets = [("c0", 11_000, 1000), ("c0", 11_600, 1000), ("c1", 11_100, 0)]
+        text = two_rows(100, {"c0": (45, 0), "c1": (55, 0)}, nets)
+        report = self.improve(text)
+        counts = [report[-1][key] for key in ("pins_2_before", "pins_2")]
+        self.assertEqual(counts, [2, 3])
 
     def test_a_cell_is_flipped(self) -> None:
         # The pin of a NAND is at its left edge, and the point of its net is at the right one.

@@ -75,8 +75,9 @@ GROUPS = {
     "wires": Group(
         "lf_wire_*",
         "nets and their lengths. `_pins` and `_nets` read texts, `_length` measures, `_binding` finds the cells of"
-        " pins, and `_report` prints. `_targets` says where cells without a place are near their nets. `_board`"
-        " measures what moves of cells change, and `_improver` looks for moves that make nets shorter",
+        " pins, `_density` counts pins in bins, and `_report` prints. `_targets` says where cells without a place are"
+        " near their nets. `_board` measures what moves of cells change, and `_improver` looks for moves that make nets"
+        " shorter",
     ),
     "improvements": Group("lf_improve_*", "shorter wires"),
     "io": Group(

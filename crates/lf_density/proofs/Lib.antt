@@ -1,2 +1,3 @@
 pub mod BinLists
 pub mod Bins
+pub mod PinLists

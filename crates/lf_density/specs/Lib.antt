@@ -1,2 +1,3 @@
 pub mod Bins
 pub mod Density
+pub mod Pins

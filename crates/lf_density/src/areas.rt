@@ -27,7 +27,7 @@ fn shared_with(part: u64, a: u64, b: u64, number: u64) -> u64
 }
 
 /// Adds the area to the one at this position.
-fn add_at(areas: &mut Vec<u64>, at: usize, area: u64)
+pub(crate) fn add_at(areas: &mut Vec<u64>, at: usize, area: u64)
     requires { at < length areas.old.items }
     ensures { areas.new.items ≡ slice_set areas.old.items at (capped (slice_index areas.old.items at + area)) }
 {

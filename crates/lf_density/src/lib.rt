@@ -8,7 +8,10 @@
 //! `density_of` returns the mean utilization of the fullest 2, 5, 10 and 20 % of the bins that
 //! count, as the average bin utilization of the ISPD 2015 contest.
 //!
-//! Used by `lf_describe`.
+//! `pin_density_of` returns the mean number of pins of the fullest 2, 5, 10 and 20 % of all bins. A
+//! pin is a point here, and the bins with the most points are the fullest.
+//!
+//! Used by `lf_describe`, `lf_repair_report` and `lf_wire_density`.
 //!
 //! Modules, in reading order:
 //!
@@ -16,6 +19,7 @@
 //! - `areas`: the areas of boxes in bins
 //! - `fullest`: the utilization of the fullest bins
 //! - `density`: the density of a design
+//! - `pins`: the number of pins in the fullest bins
 //!
 //! From `crates/lf_describe/src/counts.rt`:
 //!
@@ -28,5 +32,7 @@ mod areas;
 mod density;
 mod fullest;
 mod grid;
+mod pins;
 
 pub use density::{Density, density_of};
+pub use pins::{PinDensity, pin_density_of};

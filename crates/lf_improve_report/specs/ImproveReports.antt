@@ -8,10 +8,11 @@ use Rattle.lf_wire_length.specs.declared.team_lengths.TeamLengths.{TeamLengths}
 use Rattle.lf_wire_length.specs.Teams.{no_team_lengths}
 use Rattle.lf_describe.specs.Description.{count_data, described_team_name, line_text, text_data}
 use Rattle.lf_repair_report.specs.declared.density.DensityChange.{DensityChange}
-use Rattle.lf_repair_report.specs.Densities.{with_density}
+use Rattle.lf_repair_report.specs.Densities.{with_change, with_density}
 use Rattle.lf_repair_report.specs.RepairReports.{mean_displacement, saturating_sum}
 use Rattle.lf_improve_report.specs.declared.improved.ImprovedTeam.{ImprovedTeam}
 use Rattle.lf_improve_report.specs.declared.improved.ImprovementTotals.{ImprovementTotals}
+use Rattle.lf_improve_report.specs.declared.report.PinChange.{PinChange}
 
 -- ---- a team
 
@@ -86,11 +87,20 @@ improvement_members s before after =
     (member (codes "total") (count_data s.total_displacement)
     (member (codes "turned") (count_data s.turned) no_members)))))))))))
 
--- The line of all teams: these members, the densities, and whether the committed design is then fully
--- legal.
-abbrev pub improvement_data : ImprovementTotals → WireLengths → WireLengths → DensityChange → Bool → Data
-improvement_data s before after density legal =
-    object (with_density density (put (codes "legal") (boolean legal) (improvement_members s before after)))
+-- The members with the mean number of pins of the fullest 2, 5, 10 and 20 % of the bins, at the end and
+-- at the beginning.
+abbrev pub with_pins : PinChange → Members → Members
+with_pins pins ms =
+    with_change (codes "pins_5") (codes "pins_5_before") pins.before.fullest_5 pins.after.fullest_5
+    (with_change (codes "pins_20") (codes "pins_20_before") pins.before.fullest_20 pins.after.fullest_20
+    (with_change (codes "pins_2") (codes "pins_2_before") pins.before.fullest_2 pins.after.fullest_2
+    (with_change (codes "pins_10") (codes "pins_10_before") pins.before.fullest_10 pins.after.fullest_10 ms)))
+
+-- The line of all teams: these members, the densities of cells and of pins, and whether the committed
+-- design is then fully legal.
+abbrev pub improvement_data : ImprovementTotals → WireLengths → WireLengths → DensityChange → PinChange → Bool → Data
+improvement_data s before after density pins legal =
+    object (with_density density (with_pins pins (put (codes "legal") (boolean legal) (improvement_members s before after))))
 
 -- The sums of these teams.
 abbrev pub improvement_totals : List ImprovedTeam → ImprovementTotals
@@ -98,9 +108,10 @@ improvement_totals teams = fold with_improved_team no_improvement teams
 
 -- ---- the report
 
--- The whole report of an improvement of these teams, given the lengths and densities at the beginning
--- and at the end, and whether the committed design is then fully legal.
-abbrev pub improve_report : Frame → List ImprovedTeam → WireLengths → WireLengths → DensityChange → Bool → List ℕ
-improve_report f teams before after density legal =
+-- The whole report of an improvement of these teams, given the lengths and the densities of cells and
+-- of pins at the beginning and at the end, and whether the committed design is then fully legal.
+abbrev pub improve_report : Frame → List ImprovedTeam → WireLengths → WireLengths → DensityChange → PinChange → Bool
+    → List ℕ
+improve_report f teams before after density pins legal =
     flat_map (improved_team_line f before after) teams
-    ++ line_text (improvement_data (improvement_totals teams) before after density legal)
+    ++ line_text (improvement_data (improvement_totals teams) before after density pins legal)

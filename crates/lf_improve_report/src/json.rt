@@ -3,11 +3,11 @@
 ghost use Rattle.std.specs.Prelude.{◌≡◌, IfOk, codes};
 ghost use Rattle.serde_json.specs.Data.{Members, boolean, object, put};
 ghost use Rattle.serde_json.specs.View.{view};
-ghost use Rattle.lf_improve_report.specs.ImproveReports.{improved_team_data, improvement_data, improvement_members};
+ghost use Rattle.lf_improve_report.specs.ImproveReports.{improved_team_data, improvement_data, improvement_members, with_pins};
 
 use crate::improved::{ImprovedTeam, ImprovementTotals};
-use crate::report::LengthChange;
-use lf_repair_report::{DensityChange, mean_displacement, with_density};
+use crate::report::{LengthChange, PinChange};
+use lf_repair_report::{DensityChange, mean_displacement, put_change, with_density};
 use lf_wire_length::TeamLengths;
 use serde_json::{Value, json};
 use std::alloc::{AllocError, Global};
@@ -75,19 +75,44 @@ fn with_legal(alloc: Global, line: Value, legal: bool) -> Result<Value, AllocErr
     }
 }
 
-/// Makes the line of all teams, given the lengths and the densities at the beginning and at the end.
-/// `legal` says whether the committed design is then fully legal. `Err` if an allocation fails.
+/// Adds the pin densities to the line: the mean number of pins of the fullest bins, before and after.
+/// `Err` if an allocation fails.
+fn with_pins(alloc: Global, line: Value, pins: &PinChange) -> Result<Value, AllocError>
+    ensures { IfOk result (λ v. (ms : Members) → view line ≡ object ms → view v ≡ object (with_pins pins.now ms)) }
+{
+    let PinChange { before, after } = pins;
+    match line {
+        Value::Object(mut members) => {
+            let (b, a) = (before.fullest_10, after.fullest_10);
+            put_change(&mut members, alloc, "pins_10", "pins_10_before", b, a)?;
+            let (b, a) = (before.fullest_2, after.fullest_2);
+            put_change(&mut members, alloc, "pins_2", "pins_2_before", b, a)?;
+            let (b, a) = (before.fullest_20, after.fullest_20);
+            put_change(&mut members, alloc, "pins_20", "pins_20_before", b, a)?;
+            let (b, a) = (before.fullest_5, after.fullest_5);
+            put_change(&mut members, alloc, "pins_5", "pins_5_before", b, a)?;
+            Ok(Value::Object(members))
+        }
+        other => Ok(other),
+    }
+}
+
+/// Makes the line of all teams, given the lengths and the densities of cells and of pins at the
+/// beginning and at the end. `legal` says whether the committed design is then fully legal. `Err` if
+/// an allocation fails.
 pub(crate) fn all_value(
     alloc: Global,
     sums: &ImprovementTotals,
     lengths: LengthChange<'_>,
     density: &DensityChange,
+    pins: &PinChange,
     legal: bool,
 ) -> Result<Value, AllocError>
     ensures { IfOk result (λ v. view v
-        ≡ improvement_data sums.now lengths.entry.before.now lengths.entry.after.now density.now legal) }
+        ≡ improvement_data sums.now lengths.entry.before.now lengths.entry.after.now density.now pins.now legal) }
 {
     let line = sums_value(alloc, sums, lengths)?;
     let checked = with_legal(alloc, line, legal)?;
-    with_density(alloc, checked, density)
+    let counted = with_pins(alloc, checked, pins)?;
+    with_density(alloc, counted, density)
 }

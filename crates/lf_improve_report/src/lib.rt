@@ -2,7 +2,8 @@
 //!
 //! Each line is compact JSON; `docs/CLI.md` has the keys. Lengths are in database units,
 //! rounded down, except that `doubled` is the exact length in half database units. The whole text is
-//! a definition (`improve_report`) over the results of the teams and the measured lengths.
+//! a definition (`improve_report`) over the results of the teams, the measured lengths, and the
+//! densities of cells and of pins.
 //!
 //! Used by `lf_task_improve`.
 //!
@@ -16,7 +17,7 @@
 //!
 //! ```
 //! let frame = floor.placement().frame();
-//! let report = improve_report(alloc, frame, &results.teams, lengths, legal)?;
+//! let report = improve_report(alloc, frame, &results.teams, lengths, &density, &pins, legal)?;
 //! ```
 #![tactic(auto)]
 
@@ -25,4 +26,4 @@ mod json;
 mod report;
 
 pub use improved::ImprovedTeam;
-pub use report::{LengthChange, improve_report};
+pub use report::{LengthChange, PinChange, improve_report};

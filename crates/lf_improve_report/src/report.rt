@@ -9,6 +9,7 @@ ghost use Rattle.lf_improve_report.specs.ImproveReports.{improve_report, improve
 
 use crate::improved::{ImprovedTeam, improvement_totals};
 use crate::json::{all_value, team_value};
+use lf_density::PinDensity;
 use lf_describe::name_value;
 use lf_floorplan::Frame;
 use lf_repair_report::DensityChange;
@@ -21,6 +22,13 @@ use std::alloc::{AllocError, Global};
 pub struct LengthChange<'a> {
     pub before: &'a WireLengths,
     pub after: &'a WireLengths,
+}
+
+/// The pin densities of a design, before and after an improvement.
+#[derive(Clone, Copy)]
+pub struct PinChange {
+    pub before: PinDensity,
+    pub after: PinDensity,
 }
 
 /// Returns the name of the team of this number.
@@ -102,23 +110,24 @@ fn push_teams(
 }
 
 /// Returns the report of an improvement of these teams of the frame: the line of each, in their
-/// order, and the line of all, with the densities before and after. `legal` says whether the
-/// committed design is then fully legal. `Err` if an allocation fails.
+/// order, and the line of all, with the densities of cells and of pins before and after. `legal` says
+/// whether the committed design is then fully legal. `Err` if an allocation fails.
 pub fn improve_report(
     alloc: Global,
     frame: &Frame,
     teams: &[ImprovedTeam],
     lengths: LengthChange<'_>,
     density: &DensityChange,
+    pins: &PinChange,
     legal: bool,
 ) -> Result<Vec<u8>, AllocError>
-    ensures { IfOk result (λ text. text.items
-        ≡ improve_report frame.now teams.now lengths.entry.before.now lengths.entry.after.now density.now legal) }
+    ensures { IfOk result (λ text. text.items ≡ improve_report frame.now teams.now lengths.entry.before.now
+        lengths.entry.after.now density.now pins.now legal) }
 {
     let mut text = Vec::new(alloc);
     push_teams(alloc, frame, &mut text, teams, lengths)?;
     let sums = improvement_totals(teams);
-    let value = all_value(alloc, &sums, lengths, density, legal)?;
+    let value = all_value(alloc, &sums, lengths, density, pins, legal)?;
     push_line(alloc, &mut text, &value)?;
     Ok(text)
 }

@@ -142,7 +142,7 @@ pub(crate) fn with_impossible(
 }
 
 /// Puts a number into the members, and what it was before. `Err` if an allocation fails.
-fn put_change(
+pub fn put_change(
     members: &mut Map<String, Value>,
     alloc: Global,
     key: &str,

@@ -32,6 +32,6 @@ mod report;
 mod totals;
 
 pub use density::{DensityChange, density_on, density_since};
-pub use json::with_density;
+pub use json::{put_change, with_density};
 pub use report::RepairReport;
 pub use totals::{Totals, mean_displacement};

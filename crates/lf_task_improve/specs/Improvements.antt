@@ -8,6 +8,8 @@ use Rattle.lf_wire_length.specs.declared.pins.NetPin.{NetPin}
 use Rattle.lf_wire_length.specs.declared.netlist.WireLengths.{WireLengths}
 use Rattle.lf_wire_length.specs.Length.{length_of_nets}
 use Rattle.lf_wire_length.specs.Teams.{lengths_of_teams}
+use Rattle.lf_density.specs.declared.pins.PinDensity.{PinDensity}
+use Rattle.lf_wire_density.specs.PinPoints.{IsPinDensityOfNets}
 use Rattle.lf_floor_model.specs.States.{FloorState, TeamState}
 use Rattle.lf_floor_model.specs.Steps.{AllCommittedIn}
 use Rattle.lf_floor_model.specs.Teams.{state_of}
@@ -21,6 +23,7 @@ use Rattle.lf_improve_team.specs.TeamImprovements.{IsImprovable, KeepsTeamPlaces
 use Rattle.lf_repair_report.specs.declared.density.DensityChange.{DensityChange}
 use Rattle.lf_repair_report.specs.Densities.{IsDensityOn}
 use Rattle.lf_improve_report.specs.declared.improved.ImprovedTeam.{ImprovedTeam}
+use Rattle.lf_improve_report.specs.declared.report.PinChange.{PinChange}
 use Rattle.lf_improve_report.specs.ImproveReports.{improve_report, improved_team_name}
 use Rattle.lf_task_repair.specs.Repairs.{AreKnown, IsKeptRun, OnlySelectedChange, initial_lines}
 use Rattle.lf_task_repair.specs.Reports.{selected_names}
@@ -71,11 +74,18 @@ pub record AreLengthsOnFloor (teams : List ℕ) (nets : List (List NetPin)) (flo
   pub teams_are : lengths.teams.items
       ≡ lengths_of_teams (listed_place places) (λ cell. slice_index_or teams cell 0) nets (length floor.frame.teams + 1)
 
+-- the pin density of these nets with the cells of the floor at their working places
+pub record IsPinDensityOn (nets : List (List NetPin)) (floor : FloorState) (density : PinDensity) : Type 0 where
+  pub places : List (ℕ × Option Place)
+  pub listed : ListsWorkingPlaces floor places
+  pub is : IsPinDensityOfNets floor.frame (listed_place places) nets density
+
 -- ---- the whole design
 
 -- the text is the report of an improvement from the first floor to the last one: it has the line of
--- each selected team, with its result, and the line of all teams, with the wire lengths and densities
--- on both floors and whether the committed design is fully legal. The wire length has not grown
+-- each selected team, with its result, and the line of all teams, with the wire lengths and the
+-- densities of cells and of pins on both floors and whether the committed design is fully legal. The
+-- wire length has not grown
 pub record IsImproveReport (teams : List (List ℕ)) (within : Option ℕ) (owners : List ℕ) (nets : List (List NetPin))
     (begin floor : FloorState) (text : List ℕ) : Type 0 where
   pub results : List ImprovedTeam
@@ -88,9 +98,12 @@ pub record IsImproveReport (teams : List (List ℕ)) (within : Option ℕ) (owne
   pub density : DensityChange
   pub density_before : IsDensityOn begin density.before
   pub density_after : IsDensityOn floor density.after
+  pub pins : PinChange
+  pub pins_before : IsPinDensityOn nets begin pins.before
+  pub pins_after : IsPinDensityOn nets floor pins.after
   pub legal : Bool
   pub right : IsTrue legal ↔ IsCommittedLegal floor
-  pub text_is : text ≡ improve_report floor.frame results before after density legal
+  pub text_is : text ≡ improve_report floor.frame results before after density pins legal
 
 -- the first floor is improved and becomes this one: each requested name is a team's; accepted
 -- commands lead from the first floor to this one, and they are the lines that are kept; only

@@ -9,13 +9,14 @@ ghost use Rattle.lf_improve_team.specs.FloorLengths.{AreNetsOfFloor, IsWireLengt
 ghost use Rattle.lf_task_faults.specs.declared.faults.Fault.TheVariants.{SetupOutOfMemory};
 ghost use Rattle.lf_task_repair.specs.Repairs.{IsKeptRun, IsStatusOf, OnlySelectedChange, initial_lines, kept_text};
 ghost use Rattle.lf_task_repair.specs.Reports.{selected_at, selected_names};
-ghost use Rattle.lf_task_improve.specs.Improvements.{AddsResults, AreLengthsOnFloor, IsImproveReport, IsImprovementOf, distance_of_rows};
+ghost use Rattle.lf_task_improve.specs.Improvements.{AddsResults, AreLengthsOnFloor, IsImproveReport, IsImprovementOf, IsPinDensityOn, distance_of_rows};
 
 use crate::improve_job::ImproveJob;
 use crate::opening::DesignWires;
+use lf_density::PinDensity;
 use lf_floor::{Floor, team_name};
 use lf_floorplan::Frame;
-use lf_improve_report::{ImprovedTeam, LengthChange, improve_report};
+use lf_improve_report::{ImprovedTeam, LengthChange, PinChange, improve_report};
 use lf_improve_team::{
     CellsOnFloor, ImproveOptions, ImproveSearch, ImproveWish, TeamImprovement, WireNets,
     improve_team, wire_length_is_one,
@@ -28,6 +29,7 @@ use lf_task_files::is_committed_legal;
 use lf_task_repair::{
     CommandLog, FinishedTask, Progress, ProgressSink, announce_team, is_selected, status_by,
 };
+use lf_wire_density::pin_density_of_nets;
 use lf_wire_length::WireLengths;
 use std::alloc::{AllocError, Global};
 
@@ -198,6 +200,18 @@ fn lengths_on(
     wires.netlist.lengths(alloc, &cells, teams)
 }
 
+/// Returns the pin density of the nets, with the cells of the floor at their working places.
+fn pin_density_on(
+    alloc: Global,
+    floor: &Floor<IndexSeeker>,
+    wires: &DesignWires,
+) -> Result<PinDensity, AllocError>
+    ensures { IfOk result (IsPinDensityOn wires.now.netlist.nets floor.now) }
+{
+    let cells = CellsOnFloor::new(floor.working(), wires.teams.as_slice());
+    pin_density_of_nets(alloc, floor.placement().frame(), &wires.netlist, &cells)
+}
+
 /// Improves the selected teams. Returns their results.
 fn results_of<'a, P: Progress>(
     alloc: Global,
@@ -270,17 +284,31 @@ pub(crate) fn improve_selected<'a, P: Progress>(
     let lines = CommandLog::new(alloc, requested.files.lines);
     let mut lines = ProgressSink { lines, progress };
     let density_before = density_on(alloc, floor)?;
+    let pins_before = pin_density_on(alloc, floor, wires)?;
     let before = lengths_on(alloc, floor, wires)?;
     let results = results_of(alloc, floor, wires, requested, before.length, &mut lines)?;
     let after = lengths_on(alloc, floor, wires)?;
     let density = density_since(alloc, floor, density_before)?;
+    let pins_after = pin_density_on(alloc, floor, wires)?;
+    let pins = PinChange {
+        before: pins_before,
+        after: pins_after,
+    };
     let legal = is_committed_legal(alloc, floor)?;
     let lengths = LengthChange {
         before: &before,
         after: &after,
     };
     let frame = floor.placement().frame();
-    let report = improve_report(alloc, frame, &results.teams, lengths, &density, legal)?;
+    let report = improve_report(
+        alloc,
+        frame,
+        &results.teams,
+        lengths,
+        &density,
+        &pins,
+        legal,
+    )?;
     let ProgressSink { lines, .. } = lines;
     Ok(FinishedTask {
         lines,

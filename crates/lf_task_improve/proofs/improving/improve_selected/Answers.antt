@@ -36,6 +36,9 @@ returns-clause-reported g c = record {
   density = c.in_ok-density.density;
   density_before = subst (λ d. IsDensityOn c.args.floor.now d) (sym c.in_ok-density.ensures.before) c.in_ok-density_before.ensures;
   density_after = c.in_ok-density.ensures.after;
+  pins = record { before = c.in_ok-pins_before.pins_before; after = c.in_ok-pins_after.pins_after };
+  pins_before = c.in_ok-pins_before.ensures;
+  pins_after = c.in_ok-pins_after.ensures;
   legal = c.in_ok-legal.legal;
   right = c.in_ok-legal.ensures;
   text_is = rw (c.frame-frame.ensures, c.placement.ensures.frame, c.deref.ensures.value) at c.in_ok-report.ensures;
