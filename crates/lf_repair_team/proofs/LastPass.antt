@@ -243,7 +243,7 @@ pub record AreMovableTo (flags : List Bool) (cells : List ℕ) (count : ℕ) (mo
   pub free : All (λ own. IsFlagged flags own → ⊥) movable
   pub others : All (λ own. IsFlagged flags own ⊎ Contains movable own) (take count cells)
 
-none_taken : {X : Type 0} (xs : List X) → take 0 xs ≡ []
+pub none_taken : {X : Type 0} (xs : List X) → take 0 xs ≡ []
 none_taken [] = refl
 none_taken (x ∷ xs) = refl
 

@@ -157,6 +157,14 @@ module _ (team : List ℕ) (b c : FloorState) (only : ChangesOnly team b c) wher
       | inr differ ↦ target_or_through own (others own differ) (before own (omega (arith, within, differ)))
     ]
 
+-- one cell more, on the same floor
+pub one_more_off_soft : (team : List ℕ) (floor : FloorState) (targets : List (Option Place)) (count : ℕ) → ((own : ℕ) → own < count → IsAtTargetOrOffSoft team targets floor own)
+    → IsAtTargetOrOffSoft team targets floor count → (own : ℕ) → own < count + 1 → IsAtTargetOrOffSoft team targets floor own
+one_more_off_soft team floor targets count before here own within = elim (cases_eq own count) [
+  | inl same ↦ subst (λ (j : ℕ). IsAtTargetOrOffSoft team targets floor j) (sym same) here
+  | inr differ ↦ before own (omega (arith, within, differ))
+]
+
 -- a position past the team's cells has no place
 pub past_is_unplaced : (team : List ℕ) (old new : FloorState) (count own : ℕ) → team_cell_macros new team ≡ team_cell_macros old team
     → ((s : TeamState) → state_of old team ≡ Some s → length s.cells ≤ count) → count ≤ own → place_of_cell_in new team own ≡ None
@@ -335,11 +343,18 @@ locked_stay team marks targets a b c d e first legal same soft last locked own m
     let stays = subst (λ (f : FloorState). KeepsCellsAtTargets team targets f d) same soft own (first own mark ∙ here.1) in
     last own (stays.1 (legal own mark here.0)) ∙ stays.0 ∙ first own mark
 
+-- a session is opened
+pub locked_opened : (team : List ℕ) (marks : List Bool) (targets : List (Option Place)) (a b : FloorState) → b.frame ≡ a.frame → SameCells team a b
+    → AreLockedInPlace team marks targets a → AreLockedInPlace team marks targets b
+locked_opened team marks targets a b frame same locked own mark =
+    let here = locked own mark in
+    (legal_through team a b own frame same here.0, same_places team a b same own ∙ here.1)
+
 -- a session is opened, and then all passes are run
 pub locked_in_session : (team : List ℕ) (marks : List Bool) (targets : List (Option Place)) (a b c : FloorState) → b.frame ≡ a.frame → SameCells team a b
     → (AreLockedInPlace team marks targets b → KeepsLockedPlaces team marks b c) → AreLockedInPlace team marks targets a → KeepsLockedPlaces team marks a c
 locked_in_session team marks targets a b c frame same passes locked own mark =
-    passes (λ k at. let here = locked k at in (legal_through team a b k frame same here.0, same_places team a b same k ∙ here.1)) own mark
+    passes (locked_opened team marks targets a b frame same locked) own mark
     ∙ same_places team a b same own
 
 -- the legal cells are in place at the start

@@ -47,6 +47,7 @@ mod team;
 
 pub use cell_edits::{Buffers, TeamSession, run_edits};
 pub use lf_repair_strategy::{MovePolicy, RepairSearch, RepairStats};
+pub use misplaced_pass::are_off_soft;
 pub use outcome::RepairOutcome;
 pub use repair_input::{is_team_legal, team_input};
 pub use run_command::RepairFault;
