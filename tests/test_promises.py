@@ -2,13 +2,16 @@
 
 from __future__ import annotations
 
+import importlib
 import json
 import random
 import re
+import sys
 import unittest
+from pathlib import Path
 from typing import Any
 
-from program import InFolder, run
+from program import InFolder, Start, preloading, run
 
 # Cells that are 1, 2 and 6 sites wide and one row high, and one that is 2 sites wide and two rows high. Each has a pin.
 MACROS = "".join(
@@ -18,6 +21,9 @@ MACROS = "".join(
 )
 # The random designs that are repaired in each way.
 DESIGNS = 300
+BENCH = Path(__file__).resolve().parents[1] / "bench"
+# The cells of each design of the bench.
+CELLS = 1_000
 LEF = f"SITE core CLASS CORE ; SYMMETRY Y ; SIZE 0.2 BY 2.0 ; END core\n{MACROS}END LIBRARY\n"
 
 
@@ -131,6 +137,19 @@ class Promises(InFolder):
                     outcomes.append((len(line["left"]), line["total"]))
                 self.assertEqual(outcomes, sorted(outcomes, reverse=True))
 
+    def test_more_freedom_is_not_worse_on_the_designs_of_the_bench(self) -> None:
+        sys.path.append(str(BENCH))
+        self.addCleanup(sys.path.remove, str(BENCH))
+        bench = importlib.import_module("repair")
+        for made in bench.designs(self.folder, [CELLS]):
+            outcomes: list[tuple[int, int]] = []
+            for options in (("--keep",), (), ("--all",)):
+                status, written, _ = run(["repair", str(made.text), str(made.lef), *options])
+                self.assertIn(status, (0, 4))
+                last = json.loads(written.splitlines()[-1])
+                outcomes.append((last["left_cells"], last["total"]))
+            self.assertEqual(outcomes, sorted(outcomes, reverse=True), made.name)
+
     def legal_cells(self, padding: int) -> set[str]:
         """Sets the padding of the team, and saves the state. Returns the names of the cells that are placed and break no
         rule."""
@@ -153,6 +172,13 @@ class Promises(InFolder):
         [left] = re.findall(r"- a w2 \+ PLACED \( (\d+) ", self.new.read_text())
         self.assertGreater(int(left), 0)
         self.assertLessEqual(int(left) + 400, 3000)
+
+    def test_an_improvement_says_how_far_it_is(self) -> None:
+        cells = {"a": "w2 + PLACED ( 0 0 ) N", "b": "w2 + PLACED ( 400 0 ) N"}
+        self.old.write_text(design(30, cells, "NETS 1 ;\n- n ( a A ) ( b A ) ;\nEND NETS\n"))
+        hastened = {**preloading("hasten.c", self.folder), "HASTEN": "15000"}
+        said = run(["improve", *self.texts], start=Start(environment=hastened))[2]
+        self.assertEqual(said, 'lefence: improving "-", team 1 of 1: 0 commands so far\n')
 
     def test_a_fault_of_the_design_comes_before_one_of_pins_and_that_before_one_of_nets(self) -> None:
         self.lef.write_text(LEF.replace("RECT 0.0 0.9 0.2 1.1 ; END END A END w6", "POLYGON 0 0 x ; END END A END w6"))

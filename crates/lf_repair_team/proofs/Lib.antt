@@ -19,3 +19,4 @@ mod ReachLemmas
 mod MeanLemmas
 pub mod Listing
 mod Settling
+mod Revisions
