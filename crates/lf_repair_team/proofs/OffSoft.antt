@@ -31,8 +31,8 @@ use Rattle.lf_floor_model.proofs.LegalPlaces.{moved_here, none_some, some_one}
 use Rattle.lf_repair_bounds.specs.declared.reasons.ImpossibleMacro.{ImpossibleMacro}
 use Rattle.lf_repair_bounds.specs.ImpossibleMacros.{is_listed}
 use Rattle.lf_repair_strategy.specs.Targets.{AreWorkingPlaces, target_at}
-use Rattle.lf_repair_team.specs.CellEdits.{AreAtTargetsOrOffSoft, AreFlaggedAtTargets, AreListedFlags, AreLockedInPlace, HasNoPlaceOrIsFlagged, IsAtTargetOrOffSoft, IsUnchangedOrStepped, IsUnplacedOrOffSoft, KeepsCellsAtTargets, KeepsLockedLegal, KeepsLockedPlaces, KeepsPlaces, MovesOffSoft, RemainsLegal, SameCells}
-use Rattle.lf_repair_team.specs.TeamRepairs.{AreMovedOffSoft, ChangesOnly, HasNoPlace, HasNoPlaceOrIsListed, IsLegalIn, IsListedIn, IsOffSoft, KeepsLegalPlaces, place_of_cell_in, team_cell_macros, team_cell_names}
+use Rattle.lf_repair_team.specs.CellEdits.{AreAtTargetsOrOffSoft, AreFlaggedAtTargets, AreListedFlags, AreLockedInPlace, HasNoPlaceOrIsFlagged, IsAtTargetOrOffSoft, IsUnchangedOrStepped, IsUnplacedOrOffSoft, KeepsCellsAtTargets, KeepsLockedPlaces, KeepsPlaces, MovesOffSoft, RemainsLegal, SameCells}
+use Rattle.lf_repair_team.specs.TeamRepairs.{AreMovedOffSoft, ChangesOnly, HasNoPlace, HasNoPlaceOrIsListed, IsLegalIn, IsListedIn, IsOffSoft, place_of_cell_in, team_cell_macros, team_cell_names}
 use Rattle.lf_repair_team.proofs.Cells.{named_is}
 use Rattle.lf_repair_team.proofs.Finding.{team_was}
 use Rattle.lf_repair_team.proofs.Legal.{legal_through, same_places, state_there}
@@ -333,15 +333,6 @@ legalize_off_soft l old new team name session own target s found teams frame the
     })
 
 -- ---- a whole repair
-
--- a pass, the soft pass, and then the last pass
-pub locked_stay : (team : List ℕ) (marks : List Bool) (targets : List (Option Place)) (a b c d e : FloorState) → KeepsLockedPlaces team marks a b
-    → KeepsLockedLegal team marks a b → c ≡ b → KeepsCellsAtTargets team targets c d → KeepsLegalPlaces team d e → AreLockedInPlace team marks targets a
-    → KeepsLockedPlaces team marks a e
-locked_stay team marks targets a b c d e first legal same soft last locked own mark =
-    let here = locked own mark in
-    let stays = subst (λ (f : FloorState). KeepsCellsAtTargets team targets f d) same soft own (first own mark ∙ here.1) in
-    last own (stays.1 (legal own mark here.0)) ∙ stays.0 ∙ first own mark
 
 -- a session is opened
 pub locked_opened : (team : List ℕ) (marks : List Bool) (targets : List (Option Place)) (a b : FloorState) → b.frame ≡ a.frame → SameCells team a b
