@@ -27,7 +27,8 @@ use lf_proto::Refusal;
 use lf_repair_bounds::ImpossibleMacro;
 use lf_repair_strategy::{
     CellEdit, LocalPass, MovePolicy, Neighborhood, PaddedTeam, Pass, Phase, RepairInput,
-    RepairSearch, RepairStats, edits_back, edits_for, has_improved, plan_local_pass, plan_window_pass,
+    RepairSearch, RepairStats, edits_back, edits_for, has_improved, plan_local_pass,
+    plan_window_pass,
 };
 use lf_rules::legalizer_exists;
 use std::alloc::{AllocError, Global};

@@ -78,11 +78,11 @@ returns-in-Ok-false-clause-unmoved g c =
 pub returns-in-Ok-false-clause-free : goal.returns-in-Ok-false-clause-free
 returns-in-Ok-false-clause-free g c = λ before. c.take_back.ensures.free
 
-pub returns-in-Err-is_kept-clause-err : goal.returns-in-Err-is_kept-clause-err
-returns-in-Err-is_kept-clause-err g c = λ l.
+pub returns-clause-err : goal.returns-clause-err
+returns-clause-err g c = λ l.
     uncut l c.args.seat.now.team.now c.args.floor.now c.run_settled_pass.new.floor (g.K.Sink.contents c.args.lines.now) (g.K.Sink.contents c.run_settled_pass.new.lines) (c.in-Ok.ensures.run l)
 
-pub returns-in-Err-is_kept-clause-unmoved : goal.returns-in-Err-is_kept-clause-unmoved
-returns-in-Err-is_kept-clause-unmoved g c =
+pub returns-clause-unmoved : goal.returns-clause-unmoved
+returns-clause-unmoved g c =
     subst (λ (places : List (Option Place)). AreFlaggedAtTargets c.args.seat.now.team.now c.args.seat.now.impossible.now places c.args.floor.now
     → KeepsLockedPlaces c.args.seat.now.team.now c.args.seat.now.impossible.now c.args.floor.now c.run_settled_pass.new.floor) c.as_slice.ensures.value c.in-Ok.ensures.unmoved
