@@ -1,22 +1,29 @@
-"""What docs/CLI.md promises of repairs, improvements and wire lengths, and no contract says."""
+"""What docs/CLI.md promises of repairs, improvements and wire lengths. No contract says most of it."""
 
 from __future__ import annotations
 
+import importlib
 import json
 import random
 import re
+import sys
 import unittest
 from pathlib import Path
 from typing import Any
 
-from program import InFolder, run
+from program import InFolder, Start, preloading, run
 
-# Cells that are 1, 2 and 6 sites wide, each with a pin.
+# Cells that are 1, 2 and 6 sites wide and one row high, and one that is 2 sites wide and two rows high. Each has a pin.
 MACROS = "".join(
-    f"MACRO w{width} CLASS CORE ; SIZE {0.2 * width:.1f} BY 2.0 ; SYMMETRY X Y ; SITE core ;"
-    f" PIN A PORT LAYER m1 ; RECT 0.0 0.9 0.2 1.1 ; END END A END w{width}\n"
-    for width in (1, 2, 6)
+    f"MACRO {name} CLASS CORE ; SIZE {0.2 * width:.1f} BY {height:.1f} ; SYMMETRY X Y ; SITE core ;"
+    f" PIN A PORT LAYER m1 ; RECT 0.0 0.9 0.2 1.1 ; END END A END {name}\n"
+    for name, width, height in (("w1", 1, 2), ("w2", 2, 2), ("w6", 6, 2), ("tall", 2, 4))
 )
+# The random designs that are repaired in each way.
+DESIGNS = 300
+BENCH = Path(__file__).resolve().parents[1] / "bench"
+# The cells of each design of the bench.
+CELLS = 1_000
 LEF = f"SITE core CLASS CORE ; SYMMETRY Y ; SIZE 0.2 BY 2.0 ; END core\n{MACROS}END LIBRARY\n"
 
 
@@ -31,21 +38,22 @@ def design(sites: int, cells: dict[str, str], rest: str = "", rows: int = 1) -> 
 
 
 def random_design(generator: random.Random) -> str:
-    """A design of three rows, with up to three soft blockages; some cells are unplaced, and some break rules."""
-    sites = generator.randrange(12, 40)
+    """A design of three short rows or of a long one, with up to three soft blockages. Some cells are two rows high, some
+    are unplaced, and some break rules."""
+    rows, sites = generator.choice(((3, 12), (3, 24), (3, 36), (1, 150)))
     cells = {}
     for cell in range(generator.randrange(4, sites)):
-        place = (200 * generator.randrange(sites), 2000 * generator.randrange(3))
+        place = (200 * generator.randrange(sites), 2000 * generator.randrange(rows))
         off = generator.choice((0, 0, 0, 70))
         clause = f" + PLACED ( {place[0] + off} {place[1] + off} ) N" if generator.random() < 0.9 else " + UNPLACED"
-        cells[f"c{cell}"] = f"w{generator.choice((1, 2, 2, 6))}{clause}"
+        cells[f"c{cell}"] = f"{generator.choice(('w1', 'w2', 'w2', 'w6', 'tall'))}{clause}"
     rects = []
     for _ in range(generator.randrange(4)):
-        left, bottom = 200 * generator.randrange(sites), 2000 * generator.randrange(3)
+        left, bottom = 200 * generator.randrange(sites), 2000 * generator.randrange(rows)
         right = left + 200 * generator.randrange(1, 9)
         rects.append(f"- PLACEMENT + SOFT RECT ( {left} {bottom} ) ( {right} {bottom + 2000} ) ;\n")
     rest = f"BLOCKAGES {len(rects)} ;\n{''.join(rects)}END BLOCKAGES\n" if rects else ""
-    return design(sites, cells, rest, rows=3)
+    return design(sites, cells, rest, rows)
 
 
 class Promises(InFolder):
@@ -118,22 +126,38 @@ class Promises(InFolder):
 
     def test_repairs_of_random_designs_lose_no_legal_cell_and_more_freedom_is_not_worse(self) -> None:
         generator = random.Random(7)
-        for turn in range(60):
+        for turn in range(DESIGNS):
             with self.subTest(turn):
                 self.old.write_text(random_design(generator))
-                legal = self.legal_cells(self.old)
+                legal = self.legal_cells(generator.choice((0, 0, 1, 3)))
                 outcomes: list[tuple[int, int]] = []
                 for options in (("--keep",), (), ("--all",)):
-                    line = self.repair(*options, "--export-working", str(self.new))
-                    self.assertLessEqual(legal, self.legal_cells(self.new), options)
+                    line = self.repair("--state", str(self.begin), *options)
+                    self.assertEqual(legal & set(line["left"]), set(), options)
                     outcomes.append((len(line["left"]), line["total"]))
-                self.assertLessEqual(outcomes[1][0], outcomes[0][0])
-                self.assertLessEqual(outcomes[2], outcomes[1])
+                self.assertEqual(outcomes, sorted(outcomes, reverse=True))
 
-    def legal_cells(self, text: Path) -> set[str]:
-        """The names of the cells of a DEF text that are placed and break no rule."""
-        report = json.loads(run(["check", str(text), str(self.lef)])[1])
-        placed = set(re.findall(r"(?m)^- (\w+) W\d \+ PLACED", text.read_text()))
+    def test_more_freedom_is_not_worse_on_the_designs_of_the_bench(self) -> None:
+        sys.path.append(str(BENCH))
+        self.addCleanup(sys.path.remove, str(BENCH))
+        bench = importlib.import_module("repair")
+        for made in bench.designs(self.folder, [CELLS]):
+            outcomes: list[tuple[int, int]] = []
+            for options in (("--keep",), (), ("--all",)):
+                status, written, _ = run(["repair", str(made.text), str(made.lef), *options])
+                self.assertIn(status, (0, 4))
+                last = json.loads(written.splitlines()[-1])
+                outcomes.append((last["left_cells"], last["total"]))
+            self.assertEqual(outcomes, sorted(outcomes, reverse=True), made.name)
+
+    def legal_cells(self, padding: int) -> set[str]:
+        """Sets the padding of the team, and saves the state. Returns the names of the cells that are placed and break no
+        rule."""
+        lines = f"open -\npad - 0 {padding}\ncheck - 0\nclose - 0\n"
+        status, replies, said = run(["replay", *self.texts, "--save", str(self.begin)], lines)
+        self.assertEqual((status, said), (0, ""))
+        report = json.loads(replies.splitlines()[2].removeprefix("ok "))
+        placed = set(re.findall(r"(?m)^- (\w+) \w+ \+ PLACED", self.old.read_text()))
         return placed - {violation["cell"] for violation in report["violations"]}
 
     def test_an_improvement_stays_off_soft_blockages(self) -> None:
@@ -148,6 +172,13 @@ class Promises(InFolder):
         [left] = re.findall(r"- a w2 \+ PLACED \( (\d+) ", self.new.read_text())
         self.assertGreater(int(left), 0)
         self.assertLessEqual(int(left) + 400, 3000)
+
+    def test_an_improvement_says_how_far_it_is(self) -> None:
+        cells = {"a": "w2 + PLACED ( 0 0 ) N", "b": "w2 + PLACED ( 400 0 ) N"}
+        self.old.write_text(design(30, cells, "NETS 1 ;\n- n ( a A ) ( b A ) ;\nEND NETS\n"))
+        hastened = {**preloading("hasten.c", self.folder), "HASTEN": "15000"}
+        said = run(["improve", *self.texts], start=Start(environment=hastened))[2]
+        self.assertEqual(said, 'lefence: improving "-", team 1 of 1: 0 commands so far\n')
 
     def test_a_fault_of_the_design_comes_before_one_of_pins_and_that_before_one_of_nets(self) -> None:
         self.lef.write_text(LEF.replace("RECT 0.0 0.9 0.2 1.1 ; END END A END w6", "POLYGON 0 0 x ; END END A END w6"))

@@ -20,8 +20,9 @@ use Rattle.lf_floor_model.proofs.LegalPlaces.{none_some, some_one}
 use Rattle.lf_repair_strategy.specs.Targets.{AreWorkingPlaces, target_at}
 use Rattle.lf_repair_team.specs.CellEdits.{KeepsCommittedPlaces, KeepsPlaces, SameCells}
 use Rattle.lf_repair_team.specs.Stats.{displacement}
-use Rattle.lf_repair_team.specs.TeamRepairs.{ChangesOnly, committed_in, place_of_cell_in}
+use Rattle.lf_repair_team.specs.TeamRepairs.{AreMovedOffSoft, ChangesOnly, committed_in, place_of_cell_in}
 use Rattle.lf_repair_team.proofs.Legal.{committed_through, same_committed, same_places, state_there}
+use Rattle.lf_repair_team.proofs.OffSoft.{moved_off_soft, targets_stay}
 use Rattle.lf_improve_team.specs.FloorLengths.{IsWireLengthOn}
 use Rattle.lf_improve_team.specs.TeamImprovements.{AreCellsNear, IsCommitted, IsMovedBack, IsShortened, KeepsTeamPlaces, StaysWithin}
 use Rattle.lf_improve_team.proofs.Lengths.{length_kept}
@@ -84,6 +85,7 @@ shortened_through nets before limit places team old new length only same is = re
   measured = length_kept team old new only (same_places team old new same) nets length is.measured;
   shorter = is.shorter;
   near = near_kept limit places team old new (same_places team old new same) is.near;
+  off_soft = targets_stay team old new only places (same_places team old new same) is.off_soft;
   committed = λ l. committed_through l team old new only.frame same (is.committed l);
 }
 
@@ -138,6 +140,10 @@ within_of limit team old new number places named are near own far is = go (state
   go None there = omega arith
   go (Some s) there = subst (λ (p : Option Place). displacement p now ≤ far) (are s (state_there old team number s named there) own) (near own far is)
 
+-- no cell that stays has moved onto a soft blockage
+pub none_moved_onto_soft : (team : List ℕ) (old new : FloorState) → KeepsPlaces team old new → AreMovedOffSoft team old new
+none_moved_onto_soft team old new stay own placed moved = absurd (moved (stay own))
+
 -- ---- the result
 
 -- the cells are as many as before
@@ -178,3 +184,8 @@ module _ (nets : List (List NetPin)) (before : ℕ) (limit : Option ℕ) (places
       → ((s : TeamState) → slice_get old.teams number ≡ Some s → AreWorkingPlaces s.cells places) → Improved found → Kept found → StaysWithin limit team old new
   near_in_any number None named are improved kept = within_kept limit team old new (kept refl).working
   near_in_any number (Some length) named are improved kept = within_of limit team old new number places named are improved.near
+
+  pub off_soft_in_any : (number : ℕ) (found : Option ℕ) → team_number old.frame team ≡ Some number
+      → ((s : TeamState) → slice_get old.teams number ≡ Some s → AreWorkingPlaces s.cells places) → Improved found → Kept found → AreMovedOffSoft team old new
+  off_soft_in_any number None named are improved kept = none_moved_onto_soft team old new (kept refl).working
+  off_soft_in_any number (Some length) named are improved kept = moved_off_soft team old new number places named are only.names improved.off_soft

@@ -9,7 +9,7 @@ use Rattle.lf_floor_model.specs.Steps.{AllCommittedIn}
 use Rattle.lf_floor_model.specs.Teams.{state_of}
 use Rattle.lf_floor_model.specs.VerbLaws.{committed_places}
 use Rattle.lf_repair_strategy.specs.Targets.{target_at}
-use Rattle.lf_repair_team.specs.CellEdits.{AreBackAtCommitted}
+use Rattle.lf_repair_team.specs.CellEdits.{AreAtTargetsOrOffSoft, AreBackAtCommitted}
 use Rattle.lf_repair_team.specs.Stats.{displacement}
 use Rattle.lf_repair_team.specs.TeamRepairs.{AreLegalExcept, committed_in, place_of_cell_in}
 use Rattle.lf_improve_team.specs.FloorLengths.{IsWireLengthOn}
@@ -42,13 +42,14 @@ AreCellsNear limit places team floor =
     (own far : ℕ) → limit ≡ Some far
     → displacement (target_at places own) (place_of_cell_in floor team own) ≤ far
 
--- the nets have this length on the floor, less than before; all cells of the team are committed,
--- and near their places in the list
+-- the nets have this length on the floor, less than before; all cells of the team are committed, near
+-- their places in the list, and at these places or off soft blockages
 pub record IsShortened (nets : List (List NetPin)) (before : ℕ) (limit : Option ℕ) (places : List (Option Place))
     (team : List ℕ) (floor : FloorState) (length : ℕ) : Type 0 where
   pub measured : IsWireLengthOn nets floor length
   pub shorter : length < before
   pub near : AreCellsNear limit places team floor
+  pub off_soft : AreAtTargetsOrOffSoft team places floor
   pub committed : (l : Legalizer) → AllCommittedIn l floor team
 
 -- the cells are back at their committed places, which are unchanged

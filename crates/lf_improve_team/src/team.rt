@@ -7,10 +7,10 @@ ghost use Rattle.lf_floor_model.specs.States.{TeamState};
 ghost use Rattle.lf_floor_model.specs.Outcomes.{places_of};
 ghost use Rattle.lf_floor_model.specs.Steps.{AllCommittedIn};
 ghost use Rattle.lf_floor_model.specs.Teams.{state_of, team_number};
-ghost use Rattle.lf_repair_team.specs.CellEdits.{AreStatsOfFirst, KeepsOtherSlots};
+ghost use Rattle.lf_repair_team.specs.CellEdits.{AreStatsOfFirst, KeepsOtherSettings};
 ghost use Rattle.lf_repair_team.specs.Runs.{IsRunWithCutLine, IsWrittenRun};
 ghost use Rattle.lf_repair_team.specs.Stats.{AreTeamStats};
-ghost use Rattle.lf_repair_team.specs.TeamRepairs.{ChangesOnly, session_slots_in};
+ghost use Rattle.lf_repair_team.specs.TeamRepairs.{AreMovedOffSoft, ChangesOnly, settings_in};
 ghost use Rattle.lf_improve_team.specs.FloorLengths.{AreNetsOfFloor, DecidesAfter, DecidesOn, IsLengthOfNetsOn, IsWireLengthOn};
 ghost use Rattle.lf_improve_team.specs.TeamImprovements.{AreCellsNear, IsCommitted, IsImprovable, IsMovedBack, IsShortened, KeepsTeamPlaces, StaysWithin};
 
@@ -23,7 +23,7 @@ use lf_legalize::Seeker;
 use lf_placement::Placement;
 use lf_repair_strategy::{CellEdit, PaddedTeam, RepairInput};
 use lf_repair_team::{
-    Buffers, MovePolicy, RepairFault, RepairOutcome, RepairStats, TeamSession, close,
+    Buffers, MovePolicy, RepairFault, RepairOutcome, RepairStats, TeamSession, are_off_soft, close,
     is_team_legal, open, revert, run_edits, stats_of, team_input, try_commit,
 };
 use std::alloc::{AllocError, Global};
@@ -197,8 +197,8 @@ fn better_length<S: Seeker + Drop>(
     Some(attempt.wish.length.saturating_sub(gain))
 }
 
-/// Commits the team if the wire length is shorter than before and no cell is too far from its place
-/// at the start. Returns the wire length if the floor accepts the commit. Otherwise the floor is
+/// Commits the team if the wire length is shorter than before, no cell is too far from its place at
+/// the start, and none has moved onto a soft blockage. Returns the wire length if the floor accepts the commit. Otherwise the floor is
 /// unchanged.
 fn commit_if_better<S: Seeker + Drop, K: Sink>(
     alloc: Global,
@@ -216,7 +216,7 @@ fn commit_if_better<S: Seeker + Drop, K: Sink>(
     ensures err { (l : Legalizer) → OnErr result (
         IsRunWithCutLine l seat.now.team.now floor.old (K.contents lines.old) (K.contents lines.new) floor.new) }
     ensures only { ChangesOnly seat.now.team.now floor.old floor.new }
-    ensures slots { KeepsOtherSlots seat.now.team.now seat.now.session floor.old floor.new }
+    ensures settings { KeepsOtherSettings seat.now.team.now seat.now.session floor.old floor.new }
     ensures improved { IfOk result (λ found. IfSome found (λ length.
         IsShortened attempt.now.wires.now.netlist.now.nets attempt.now.wish.now.length
         attempt.now.wish.now.options.within attempt.now.start.now.pass.targets.items
@@ -226,6 +226,9 @@ fn commit_if_better<S: Seeker + Drop, K: Sink>(
     let Some(length) = better_length(alloc, floor, seat.number, attempt) else {
         return Ok(None);
     };
+    if !are_off_soft(floor, seat, attempt.start.pass.targets.as_slice()) {
+        return Ok(None);
+    }
     let mut texts = Buffers::new(alloc);
     match try_commit(floor, seat, &mut texts, lines) {
         Ok(true) => Ok(Some(length)),
@@ -252,7 +255,7 @@ fn commit_or_move_back<S: Seeker + Drop, K: Sink>(
     ensures err { (l : Legalizer) → OnErr result (
         IsRunWithCutLine l seat.now.team.now floor.old (K.contents lines.old) (K.contents lines.new) floor.new) }
     ensures only { ChangesOnly seat.now.team.now floor.old floor.new }
-    ensures slots { KeepsOtherSlots seat.now.team.now seat.now.session floor.old floor.new }
+    ensures settings { KeepsOtherSettings seat.now.team.now seat.now.session floor.old floor.new }
     ensures improved { IfOk result (λ found. IfSome found (λ length.
         IsShortened attempt.now.wires.now.netlist.now.nets attempt.now.wish.now.length
         attempt.now.wish.now.options.within attempt.now.start.now.pass.targets.items
@@ -291,7 +294,7 @@ fn move_cells<S: Seeker + Drop, K: Sink>(
     ensures err { (l : Legalizer) → OnErr result (
         IsRunWithCutLine l seat.now.team.now floor.old (K.contents lines.old) (K.contents lines.new) floor.new) }
     ensures only { ChangesOnly seat.now.team.now floor.old floor.new }
-    ensures slots { KeepsOtherSlots seat.now.team.now seat.now.session floor.old floor.new }
+    ensures settings { KeepsOtherSettings seat.now.team.now seat.now.session floor.old floor.new }
     ensures improved { IfOk result (λ found. IfSome found (λ length.
         IsShortened attempt.now.wires.now.netlist.now.nets attempt.now.wish.now.length
         attempt.now.wish.now.options.within attempt.now.start.now.pass.targets.items
@@ -333,7 +336,7 @@ fn improve_in_session<S: Seeker + Drop, K: Sink>(
     ensures err { (l : Legalizer) → OnErr result (
         IsRunWithCutLine l team.now floor.old (K.contents lines.old) (K.contents lines.new) floor.new) }
     ensures only { ChangesOnly team.now floor.old floor.new }
-    ensures slots { OnOk result (session_slots_in floor.new team.now ≡ session_slots_in floor.old team.now) }
+    ensures settings { OnOk result (settings_in floor.new team.now ≡ settings_in floor.old team.now) }
     ensures improved { IfOk result (λ found. IfSome found (λ length.
         IsShortened attempt.now.wires.now.netlist.now.nets attempt.now.wish.now.length
         attempt.now.wish.now.options.within attempt.now.start.now.pass.targets.items
@@ -400,14 +403,14 @@ fn result_of<S: Seeker + Drop>(
 ///
 /// The team is skipped if one of its cells is unplaced or breaks a rule, or if a working place is
 /// not committed; then no command is sent. It is improved only if the wire length of the whole
-/// design is then shorter, and no cell of the team is farther from where it was than the wish
-/// allows; then all its cells are legal and committed. Otherwise its working and committed places
+/// design is then shorter, no cell of the team is farther from where it was than the wish allows, and
+/// each cell that is elsewhere is off soft blockages; then all its cells are legal and committed. Otherwise its working and committed places
 /// are as before, and so is the wire length.
 ///
 /// Each command is sent to the floor, and its line is written exactly if the floor accepts it. If a
 /// line can contain the team's name, each line reads as its command. No other team changes, and a
-/// fully legal committed design stays fully legal. The session is closed: the team's session slots
-/// are unchanged. The numbers in the result are exact.
+/// fully legal committed design stays fully legal. The session is closed: the team's padding and
+/// session slots are unchanged. The numbers in the result are exact.
 ///
 /// `Err` says why the improvement stopped early. The floor is then as the accepted commands left
 /// it, and their lines are written; of the last line perhaps only a prefix.
@@ -428,7 +431,7 @@ pub fn improve_team<S: Seeker + Drop, K: Sink>(
         IsRunWithCutLine l team.now floor.old (K.contents lines.old) (K.contents lines.new) floor.new) }
     ensures only { ChangesOnly team.now floor.old floor.new }
     ensures unknown { team_number floor.old.frame team.now ≡ None → result ≡ Err RepairFault.NoTeam }
-    ensures slots { OnOk result (session_slots_in floor.new team.now ≡ session_slots_in floor.old team.now) }
+    ensures settings { OnOk result (settings_in floor.new team.now ≡ settings_in floor.old team.now) }
     ensures skipped { (s : TeamState) → state_of floor.old team.now ≡ Some s
         → IfOk result (λ done. done.is_skipped ≡ false ↔ IsImprovable team.now floor.old) }
     ensures untouched { IfOk result (λ done. IsTrue done.is_skipped → floor.new ≡ floor.old) }
@@ -439,6 +442,7 @@ pub fn improve_team<S: Seeker + Drop, K: Sink>(
     ensures longer { IfOk result (λ done. done.length ≤ wish.now.length) }
     ensures shorter { IfOk result (λ done. IsTrue done.is_improved → done.length < wish.now.length) }
     ensures near { IfOk result (λ done. StaysWithin wish.now.options.within team.now floor.old floor.new) }
+    ensures off_soft { IfOk result (λ done. AreMovedOffSoft team.now floor.old floor.new) }
     ensures counted { IfOk result (λ done. AreTeamStats team.now floor.old floor.new done.stats) }
     ensures lists { IfOk result (λ done. (done.stats.changed.items ≡ []) × (done.stats.unrepaired.items ≡ [])) }
     ensures cells { (s : TeamState) → state_of floor.old team.now ≡ Some s

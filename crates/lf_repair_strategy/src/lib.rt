@@ -47,7 +47,7 @@ mod window_pass;
 
 pub use edit::{CellEdit, Edit};
 pub use free_space::PaddedTeam;
-pub use local_pass::{LocalPass, Neighborhood, plan_local_pass, undo_edits};
+pub use local_pass::{LocalPass, Neighborhood, edits_back, has_improved, plan_local_pass};
 pub use ordered_moves::{Bands, CellMove, MoveList, with_moves};
 pub use pass::{MovePolicy, Pass, RepairInput, initial_locks, working_places};
 pub use rounds::{Phase, bands_of, edits_for, fits_on, free_rows_without, width_of};

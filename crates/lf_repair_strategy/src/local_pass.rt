@@ -33,14 +33,16 @@ pub enum Neighborhood {
 }
 
 /// A local pass, with the places of all cells at its start. It has also the numbers of cells
-/// without a place and of problem cells at that time, and the total displacement if that decides.
+/// without a place and of problem cells at that time, and the total displacement.
 #[derive(Drop)]
 pub struct LocalPass {
     pub pass: Pass,
     before: Vec<Option<Place>>,
     left: usize,
     needy: usize,
-    total: Option<i64>,
+    total: i64,
+    /// Whether the pass improves something only if the total displacement is less after it.
+    shortens: bool,
 }
 
 /// The problem cells, which have no place or are far from their targets. `left` is the number of
@@ -397,20 +399,6 @@ fn total_displacement(placement: &Placement, number: usize, targets: &[Option<Pl
     total
 }
 
-/// The total displacement at the start of a pass with this reach, if it decides whether the pass
-/// improves anything.
-fn deciding_total(
-    placement: &Placement,
-    number: usize,
-    targets: &[Option<Place>],
-    reach: &Neighborhood,
-) -> Option<i64> {
-    match reach {
-        Neighborhood::Whole => Some(total_displacement(placement, number, targets)),
-        _ => None,
-    }
-}
-
 /// Whether a cell that was legal is not locked.
 fn frees_legal(legal: &[bool], marks: &[bool]) -> bool {
     for (legal, held) in legal.iter().zip(marks.iter()) {
@@ -439,7 +427,8 @@ pub(crate) fn new_local_pass(
         before: working_places(alloc, placement, number)?,
         left: need.left,
         needy: need.points.len(),
-        total: Some(total),
+        total,
+        shortens: true,
     })
 }
 
@@ -480,76 +469,48 @@ pub fn plan_local_pass(
         before,
         left: need.left,
         needy: need.points.len(),
-        total: deciding_total(placement, number, start.pass.targets.as_slice(), reach),
+        total: total_displacement(placement, number, start.pass.targets.as_slice()),
+        shortens: matches!(reach, Neighborhood::Whole),
     }))
 }
 
-/// Whether a cell at this place is farther from its original place than the search allows.
-fn is_beyond_reach(place: &Place, original: Option<Place>, search: &RepairSearch<'_>) -> bool {
-    let (Some(reach), Some(original)) = (search.reach, original) else {
-        return false;
-    };
-    let point = Point {
-        x: original.x as i64,
-        y: original.y as i64,
-    };
-    reach < displacement(place, &point)
-}
-
-/// Whether a cell that was legal has no place, or one beyond the reach of the search.
-fn has_lost_legal(
-    placement: &Placement,
-    number: usize,
-    start: &RepairInput,
-    search: &RepairSearch<'_>,
-) -> bool {
-    let originals = start.pass.targets.iter();
-    let ids = placement.cells().cells_of(number).iter();
-    for (id, (legal, original)) in ids.zip(start.legal.iter().zip(originals)) {
-        if !*legal {
-            continue;
-        }
-        let Some(place) = placement.cells().working(*id) else {
-            return true;
-        };
-        if is_beyond_reach(&place, *original, search) {
-            return true;
-        }
-    }
-    false
-}
-
-/// Whether there are fewer problem cells than at the start of the local pass. Cells without a place
-/// count first. If the total displacement decides, it counts in place of the other problem cells.
+/// Whether the team is better off after a local pass: fewer cells are without a place, or as many and
+/// the total displacement is less. It may also be the same, if there are fewer problem cells and the
+/// pass need not shorten it.
 fn is_better(need: &ProblemCells, total: i64, local_plan: &LocalPass) -> bool {
     if need.left != local_plan.left {
         return need.left < local_plan.left;
     }
-    match local_plan.total {
-        Some(before) => total < before,
-        None => need.points.len() < local_plan.needy,
+    if local_plan.shortens {
+        return total < local_plan.total;
     }
+    total <= local_plan.total && need.points.len() < local_plan.needy
 }
 
-/// The edits that undo a local pass which has improved nothing, or left a legal cell without a
-/// place. All cells that it moved are unplaced, and then placed at their old places. No edits if it
-/// has improved something. `Err` if an allocation fails.
-pub fn undo_edits(
+/// Whether a local pass has improved something. `Err` if an allocation fails.
+pub fn has_improved(
     alloc: Global,
     placement: &Placement,
     number: usize,
     start: &RepairInput,
     local_plan: &LocalPass,
     search: &RepairSearch<'_>,
-) -> Result<Vec<CellEdit>, AllocError> {
-    let mut cell_edits = Vec::new(alloc);
+) -> Result<bool, AllocError> {
     let bounds = bounds_of(placement, number);
     let need = problem_cells(alloc, placement, number, &start.pass, &bounds, search)?;
-    let has_lost = has_lost_legal(placement, number, start, search);
     let total = total_displacement(placement, number, start.pass.targets.as_slice());
-    if !has_lost && is_better(&need, total, local_plan) {
-        return Ok(cell_edits);
-    }
+    Ok(is_better(&need, total, local_plan))
+}
+
+/// The edits that take a local pass back. All cells that are elsewhere than at its start are unplaced,
+/// and then placed where they were. `Err` if an allocation fails.
+pub fn edits_back(
+    alloc: Global,
+    placement: &Placement,
+    number: usize,
+    local_plan: &LocalPass,
+) -> Result<Vec<CellEdit>, AllocError> {
+    let mut cell_edits = Vec::new(alloc);
     let mut places = Vec::new(alloc);
     for (id, before) in placement
         .cells()

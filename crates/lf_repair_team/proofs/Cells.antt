@@ -25,7 +25,7 @@ use Rattle.lf_floor_model.specs.Outcomes.{Outcome, name_at, refused}
 use Rattle.lf_floor_model.specs.Sessions.{seen_at}
 use Rattle.lf_floor_model.specs.Queries.{best_at}
 use Rattle.lf_floor_model.specs.Changes.{placed, unplaced, legalized, committed, committed_unless, first_unplaced, broken_cells, outcome_of_change}
-use Rattle.lf_floor_model.specs.VerbLaws.{is_commit, outcome_of_asking}
+use Rattle.lf_floor_model.specs.VerbLaws.{is_commit, is_pad, outcome_of_asking}
 use Rattle.lf_floor_model.specs.Verbs.{outcome_by_slot}
 use Rattle.lf_floor_model.proofs.Forms.{placed_own, placed_unless, unplaced_own, unplaced_from, legalized_own, legalized_at, unless_spent}
 use Rattle.lf_floor_model.proofs.LegalPlaces.{moved_there}
@@ -173,6 +173,18 @@ no_commit session cell Undo is = refl
 no_commit session cell Commit is = absurd is
 no_commit session cell Revert is = refl
 no_commit session cell (Pad padding) is = refl
+
+-- nor a pad
+pub no_pad : (session : ℕ) (cell : List ℕ) (change : Change (List ℕ) Place) → IsOfCell cell change → is_pad (Within session (Changing change)) ≡ false
+no_pad session cell (PlaceAt name place) is = refl
+no_pad session cell (Legalize name target) is = refl
+no_pad session cell (Unplace name) is = refl
+no_pad session cell Tidy is = refl
+no_pad session cell (Swap first second) is = refl
+no_pad session cell Undo is = refl
+no_pad session cell Commit is = refl
+no_pad session cell Revert is = refl
+no_pad session cell (Pad padding) is = absurd is
 
 -- a change of the cell with this name leaves the place of each other cell unchanged
 pub others_stay : (l : Legalizer) (old new : FloorState) (team cell : List ℕ) (session : ℕ) (change : Change (List ℕ) Place) (other : ℕ)

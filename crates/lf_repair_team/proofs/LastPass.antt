@@ -22,7 +22,7 @@ use Rattle.lf_floor_model.specs.Steps.{AllCommittedIn}
 use Rattle.lf_floor_model.proofs.LegalPlaces.{member_is, none_some, some_one, there_within}
 use Rattle.lf_repair_strategy.specs.Targets.{target_at}
 use Rattle.lf_repair_team.specs.CellEdits.{AreMovable, AreUnrepaired, HasNoPlaceOrIsFlagged, HoldsOrIsListed, IsAnotherCell, IsFlagged, IsLegalOrUnplaced, IsLegalOrWithoutPlace, IsWithoutPlace, KeepsLegalCells, KeepsLockedLegal, KeepsLockedPlaces, RemainsLegal, SameCells}
-use Rattle.lf_repair_team.specs.TeamRepairs.{AreLegalExcept, IsIllegalIn, IsLegalIn, KeepsLegalPlaces, team_cell_names, place_of_cell_in}
+use Rattle.lf_repair_team.specs.TeamRepairs.{AreLegalExcept, IsIllegalIn, IsLegalIn, team_cell_names, place_of_cell_in}
 use Rattle.lf_repair_team.proofs.Cells.{named_is}
 use Rattle.lf_repair_team.proofs.Results.{each_state}
 use Rattle.lf_repair_team.proofs.Legal.{all_left_through, but_committed, but_through, left_committed, reported_legal, state_there}
@@ -39,9 +39,6 @@ then_legal team a b c first second own legal =
     let here = first own legal in
     let there = second own here.0 in
     (there.0, there.1 ∙ here.1)
-
-pub legal_places : (team : List ℕ) (a b : FloorState) → KeepsLegalCells team a b → KeepsLegalPlaces team a b
-legal_places team a b kept own legal = (kept own legal).1
 
 -- a change of a cell that was illegal at the start
 pub legal_beside_illegal : (team : List ℕ) (start old new : FloorState) (own : ℕ) → IsIllegalIn start team own → KeepsLegalCells team start old
@@ -243,7 +240,7 @@ pub record AreMovableTo (flags : List Bool) (cells : List ℕ) (count : ℕ) (mo
   pub free : All (λ own. IsFlagged flags own → ⊥) movable
   pub others : All (λ own. IsFlagged flags own ⊎ Contains movable own) (take count cells)
 
-none_taken : {X : Type 0} (xs : List X) → take 0 xs ≡ []
+pub none_taken : {X : Type 0} (xs : List X) → take 0 xs ≡ []
 none_taken [] = refl
 none_taken (x ∷ xs) = refl
 

@@ -1,7 +1,7 @@
 mod Lines
 pub mod Runs
 mod Steps
-pub mod Slots
+pub mod Settings
 mod Cells
 mod Lists
 pub mod Legal
@@ -18,3 +18,5 @@ pub mod OffSoft
 mod ReachLemmas
 mod MeanLemmas
 pub mod Listing
+mod Settling
+mod Revisions

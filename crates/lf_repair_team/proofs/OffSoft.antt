@@ -31,8 +31,8 @@ use Rattle.lf_floor_model.proofs.LegalPlaces.{moved_here, none_some, some_one}
 use Rattle.lf_repair_bounds.specs.declared.reasons.ImpossibleMacro.{ImpossibleMacro}
 use Rattle.lf_repair_bounds.specs.ImpossibleMacros.{is_listed}
 use Rattle.lf_repair_strategy.specs.Targets.{AreWorkingPlaces, target_at}
-use Rattle.lf_repair_team.specs.CellEdits.{AreAtTargetsOrOffSoft, AreFlaggedAtTargets, AreListedFlags, AreLockedInPlace, HasNoPlaceOrIsFlagged, IsAtTargetOrOffSoft, IsUnchangedOrStepped, IsUnplacedOrOffSoft, KeepsCellsAtTargets, KeepsLockedLegal, KeepsLockedPlaces, KeepsPlaces, MovesOffSoft, RemainsLegal, SameCells}
-use Rattle.lf_repair_team.specs.TeamRepairs.{AreMovedOffSoft, ChangesOnly, HasNoPlace, HasNoPlaceOrIsListed, IsLegalIn, IsListedIn, IsOffSoft, KeepsLegalPlaces, place_of_cell_in, team_cell_macros, team_cell_names}
+use Rattle.lf_repair_team.specs.CellEdits.{AreAtTargetsOrOffSoft, AreFlaggedAtTargets, AreListedFlags, AreLockedInPlace, HasNoPlaceOrIsFlagged, IsAtTargetOrOffSoft, IsUnchangedOrStepped, IsUnplacedOrOffSoft, KeepsCellsAtTargets, KeepsLockedPlaces, KeepsPlaces, MovesOffSoft, RemainsLegal, SameCells}
+use Rattle.lf_repair_team.specs.TeamRepairs.{AreMovedOffSoft, ChangesOnly, HasNoPlace, HasNoPlaceOrIsListed, IsLegalIn, IsListedIn, IsOffSoft, place_of_cell_in, team_cell_macros, team_cell_names}
 use Rattle.lf_repair_team.proofs.Cells.{named_is}
 use Rattle.lf_repair_team.proofs.Finding.{team_was}
 use Rattle.lf_repair_team.proofs.Legal.{legal_through, same_places, state_there}
@@ -156,6 +156,14 @@ module _ (team : List ℕ) (b c : FloorState) (only : ChangesOnly team b c) wher
       | inl same ↦ subst (λ (j : ℕ). IsAtTargetOrOffSoft team targets c j) (sym same) here
       | inr differ ↦ target_or_through own (others own differ) (before own (omega (arith, within, differ)))
     ]
+
+-- one cell more, on the same floor
+pub one_more_off_soft : (team : List ℕ) (floor : FloorState) (targets : List (Option Place)) (count : ℕ) → ((own : ℕ) → own < count → IsAtTargetOrOffSoft team targets floor own)
+    → IsAtTargetOrOffSoft team targets floor count → (own : ℕ) → own < count + 1 → IsAtTargetOrOffSoft team targets floor own
+one_more_off_soft team floor targets count before here own within = elim (cases_eq own count) [
+  | inl same ↦ subst (λ (j : ℕ). IsAtTargetOrOffSoft team targets floor j) (sym same) here
+  | inr differ ↦ before own (omega (arith, within, differ))
+]
 
 -- a position past the team's cells has no place
 pub past_is_unplaced : (team : List ℕ) (old new : FloorState) (count own : ℕ) → team_cell_macros new team ≡ team_cell_macros old team
@@ -326,20 +334,18 @@ legalize_off_soft l old new team name session own target s found teams frame the
 
 -- ---- a whole repair
 
--- a pass, the soft pass, and then the last pass
-pub locked_stay : (team : List ℕ) (marks : List Bool) (targets : List (Option Place)) (a b c d e : FloorState) → KeepsLockedPlaces team marks a b
-    → KeepsLockedLegal team marks a b → c ≡ b → KeepsCellsAtTargets team targets c d → KeepsLegalPlaces team d e → AreLockedInPlace team marks targets a
-    → KeepsLockedPlaces team marks a e
-locked_stay team marks targets a b c d e first legal same soft last locked own mark =
+-- a session is opened
+pub locked_opened : (team : List ℕ) (marks : List Bool) (targets : List (Option Place)) (a b : FloorState) → b.frame ≡ a.frame → SameCells team a b
+    → AreLockedInPlace team marks targets a → AreLockedInPlace team marks targets b
+locked_opened team marks targets a b frame same locked own mark =
     let here = locked own mark in
-    let stays = subst (λ (f : FloorState). KeepsCellsAtTargets team targets f d) same soft own (first own mark ∙ here.1) in
-    last own (stays.1 (legal own mark here.0)) ∙ stays.0 ∙ first own mark
+    (legal_through team a b own frame same here.0, same_places team a b same own ∙ here.1)
 
 -- a session is opened, and then all passes are run
 pub locked_in_session : (team : List ℕ) (marks : List Bool) (targets : List (Option Place)) (a b c : FloorState) → b.frame ≡ a.frame → SameCells team a b
     → (AreLockedInPlace team marks targets b → KeepsLockedPlaces team marks b c) → AreLockedInPlace team marks targets a → KeepsLockedPlaces team marks a c
 locked_in_session team marks targets a b c frame same passes locked own mark =
-    passes (λ k at. let here = locked k at in (legal_through team a b k frame same here.0, same_places team a b same k ∙ here.1)) own mark
+    passes (locked_opened team marks targets a b frame same locked) own mark
     ∙ same_places team a b same own
 
 -- the legal cells are in place at the start

@@ -10,6 +10,10 @@ pub ok_from : {T E : Type 0} (r : Result T E) (P : Type 0) → P → IfOk r (λ 
 ok_from (Ok x) P p = p
 ok_from (Err e) P p = tt
 
+pub ok_any : {T E : Type 0} (r : Result T E) (P : T → Type 0) → ((x : T) → P x) → IfOk r P
+ok_any (Ok x) P p = p x
+ok_any (Err e) P p = tt
+
 pub on_ok_from : {T E : Type 0} (r : Result T E) (P : Type 0) → P → OnOk r P
 on_ok_from (Ok x) P p = p
 on_ok_from (Err e) P p = tt
@@ -33,6 +37,11 @@ err_then (Err e) A B f a = f a
 pub ok_weaker : {T E : Type 0} (r : Result T E) (P Q : T → Type 0) → ((x : T) → P x → Q x) → IfOk r P → IfOk r Q
 ok_weaker (Ok x) P Q f p = f x p
 ok_weaker (Err e) P Q f p = tt
+
+-- what holds in any case, and what holds for the value
+pub ok_with : {T E : Type 0} (r : Result T E) (P Q : T → Type 0) (A B : Type 0) → ((x : T) → P x → A → B → Q x) → IfOk r P → OnOk r A → OnOk r B → IfOk r Q
+ok_with (Ok x) P Q A B f p a b = f x p a b
+ok_with (Err e) P Q A B f p a b = tt
 
 pub ok_is : {T E : Type 0} (r : Result T E) (P : Type 0) → is_err r ≡ false → OnOk r P → P
 ok_is (Ok x) P e p = p

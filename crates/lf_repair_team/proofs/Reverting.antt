@@ -26,7 +26,7 @@ use Rattle.lf_floor_model.proofs.Running.{plain_answers}
 use Rattle.lf_repair_strategy.specs.Targets.{target_at}
 use Rattle.lf_repair_team.specs.CellEdits.{AreBackAtCommitted}
 use Rattle.lf_repair_team.specs.TeamRepairs.{committed_in, place_of_cell_in}
-use Rattle.lf_repair_team.proofs.Slots.{no_team_answers, number_of_state}
+use Rattle.lf_repair_team.proofs.Settings.{no_team_answers, number_of_state}
 use Rattle.lf_repair_team.proofs.Steps.{place_of_state}
 
 back_at : (cells : List Cell) (own : ℕ) → working_at (map back_to_committed cells) own ≡ target_at (map (λ c. c.committed) cells) own

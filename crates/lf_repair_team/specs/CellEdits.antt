@@ -86,6 +86,12 @@ abbrev pub KeepsLegalCells : List ℕ → FloorState → FloorState → Type 0
 KeepsLegalCells team old new = (own : ℕ) → IsLegalIn old team own
     → IsLegalIn new team own × (place_of_cell_in new team own ≡ place_of_cell_in old team own)
 
+-- the legal cells that have their places in `targets` remain legal and at these places
+abbrev pub KeepsLegalAtTargets : List ℕ → List (Option Place) → FloorState → FloorState → Type 0
+KeepsLegalAtTargets team targets old new =
+    (own : ℕ) → IsLegalIn old team own → place_of_cell_in old team own ≡ target_at targets own
+    → IsLegalIn new team own × (place_of_cell_in new team own ≡ place_of_cell_in old team own)
+
 -- the committed places are unchanged
 abbrev pub KeepsCommittedPlaces : List ℕ → FloorState → FloorState → Type 0
 KeepsCommittedPlaces team old new = committed_in new team ≡ committed_in old team
@@ -101,25 +107,27 @@ AreBackAtCommitted team old new = (own : ℕ) → place_of_cell_in new team own
 abbrev pub SaysOpened : ℕ → Reply → Type 0
 SaysOpened session reply = (revision : ℕ) × (reply ≡ Opened session revision)
 
--- the team's session slots with this one freed; None if there is no such team
-abbrev pub session_slots_without : ℕ → FloorState → List ℕ → Option (List (Option ℕ))
-session_slots_without session floor team = option_map (λ s. slice_set s.slots session None) (state_of floor team)
+-- the team's settings with the slot of this session freed; None if there is no such team
+abbrev pub settings_without : ℕ → FloorState → List ℕ → Option (ℕ × List (Option ℕ))
+settings_without session floor team =
+    option_map (λ s. (s.padding, slice_set s.slots session None)) (state_of floor team)
 
--- the slots of the other sessions are unchanged
-abbrev pub KeepsOtherSlots : List ℕ → ℕ → FloorState → FloorState → Type 0
-KeepsOtherSlots team session old new =
-    session_slots_without session new team ≡ session_slots_without session old team
+-- the padding and the slots of the other sessions are unchanged
+abbrev pub KeepsOtherSettings : List ℕ → ℕ → FloorState → FloorState → Type 0
+KeepsOtherSettings team session old new =
+    settings_without session new team ≡ settings_without session old team
 
--- the committed places of the team's cells, and its session slots with this one freed; None if there
--- is no such team
-abbrev pub committed_and_slots : ℕ → FloorState → List ℕ → Option (List (Option Place) × List (Option ℕ))
-committed_and_slots session floor team =
-    option_map (λ s. (committed_places s, slice_set s.slots session None)) (state_of floor team)
+-- the committed places of the team's cells, and its settings with the slot of this session freed; None
+-- if there is no such team
+abbrev pub committed_and_settings : ℕ → FloorState → List ℕ
+    → Option (List (Option Place) × (ℕ × List (Option ℕ)))
+committed_and_settings session floor team =
+    option_map (λ s. (committed_places s, (s.padding, slice_set s.slots session None))) (state_of floor team)
 
--- the committed places and the slots of the other sessions are unchanged
-abbrev pub KeepsCommittedAndSlots : List ℕ → ℕ → FloorState → FloorState → Type 0
-KeepsCommittedAndSlots team session old new =
-    committed_and_slots session new team ≡ committed_and_slots session old team
+-- the committed places, the padding and the slots of the other sessions are unchanged
+abbrev pub KeepsCommittedAndSettings : List ℕ → ℕ → FloorState → FloorState → Type 0
+KeepsCommittedAndSettings team session old new =
+    committed_and_settings session new team ≡ committed_and_settings session old team
 
 -- ---- at the start of a repair
 
@@ -228,6 +236,10 @@ pub record AreUnrepaired (reach : Option ℤ) (targets : List (Option Place)) (t
   pub without : All (λ own. HasNoPlaceOrIsFlagged reach targets flags floor team own) left
   pub rise : AllPairs (λ own later. own < later) left
 
+-- none of these cells is flagged
+abbrev pub NoneIsFlagged : List Bool → List ℕ → Type 0
+NoneIsFlagged flags cells = All (λ own. IsFlagged flags own → ⊥) cells
+
 -- the team's cell of this name is not the one at this position
 abbrev pub IsAnotherCell : FloorState → List ℕ → List ℕ → ℕ → Type 0
 IsAnotherCell floor team cell other = (s : TeamState) → state_of floor team ≡ Some s
@@ -279,6 +291,16 @@ AreWithin reach targets team floor = (own : ℕ) → IsWithin reach targets floo
 -- each cell remains unplaced, or within reach of its place in `targets`, if all are
 abbrev pub KeepsWithin : Option ℤ → List (Option Place) → List ℕ → FloorState → FloorState → Type 0
 KeepsWithin reach targets team old new = AreWithin reach targets team old → AreWithin reach targets team new
+
+-- ---- the end of a pass
+
+-- the unrepaired cells are these, each cell is unplaced or within reach of its place in `targets`, and
+-- each has that place, or is unplaced or off soft blockages
+pub record IsSettled (reach : Option ℤ) (targets : List (Option Place)) (team : List ℕ) (flags : List Bool)
+    (floor : FloorState) (left : List ℕ) : Type 0 where
+  pub unrepaired : AreUnrepaired reach targets team flags floor left
+  pub within : AreWithin reach targets team floor
+  pub off_soft : AreAtTargetsOrOffSoft team targets floor
 
 -- ---- the statistics
 

@@ -31,9 +31,9 @@ team_cell_macros floor team = option_map (λ s. map (λ c. c.mac) s.cells) (stat
 abbrev pub committed_in : FloorState → List ℕ → Option (List (Option Place))
 committed_in floor team = option_map committed_places (state_of floor team)
 
--- the team's session slots; None if there is no such team
-abbrev pub session_slots_in : FloorState → List ℕ → Option (List (Option ℕ))
-session_slots_in floor team = option_map (λ s. s.slots) (state_of floor team)
+-- the settings of a team: its padding and its session slots; None if there is no such team
+abbrev pub settings_in : FloorState → List ℕ → Option (ℕ × List (Option ℕ))
+settings_in floor team = option_map (λ s. (s.padding, s.slots)) (state_of floor team)
 
 -- only the state of the team with this name may differ (of two fences with one name, that of the
 -- first), the team has the same cells, and a fully legal committed design stays fully legal
@@ -95,6 +95,10 @@ AreLegalExcept team floor left = (s : TeamState) → state_of floor team ≡ Som
 pub record IsIllegalIn (floor : FloorState) (team : List ℕ) (own : ℕ) : Type 0 where
   pub within : (s : TeamState) → state_of floor team ≡ Some s → own < length s.cells
   pub illegal : IsLegalIn floor team own → ⊥
+
+-- the team's cell at this position was not legal on this floor, on which a repair began
+abbrev pub WasIllegal : FloorState → List ℕ → ℕ → Type 0
+WasIllegal begin team own = IsLegalIn begin team own → ⊥
 
 -- ---- the reach of a repair
 

@@ -12,7 +12,7 @@ ghost use Rattle.lf_floor_model.specs.States.{TeamState};
 ghost use Rattle.lf_floor_model.specs.Outcomes.{name_at};
 ghost use Rattle.lf_floor_model.specs.Steps.{CommitsLegally, KeepsIfRefused, Step};
 ghost use Rattle.lf_floor_model.specs.Teams.{state_of};
-ghost use Rattle.lf_repair_team.specs.CellEdits.{IsAnotherCell, IsOfCell, IsUnchangedOrStepped, KeepsCommittedAndSlots, KeepsLockedLegal, KeepsLockedPlaces, RemainsLegal};
+ghost use Rattle.lf_repair_team.specs.CellEdits.{IsAnotherCell, IsOfCell, IsUnchangedOrStepped, KeepsCommittedAndSettings, KeepsLockedLegal, KeepsLockedPlaces, RemainsLegal};
 ghost use Rattle.lf_repair_team.specs.TeamRepairs.{ChangesOnly, place_of_cell_in};
 ghost use Rattle.lf_repair_team.specs.Runs.{IsRunWithCutLine, IsWrittenRun};
 
@@ -151,7 +151,7 @@ fn run_edit_of<S: Seeker + Drop, K: Sink>(
         → place_of_cell_in floor.new seat.now.team.now other ≡ place_of_cell_in floor.old seat.now.team.now other }
     ensures legal { (other : ℕ) → IsAnotherCell floor.old seat.now.team.now cell.now other
         → RemainsLegal seat.now.team.now floor.old floor.new other }
-    ensures committed { KeepsCommittedAndSlots seat.now.team.now seat.now.session floor.old floor.new }
+    ensures committed { KeepsCommittedAndSettings seat.now.team.now seat.now.session floor.old floor.new }
 {
     legalizer_exists();
     legal_in_range();
@@ -205,7 +205,7 @@ pub(crate) fn run_edit<S: Seeker + Drop, K: Sink>(
     ensures cells { (other : ℕ) → other ≢ own
         → place_of_cell_in floor.new seat.now.team.now other ≡ place_of_cell_in floor.old seat.now.team.now other }
     ensures legal { (other : ℕ) → other ≢ own → RemainsLegal seat.now.team.now floor.old floor.new other }
-    ensures committed { KeepsCommittedAndSlots seat.now.team.now seat.now.session floor.old floor.new }
+    ensures committed { KeepsCommittedAndSettings seat.now.team.now seat.now.session floor.old floor.new }
 {
     floor.teams_match_frame();
     let Buffers { name, line } = texts;
@@ -243,7 +243,7 @@ fn run_edit_unless_locked<S: Seeker + Drop, K: Sink>(
     ensures marked { KeepsLockedPlaces seat.now.team.now marks.now floor.old floor.new }
     ensures flagged { KeepsLockedPlaces seat.now.team.now seat.now.impossible.now floor.old floor.new }
     ensures legal { KeepsLockedLegal seat.now.team.now marks.now floor.old floor.new }
-    ensures committed { KeepsCommittedAndSlots seat.now.team.now seat.now.session floor.old floor.new }
+    ensures committed { KeepsCommittedAndSettings seat.now.team.now seat.now.session floor.old floor.new }
 {
     let own = cell_edit.own as usize;
     if is_locked(marks, own) {
@@ -272,7 +272,7 @@ pub fn run_edits<S: Seeker + Drop, K: Sink>(
     ensures marked { KeepsLockedPlaces seat.now.team.now marks.now floor.old floor.new }
     ensures flagged { KeepsLockedPlaces seat.now.team.now seat.now.impossible.now floor.old floor.new }
     ensures legal { KeepsLockedLegal seat.now.team.now marks.now floor.old floor.new }
-    ensures committed { KeepsCommittedAndSlots seat.now.team.now seat.now.session floor.old floor.new }
+    ensures committed { KeepsCommittedAndSettings seat.now.team.now seat.now.session floor.old floor.new }
 {
     for cell_edit in cell_edits {
         match run_edit_unless_locked(floor, seat, marks, cell_edit, texts, lines) {

@@ -11,8 +11,8 @@ ghost use Rattle.lf_floor_model.specs.States.{TeamState};
 ghost use Rattle.lf_floor_model.specs.Outcomes.{name_at};
 ghost use Rattle.lf_floor_model.specs.Teams.{state_of, team_number};
 ghost use Rattle.lf_repair_strategy.specs.Targets.{target_at};
-ghost use Rattle.lf_repair_team.specs.CellEdits.{AreMovable, AreUnrepaired, HoldsOrIsListed, IsAnotherCell, IsFlagged, IsLegalOrUnplaced, IsLegalOrWithoutPlace, IsUnplacedOrAtBest, IsUnplacedOrOffSoft, IsWithoutPlace, KeepsCommittedAndSlots, KeepsLegalCells, KeepsLockedPlaces, KeepsWithin, MovesOffSoft, RemainsLegal, SaysNoPlace};
-ghost use Rattle.lf_repair_team.specs.TeamRepairs.{ChangesOnly, HasNoPlace, IsIllegalIn, KeepsLegalPlaces, corner_of, place_of_cell_in};
+ghost use Rattle.lf_repair_team.specs.CellEdits.{AreMovable, AreUnrepaired, HoldsOrIsListed, IsAnotherCell, IsFlagged, IsLegalOrUnplaced, IsLegalOrWithoutPlace, IsUnplacedOrAtBest, IsUnplacedOrOffSoft, IsWithoutPlace, KeepsCommittedAndSettings, KeepsLegalCells, KeepsLockedPlaces, KeepsWithin, MovesOffSoft, RemainsLegal, SaysNoPlace};
+ghost use Rattle.lf_repair_team.specs.TeamRepairs.{ChangesOnly, HasNoPlace, IsIllegalIn, corner_of, place_of_cell_in};
 ghost use Rattle.lf_repair_team.specs.Runs.{IsRunWithCutLine, IsWrittenRun};
 
 use crate::cell_edits::{
@@ -48,7 +48,7 @@ pub(crate) fn unplace_cell<S: Seeker + Drop, K: Sink>(
     ensures cells { (other : ℕ) → other ≢ own
         → place_of_cell_in floor.new seat.now.team.now other ≡ place_of_cell_in floor.old seat.now.team.now other }
     ensures legal { (other : ℕ) → other ≢ own → RemainsLegal seat.now.team.now floor.old floor.new other }
-    ensures committed { KeepsCommittedAndSlots seat.now.team.now seat.now.session floor.old floor.new }
+    ensures committed { KeepsCommittedAndSettings seat.now.team.now seat.now.session floor.old floor.new }
     ensures unplaced { OnOk result (place_of_cell_in floor.new seat.now.team.now own ≡ None) }
 {
     match run_edit(floor, seat, own, &Edit::Unplace, texts, lines) {
@@ -80,7 +80,7 @@ fn unplace_cells<S: Seeker + Drop, K: Sink>(
     ensures only { ChangesOnly seat.now.team.now floor.old floor.new }
     ensures legal { KeepsLegalCells seat.now.team.now floor.old floor.new }
     ensures flagged { KeepsLockedPlaces seat.now.team.now seat.now.impossible.now floor.old floor.new }
-    ensures committed { KeepsCommittedAndSlots seat.now.team.now seat.now.session floor.old floor.new }
+    ensures committed { KeepsCommittedAndSettings seat.now.team.now seat.now.session floor.old floor.new }
     ensures unplaced { OnOk result (All (λ own. place_of_cell_in floor.new seat.now.team.now own ≡ None) cells.now) }
     ensures off_soft { OnOk result (MovesOffSoft seat.now.team.now floor.old floor.new) }
     ensures within { OnOk result (KeepsWithin search.now.reach targets.now seat.now.team.now floor.old floor.new) }
@@ -114,7 +114,7 @@ fn legalize_named<S: Seeker + Drop, K: Sink>(
         → place_of_cell_in floor.new seat.now.team.now other ≡ place_of_cell_in floor.old seat.now.team.now other }
     ensures legal { (other : ℕ) → IsAnotherCell floor.old seat.now.team.now cell.now other
         → RemainsLegal seat.now.team.now floor.old floor.new other }
-    ensures committed { KeepsCommittedAndSlots seat.now.team.now seat.now.session floor.old floor.new }
+    ensures committed { KeepsCommittedAndSettings seat.now.team.now seat.now.session floor.old floor.new }
     ensures without { (reach : Option ℤ) (old : Option Place) (other : ℕ)
         → IsAnotherCell floor.old seat.now.team.now cell.now other
         → ((s : TeamState) (own : ℕ) → state_of floor.old seat.now.team.now ≡ Some s
@@ -205,7 +205,7 @@ fn legalize_cell<S: Seeker + Drop, K: Sink>(
         IsRunWithCutLine l seat.now.team.now floor.old (K.contents lines.old) (K.contents lines.new) floor.new) }
     ensures only { ChangesOnly seat.now.team.now floor.old floor.new }
     ensures legal { KeepsLegalCells seat.now.team.now floor.old floor.new }
-    ensures committed { KeepsCommittedAndSlots seat.now.team.now seat.now.session floor.old floor.new }
+    ensures committed { KeepsCommittedAndSettings seat.now.team.now seat.now.session floor.old floor.new }
     ensures others { (other : ℕ) → other ≢ own
         → place_of_cell_in floor.new seat.now.team.now other ≡ place_of_cell_in floor.old seat.now.team.now other }
     ensures without { IsLegalOrUnplaced floor.old seat.now.team.now own
@@ -265,7 +265,7 @@ fn legalize_cells<S: Seeker + Drop, K: Sink>(
     ensures only { ChangesOnly seat.now.team.now floor.old floor.new }
     ensures legal { KeepsLegalCells seat.now.team.now floor.old floor.new }
     ensures flagged { KeepsLockedPlaces seat.now.team.now seat.now.impossible.now floor.old floor.new }
-    ensures committed { KeepsCommittedAndSlots seat.now.team.now seat.now.session floor.old floor.new }
+    ensures committed { KeepsCommittedAndSettings seat.now.team.now seat.now.session floor.old floor.new }
     ensures done { OnOk result (All (λ own.
         IsLegalOrWithoutPlace search.now.reach targets.now floor.new seat.now.team.now own) cells.now) }
     ensures off_soft { OnOk result (MovesOffSoft seat.now.team.now floor.old floor.new) }
@@ -331,9 +331,9 @@ pub(crate) fn run_last_pass<S: Seeker + Drop, K: Sink>(
     ensures err { (l : Legalizer) → OnErr result (
         IsRunWithCutLine l seat.now.team.now floor.old (K.contents lines.old) (K.contents lines.new) floor.new) }
     ensures only { ChangesOnly seat.now.team.now floor.old floor.new }
-    ensures legal { KeepsLegalPlaces seat.now.team.now floor.old floor.new }
+    ensures legal { KeepsLegalCells seat.now.team.now floor.old floor.new }
     ensures flagged { KeepsLockedPlaces seat.now.team.now seat.now.impossible.now floor.old floor.new }
-    ensures committed { KeepsCommittedAndSlots seat.now.team.now seat.now.session floor.old floor.new }
+    ensures committed { KeepsCommittedAndSettings seat.now.team.now seat.now.session floor.old floor.new }
     ensures unrepaired { IfOk result (λ left.
         AreUnrepaired search.now.reach targets.now seat.now.team.now seat.now.impossible.now floor.new left.items) }
     ensures off_soft { OnOk result (MovesOffSoft seat.now.team.now floor.old floor.new) }

@@ -24,6 +24,7 @@
 //! - `means`: means of displacements, over all cells and by height
 //! - `stats`: the result of a repair, counted
 //! - `team`: the repair of one team
+//! - `laws`: a law on the runs of a team
 //!
 //! From `crates/lf_tests_repair/src/repairs.rt`:
 //!
@@ -35,6 +36,7 @@
 
 mod cell_edits;
 mod last_pass;
+mod laws;
 mod means;
 mod misplaced_pass;
 mod outcome;
@@ -46,7 +48,9 @@ mod stats;
 mod team;
 
 pub use cell_edits::{Buffers, TeamSession, run_edits};
+pub use laws::revision_counts_changes;
 pub use lf_repair_strategy::{MovePolicy, RepairSearch, RepairStats};
+pub use misplaced_pass::are_off_soft;
 pub use outcome::RepairOutcome;
 pub use repair_input::{is_team_legal, team_input};
 pub use run_command::RepairFault;

@@ -12,7 +12,7 @@ ghost use Rattle.lf_cells.specs.Cells.{cells_of, working_at};
 ghost use Rattle.lf_floor_model.specs.States.{TeamState};
 ghost use Rattle.lf_floor_model.specs.Teams.{state_of, team_number};
 ghost use Rattle.lf_repair_strategy.specs.Targets.{target_at};
-ghost use Rattle.lf_repair_team.specs.CellEdits.{AreAtTargetsOrOffSoft, AreWithin, IsAtTargetOrOffSoft, IsWithin, KeepsCellsAtTargets, KeepsCommittedAndSlots};
+ghost use Rattle.lf_repair_team.specs.CellEdits.{AreAtTargetsOrOffSoft, AreWithin, IsAtTargetOrOffSoft, IsWithin, KeepsCellsAtTargets, KeepsCommittedAndSettings};
 ghost use Rattle.lf_repair_team.specs.TeamRepairs.{ChangesOnly, place_of_cell_in};
 ghost use Rattle.lf_repair_team.specs.Runs.{IsRunWithCutLine, IsWrittenRun};
 
@@ -88,6 +88,24 @@ fn has_moved_onto_soft<S: Seeker + Drop>(
     }
 }
 
+/// Whether each cell of the team is at its place in `targets`, unplaced, or off soft blockages.
+pub fn are_off_soft<S: Seeker + Drop>(
+    floor: &Floor<S>,
+    seat: &TeamSession<'_>,
+    targets: &[Option<Place>],
+) -> bool
+    requires { team_number floor.now.frame seat.now.team.now ≡ Some seat.now.number }
+    ensures { IsTrue result → AreAtTargetsOrOffSoft seat.now.team.now targets.now floor.now }
+{
+    let count = floor.placement().cells().cells_of(seat.number).len();
+    for own in 0..count {
+        if has_moved_onto_soft(floor, seat, own, targets) {
+            return false;
+        }
+    }
+    true
+}
+
 /// Whether the cell at position `own` has moved onto a soft blockage, or beyond reach of its place in
 /// `targets`.
 fn is_misplaced<S: Seeker + Drop>(
@@ -125,7 +143,7 @@ fn unplace_if_misplaced<S: Seeker + Drop, K: Sink>(
     ensures err { (l : Legalizer) → OnErr result (
         IsRunWithCutLine l seat.now.team.now floor.old (K.contents lines.old) (K.contents lines.new) floor.new) }
     ensures only { ChangesOnly seat.now.team.now floor.old floor.new }
-    ensures committed { KeepsCommittedAndSlots seat.now.team.now seat.now.session floor.old floor.new }
+    ensures committed { KeepsCommittedAndSettings seat.now.team.now seat.now.session floor.old floor.new }
     ensures others { (other : ℕ) → other ≢ own
         → place_of_cell_in floor.new seat.now.team.now other ≡ place_of_cell_in floor.old seat.now.team.now other }
     ensures targets { KeepsCellsAtTargets seat.now.team.now targets.now floor.old floor.new }
@@ -154,7 +172,7 @@ pub(crate) fn run_misplaced_pass<S: Seeker + Drop, K: Sink>(
     ensures err { (l : Legalizer) → OnErr result (
         IsRunWithCutLine l seat.now.team.now floor.old (K.contents lines.old) (K.contents lines.new) floor.new) }
     ensures only { ChangesOnly seat.now.team.now floor.old floor.new }
-    ensures committed { KeepsCommittedAndSlots seat.now.team.now seat.now.session floor.old floor.new }
+    ensures committed { KeepsCommittedAndSettings seat.now.team.now seat.now.session floor.old floor.new }
     ensures targets { KeepsCellsAtTargets seat.now.team.now targets.now floor.old floor.new }
     ensures settled { OnOk result (AreAtTargetsOrOffSoft seat.now.team.now targets.now floor.new) }
     ensures within { OnOk result (AreWithin search.now.reach targets.now seat.now.team.now floor.new) }

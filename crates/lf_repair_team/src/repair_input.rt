@@ -5,7 +5,6 @@ ghost use Rattle.lf_cells.specs.Cells.{cells_of};
 ghost use Rattle.lf_floor_model.specs.States.{TeamState};
 ghost use Rattle.lf_floor_model.specs.Teams.{state_of, team_number};
 ghost use Rattle.lf_repair_strategy.specs.Targets.{AreWorkingPlaces};
-ghost use Rattle.lf_repair_strategy.specs.declared.pass.MovePolicy.TheVariants.{KeepLegal};
 ghost use Rattle.lf_repair_team.specs.CellEdits.{AreLegalFlags, AddsLegalFlag, AreListedFlags};
 ghost use Rattle.lf_repair_team.specs.TeamRepairs.{AreLegalExcept, IsListedIn};
 
@@ -123,7 +122,7 @@ pub fn team_input<S: Seeker + Drop>(
     impossible: &[ImpossibleMacro],
 ) -> Result<RepairInput, AllocError>
     requires { team_number floor.now.frame team.now ≡ Some number }
-    ensures marked { (team : List ℕ) → how ≡ KeepLegal → team_number floor.now.frame team ≡ Some number
+    ensures marked { (team : List ℕ) → team_number floor.now.frame team ≡ Some number
         → IfOk result (λ start. AreLegalFlags team floor.now start.pass.locked.items) }
     ensures legal { (team : List ℕ) → team_number floor.now.frame team ≡ Some number → IfOk result (λ start.
         AreLegalFlags team floor.now start.legal.items) }

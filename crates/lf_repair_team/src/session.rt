@@ -4,8 +4,8 @@ ghost use Rattle.std.specs.Prelude.{◌≡◌, IfOk, IsTrue, OnErr, OnOk, false,
 ghost use Rattle.lf_rules.specs.Legalizer.{Legalizer};
 ghost use Rattle.lf_floor_model.specs.Steps.{AllCommittedIn};
 ghost use Rattle.lf_floor_model.specs.VerbLaws.{is_ok};
-ghost use Rattle.lf_repair_team.specs.CellEdits.{AreBackAtCommitted, KeepsCommittedAndSlots, KeepsOtherSlots, KeepsPlaces, SameCells, SaysOpened, session_slots_without};
-ghost use Rattle.lf_repair_team.specs.TeamRepairs.{ChangesOnly, session_slots_in};
+ghost use Rattle.lf_repair_team.specs.CellEdits.{AreBackAtCommitted, KeepsCommittedAndSettings, KeepsOtherSettings, KeepsPlaces, SameCells, SaysOpened, settings_without};
+ghost use Rattle.lf_repair_team.specs.TeamRepairs.{ChangesOnly, settings_in};
 ghost use Rattle.lf_repair_team.specs.Runs.{IsRunWithCutLine, IsWrittenRun};
 
 use crate::cell_edits::{Buffers, TeamSession, continue_unless_out_of_memory, run_action};
@@ -29,8 +29,8 @@ pub fn open<S: Seeker + Drop, K: Sink>(
         IsRunWithCutLine l team.now floor.old (K.contents lines.old) (K.contents lines.new) floor.new) }
     ensures only { ChangesOnly team.now floor.old floor.new }
     ensures cells { SameCells team.now floor.old floor.new }
-    ensures slots { IfOk result (λ session.
-        session_slots_without session floor.new team.now ≡ session_slots_in floor.old team.now) }
+    ensures settings { IfOk result (λ session.
+        settings_without session floor.new team.now ≡ settings_in floor.old team.now) }
 {
     legalizer_exists();
     query_keeps_state();
@@ -68,7 +68,7 @@ pub(crate) fn commit<S: Seeker + Drop, K: Sink>(
         IsRunWithCutLine l seat.now.team.now floor.old (K.contents lines.old) (K.contents lines.new) floor.new) }
     ensures only { ChangesOnly seat.now.team.now floor.old floor.new }
     ensures places { KeepsPlaces seat.now.team.now floor.old floor.new }
-    ensures slots { KeepsOtherSlots seat.now.team.now seat.now.session floor.old floor.new }
+    ensures settings { KeepsOtherSettings seat.now.team.now seat.now.session floor.old floor.new }
     ensures committed { (l : Legalizer) → IfOk result (λ _. AllCommittedIn l floor.new seat.now.team.now) }
 {
     legalizer_exists();
@@ -93,7 +93,7 @@ pub fn try_commit<S: Seeker + Drop, K: Sink>(
         IsRunWithCutLine l seat.now.team.now floor.old (K.contents lines.old) (K.contents lines.new) floor.new) }
     ensures only { ChangesOnly seat.now.team.now floor.old floor.new }
     ensures places { KeepsPlaces seat.now.team.now floor.old floor.new }
-    ensures slots { KeepsOtherSlots seat.now.team.now seat.now.session floor.old floor.new }
+    ensures settings { KeepsOtherSettings seat.now.team.now seat.now.session floor.old floor.new }
     ensures committed { (l : Legalizer) → IfOk result (λ is_done.
         IsTrue is_done → AllCommittedIn l floor.new seat.now.team.now) }
     ensures refused { IfOk result (λ is_done. is_done ≡ false → floor.new ≡ floor.old) }
@@ -138,7 +138,7 @@ pub fn revert<S: Seeker + Drop, K: Sink>(
     ensures err { (l : Legalizer) → OnErr result (
         IsRunWithCutLine l seat.now.team.now floor.old (K.contents lines.old) (K.contents lines.new) floor.new) }
     ensures only { ChangesOnly seat.now.team.now floor.old floor.new }
-    ensures committed { KeepsCommittedAndSlots seat.now.team.now seat.now.session floor.old floor.new }
+    ensures committed { KeepsCommittedAndSettings seat.now.team.now seat.now.session floor.old floor.new }
     ensures back { OnOk result (AreBackAtCommitted seat.now.team.now floor.old floor.new) }
 {
     legalizer_exists();
@@ -162,8 +162,8 @@ pub fn close<S: Seeker + Drop, K: Sink>(
         IsRunWithCutLine l seat.now.team.now floor.old (K.contents lines.old) (K.contents lines.new) floor.new) }
     ensures only { ChangesOnly seat.now.team.now floor.old floor.new }
     ensures cells { SameCells seat.now.team.now floor.old floor.new }
-    ensures slots { OnOk result (session_slots_in floor.new seat.now.team.now
-        ≡ session_slots_without seat.now.session floor.old seat.now.team.now) }
+    ensures settings { OnOk result (settings_in floor.new seat.now.team.now
+        ≡ settings_without seat.now.session floor.old seat.now.team.now) }
 {
     legalizer_exists();
     query_keeps_state();

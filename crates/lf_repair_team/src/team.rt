@@ -1,17 +1,17 @@
 //! The repair of one team.
 
-ghost use Rattle.std.specs.Prelude.{◌≡◌, ◌≢◌, ◌↔◌, ◌<◌, [], All, AllPairs, IfOk, OnErr, OnOk, Option, Some, false, true, ℤ};
+ghost use Rattle.std.specs.Prelude.{◌≡◌, ◌≢◌, ◌↔◌, ◌<◌, [], All, AllPairs, IfOk, OnErr, OnOk, Option, IsTrue, Some, false, ℤ};
 ghost use Rattle.lf_rules.specs.Legalizer.{Legalizer};
 ghost use Rattle.lf_floor_model.specs.Steps.{AllCommittedIn};
 ghost use Rattle.lf_floor_model.specs.Teams.{team_number};
 ghost use Rattle.lf_floor_model.specs.VerbLaws.{is_ok};
 ghost use Rattle.lf_repair_strategy.specs.declared.pass.MovePolicy.TheVariants.{KeepLegal};
-ghost use Rattle.lf_repair_team.specs.CellEdits.{AreAtTargetsOrOffSoft, AreFlaggedAtTargets, AreLockedInPlace, AreUnrepaired, AreWithin, KeepsCommittedAndSlots, KeepsCommittedPlaces, KeepsLockedLegal, KeepsLockedPlaces, KeepsOtherSlots, KeepsPlaces, SameCells, SaysOpened, TeamHasLeftTargets, TeamIsAtTargetsExcept, session_slots_without};
-ghost use Rattle.lf_repair_team.specs.TeamRepairs.{AllListedMove, AreLegalExcept, AreMovedOffSoft, ChangesOnly, HasNoPlaceOrIsListed, IsIllegalIn, KeepsLegalPlaces, KeepsListedPlaces, OnlyListedMove, StaysWithin, committed_in, session_slots_in};
+ghost use Rattle.lf_repair_team.specs.CellEdits.{AreAtTargetsOrOffSoft, AreFlaggedAtTargets, AreLockedInPlace, AreUnrepaired, AreWithin, IsSettled, KeepsCommittedAndSettings, KeepsCommittedPlaces, KeepsLegalAtTargets, KeepsLockedLegal, KeepsLockedPlaces, KeepsOtherSettings, KeepsPlaces, NoneIsFlagged, TeamHasLeftTargets, TeamIsAtTargetsExcept, settings_without};
+ghost use Rattle.lf_repair_team.specs.TeamRepairs.{AllListedMove, AreLegalExcept, AreMovedOffSoft, ChangesOnly, HasNoPlaceOrIsListed, IsIllegalIn, KeepsLegalPlaces, KeepsListedPlaces, OnlyListedMove, StaysWithin, WasIllegal, committed_in, settings_in};
 ghost use Rattle.lf_repair_team.specs.Runs.{IsRunWithCutLine, IsWrittenRun};
 ghost use Rattle.lf_repair_team.specs.Stats.{AreTeamMeans, AreTeamStats};
 
-use crate::cell_edits::{Buffers, TeamSession, run_edits};
+use crate::cell_edits::{Buffers, TeamSession, is_locked, run_edits};
 use crate::last_pass::run_last_pass;
 use crate::misplaced_pass::run_misplaced_pass;
 use crate::outcome::{RepairOutcome, found_of};
@@ -23,10 +23,12 @@ use lf_floor::Floor;
 use lf_floorplan::Place;
 use lf_io::Sink;
 use lf_legalize::Seeker;
+use lf_proto::Refusal;
 use lf_repair_bounds::ImpossibleMacro;
 use lf_repair_strategy::{
     CellEdit, LocalPass, MovePolicy, Neighborhood, PaddedTeam, Pass, Phase, RepairInput,
-    RepairSearch, RepairStats, edits_for, plan_local_pass, plan_window_pass, undo_edits,
+    RepairSearch, RepairStats, edits_back, edits_for, has_improved, plan_local_pass,
+    plan_window_pass,
 };
 use lf_rules::legalizer_exists;
 use std::alloc::{AllocError, Global};
@@ -45,7 +47,7 @@ fn commit_if_clean<S: Seeker + Drop, K: Sink>(
         IsRunWithCutLine l seat.now.team.now floor.old (K.contents lines.old) (K.contents lines.new) floor.new) }
     ensures only { ChangesOnly seat.now.team.now floor.old floor.new }
     ensures places { KeepsPlaces seat.now.team.now floor.old floor.new }
-    ensures slots { KeepsOtherSlots seat.now.team.now seat.now.session floor.old floor.new }
+    ensures settings { KeepsOtherSettings seat.now.team.now seat.now.session floor.old floor.new }
     ensures committed { (l : Legalizer) → left.now ≡ [] → IfOk result (λ _.
         AllCommittedIn l floor.new seat.now.team.now) }
     ensures kept { left.now ≢ [] → floor.new ≡ floor.old }
@@ -82,12 +84,13 @@ fn finish<S: Seeker + Drop, K: Sink>(
         → AreUnrepaired reach targets.now seat.now.team.now seat.now.impossible.now floor.old left.items
         → IfOk result (λ found.
         AreUnrepaired reach targets.now seat.now.team.now seat.now.impossible.now floor.new found.left.items) }
+    ensures left { IfOk result (λ found. found.left.items ≡ left.items) }
     ensures committed { (l : Legalizer) → IfOk result (λ found.
         found.left.items ≡ [] → AllCommittedIn l floor.new seat.now.team.now) }
     ensures uncommitted { IfOk result (λ found.
         found.left.items ≢ [] → KeepsCommittedPlaces seat.now.team.now floor.old floor.new) }
-    ensures slots { OnOk result (session_slots_in floor.new seat.now.team.now
-        ≡ session_slots_without seat.now.session floor.old seat.now.team.now) }
+    ensures settings { OnOk result (settings_in floor.new seat.now.team.now
+        ≡ settings_without seat.now.session floor.old seat.now.team.now) }
 {
     legalizer_exists();
     let Ok(found) = found_of(alloc, floor, seat, targets, left) else {
@@ -145,7 +148,7 @@ fn run_pass<S: Seeker + Drop, K: Sink>(
     ensures marked { KeepsLockedPlaces seat.now.team.now pass.now.locked.items floor.old floor.new }
     ensures flagged { KeepsLockedPlaces seat.now.team.now seat.now.impossible.now floor.old floor.new }
     ensures legal { KeepsLockedLegal seat.now.team.now pass.now.locked.items floor.old floor.new }
-    ensures committed { KeepsCommittedAndSlots seat.now.team.now seat.now.session floor.old floor.new }
+    ensures committed { KeepsCommittedAndSettings seat.now.team.now seat.now.session floor.old floor.new }
 {
     for phase in &PHASES {
         let Ok(cell_edits) = cell_edits_in(alloc, floor, seat.number, pass, *phase, search) else {
@@ -197,8 +200,150 @@ fn local_plan_in<S: Seeker + Drop>(
     plan_local_pass(alloc, placement, number, start, reach, search)
 }
 
-/// Runs a local pass, in which legal cells may move too: its cells are unplaced and planned again.
-/// It is undone if it has improved nothing.
+/// Whether one of these cells was legal at the start of the repair, and so was locked in its first
+/// pass.
+fn has_locked(start: &RepairInput, cells: &[u32]) -> bool
+    ensures { result ≡ false → NoneIsFlagged start.now.pass.locked.items cells.now }
+{
+    for own in cells {
+        if is_locked(start.pass.locked.as_slice(), *own as usize) {
+            return true;
+        }
+    }
+    false
+}
+
+/// Ends a pass: unplaces the misplaced cells, and moves each cell that is not legal to its best place,
+/// if there is one within reach. Returns the positions of the unrepaired cells, in loading order.
+fn settle<S: Seeker + Drop, K: Sink>(
+    alloc: Global,
+    floor: &mut Floor<S>,
+    seat: &TeamSession<'_>,
+    targets: &[Option<Place>],
+    search: &RepairSearch<'_>,
+    texts: &mut Buffers,
+    lines: &mut K,
+) -> Result<Vec<u32>, RepairFault>
+    requires { team_number floor.old.frame seat.now.team.now ≡ Some seat.now.number }
+    ensures run { (l : Legalizer) → IfOk result (λ _.
+        IsWrittenRun l seat.now.team.now floor.old (K.contents lines.old) (K.contents lines.new) floor.new) }
+    ensures err { (l : Legalizer) → OnErr result (
+        IsRunWithCutLine l seat.now.team.now floor.old (K.contents lines.old) (K.contents lines.new) floor.new) }
+    ensures only { ChangesOnly seat.now.team.now floor.old floor.new }
+    ensures committed { KeepsCommittedAndSettings seat.now.team.now seat.now.session floor.old floor.new }
+    ensures legal { KeepsLegalAtTargets seat.now.team.now targets.now floor.old floor.new }
+    ensures unmoved { AreFlaggedAtTargets seat.now.team.now seat.now.impossible.now targets.now floor.old
+        → KeepsLockedPlaces seat.now.team.now seat.now.impossible.now floor.old floor.new }
+    ensures settled { IfOk result (λ left.
+        IsSettled search.now.reach targets.now seat.now.team.now seat.now.impossible.now floor.new left.items) }
+{
+    match run_misplaced_pass(floor, seat, targets, search, texts, lines) {
+        Ok(()) => {}
+        Err(fault) => return Err(fault),
+    }
+    run_last_pass(alloc, floor, seat, targets, search, texts, lines)
+}
+
+/// Runs a pass and ends it. Returns the positions of the unrepaired cells, in loading order.
+fn run_settled_pass<S: Seeker + Drop, K: Sink>(
+    alloc: Global,
+    floor: &mut Floor<S>,
+    seat: &TeamSession<'_>,
+    pass: &Pass,
+    targets: &[Option<Place>],
+    search: &RepairSearch<'_>,
+    texts: &mut Buffers,
+    lines: &mut K,
+) -> Result<Vec<u32>, RepairFault>
+    requires { team_number floor.old.frame seat.now.team.now ≡ Some seat.now.number }
+    ensures run { (l : Legalizer) → IfOk result (λ _.
+        IsWrittenRun l seat.now.team.now floor.old (K.contents lines.old) (K.contents lines.new) floor.new) }
+    ensures err { (l : Legalizer) → OnErr result (
+        IsRunWithCutLine l seat.now.team.now floor.old (K.contents lines.old) (K.contents lines.new) floor.new) }
+    ensures only { ChangesOnly seat.now.team.now floor.old floor.new }
+    ensures committed { KeepsCommittedAndSettings seat.now.team.now seat.now.session floor.old floor.new }
+    ensures marked { AreLockedInPlace seat.now.team.now pass.now.locked.items targets.now floor.old
+        → AreLockedInPlace seat.now.team.now pass.now.locked.items targets.now floor.new }
+    ensures unmoved { AreFlaggedAtTargets seat.now.team.now seat.now.impossible.now targets.now floor.old
+        → KeepsLockedPlaces seat.now.team.now seat.now.impossible.now floor.old floor.new }
+    ensures settled { IfOk result (λ left.
+        IsSettled search.now.reach targets.now seat.now.team.now seat.now.impossible.now floor.new left.items) }
+{
+    match run_pass(alloc, floor, seat, pass, search, texts, lines) {
+        Ok(()) => {}
+        Err(fault) => return Err(fault),
+    }
+    settle(alloc, floor, seat, targets, search, texts, lines)
+}
+
+/// Takes a local pass back: each cell goes where it was at the start of the pass. Returns the positions
+/// of the unrepaired cells, in loading order. `Err` also if one of these was legal at the start of the
+/// repair, since the floor refused a command.
+fn take_back<S: Seeker + Drop, K: Sink>(
+    alloc: Global,
+    floor: &mut Floor<S>,
+    seat: &TeamSession<'_>,
+    start: &RepairInput,
+    local_plan: &LocalPass,
+    search: &RepairSearch<'_>,
+    texts: &mut Buffers,
+    lines: &mut K,
+) -> Result<Vec<u32>, RepairFault>
+    requires { team_number floor.old.frame seat.now.team.now ≡ Some seat.now.number }
+    ensures run { (l : Legalizer) → IfOk result (λ _.
+        IsWrittenRun l seat.now.team.now floor.old (K.contents lines.old) (K.contents lines.new) floor.new) }
+    ensures err { (l : Legalizer) → OnErr result (
+        IsRunWithCutLine l seat.now.team.now floor.old (K.contents lines.old) (K.contents lines.new) floor.new) }
+    ensures only { ChangesOnly seat.now.team.now floor.old floor.new }
+    ensures committed { KeepsCommittedAndSettings seat.now.team.now seat.now.session floor.old floor.new }
+    ensures unmoved { AreFlaggedAtTargets seat.now.team.now seat.now.impossible.now start.now.pass.targets.items
+        floor.old
+        → KeepsLockedPlaces seat.now.team.now seat.now.impossible.now floor.old floor.new }
+    ensures settled { IfOk result (λ left.
+        IsSettled search.now.reach start.now.pass.targets.items seat.now.team.now seat.now.impossible.now floor.new
+        left.items) }
+    ensures free { IfOk result (λ left. NoneIsFlagged start.now.pass.locked.items left.items) }
+{
+    let Ok(back) = edits_back(alloc, floor.placement(), seat.number, local_plan) else {
+        return Err(RepairFault::OutOfMemory);
+    };
+    match run_edits(floor, seat, &[], back.as_slice(), texts, lines) {
+        Ok(()) => {}
+        Err(fault) => return Err(fault),
+    }
+    let targets = start.pass.targets.as_slice();
+    let left = match settle(alloc, floor, seat, targets, search, texts, lines) {
+        Ok(left) => left,
+        Err(fault) => return Err(fault),
+    };
+    if has_locked(start, left.as_slice()) {
+        return Err(RepairFault::Refused(Refusal::NoCell));
+    }
+    Ok(left)
+}
+
+/// Whether a local pass is kept: it has improved something, and none of the unrepaired cells after it
+/// was legal at the start of the repair.
+fn is_kept<S: Seeker + Drop>(
+    alloc: Global,
+    floor: &Floor<S>,
+    number: usize,
+    start: &RepairInput,
+    local_plan: &LocalPass,
+    search: &RepairSearch<'_>,
+    left: &[u32],
+) -> Result<bool, AllocError>
+    ensures { IfOk result (λ kept. IsTrue kept → NoneIsFlagged start.now.pass.locked.items left.now) }
+{
+    if has_locked(start, left) {
+        return Ok(false);
+    }
+    has_improved(alloc, floor.placement(), number, start, local_plan, search)
+}
+
+/// Runs a local pass, in which legal cells may move too: its cells are unplaced and planned again. It
+/// is taken back if it has improved nothing, or left a cell that was legal. `left` has the unrepaired
+/// cells before the pass. Returns those after it.
 fn run_local_pass<S: Seeker + Drop, K: Sink>(
     alloc: Global,
     floor: &mut Floor<S>,
@@ -206,52 +351,68 @@ fn run_local_pass<S: Seeker + Drop, K: Sink>(
     start: &RepairInput,
     reach: &Neighborhood,
     search: &RepairSearch<'_>,
+    left: Vec<u32>,
     lines: &mut K,
-) -> Result<(), RepairFault>
+) -> Result<Vec<u32>, RepairFault>
+    requires number { team_number floor.old.frame seat.now.team.now ≡ Some seat.now.number }
+    requires settled { IsSettled search.now.reach start.now.pass.targets.items seat.now.team.now seat.now.impossible.now
+        floor.old left.items }
     ensures run { (l : Legalizer) → IfOk result (λ _.
         IsWrittenRun l seat.now.team.now floor.old (K.contents lines.old) (K.contents lines.new) floor.new) }
     ensures err { (l : Legalizer) → OnErr result (
         IsRunWithCutLine l seat.now.team.now floor.old (K.contents lines.old) (K.contents lines.new) floor.new) }
-    ensures flagged { KeepsLockedPlaces seat.now.team.now seat.now.impossible.now floor.old floor.new }
     ensures only { ChangesOnly seat.now.team.now floor.old floor.new }
-    ensures committed { KeepsCommittedAndSlots seat.now.team.now seat.now.session floor.old floor.new }
+    ensures committed { KeepsCommittedAndSettings seat.now.team.now seat.now.session floor.old floor.new }
+    ensures unmoved { AreFlaggedAtTargets seat.now.team.now seat.now.impossible.now start.now.pass.targets.items
+        floor.old
+        → KeepsLockedPlaces seat.now.team.now seat.now.impossible.now floor.old floor.new }
+    ensures settled { IfOk result (λ later.
+        IsSettled search.now.reach start.now.pass.targets.items seat.now.team.now seat.now.impossible.now floor.new
+        later.items) }
+    ensures free { NoneIsFlagged start.now.pass.locked.items left.items
+        → IfOk result (λ later. NoneIsFlagged start.now.pass.locked.items later.items) }
 {
     let local_plan = match local_plan_in(alloc, floor, seat.number, start, reach, search) {
         Ok(Some(local_plan)) => local_plan,
-        Ok(None) => return Ok(()),
+        Ok(None) => return Ok(left),
         Err(_) => return Err(RepairFault::OutOfMemory),
     };
     let mut texts = Buffers::new(alloc);
-    match run_pass(
+    let later = match run_settled_pass(
         alloc,
         floor,
         seat,
         &local_plan.pass,
+        start.pass.targets.as_slice(),
         search,
         &mut texts,
         lines,
     ) {
-        Ok(()) => {}
+        Ok(later) => later,
         Err(fault) => return Err(fault),
-    }
-    let Ok(back) = undo_edits(
+    };
+    match is_kept(
         alloc,
-        floor.placement(),
+        floor,
         seat.number,
         start,
         &local_plan,
         search,
-    ) else {
-        return Err(RepairFault::OutOfMemory);
-    };
-    run_edits(
-        floor,
-        seat,
-        local_plan.pass.locked.as_slice(),
-        back.as_slice(),
-        &mut texts,
-        lines,
-    )
+        later.as_slice(),
+    ) {
+        Ok(true) => Ok(later),
+        Ok(false) => take_back(
+            alloc,
+            floor,
+            seat,
+            start,
+            &local_plan,
+            search,
+            &mut texts,
+            lines,
+        ),
+        Err(_) => Err(RepairFault::OutOfMemory),
+    }
 }
 
 /// Whether legal cells may move.
@@ -264,34 +425,42 @@ fn may_legal_move(how: MovePolicy) -> bool
     }
 }
 
-/// Runs the local passes if legal cells may move; otherwise sends no command.
+/// Runs the local passes. `left` has the unrepaired cells before them. Returns those after them.
 fn run_local_passes<S: Seeker + Drop, K: Sink>(
     alloc: Global,
     floor: &mut Floor<S>,
     seat: &TeamSession<'_>,
     start: &RepairInput,
     search: &RepairSearch<'_>,
+    left: Vec<u32>,
     lines: &mut K,
-) -> Result<(), RepairFault>
+) -> Result<Vec<u32>, RepairFault>
+    requires number { team_number floor.old.frame seat.now.team.now ≡ Some seat.now.number }
+    requires settled { IsSettled search.now.reach start.now.pass.targets.items seat.now.team.now seat.now.impossible.now
+        floor.old left.items }
     ensures run { (l : Legalizer) → IfOk result (λ _.
         IsWrittenRun l seat.now.team.now floor.old (K.contents lines.old) (K.contents lines.new) floor.new) }
     ensures err { (l : Legalizer) → OnErr result (
         IsRunWithCutLine l seat.now.team.now floor.old (K.contents lines.old) (K.contents lines.new) floor.new) }
-    ensures flagged { KeepsLockedPlaces seat.now.team.now seat.now.impossible.now floor.old floor.new }
     ensures only { ChangesOnly seat.now.team.now floor.old floor.new }
-    ensures kept { start.now.how ≡ KeepLegal → floor.new ≡ floor.old }
-    ensures committed { KeepsCommittedAndSlots seat.now.team.now seat.now.session floor.old floor.new }
+    ensures committed { KeepsCommittedAndSettings seat.now.team.now seat.now.session floor.old floor.new }
+    ensures unmoved { AreFlaggedAtTargets seat.now.team.now seat.now.impossible.now start.now.pass.targets.items
+        floor.old
+        → KeepsLockedPlaces seat.now.team.now seat.now.impossible.now floor.old floor.new }
+    ensures settled { IfOk result (λ later.
+        IsSettled search.now.reach start.now.pass.targets.items seat.now.team.now seat.now.impossible.now floor.new
+        later.items) }
+    ensures free { NoneIsFlagged start.now.pass.locked.items left.items
+        → IfOk result (λ later. NoneIsFlagged start.now.pass.locked.items later.items) }
 {
-    if !may_legal_move(start.how) {
-        return Ok(());
-    }
+    let mut later = left;
     for reach in &REACHES {
-        match run_local_pass(alloc, floor, seat, start, reach, search, lines) {
-            Ok(()) => {}
+        later = match run_local_pass(alloc, floor, seat, start, reach, search, later, lines) {
+            Ok(later) => later,
             Err(fault) => return Err(fault),
-        }
+        };
     }
-    Ok(())
+    Ok(later)
 }
 
 /// Runs all passes. Returns the positions of the unrepaired cells, in loading order.
@@ -309,36 +478,37 @@ fn run_passes<S: Seeker + Drop, K: Sink>(
     ensures err { (l : Legalizer) → OnErr result (
         IsRunWithCutLine l seat.now.team.now floor.old (K.contents lines.old) (K.contents lines.new) floor.new) }
     ensures only { ChangesOnly seat.now.team.now floor.old floor.new }
+    ensures committed { KeepsCommittedAndSettings seat.now.team.now seat.now.session floor.old floor.new }
     ensures marked { start.now.how ≡ KeepLegal
         → AreLockedInPlace seat.now.team.now start.now.pass.locked.items start.now.pass.targets.items floor.old
         → KeepsLockedPlaces seat.now.team.now start.now.pass.locked.items floor.old floor.new }
     ensures unmoved { AreFlaggedAtTargets seat.now.team.now seat.now.impossible.now start.now.pass.targets.items
         floor.old
         → KeepsLockedPlaces seat.now.team.now seat.now.impossible.now floor.old floor.new }
-    ensures committed { KeepsCommittedAndSlots seat.now.team.now seat.now.session floor.old floor.new }
-    ensures unrepaired { IfOk result (λ left.
-        AreUnrepaired search.now.reach start.now.pass.targets.items seat.now.team.now seat.now.impossible.now floor.new
+    ensures settled { IfOk result (λ left.
+        IsSettled search.now.reach start.now.pass.targets.items seat.now.team.now seat.now.impossible.now floor.new
         left.items) }
-    ensures within { OnOk result (
-        AreWithin search.now.reach start.now.pass.targets.items seat.now.team.now floor.new) }
-    ensures off_soft { OnOk result (
-        AreAtTargetsOrOffSoft seat.now.team.now start.now.pass.targets.items floor.new) }
+    ensures free { AreLockedInPlace seat.now.team.now start.now.pass.locked.items start.now.pass.targets.items floor.old
+        → IfOk result (λ left. NoneIsFlagged start.now.pass.locked.items left.items) }
 {
     let mut texts = Buffers::new(alloc);
-    match run_pass(alloc, floor, seat, &start.pass, search, &mut texts, lines) {
-        Ok(()) => {}
+    let left = match run_settled_pass(
+        alloc,
+        floor,
+        seat,
+        &start.pass,
+        start.pass.targets.as_slice(),
+        search,
+        &mut texts,
+        lines,
+    ) {
+        Ok(left) => left,
         Err(fault) => return Err(fault),
+    };
+    if !may_legal_move(start.how) {
+        return Ok(left);
     }
-    match run_local_passes(alloc, floor, seat, start, search, lines) {
-        Ok(()) => {}
-        Err(fault) => return Err(fault),
-    }
-    let targets = start.pass.targets.as_slice();
-    match run_misplaced_pass(floor, seat, targets, search, &mut texts, lines) {
-        Ok(()) => {}
-        Err(fault) => return Err(fault),
-    }
-    run_last_pass(alloc, floor, seat, targets, search, &mut texts, lines)
+    run_local_passes(alloc, floor, seat, start, search, left, lines)
 }
 
 /// Opens a session, runs all passes, and finishes.
@@ -375,9 +545,11 @@ fn repair_in_session<'a, S: Seeker + Drop, K: Sink>(
         found.left.items ≡ [] → AllCommittedIn l floor.new team.now) }
     ensures uncommitted { IfOk result (λ found.
         found.left.items ≢ [] → KeepsCommittedPlaces team.now floor.old floor.new) }
-    ensures slots { OnOk result (session_slots_in floor.new team.now ≡ session_slots_in floor.old team.now) }
+    ensures settings { OnOk result (settings_in floor.new team.now ≡ settings_in floor.old team.now) }
     ensures off_soft { OnOk result (
         AreAtTargetsOrOffSoft team.now start.now.pass.targets.items floor.new) }
+    ensures free { AreLockedInPlace team.now start.now.pass.locked.items start.now.pass.targets.items floor.old
+        → IfOk result (λ found. NoneIsFlagged start.now.pass.locked.items found.left.items) }
 {
     let mut texts = Buffers::new(alloc);
     let session = match open(floor, team, &mut texts, lines) {
@@ -410,7 +582,8 @@ fn repair_in_session<'a, S: Seeker + Drop, K: Sink>(
 ///
 /// A cell is unrepaired only if it has no place, or is of a listed macro. It has no place if it is
 /// unplaced, and next to the team's other cells no place off soft blockages is legal for it, or only
-/// places beyond reach. All other cells are legal. The unrepaired cells are listed in loading order.
+/// places beyond reach. All other cells are legal: also each that was legal before, whatever cells may
+/// move. The unrepaired cells are listed in loading order.
 /// Each placed cell that is elsewhere than before is off soft blockages. Each cell that had a place
 /// and has one is within reach of the place that it had.
 ///
@@ -418,8 +591,8 @@ fn repair_in_session<'a, S: Seeker + Drop, K: Sink>(
 ///
 /// The team is committed if and only if no cell is unrepaired. Otherwise its cells stay at their
 /// working places, and the committed places are unchanged. No other team changes, and a fully legal
-/// committed design stays fully legal. The session in which it is repaired is closed: the team's
-/// session slots are unchanged. The numbers in the result are exact.
+/// committed design stays fully legal. The session in which it is repaired is closed: the team's padding
+/// and session slots are unchanged. The numbers in the result are exact.
 ///
 /// `Err` says why the repair stopped early. The floor is then as the accepted commands left it, and
 /// their lines are written; of the last line perhaps only a prefix.
@@ -448,13 +621,15 @@ pub fn repair_team<S: Seeker + Drop, K: Sink>(
     ensures complete { IfOk result
         (λ repaired. All (HasNoPlaceOrIsListed search.now.reach impossible.now floor.old floor.new team.now)
         repaired.unrepaired.items) }
+    ensures were_illegal { IfOk result
+        (λ repaired. All (λ own. WasIllegal floor.old team.now own) repaired.unrepaired.items) }
     ensures within { OnOk result (StaysWithin search.now.reach team.now floor.old floor.new) }
     ensures rise { IfOk result (λ repaired. AllPairs (λ own later. own < later) repaired.unrepaired.items) }
     ensures committed { (l : Legalizer) → IfOk result (λ repaired.
         repaired.unrepaired.items ≡ [] ↔ AllCommittedIn l floor.new team.now) }
     ensures uncommitted { IfOk result (λ repaired.
         repaired.unrepaired.items ≢ [] → committed_in floor.new team.now ≡ committed_in floor.old team.now) }
-    ensures slots { OnOk result (session_slots_in floor.new team.now ≡ session_slots_in floor.old team.now) }
+    ensures settings { OnOk result (settings_in floor.new team.now ≡ settings_in floor.old team.now) }
     ensures off_soft { OnOk result (AreMovedOffSoft team.now floor.old floor.new) }
     ensures reported { IfOk result (λ repaired. AreTeamStats team.now floor.old floor.new repaired) }
     ensures means { IfOk result (λ repaired. AreTeamMeans team.now floor.old floor.new repaired.means) }

@@ -18,7 +18,7 @@ use Rattle.lf_floor_model.specs.Teams.{state_of, team_names, team_number}
 use Rattle.lf_floor_model.specs.VerbLaws.{committed_places}
 use Rattle.lf_repair_strategy.specs.declared.stats.RepairStats.{RepairStats}
 use Rattle.lf_repair_team.specs.Stats.{displacement}
-use Rattle.lf_repair_team.specs.TeamRepairs.{committed_in, place_of_cell_in, session_slots_in}
+use Rattle.lf_repair_team.specs.TeamRepairs.{committed_in, place_of_cell_in, settings_in}
 use Rattle.lf_repair_team.proofs.Legal.{committed_through}
 use Rattle.lf_improve_team.specs.FloorLengths.{AreNetsOfFloor, IsWireLengthOn, WireLengthIsOne}
 use Rattle.lf_improve_team.specs.TeamImprovements.{IsImprovable, KeepsTeamPlaces}
@@ -28,7 +28,7 @@ use Rattle.lf_task_repair.specs.Repairs.{is_selected}
 use Rattle.lf_task_repair.specs.Reports.{selected_at, selected_names}
 use Rattle.lf_task_repair.proofs.Named.{others_before}
 use Rattle.lf_task_repair.proofs.Repairing.{AreUntouched, legal_same}
-use Rattle.lf_task_repair.proofs.TeamLines.{first_requested, selected_have, stats_same}
+use Rattle.lf_task_repair.proofs.TeamLines.{first_requested, moved_off_soft_same, selected_have, stats_same}
 use Rattle.lf_task_improve.specs.Improvements.{AddsResults, AreLengthsOnFloor, IsImprovementOf, IsTeamResult}
 
 -- ---- a result stays true if the team is unchanged
@@ -39,8 +39,8 @@ place_same old new team own same = ap (λ (o : Option TeamState). option_and_the
 committed_same : (old new : FloorState) (team : List ℕ) → state_of new team ≡ state_of old team → committed_in new team ≡ committed_in old team
 committed_same old new team same = ap (λ (o : Option TeamState). option_map committed_places o) same
 
-slots_same : (old new : FloorState) (team : List ℕ) → state_of new team ≡ state_of old team → session_slots_in new team ≡ session_slots_in old team
-slots_same old new team same = ap (λ (o : Option TeamState). option_map (λ (s : TeamState). s.slots) o) same
+settings_same : (old new : FloorState) (team : List ℕ) → state_of new team ≡ state_of old team → settings_in new team ≡ settings_in old team
+settings_same old new team same = ap (λ (o : Option TeamState). option_map (λ (s : TeamState). (s.padding, s.slots)) o) same
 
 improvable_same : (team : List ℕ) (old new : FloorState) → new.frame ≡ old.frame → state_of new team ≡ state_of old team → IsImprovable team old → IsImprovable team new
 improvable_same team old new frame same is = record {
@@ -68,7 +68,8 @@ result_same within team a b c d is_skipped cells stats frame frame' first last i
       (subst (λ (p : Option Place). displacement (place_of_cell_in a team own) p ≤ far) (sym (place_same b d team own last)) (is.near own far limit));
   counted = λ s there. is.counted s (sym first ∙ there);
   measured = stats_same a b c d team stats frame first last is.measured;
-  slots = slots_same b d team last ∙ is.slots ∙ sym (slots_same a c team first);
+  settings = settings_same b d team last ∙ is.settings ∙ sym (settings_same a c team first);
+  off_soft = moved_off_soft_same a b c d team frame' first last is.off_soft;
 }
 
 results_still : (within : Option ℕ) (begin old new : FloorState) (ts : List ImprovedTeam) → new.frame ≡ old.frame

@@ -16,7 +16,7 @@ use Rattle.lf_floor_model.specs.Teams.{state_of}
 use Rattle.lf_floor_model.specs.Committed.{IsCommittedLegal}
 use Rattle.lf_floor.specs.Working.{ListsWorkingPlaces}
 use Rattle.lf_repair_team.specs.Stats.{AreTeamStats}
-use Rattle.lf_repair_team.specs.TeamRepairs.{session_slots_in}
+use Rattle.lf_repair_team.specs.TeamRepairs.{AreMovedOffSoft, settings_in}
 use Rattle.lf_repair_strategy.specs.declared.stats.RepairStats.{RepairStats}
 use Rattle.lf_improve_team.specs.FloorLengths.{listed_place}
 use Rattle.lf_improve_team.specs.TeamImprovements.{IsImprovable, KeepsTeamPlaces, StaysWithin}
@@ -38,7 +38,8 @@ distance_of_rows f rows = option_map (λ n. min (unsigned_abs f.pitch.y * n) (2 
 -- the result of a team's improvement that began on one floor, on the other: it is skipped unless all
 -- its cells are legal and committed, and is then unchanged; its cells are all legal and committed, or
 -- are where they were; none is too far from where it was; its cells are counted, and the statistics
--- are theirs from one floor to the other; its session slots are as they were
+-- are theirs from one floor to the other; its padding and session slots are as they were; each placed
+-- cell that is elsewhere is off soft blockages
 pub record IsImprovementOf (within : Option ℕ) (team : List ℕ) (begin floor : FloorState) (is_skipped : Bool)
     (cells : ℕ) (stats : RepairStats) : Type 0 where
   pub skipped : (s : TeamState) → state_of begin team ≡ Some s → is_skipped ≡ false ↔ IsImprovable team begin
@@ -47,7 +48,8 @@ pub record IsImprovementOf (within : Option ℕ) (team : List ℕ) (begin floor 
   pub near : StaysWithin within team begin floor
   pub counted : (s : TeamState) → state_of begin team ≡ Some s → cells ≡ length s.cells
   pub measured : AreTeamStats team begin floor stats
-  pub slots : session_slots_in floor team ≡ session_slots_in begin team
+  pub settings : settings_in floor team ≡ settings_in begin team
+  pub off_soft : AreMovedOffSoft team begin floor
 
 -- the team of this result, by its number, is improved so
 abbrev pub IsTeamResult : Option ℕ → FloorState → FloorState → ImprovedTeam → Type 0

@@ -20,7 +20,7 @@ use Rattle.lf_floor_model.specs.Steps.{AllCommittedIn}
 use Rattle.lf_floor_model.specs.VerbLaws.{committed_places}
 use Rattle.lf_floor_model.specs.Teams.{state_of, team_names, team_number}
 use Rattle.lf_repair_team.specs.Stats.{AreStatsOf, AreTeamMeans, AreTeamStats, HowMany, means_of}
-use Rattle.lf_repair_team.specs.TeamRepairs.{AreMovedOffSoft, HasNoPlace, HasNoPlaceOrIsListed, IsBeyond, IsIllegalIn, IsLegalIn, IsListedIn, StaysWithin, place_of_cell_in, way_to}
+use Rattle.lf_repair_team.specs.TeamRepairs.{AreMovedOffSoft, HasNoPlace, HasNoPlaceOrIsListed, IsBeyond, IsIllegalIn, IsLegalIn, IsListedIn, StaysWithin, WasIllegal, place_of_cell_in, way_to}
 use Rattle.lf_repair_team.proofs.Legal.{committed_through}
 use Rattle.lf_repair_team.proofs.WithoutPlace.{none_through}
 use Rattle.lf_repair_strategy.specs.declared.stats.DisplacementMeans.{DisplacementMeans}
@@ -95,7 +95,7 @@ means_same a b c d team means frame first last is s there =
     (subst (λ (o : Option TeamState). means ≡ means_of b.frame s.cells (places_in (state_of c team)) (places_in o)) (sym last)
     (subst (λ (o : Option TeamState). means ≡ means_of b.frame s.cells (places_in o) (places_in (state_of b team))) (sym first) (is s (sym last ∙ there))))
 
-moved_off_soft_same : (a b c d : FloorState) (team : List ℕ) → d.frame ≡ b.frame → state_of c team ≡ state_of a team → state_of d team ≡ state_of b team
+pub moved_off_soft_same : (a b c d : FloorState) (team : List ℕ) → d.frame ≡ b.frame → state_of c team ≡ state_of a team → state_of d team ≡ state_of b team
     → AreMovedOffSoft team a b → AreMovedOffSoft team c d
 moved_off_soft_same a b c d team frame first last are own placed moved =
     let is = are own (λ none. placed (ap (λ (o : Option TeamState). places_in o own) last ∙ none))
@@ -154,6 +154,7 @@ module _ (reach : Option ℤ) where
   repair_same list a b c d team r frame frame' first last is = record {
     legal = λ s there own within. ⊎_elim (λ legal. inl (legal_same b d team own frame' last legal)) (λ named. inr named) (is.legal s (sym last ∙ there) own within);
     illegal = All-weaker (IsIllegalIn b team) (IsIllegalIn d team) (λ own. left_same b d team own frame' last) r.unrepaired.items is.illegal;
+    were_illegal = All-weaker (WasIllegal a team) (WasIllegal c team) (λ own not legal. not (legal_same c a team own (sym frame) (sym first) legal)) r.unrepaired.items is.were_illegal;
     complete = All-weaker (HasNoPlaceOrIsListed reach list a b team) (HasNoPlaceOrIsListed reach list c d team)
         (λ own either. ⊎_elim (λ none. inl (no_place_same a b c d team own frame' first last none)) (λ listed. inr (listed_same list b d team own frame' last listed)) either)
         r.unrepaired.items is.complete;
@@ -171,8 +172,8 @@ module _ (reach : Option ℤ) where
     uncommitted = λ some. ap (λ (o : Option TeamState). option_map committed_places o) last ∙ is.uncommitted some
         ∙ sym (ap (λ (o : Option TeamState). option_map committed_places o) first);
     off_soft = moved_off_soft_same a b c d team frame' first last is.off_soft;
-    slots = ap (λ (o : Option TeamState). option_map (λ (s : TeamState). s.slots) o) last ∙ is.slots
-        ∙ sym (ap (λ (o : Option TeamState). option_map (λ (s : TeamState). s.slots) o) first);
+    settings = ap (λ (o : Option TeamState). option_map (λ (s : TeamState). (s.padding, s.slots)) o) last ∙ is.settings
+        ∙ sym (ap (λ (o : Option TeamState). option_map (λ (s : TeamState). (s.padding, s.slots)) o) first);
   }
 
   -- the unrepaired cells are the same if the team is unchanged

@@ -9,7 +9,7 @@ use Rattle.lf_floor_model.specs.Steps.{AllCommittedIn}
 use Rattle.lf_floor_model.specs.Teams.{team_names, team_number}
 use Rattle.lf_floor_model.specs.Committed.{IsCommittedLegal}
 use Rattle.lf_repair_team.specs.Stats.{AreTeamMeans, AreTeamStats}
-use Rattle.lf_repair_team.specs.TeamRepairs.{AreLegalExcept, AreMovedOffSoft, HasNoPlaceOrIsListed, IsIllegalIn, KeepsListedPlaces, StaysWithin, committed_in, session_slots_in}
+use Rattle.lf_repair_team.specs.TeamRepairs.{AreLegalExcept, AreMovedOffSoft, HasNoPlaceOrIsListed, IsIllegalIn, KeepsListedPlaces, StaysWithin, WasIllegal, committed_in, settings_in}
 use Rattle.lf_repair_strategy.specs.declared.stats.RepairStats.{RepairStats}
 use Rattle.lf_density.specs.declared.density.Density.{Density}
 use Rattle.lf_repair_report.specs.declared.density.DensityChange.{DensityChange}
@@ -53,15 +53,17 @@ reach_of_rows f rows = option_map (λ n. pos (min (min (unsigned_abs f.pitch.y *
 
 -- the result of a team's repair that began on one floor, on the other, if no place can hold the
 -- listed macros: the unrepaired cells are listed in loading order, are exactly those that are not
--- legal, and have no place within reach or are of a listed macro; the cells of listed macros are where
--- they were; no cell is farther than the reach from where it was; the statistics and the means are those
--- of the team's cells from one floor to the other; the team is committed if and only if no cell is unrepaired,
--- and otherwise its committed places are as they were; its session slots are as they were; each placed
--- cell that is elsewhere is off soft blockages
+-- legal, were not legal when it began, and have no place within reach or are of a listed macro; the
+-- cells of listed macros are where they were; no cell is farther than the reach from where it was; the
+-- statistics and the means are those of the team's cells from one floor to the other; the team is
+-- committed if and only if no cell is unrepaired, and otherwise its committed places are as they were;
+-- its padding and session slots are as they were; each placed cell that is elsewhere is off soft
+-- blockages
 pub record IsRepairOf (reach : Option ℤ) (list : List ImpossibleMacro) (team : List ℕ) (begin floor : FloorState)
     (became : RepairStats) : Type 0 where
   pub legal : AreLegalExcept team floor became.unrepaired.items
   pub illegal : All (IsIllegalIn floor team) became.unrepaired.items
+  pub were_illegal : All (WasIllegal begin team) became.unrepaired.items
   pub complete : All (HasNoPlaceOrIsListed reach list begin floor team) became.unrepaired.items
   pub within : StaysWithin reach team begin floor
   pub unmoved : KeepsListedPlaces list team begin floor
@@ -70,7 +72,7 @@ pub record IsRepairOf (reach : Option ℤ) (list : List ImpossibleMacro) (team :
   pub means : AreTeamMeans team begin floor became.means
   pub committed : (l : Legalizer) → became.unrepaired.items ≡ [] ↔ AllCommittedIn l floor team
   pub uncommitted : became.unrepaired.items ≢ [] → committed_in floor team ≡ committed_in begin team
-  pub slots : session_slots_in floor team ≡ session_slots_in begin team
+  pub settings : settings_in floor team ≡ settings_in begin team
   pub off_soft : AreMovedOffSoft team begin floor
 
 -- the team is reported with its own bound, its unrepaired cells and their gaps, and the result of its

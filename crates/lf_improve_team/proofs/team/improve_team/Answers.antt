@@ -1,9 +1,9 @@
-use Rattle.std.proofs.Common.{◌≡◌, ◌∙◌, ℕ, Some, subst, sym}
+use Rattle.std.proofs.Common.{◌≡◌, ◌∙◌, ℕ, Some, refl, subst, sym}
 use Rattle.lf_floor_model.specs.Teams.{team_number}
 use Rattle.lf_repair_team.proofs.Runs.{none_cut, unchanged}
 use Rattle.lf_repair_team.proofs.StatsLemmas.{team_stats_of}
 use Rattle.lf_improve_team.specs.FloorLengths.{IsWireLengthOn}
-use Rattle.lf_improve_team.proofs.Improving.{committed_if, many_before, measured_of, near_in_any}
+use Rattle.lf_improve_team.proofs.Improving.{committed_if, many_before, measured_of, near_in_any, none_moved_onto_soft, off_soft_in_any}
 use Rattle.lf_improve_team.proofs.TeamLengths.{decides}
 use Rattle.lf_improve_team.proofs.team.improve_team.Goals as goal
 
@@ -44,6 +44,17 @@ returns-in-Ok-improve_in_session-clause-near g c =
     let named : team_number c.args.floor.now.frame c.args.team.now ≡ Some c.in-Some.number = sym c.team_number.ensures ∙ c.in-Some.is in
     near_in_any c.args.wires.now.netlist.now.nets wish.length wish.options.within c.in-Ok.start.pass.targets.items c.args.team.now c.args.floor.now c.improve_in_session.new.floor done.only
     c.in-Some.number c.in-Ok-improve_in_session.found named c.in-Ok.ensures.targets done.improved done.kept
+
+pub returns-in-Ok-improve_in_session-clause-off_soft : goal.returns-in-Ok-improve_in_session-clause-off_soft
+returns-in-Ok-improve_in_session-clause-off_soft g c =
+    let wish = c.args.wish.now in
+    let done = c.in-Ok-improve_in_session.ensures in
+    let named : team_number c.args.floor.now.frame c.args.team.now ≡ Some c.in-Some.number = sym c.team_number.ensures ∙ c.in-Some.is in
+    off_soft_in_any c.args.wires.now.netlist.now.nets wish.length wish.options.within c.in-Ok.start.pass.targets.items c.args.team.now c.args.floor.now c.improve_in_session.new.floor done.only
+    c.in-Some.number c.in-Ok-improve_in_session.found named c.in-Ok.ensures.targets done.improved done.kept
+
+pub returns-then-not-is_improvable-clause-off_soft : goal.returns-then-not-is_improvable-clause-off_soft
+returns-then-not-is_improvable-clause-off_soft g c = none_moved_onto_soft c.args.team.now c.args.floor.now c.args.floor.now (λ own. refl)
 
 pub returns-in-Ok-improve_in_session-clause-counted : goal.returns-in-Ok-improve_in_session-clause-counted
 returns-in-Ok-improve_in_session-clause-counted g c =

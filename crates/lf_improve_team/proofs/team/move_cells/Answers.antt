@@ -3,7 +3,7 @@ use Rattle.std.specs.Prelude.{None}
 use Rattle.lf_repair_team.specs.Runs.{IsRunWithCutLine, IsWrittenRun}
 use Rattle.lf_improve_team.proofs.Results.{err_then, ok_then, ok_weaker}
 use Rattle.lf_repair_team.proofs.Runs.{none_cut, then_cut, then_only, then_written}
-use Rattle.lf_repair_team.proofs.Slots.{committed_kept}
+use Rattle.lf_repair_team.proofs.Settings.{committed_kept}
 use Rattle.lf_improve_team.specs.TeamImprovements.{IsMovedBack, KeepsTeamPlaces}
 use Rattle.lf_improve_team.proofs.Improving.{back_is_kept}
 use Rattle.lf_improve_team.proofs.team.move_cells.Goals as goal

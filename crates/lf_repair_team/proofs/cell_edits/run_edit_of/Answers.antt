@@ -1,10 +1,10 @@
 use Rattle.lf_proto.specs.Verbs.{change_of}
 use Rattle.lf_repair_team.specs.Runs.{IsRunWithCutLine, IsWrittenRun}
-use Rattle.lf_repair_team.proofs.Cells.{no_commit, others_stay}
+use Rattle.lf_repair_team.proofs.Cells.{no_commit, no_pad, others_stay}
 use Rattle.lf_repair_team.proofs.OthersLegal.{other_remains_legal}
 use Rattle.lf_repair_team.proofs.Results.{err_from, ok_from}
 use Rattle.lf_repair_team.proofs.Runs.{uncut}
-use Rattle.lf_repair_team.proofs.Slots.{committed_and_slots_stay}
+use Rattle.lf_repair_team.proofs.Settings.{committed_and_settings_stay}
 use Rattle.lf_repair_team.proofs.cell_edits.run_edit_of.Goals as goal
 
 pub returns-in-Ok-clause-run : goal.returns-in-Ok-clause-run
@@ -32,8 +32,9 @@ returns-in-Ok-clause-legal g c = λ other differ.
 
 pub returns-in-Ok-clause-committed : goal.returns-in-Ok-clause-committed
 returns-in-Ok-clause-committed g c =
-    committed_and_slots_stay c.legalizer_exists.ensures c.args.floor.now c.run_action.new.floor c.args.seat.now.team.now c.args.seat.now.session (change_of c.change_of.result)
-    (c.in-Ok.ensures.requested c.legalizer_exists.ensures) (no_commit c.args.seat.now.session c.args.cell.now (change_of c.change_of.result) c.change_of.ensures.cell)
+    committed_and_settings_stay c.legalizer_exists.ensures c.args.floor.now c.run_action.new.floor c.args.seat.now.team.now c.args.seat.now.session (change_of c.change_of.result)
+    (no_pad c.args.seat.now.session c.args.cell.now (change_of c.change_of.result) c.change_of.ensures.cell) (c.in-Ok.ensures.requested c.legalizer_exists.ensures)
+    (no_commit c.args.seat.now.session c.args.cell.now (change_of c.change_of.result) c.change_of.ensures.cell)
 
 pub returns-in-Err-clause-cells : goal.returns-in-Err-clause-cells
 returns-in-Err-clause-cells g c = λ other differ.
@@ -48,5 +49,6 @@ returns-in-Err-clause-legal g c = λ other differ.
 
 pub returns-in-Err-clause-committed : goal.returns-in-Err-clause-committed
 returns-in-Err-clause-committed g c =
-    committed_and_slots_stay c.legalizer_exists.ensures c.args.floor.now c.run_action.new.floor c.args.seat.now.team.now c.args.seat.now.session (change_of c.change_of.result)
-    (c.in-Err.ensures.requested c.legalizer_exists.ensures) (no_commit c.args.seat.now.session c.args.cell.now (change_of c.change_of.result) c.change_of.ensures.cell)
+    committed_and_settings_stay c.legalizer_exists.ensures c.args.floor.now c.run_action.new.floor c.args.seat.now.team.now c.args.seat.now.session (change_of c.change_of.result)
+    (no_pad c.args.seat.now.session c.args.cell.now (change_of c.change_of.result) c.change_of.ensures.cell) (c.in-Err.ensures.requested c.legalizer_exists.ensures)
+    (no_commit c.args.seat.now.session c.args.cell.now (change_of c.change_of.result) c.change_of.ensures.cell)

@@ -1,5 +1,5 @@
 use Rattle.lf_rules.specs.Legalizer.{Legalizer}
-use Rattle.lf_repair_team.specs.CellEdits.{KeepsCommittedAndSlots, KeepsLockedLegal, KeepsLockedPlaces}
+use Rattle.lf_repair_team.specs.CellEdits.{KeepsCommittedAndSettings, KeepsLockedLegal, KeepsLockedPlaces}
 use Rattle.lf_repair_team.specs.TeamRepairs.{ChangesOnly}
 use Rattle.lf_repair_team.specs.Runs.{IsWrittenRun}
 use Rattle.lf_repair_team.proofs.cell_edits.run_edits.Given as goal
@@ -11,5 +11,5 @@ invariant-loop-cell_edit g l = record {
   marked : KeepsLockedPlaces l.seat.team.now l.marks l.fn.floor l.floor;
   flagged : KeepsLockedPlaces l.seat.team.now l.seat.impossible.now l.fn.floor l.floor;
   legal : KeepsLockedLegal l.seat.team.now l.marks l.fn.floor l.floor;
-  committed : KeepsCommittedAndSlots l.seat.team.now l.seat.session l.fn.floor l.floor;
+  committed : KeepsCommittedAndSettings l.seat.team.now l.seat.session l.fn.floor l.floor;
 }

@@ -1,7 +1,7 @@
 use Rattle.std.proofs.Common.{take}
 use Rattle.std.specs.Prelude.{All}
 use Rattle.lf_rules.specs.Legalizer.{Legalizer}
-use Rattle.lf_repair_team.specs.CellEdits.{IsLegalOrUnplaced, IsLegalOrWithoutPlace, KeepsCommittedAndSlots, KeepsLegalCells, KeepsLockedPlaces, KeepsWithin, MovesOffSoft}
+use Rattle.lf_repair_team.specs.CellEdits.{IsLegalOrUnplaced, IsLegalOrWithoutPlace, KeepsCommittedAndSettings, KeepsLegalCells, KeepsLockedPlaces, KeepsWithin, MovesOffSoft}
 use Rattle.lf_repair_team.specs.TeamRepairs.{ChangesOnly}
 use Rattle.lf_repair_team.specs.Runs.{IsWrittenRun}
 use Rattle.lf_repair_team.proofs.last_pass.legalize_cells.Given as goal
@@ -12,7 +12,7 @@ invariant-loop-own g l = record {
   only : ChangesOnly l.seat.team.now l.fn.floor l.floor;
   legal : KeepsLegalCells l.seat.team.now l.fn.floor l.floor;
   flagged : KeepsLockedPlaces l.seat.team.now l.seat.impossible.now l.fn.floor l.floor;
-  committed : KeepsCommittedAndSlots l.seat.team.now l.seat.session l.fn.floor l.floor;
+  committed : KeepsCommittedAndSettings l.seat.team.now l.seat.session l.fn.floor l.floor;
   all : All (λ own. IsLegalOrUnplaced l.floor l.seat.team.now own) l.cells;
   done : All (λ own. IsLegalOrWithoutPlace l.search.reach l.targets l.floor l.seat.team.now own) (take l.own-index l.cells);
   off_soft : MovesOffSoft l.seat.team.now l.fn.floor l.floor;

@@ -11,7 +11,7 @@ use Rattle.lf_repair_team.proofs.OffSoft.{legalize_off_soft}
 use Rattle.lf_repair_team.proofs.OthersLegal.{other_remains_legal}
 use Rattle.lf_repair_team.proofs.ReachLemmas.{legalize_at_best}
 use Rattle.lf_repair_team.proofs.Results.{ok_weaker}
-use Rattle.lf_repair_team.proofs.Slots.{committed_and_slots_stay}
+use Rattle.lf_repair_team.proofs.Settings.{committed_and_settings_stay}
 use Rattle.lf_repair_team.proofs.WithoutPlace.{other_has_none, refused_has_none}
 use Rattle.lf_repair_team.proofs.last_pass.legalize_named.Goals as goal
 
@@ -28,8 +28,8 @@ returns-clause-legal g c = λ other differ.
 
 pub returns-clause-committed : goal.returns-clause-committed
 returns-clause-committed g c =
-    committed_and_slots_stay c.legalizer_exists.ensures c.args.floor.now c.run_action.new.floor c.args.seat.now.team.now c.args.seat.now.session
-    (Legalize c.args.cell.now c.args.target.now) (c.run_action.ensures.requested c.legalizer_exists.ensures) refl
+    committed_and_settings_stay c.legalizer_exists.ensures c.args.floor.now c.run_action.new.floor c.args.seat.now.team.now c.args.seat.now.session
+    (Legalize c.args.cell.now c.args.target.now) refl (c.run_action.ensures.requested c.legalizer_exists.ensures) refl
 
 pub returns-clause-without : goal.returns-clause-without
 returns-clause-without g c = λ reach old other differ unplaced has.

@@ -4,7 +4,7 @@ use Rattle.lf_floorplan.specs.declared.frame.Frame.{Frame}
 use Rattle.lf_floor_model.specs.Teams.{team_number}
 use Rattle.lf_repair_team.specs.CellEdits.{AreMovable, IsFlagged, IsLegalOrWithoutPlace}
 use Rattle.lf_repair_team.specs.TeamRepairs.{IsIllegalIn, place_of_cell_in}
-use Rattle.lf_repair_team.proofs.LastPass.{empty_none, illegal_have_none, legal_places, movable_illegal, none_unrepaired, some_there, then_legal}
+use Rattle.lf_repair_team.proofs.LastPass.{empty_none, illegal_have_none, movable_illegal, none_affected, none_unrepaired, some_there, then_legal}
 use Rattle.lf_repair_team.proofs.OffSoft.{none_moves_onto_soft, then_off_soft}
 use Rattle.lf_repair_team.proofs.ReachLemmas.{then_within}
 use Rattle.lf_repair_team.proofs.Runs.{none_cut, nothing, then_cut, then_only, then_stay, then_written, uncut}
@@ -22,6 +22,15 @@ returns-then-is_empty-clause-unrepaired g c =
     (sym c.as_slice-2.ensures.value ∙ empty_none c.as_slice-2.result.now c.is_empty.result c.is_empty.ensures c.if-is_empty.true)
     (subst (λ (xs : List ℕ). AreMovable c.args.seat.now.impossible.now xs c.in-Ok-movable_of.movable.items) c.as_slice.ensures.value c.in-Ok-movable_of.ensures)
     c.in-Ok.ensures.named c.in-Ok.ensures.illegal c.in-Ok.ensures.rise
+
+pub returns-then-is_empty-clause-legal : goal.returns-then-is_empty-clause-legal
+returns-then-is_empty-clause-legal g c = none_affected c.args.seat.now.team.now c.args.floor.now
+
+pub returns-in_default-clause-legal : goal.returns-in_default-clause-legal
+returns-in_default-clause-legal g c = none_affected c.args.seat.now.team.now c.args.floor.now
+
+pub returns-in_default-movable_of-clause-legal : goal.returns-in_default-movable_of-clause-legal
+returns-in_default-movable_of-clause-legal g c = none_affected c.args.seat.now.team.now c.args.floor.now
 
 pub unplace_cells-requires : goal.unplace_cells-requires
 unplace_cells-requires g c =
@@ -46,24 +55,18 @@ returns-in-Err-legalize_cells-clause-only g c =
 
 pub returns-in-Err-legalize_cells-clause-legal : goal.returns-in-Err-legalize_cells-clause-legal
 returns-in-Err-legalize_cells-clause-legal g c =
-    legal_places c.args.seat.now.team.now c.args.floor.now c.legalize_cells.new.floor
-    (then_legal c.args.seat.now.team.now c.args.floor.now c.unplace_cells.new.floor c.legalize_cells.new.floor c.in-Ok-unplace_cells.ensures.legal c.in-Err-legalize_cells.ensures.legal)
+    then_legal c.args.seat.now.team.now c.args.floor.now c.unplace_cells.new.floor c.legalize_cells.new.floor c.in-Ok-unplace_cells.ensures.legal c.in-Err-legalize_cells.ensures.legal
 
 pub returns-in-Err-legalize_cells-clause-committed : goal.returns-in-Err-legalize_cells-clause-committed
 returns-in-Err-legalize_cells-clause-committed g c = c.in-Err-legalize_cells.ensures.committed ∙ c.in-Ok-unplace_cells.ensures.committed
 
 pub returns-in-Ok-illegal_cells-clause-legal : goal.returns-in-Ok-illegal_cells-clause-legal
 returns-in-Ok-illegal_cells-clause-legal g c =
-    legal_places c.args.seat.now.team.now c.args.floor.now c.legalize_cells.new.floor
-    (then_legal c.args.seat.now.team.now c.args.floor.now c.unplace_cells.new.floor c.legalize_cells.new.floor c.in-Ok-unplace_cells.ensures.legal c.in-Ok-legalize_cells.ensures.legal)
+    then_legal c.args.seat.now.team.now c.args.floor.now c.unplace_cells.new.floor c.legalize_cells.new.floor c.in-Ok-unplace_cells.ensures.legal c.in-Ok-legalize_cells.ensures.legal
 
 pub returns-clause-legal : goal.returns-clause-legal
 returns-clause-legal g c =
-    legal_places c.args.seat.now.team.now c.args.floor.now c.legalize_cells.new.floor
-    (then_legal c.args.seat.now.team.now c.args.floor.now c.unplace_cells.new.floor c.legalize_cells.new.floor c.in-Ok-unplace_cells.ensures.legal c.in-Ok-legalize_cells.ensures.legal)
-
-pub returns-in-Err-clause-legal : goal.returns-in-Err-clause-legal
-returns-in-Err-clause-legal g c = legal_places c.args.seat.now.team.now c.args.floor.now c.unplace_cells.new.floor c.in-Err.ensures.legal
+    then_legal c.args.seat.now.team.now c.args.floor.now c.unplace_cells.new.floor c.legalize_cells.new.floor c.in-Ok-unplace_cells.ensures.legal c.in-Ok-legalize_cells.ensures.legal
 
 pub returns-in-Err-legalize_cells-clause-err : goal.returns-in-Err-legalize_cells-clause-err
 returns-in-Err-legalize_cells-clause-err g c = λ l.

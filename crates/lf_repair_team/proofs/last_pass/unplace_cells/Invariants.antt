@@ -1,7 +1,7 @@
 use Rattle.std.proofs.Common.{◌≡◌, None, take}
 use Rattle.std.specs.Prelude.{All}
 use Rattle.lf_rules.specs.Legalizer.{Legalizer}
-use Rattle.lf_repair_team.specs.CellEdits.{KeepsCommittedAndSlots, KeepsLegalCells, KeepsLockedPlaces, KeepsWithin, MovesOffSoft}
+use Rattle.lf_repair_team.specs.CellEdits.{KeepsCommittedAndSettings, KeepsLegalCells, KeepsLockedPlaces, KeepsWithin, MovesOffSoft}
 use Rattle.lf_repair_team.specs.TeamRepairs.{ChangesOnly, place_of_cell_in}
 use Rattle.lf_repair_team.specs.Runs.{IsWrittenRun}
 use Rattle.lf_repair_team.proofs.last_pass.unplace_cells.Given as goal
@@ -12,7 +12,7 @@ invariant-loop-own g l = record {
   only : ChangesOnly l.seat.team.now l.fn.floor l.floor;
   legal : KeepsLegalCells l.seat.team.now l.fn.floor l.floor;
   flagged : KeepsLockedPlaces l.seat.team.now l.seat.impossible.now l.fn.floor l.floor;
-  committed : KeepsCommittedAndSlots l.seat.team.now l.seat.session l.fn.floor l.floor;
+  committed : KeepsCommittedAndSettings l.seat.team.now l.seat.session l.fn.floor l.floor;
   unplaced : All (λ own. place_of_cell_in l.floor l.seat.team.now own ≡ None) (take l.own-index l.cells);
   off_soft : MovesOffSoft l.seat.team.now l.fn.floor l.floor;
   within : KeepsWithin l.search.reach l.targets l.seat.team.now l.fn.floor l.floor;

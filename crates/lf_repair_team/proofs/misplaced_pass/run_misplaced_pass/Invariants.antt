@@ -1,6 +1,6 @@
 use Rattle.std.proofs.Common.{ℕ, ◌<◌}
 use Rattle.lf_rules.specs.Legalizer.{Legalizer}
-use Rattle.lf_repair_team.specs.CellEdits.{IsAtTargetOrOffSoft, IsWithin, KeepsCellsAtTargets, KeepsCommittedAndSlots}
+use Rattle.lf_repair_team.specs.CellEdits.{IsAtTargetOrOffSoft, IsWithin, KeepsCellsAtTargets, KeepsCommittedAndSettings}
 use Rattle.lf_repair_team.specs.TeamRepairs.{ChangesOnly}
 use Rattle.lf_repair_team.specs.Runs.{IsWrittenRun}
 use Rattle.lf_repair_team.proofs.misplaced_pass.run_misplaced_pass.Given as goal
@@ -9,7 +9,7 @@ abbrev pub invariant-loop-own : goal.invariant-loop-own
 invariant-loop-own g l = record {
   run : (lz : Legalizer) → IsWrittenRun lz l.seat.team.now l.fn.floor (g.K.Sink.contents l.fn.lines) (g.K.Sink.contents l.lines) l.floor;
   only : ChangesOnly l.seat.team.now l.fn.floor l.floor;
-  committed : KeepsCommittedAndSlots l.seat.team.now l.seat.session l.fn.floor l.floor;
+  committed : KeepsCommittedAndSettings l.seat.team.now l.seat.session l.fn.floor l.floor;
   targets : KeepsCellsAtTargets l.seat.team.now l.targets l.fn.floor l.floor;
   settled : (own : ℕ) → own < l.own → IsAtTargetOrOffSoft l.seat.team.now l.targets l.floor own;
   within : (own : ℕ) → own < l.own → IsWithin l.search.reach l.targets l.floor l.seat.team.now own;

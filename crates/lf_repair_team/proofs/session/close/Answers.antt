@@ -1,12 +1,12 @@
 use Rattle.std.proofs.Common.{◌≡◌, refl}
 use Rattle.lf_proto.specs.declared.request.TeamCommand.TheVariants.{Within}
 use Rattle.lf_proto.specs.declared.verb.Action.TheVariants.{Close}
-use Rattle.lf_repair_team.specs.CellEdits.{session_slots_without}
-use Rattle.lf_repair_team.specs.TeamRepairs.{session_slots_in}
+use Rattle.lf_repair_team.specs.CellEdits.{settings_without}
+use Rattle.lf_repair_team.specs.TeamRepairs.{settings_in}
 use Rattle.lf_repair_team.specs.Runs.{IsRunWithCutLine, IsWrittenRun}
 use Rattle.lf_repair_team.proofs.Results.{err_from, ok_from, on_ok_from}
 use Rattle.lf_repair_team.proofs.Runs.{uncut}
-use Rattle.lf_repair_team.proofs.Slots.{close_frees}
+use Rattle.lf_repair_team.proofs.Settings.{close_frees}
 use Rattle.lf_repair_team.proofs.Steps.{look_same}
 use Rattle.lf_repair_team.proofs.session.close.Goals as goal
 
@@ -33,10 +33,10 @@ returns-in-Err-clause-cells g c =
     look_same c.legalizer_exists.ensures c.args.floor.now c.run_action.new.floor c.args.seat.now.team.now (Within c.args.seat.now.session Close) c.query_keeps_state.ensures refl
     (c.in-Err.ensures.requested c.legalizer_exists.ensures)
 
-pub returns-in-Ok-clause-slots : goal.returns-in-Ok-clause-slots
-returns-in-Ok-clause-slots g c =
+pub returns-in-Ok-clause-settings : goal.returns-in-Ok-clause-settings
+returns-in-Ok-clause-settings g c =
     let l = c.legalizer_exists.ensures in
     let team = c.args.seat.now.team.now in
     let session = c.args.seat.now.session in
-    on_ok_from c.continue_unless_out_of_memory.result (session_slots_in c.run_action.new.floor team ≡ session_slots_without session c.args.floor.now team)
+    on_ok_from c.continue_unless_out_of_memory.result (settings_in c.run_action.new.floor team ≡ settings_without session c.args.floor.now team)
     (close_frees l c.args.floor.now c.run_action.new.floor team session c.in-Ok.reply (c.in-Ok.ensures.replied l))

@@ -1,11 +1,11 @@
 use Rattle.std.proofs.Common.{◌≡◌, refl}
 use Rattle.lf_proto.specs.declared.request.TeamCommand.TheVariants.{Open}
-use Rattle.lf_repair_team.specs.CellEdits.{SaysOpened, session_slots_without}
-use Rattle.lf_repair_team.specs.TeamRepairs.{session_slots_in}
+use Rattle.lf_repair_team.specs.CellEdits.{SaysOpened, settings_without}
+use Rattle.lf_repair_team.specs.TeamRepairs.{settings_in}
 use Rattle.lf_repair_team.specs.Runs.{IsRunWithCutLine, IsWrittenRun}
 use Rattle.lf_repair_team.proofs.Results.{err_from, ok_from, ok_weaker}
 use Rattle.lf_repair_team.proofs.Runs.{uncut}
-use Rattle.lf_repair_team.proofs.Slots.{open_takes_free}
+use Rattle.lf_repair_team.proofs.Settings.{open_takes_free}
 use Rattle.lf_repair_team.proofs.Steps.{look_same}
 use Rattle.lf_repair_team.proofs.session.open.Goals as goal
 
@@ -41,10 +41,10 @@ returns-in-Err-clause-cells g c =
     look_same c.legalizer_exists.ensures c.args.floor.now c.run_command.new.floor c.args.team.now Open c.query_keeps_state.ensures refl
     (c.in-Err.ensures.requested c.legalizer_exists.ensures)
 
-pub returns-in-Ok-clause-slots : goal.returns-in-Ok-clause-slots
-returns-in-Ok-clause-slots g c =
+pub returns-in-Ok-clause-settings : goal.returns-in-Ok-clause-settings
+returns-in-Ok-clause-settings g c =
     let l = c.legalizer_exists.ensures in
     let team = c.args.team.now in
     ok_weaker c.session_of.result (λ session. SaysOpened session c.in-Ok.reply)
-    (λ session. session_slots_without session c.run_command.new.floor team ≡ session_slots_in c.args.floor.now team)
+    (λ session. settings_without session c.run_command.new.floor team ≡ settings_in c.args.floor.now team)
     (λ session says. open_takes_free l c.args.floor.now c.run_command.new.floor team session c.in-Ok.reply says (c.in-Ok.ensures.replied l)) c.session_of.ensures

@@ -6,7 +6,7 @@ use Rattle.lf_repair_team.specs.Runs.{IsRunWithCutLine, IsWrittenRun}
 use Rattle.lf_repair_team.proofs.Results.{err_from, ok_from, ok_then_on}
 use Rattle.lf_repair_team.proofs.Reverting.{revert_back}
 use Rattle.lf_repair_team.proofs.Runs.{uncut}
-use Rattle.lf_repair_team.proofs.Slots.{committed_and_slots_stay}
+use Rattle.lf_repair_team.proofs.Settings.{committed_and_settings_stay}
 use Rattle.lf_repair_team.proofs.session.revert.Goals as goal
 
 pub returns-in-Ok-clause-run : goal.returns-in-Ok-clause-run
@@ -24,12 +24,12 @@ returns-in-Ok-clause-err g c = λ l.
 
 pub returns-in-Ok-clause-committed : goal.returns-in-Ok-clause-committed
 returns-in-Ok-clause-committed g c =
-    committed_and_slots_stay c.legalizer_exists.ensures c.args.floor.now c.run_action.new.floor c.args.seat.now.team.now c.args.seat.now.session Revert
+    committed_and_settings_stay c.legalizer_exists.ensures c.args.floor.now c.run_action.new.floor c.args.seat.now.team.now c.args.seat.now.session Revert refl
     (c.in-Ok.ensures.requested c.legalizer_exists.ensures) refl
 
 pub returns-in-Err-clause-committed : goal.returns-in-Err-clause-committed
 returns-in-Err-clause-committed g c =
-    committed_and_slots_stay c.legalizer_exists.ensures c.args.floor.now c.run_action.new.floor c.args.seat.now.team.now c.args.seat.now.session Revert
+    committed_and_settings_stay c.legalizer_exists.ensures c.args.floor.now c.run_action.new.floor c.args.seat.now.team.now c.args.seat.now.session Revert refl
     (c.in-Err.ensures.requested c.legalizer_exists.ensures) refl
 
 pub returns-in-Ok-clause-back : goal.returns-in-Ok-clause-back

@@ -7,7 +7,7 @@ use Rattle.lf_repair_team.specs.Runs.{IsRunWithCutLine, IsWrittenRun}
 use Rattle.lf_repair_team.proofs.Cells.{commit_stays}
 use Rattle.lf_repair_team.proofs.Results.{err_from, ok_from, ok_weaker}
 use Rattle.lf_repair_team.proofs.Runs.{uncut}
-use Rattle.lf_repair_team.proofs.Slots.{other_slots_stay}
+use Rattle.lf_repair_team.proofs.Settings.{other_settings_stay}
 use Rattle.lf_repair_team.proofs.session.try_commit.Goals as goal
 
 pub returns-in-Ok-clause-run : goal.returns-in-Ok-clause-run
@@ -48,12 +48,12 @@ returns-in-Err-clause-places g c =
     commit_stays c.legalizer_exists.ensures c.args.floor.now c.run_action.new.floor c.args.seat.now.team.now c.args.seat.now.session
     (c.in-Err.ensures.requested c.legalizer_exists.ensures)
 
-pub returns-in-Ok-clause-slots : goal.returns-in-Ok-clause-slots
-returns-in-Ok-clause-slots g c =
-    other_slots_stay c.legalizer_exists.ensures c.args.floor.now c.run_action.new.floor c.args.seat.now.team.now c.args.seat.now.session Commit
+pub returns-in-Ok-clause-settings : goal.returns-in-Ok-clause-settings
+returns-in-Ok-clause-settings g c =
+    other_settings_stay c.legalizer_exists.ensures c.args.floor.now c.run_action.new.floor c.args.seat.now.team.now c.args.seat.now.session Commit refl
     (c.in-Ok.ensures.requested c.legalizer_exists.ensures)
 
-pub returns-in-Err-clause-slots : goal.returns-in-Err-clause-slots
-returns-in-Err-clause-slots g c =
-    other_slots_stay c.legalizer_exists.ensures c.args.floor.now c.run_action.new.floor c.args.seat.now.team.now c.args.seat.now.session Commit
+pub returns-in-Err-clause-settings : goal.returns-in-Err-clause-settings
+returns-in-Err-clause-settings g c =
+    other_settings_stay c.legalizer_exists.ensures c.args.floor.now c.run_action.new.floor c.args.seat.now.team.now c.args.seat.now.session Commit refl
     (c.in-Err.ensures.requested c.legalizer_exists.ensures)

@@ -62,5 +62,5 @@ pub returns-in-Err-close-clause-places : goal.returns-in-Err-close-clause-places
 returns-in-Err-close-clause-places g c = λ own.
     same_places c.args.seat.now.team.now c.commit_if_clean.new.floor c.close.new.floor c.in-Err-close.ensures.cells own ∙ c.in-Ok-commit_if_clean.ensures.places own
 
-pub returns-in-Ok-close-clause-slots : goal.returns-in-Ok-close-clause-slots
-returns-in-Ok-close-clause-slots g c = c.in-Ok-close.ensures.slots ∙ c.in-Ok-commit_if_clean.ensures.slots
+pub returns-in-Ok-close-clause-settings : goal.returns-in-Ok-close-clause-settings
+returns-in-Ok-close-clause-settings g c = c.in-Ok-close.ensures.settings ∙ c.in-Ok-commit_if_clean.ensures.settings

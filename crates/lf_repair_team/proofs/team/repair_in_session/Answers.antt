@@ -1,16 +1,16 @@
-use Rattle.std.proofs.Common.{◌≡◌, ◌≢◌, ◌∙◌, [], Bool, List, Option, subst, sym}
+use Rattle.std.proofs.Common.{◌≡◌, ◌≢◌, ◌∙◌, [], Bool, List, ℕ, Option, subst, sym}
 use Rattle.std.specs.Prelude.{IfOk}
 use Rattle.std.proofs.lemmas.Result.{on_ok_weaker}
 use Rattle.lf_floorplan.specs.declared.place.Place.{Place}
-use Rattle.lf_repair_team.specs.CellEdits.{AreAtTargetsOrOffSoft, AreFlaggedAtTargets, AreUnrepaired, AreWithin, KeepsCommittedPlaces, KeepsLockedPlaces, TeamHasLeftTargets, TeamIsAtTargetsExcept, session_slots_without}
-use Rattle.lf_repair_team.specs.TeamRepairs.{session_slots_in}
+use Rattle.lf_repair_team.specs.CellEdits.{AreAtTargetsOrOffSoft, AreFlaggedAtTargets, AreUnrepaired, AreWithin, KeepsCommittedPlaces, KeepsLockedPlaces, NoneIsFlagged, TeamHasLeftTargets, TeamIsAtTargetsExcept, settings_without}
+use Rattle.lf_repair_team.specs.TeamRepairs.{settings_in}
 use Rattle.lf_repair_team.specs.Runs.{IsRunWithCutLine, IsWrittenRun}
 use Rattle.lf_repair_team.proofs.Legal.{same_committed, same_places}
-use Rattle.lf_repair_team.proofs.OffSoft.{flagged_in_session, locked_in_session, targets_stay}
+use Rattle.lf_repair_team.proofs.OffSoft.{flagged_in_session, locked_in_session, locked_opened, targets_stay}
 use Rattle.lf_repair_team.proofs.ReachLemmas.{reach_stays}
 use Rattle.lf_repair_team.proofs.Results.{err_then, ok_then, ok_weaker, on_ok_from}
 use Rattle.lf_repair_team.proofs.Runs.{then_cut, then_written}
-use Rattle.lf_repair_team.proofs.Slots.{committed_kept, other_slots_kept}
+use Rattle.lf_repair_team.proofs.Settings.{committed_kept, other_settings_kept}
 use Rattle.lf_repair_team.proofs.team.repair_in_session.Goals as goal
 
 pub returns-in-Err-run_passes-clause-err : goal.returns-in-Err-run_passes-clause-err
@@ -67,19 +67,19 @@ returns-clause-uncommitted g c =
     (λ found stay some. stay some ∙ committed_kept team c.in-Ok.session c.open.new.floor c.run_passes.new.floor c.in-Ok-run_passes.ensures.committed ∙ same_committed team c.args.floor.now c.open.new.floor c.in-Ok.ensures.cells)
     c.finish.ensures.uncommitted
 
-pub returns-clause-slots : goal.returns-clause-slots
-returns-clause-slots g c =
+pub returns-clause-settings : goal.returns-clause-settings
+returns-clause-settings g c =
     let team = c.args.team.now in
     let session = c.in-Ok.session in
-    on_ok_weaker c.finish.result (λ (closed : session_slots_in c.finish.new.floor team ≡ session_slots_without session c.run_passes.new.floor team). closed
-    ∙ other_slots_kept team session c.open.new.floor c.run_passes.new.floor c.in-Ok-run_passes.ensures.committed ∙ c.in-Ok.ensures.slots)
-    c.finish.ensures.slots
+    on_ok_weaker c.finish.result (λ (closed : settings_in c.finish.new.floor team ≡ settings_without session c.run_passes.new.floor team). closed
+    ∙ other_settings_kept team session c.open.new.floor c.run_passes.new.floor c.in-Ok-run_passes.ensures.committed ∙ c.in-Ok.ensures.settings)
+    c.finish.ensures.settings
 
 pub returns-clause-off_soft : goal.returns-clause-off_soft
 returns-clause-off_soft g c =
     on_ok_from c.finish.result (AreAtTargetsOrOffSoft c.args.team.now c.args.start.now.pass.targets.items c.finish.new.floor)
     (targets_stay c.args.team.now c.run_passes.new.floor c.finish.new.floor c.finish.ensures.only c.args.start.now.pass.targets.items
-    c.finish.ensures.places c.in-Ok-run_passes.ensures.off_soft)
+    c.finish.ensures.places c.in-Ok-run_passes.ensures.settled.off_soft)
 
 pub returns-in-Err-run_passes-clause-unmoved : goal.returns-in-Err-run_passes-clause-unmoved
 returns-in-Err-run_passes-clause-unmoved g c =
@@ -107,10 +107,18 @@ returns-clause-unrepaired g c =
     subst (λ (places : List (Option Place)). IfOk c.finish.result (λ found. AreUnrepaired reach places team flags c.finish.new.floor found.left.items)) same
     (subst (λ (fs : List Bool). IfOk c.finish.result (λ found. AreUnrepaired reach c.as_slice-targets.result.now team fs c.finish.new.floor found.left.items)) c.as_slice.ensures.value
     (c.finish.ensures.unrepaired reach (subst (λ (places : List (Option Place)). AreUnrepaired reach places team c.as_slice.result.now c.run_passes.new.floor c.in-Ok-run_passes.left.items) (sym same)
-    c.in-Ok-run_passes.ensures.unrepaired)))
+    c.in-Ok-run_passes.ensures.settled.unrepaired)))
 
 pub returns-clause-within : goal.returns-clause-within
 returns-clause-within g c =
     on_ok_from c.finish.result (AreWithin c.args.search.now.reach c.args.start.now.pass.targets.items c.args.team.now c.finish.new.floor)
     (reach_stays c.args.search.now.reach c.args.start.now.pass.targets.items c.args.team.now c.run_passes.new.floor c.finish.new.floor c.finish.ensures.places
-    c.in-Ok-run_passes.ensures.within)
+    c.in-Ok-run_passes.ensures.settled.within)
+
+pub returns-clause-free : goal.returns-clause-free
+returns-clause-free g c = λ locked.
+    let marks = c.args.start.now.pass.locked.items in
+    ok_weaker c.finish.result (λ found. found.left.items ≡ c.in-Ok-run_passes.left.items) (λ found. NoneIsFlagged marks found.left.items)
+    (λ found same. subst (λ (xs : List ℕ). NoneIsFlagged marks xs) (sym same)
+    (c.in-Ok-run_passes.ensures.free (locked_opened c.args.team.now marks c.args.start.now.pass.targets.items c.args.floor.now c.open.new.floor c.in-Ok.ensures.only.frame c.in-Ok.ensures.cells locked)))
+    c.finish.ensures.left

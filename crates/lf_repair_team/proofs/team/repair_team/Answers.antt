@@ -1,13 +1,14 @@
 use Rattle.std.proofs.Common.{◌≡◌, ◌∙◌, ℕ, ◌<◌, List, Vec, Global, Some, ap, subst, sym}
 use Rattle.std.specs.Prelude.{All, AllPairs}
 use Rattle.lf_floor_model.specs.Teams.{team_number}
-use Rattle.lf_repair_team.specs.TeamRepairs.{AllListedMove, AreLegalExcept, HasNoPlaceOrIsListed, IsIllegalIn, OnlyListedMove}
+use Rattle.lf_repair_team.specs.TeamRepairs.{AllListedMove, AreLegalExcept, HasNoPlaceOrIsListed, IsIllegalIn, OnlyListedMove, WasIllegal}
 use Rattle.lf_repair_team.proofs.Finding.{all_move, only_move}
 use Rattle.lf_repair_team.proofs.Legal.{none_left}
 use Rattle.lf_repair_team.proofs.MeanLemmas.{team_means_of}
 use Rattle.lf_repair_team.proofs.OffSoft.{flagged_at_start, locked_at_start, moved_off_soft, none_or_listed}
 use Rattle.lf_repair_team.proofs.ReachLemmas.{stays_within}
 use Rattle.lf_repair_team.proofs.Runs.{none_cut}
+use Rattle.lf_repair_team.proofs.Settling.{were_not_legal}
 use Rattle.lf_repair_team.proofs.StatsLemmas.{team_stats_of}
 use Rattle.lf_repair_team.proofs.team.repair_team.Goals as goal
 
@@ -16,14 +17,14 @@ items_same v w same = ap (λ (u : Vec ℕ Global). u.items) same
 
 pub returns-in-Ok-repair_in_session-clause-kept : goal.returns-in-Ok-repair_in_session-clause-kept
 returns-in-Ok-repair_in_session-clause-kept g c = λ keep own legal.
-    let flags = c.in-Ok.ensures.marked c.args.team.now keep (sym c.team_number.ensures ∙ c.in-Some.is) in
+    let flags = c.in-Ok.ensures.marked c.args.team.now (sym c.team_number.ensures ∙ c.in-Some.is) in
     c.in-Ok-repair_in_session.ensures.marked (c.in-Ok.ensures.how ∙ keep)
     (locked_at_start c.args.team.now c.args.floor.now c.in-Some.number c.in-Ok.start.pass.locked.items c.in-Ok.start.pass.targets.items (sym c.team_number.ensures ∙ c.in-Some.is)
     c.in-Ok.ensures.targets (λ k mark. flags.only legal.state legal.there k mark)) own (flags.legal own legal)
 
 pub returns-clause-kept : goal.returns-clause-kept
 returns-clause-kept g c = λ keep own legal.
-    let flags = c.in-Ok.ensures.marked c.args.team.now keep (sym c.team_number.ensures ∙ c.in-Some.is) in
+    let flags = c.in-Ok.ensures.marked c.args.team.now (sym c.team_number.ensures ∙ c.in-Some.is) in
     c.in-Err.ensures.marked (c.in-Ok.ensures.how ∙ keep)
     (locked_at_start c.args.team.now c.args.floor.now c.in-Some.number c.in-Ok.start.pass.locked.items c.in-Ok.start.pass.targets.items (sym c.team_number.ensures ∙ c.in-Some.is)
     c.in-Ok.ensures.targets (λ k mark. flags.only legal.state legal.there k mark)) own (flags.legal own legal)
@@ -119,3 +120,11 @@ pub returns-in-Ok-repair_in_session-clause-means : goal.returns-in-Ok-repair_in_
 returns-in-Ok-repair_in_session-clause-means g c =
     team_means_of c.args.team.now c.args.floor.now c.repair_in_session.new.floor c.in-Some.number c.in-Ok.start.pass.targets.items c.stats_of.result.means
     (sym c.team_number.ensures ∙ c.in-Some.is) c.in-Ok-repair_in_session.ensures.only.frame c.in-Ok-repair_in_session.ensures.only.names c.in-Ok.ensures.targets c.stats_of.ensures.means
+
+pub returns-in-Ok-repair_in_session-clause-were_illegal : goal.returns-in-Ok-repair_in_session-clause-were_illegal
+returns-in-Ok-repair_in_session-clause-were_illegal g c =
+    let team = c.args.team.now in
+    let named : team_number c.args.floor.now.frame team ≡ Some c.in-Some.number = sym c.team_number.ensures ∙ c.in-Some.is in
+    subst (λ (xs : List ℕ). All (λ own. WasIllegal c.args.floor.now team own) xs) (sym (items_same c.stats_of.result.unrepaired c.in-Ok-repair_in_session.found.left c.stats_of.ensures.left))
+    (were_not_legal team c.args.floor.now c.in-Some.number c.in-Ok.start.pass.locked.items c.in-Ok.start.pass.targets.items c.in-Ok-repair_in_session.found.left.items named
+    c.in-Ok.ensures.targets (c.in-Ok.ensures.marked team named) c.in-Ok-repair_in_session.ensures.free)

@@ -18,5 +18,6 @@ returns-in-Ok-clause-done g c = record {
   near = c.in-Ok.ensures.near;
   counted = λ s there. c.in-Ok.ensures.cells s there;
   measured = c.in-Ok.ensures.counted;
-  slots = c.in-Ok.ensures.slots;
+  settings = c.in-Ok.ensures.settings;
+  off_soft = c.in-Ok.ensures.off_soft;
 }

@@ -13,6 +13,7 @@ returns-in_ok-add-in-Ok-clause-reported g c = (
   record {
     legal = c.in-Ok.ensures.named;
     illegal = c.in-Ok.ensures.illegal;
+    were_illegal = c.in-Ok.ensures.were_illegal;
     complete = rw c.as_slice-impossible.ensures.value at c.in-Ok.ensures.complete;
     within = c.in-Ok.ensures.within;
     unmoved = rw c.as_slice-impossible.ensures.value at c.in-Ok.ensures.unmoved;
@@ -21,7 +22,7 @@ returns-in_ok-add-in-Ok-clause-reported g c = (
     means = c.in-Ok.ensures.means;
     committed = c.in-Ok.ensures.committed;
     uncommitted = c.in-Ok.ensures.uncommitted;
-    slots = c.in-Ok.ensures.slots;
+    settings = c.in-Ok.ensures.settings;
     off_soft = c.in-Ok.ensures.off_soft;
   },
 )

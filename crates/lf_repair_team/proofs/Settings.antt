@@ -1,5 +1,5 @@
--- The session slots of a team: a session is opened in a free slot, changes the slots of no other
--- session, and is closed.
+-- The padding and the session slots of a team: a session is opened in a free slot, changes the padding
+-- and the slots of no other session, and is closed.
 use Rattle.std.proofs.Common.{◌≡◌, inl, inr, ℕ, zero, suc, ◌+◌, List, [], ◌∷◌, Bool, true, false, Option, Some, None, refl, ap, ap₂, sym, ◌∙◌, subst}
 use Rattle.std.specs.Prelude.{MatchBool, is_none, position, slice_get, slice_set}
 use Rattle.std.specs.Option.{option_map}
@@ -20,14 +20,14 @@ use Rattle.lf_floor_model.specs.Outcomes.{Outcome, is_short}
 use Rattle.lf_floor_model.specs.Sessions.{closed, opened, opened_at, seen_at}
 use Rattle.lf_floor_model.specs.Steps.{Answer, IsAnswerOf, MayRunOutOfMemory, Step, answer_at, answer_of, no_team}
 use Rattle.lf_floor_model.specs.Verbs.{outcome_by_slot, outcome_of}
-use Rattle.lf_floor_model.specs.VerbLaws.{committed_places, is_commit}
+use Rattle.lf_floor_model.specs.VerbLaws.{committed_places, is_commit, is_pad}
 use Rattle.lf_floor_model.proofs.Answering.{own_answer}
 use Rattle.lf_floor_model.proofs.Cases.{Facts, order_facts}
 use Rattle.lf_floor_model.proofs.Forms.{answer_by, state_at}
-use Rattle.lf_floor_model.proofs.Kept.{committed_stay}
+use Rattle.lf_floor_model.proofs.Kept.{committed_stay, padding_stays}
 use Rattle.lf_floor_model.proofs.LegalPlaces.{none_some, some_one}
-use Rattle.lf_repair_team.specs.CellEdits.{IsUnchangedOrStepped, KeepsCommittedAndSlots, KeepsCommittedPlaces, KeepsOtherSlots, SaysOpened, committed_and_slots, session_slots_without}
-use Rattle.lf_repair_team.specs.TeamRepairs.{session_slots_in}
+use Rattle.lf_repair_team.specs.CellEdits.{IsUnchangedOrStepped, KeepsCommittedAndSettings, KeepsCommittedPlaces, KeepsOtherSettings, SaysOpened, committed_and_settings, settings_without}
+use Rattle.lf_repair_team.specs.TeamRepairs.{settings_in}
 use Rattle.lf_repair_team.proofs.Steps.{requested_step}
 
 -- ---- lists of slots
@@ -51,23 +51,28 @@ first_is_free slots session first = none (seen_at slots session) ((position-Some
   none None e = refl
   none (Some n) e = absurd cc
 
+-- the settings with the slot of this session freed
+abbrev settings_but : ℕ → TeamState → ℕ × List (Option ℕ)
+settings_but session s = (s.padding, slice_set s.slots session None)
+
 -- ---- open
 
 abbrev session_of_reply : Reply → Option ℕ
 session_of_reply (Opened session revision) = Some session
 session_of_reply _ = None
 
-opened_slots : (t : TeamRules) (s : TeamState) (session revision : ℕ) → (outcome_of t Open s).reply ≡ Opened session revision
-    → slice_set (outcome_of t Open s).team.slots session None ≡ s.slots
+opened_settings : (t : TeamRules) (s : TeamState) (session revision : ℕ) → (outcome_of t Open s).reply ≡ Opened session revision
+    → settings_but session (outcome_of t Open s).team ≡ (s.padding, s.slots)
 unfolding opened
-opened_slots t s session revision replied = go (position is_none s.slots) refl replied where
+opened_settings t s session revision replied = go (position is_none s.slots) refl replied where
   go : (o : Option ℕ) → position is_none s.slots ≡ o → (opened_at o s).reply ≡ Opened session revision
-      → slice_set (opened_at o s).team.slots session None ≡ s.slots
+      → settings_but session (opened_at o s).team ≡ (s.padding, s.slots)
   go None first is = absurd cc
   go (Some k) first is =
       let same : k ≡ session = some_one (ap session_of_reply is) in
-      subst (λ (n : ℕ). slice_set (slice_set s.slots k (Some s.revision)) n None ≡ s.slots) same
-      (freed_after s.slots k (Some s.revision) ∙ free_stays s.slots k (first_is_free s.slots k first))
+      ap (λ (slots : List (Option ℕ)). (s.padding, slots))
+      (subst (λ (n : ℕ). slice_set (slice_set s.slots k (Some s.revision)) n None ≡ s.slots) same
+      (freed_after s.slots k (Some s.revision) ∙ free_stays s.slots k (first_is_free s.slots k first)))
 
 -- a command to no team
 pub no_team_answers : (l : Legalizer) (floor : FloorState) (team : List ℕ) (order : TeamCommand (List ℕ) Place) → state_of floor team ≡ None
@@ -90,15 +95,15 @@ number_of_state floor team s there = go (team_number floor.frame team) refl ther
 
 -- a session is opened in a slot that was free
 pub open_takes_free : (l : Legalizer) (old new : FloorState) (team : List ℕ) (session : ℕ) (reply : Reply) → SaysOpened session reply → Step l old (To team Open) reply new
-    → session_slots_without session new team ≡ session_slots_in old team
+    → settings_without session new team ≡ settings_in old team
 open_takes_free l old new team session reply says step = go (state_of old team) refl where
   answer : IsAnswerOf l old (To team Open) (Opened session says.0) new
   answer = subst (λ (r : Reply). Step l old (To team Open) r new) says.1 step
 
-  freed : Option TeamState → Option (List (Option ℕ))
-  freed o = option_map (λ (s : TeamState). slice_set s.slots session None) o
+  freed : Option TeamState → Option (ℕ × List (Option ℕ))
+  freed o = option_map (settings_but session) o
 
-  go : (o : Option TeamState) → state_of old team ≡ o → session_slots_without session new team ≡ session_slots_in old team
+  go : (o : Option TeamState) → state_of old team ≡ o → settings_without session new team ≡ settings_in old team
   go None there = absurd (refused (answer.reply_is ∙ ap (λ (a : Answer). a.reply) (no_team_answers l old team Open there))) where
     refused : Opened session says.0 ≡ Refused NoTeam → ⊥
     refused e = cc
@@ -106,42 +111,46 @@ open_takes_free l old new team session reply says step = go (state_of old team) 
       let at = number_of_state old team s there in
       let own = own_answer l old team at.0 Open s at.1 there in
       ap (λ (f : FloorState). freed (state_of f team)) answer.floor_is ∙ ap freed own.1
-      ∙ ap (λ (slots : List (Option ℕ)). Some slots) (opened_slots (team_rules l old.frame at.0 s.padding) s session says.0 (sym (answer.reply_is ∙ own.0)))
-      ∙ sym (ap (λ (o : Option TeamState). option_map (λ (s : TeamState). s.slots) o) there)
+      ∙ ap (λ (settings : ℕ × List (Option ℕ)). Some settings) (opened_settings (team_rules l old.frame at.0 s.padding) s session says.0 (sym (answer.reply_is ∙ own.0)))
+      ∙ sym (ap (λ (o : Option TeamState). option_map (λ (s : TeamState). (s.padding, s.slots)) o) there)
 
 -- ---- close
 
-closed_slots : (t : TeamRules) (s : TeamState) (session : ℕ) → (outcome_of t (Within session Close) s).team.slots ≡ slice_set s.slots session None
+-- the settings
+abbrev settings_of : TeamState → ℕ × List (Option ℕ)
+settings_of s = (s.padding, s.slots)
+
+closed_settings : (t : TeamRules) (s : TeamState) (session : ℕ) → settings_of (outcome_of t (Within session Close) s).team ≡ settings_but session s
 unfolding closed
-closed_slots t s session = go (seen_at s.slots session) refl where
-  go : (o : Option ℕ) → seen_at s.slots session ≡ o → (outcome_by_slot o t session Close s).team.slots ≡ slice_set s.slots session None
-  go None free = sym (free_stays s.slots session free)
+closed_settings t s session = go (seen_at s.slots session) refl where
+  go : (o : Option ℕ) → seen_at s.slots session ≡ o → settings_of (outcome_by_slot o t session Close s).team ≡ settings_but session s
+  go None free = ap (λ (slots : List (Option ℕ)). (s.padding, slots)) (sym (free_stays s.slots session free))
   go (Some seen) taken = refl
 
 -- a close frees the session's slot
 pub close_frees : (l : Legalizer) (old new : FloorState) (team : List ℕ) (session : ℕ) (reply : Reply) → Step l old (To team (Within session Close)) reply new
-    → session_slots_in new team ≡ session_slots_without session old team
+    → settings_in new team ≡ settings_without session old team
 close_frees l old new team session reply step = short (is_short reply) step where
-  slots_of : Option TeamState → Option (List (Option ℕ))
-  slots_of o = option_map (λ (s : TeamState). s.slots) o
+  settings : Option TeamState → Option (ℕ × List (Option ℕ))
+  settings o = option_map settings_of o
 
-  freed : Option TeamState → Option (List (Option ℕ))
-  freed o = option_map (λ (s : TeamState). slice_set s.slots session None) o
+  freed : Option TeamState → Option (ℕ × List (Option ℕ))
+  freed o = option_map (settings_but session) o
 
   answered : IsAnswerOf l old (To team (Within session Close)) reply new → (o : Option TeamState) → state_of old team ≡ o
-      → session_slots_in new team ≡ session_slots_without session old team
+      → settings_in new team ≡ settings_without session old team
   answered answer None there =
-      ap (λ (f : FloorState). slots_of (state_of f team)) (answer.floor_is ∙ ap (λ (a : Answer). a.floor) (no_team_answers l old team (Within session Close) there))
-      ∙ ap slots_of there ∙ sym (ap freed there)
+      ap (λ (f : FloorState). settings (state_of f team)) (answer.floor_is ∙ ap (λ (a : Answer). a.floor) (no_team_answers l old team (Within session Close) there))
+      ∙ ap settings there ∙ sym (ap freed there)
   answered answer (Some s) there =
       let at = number_of_state old team s there in
       let own = own_answer l old team at.0 (Within session Close) s at.1 there in
-      ap (λ (f : FloorState). slots_of (state_of f team)) answer.floor_is ∙ ap slots_of own.1
-      ∙ ap (λ (slots : List (Option ℕ)). Some slots) (closed_slots (team_rules l old.frame at.0 s.padding) s session)
+      ap (λ (f : FloorState). settings (state_of f team)) answer.floor_is ∙ ap settings own.1
+      ∙ ap (λ (its : ℕ × List (Option ℕ)). Some its) (closed_settings (team_rules l old.frame at.0 s.padding) s session)
       ∙ sym (ap freed there)
 
   short : (b : Bool) → MatchBool b (MayRunOutOfMemory l old (To team (Within session Close)) new) (IsAnswerOf l old (To team (Within session Close)) reply new)
-      → session_slots_in new team ≡ session_slots_without session old team
+      → settings_in new team ≡ settings_without session old team
   short true runs = absurd (runs.takes refl)
   short false answer = answered answer (state_of old team) refl
 
@@ -151,7 +160,7 @@ abbrev session_of_order : TeamCommand (List ℕ) Place → ℕ
 session_of_order Open = 0
 session_of_order (Within session action) = session
 
--- a change of a session changes the slots of no other
+-- a change of a session changes the slot of no other
 changed_slots : (t : TeamRules) (s : TeamState) (session : ℕ) (change : Change (List ℕ) Place)
     → slice_set (outcome_of t (Within session (Changing change)) s).team.slots session None ≡ slice_set s.slots session None
 changed_slots t s session change = by (outcome_of t (Within session (Changing change)) s) (order_facts t (Within session (Changing change)) s) where
@@ -167,51 +176,60 @@ changed_slots t s session change = by (outcome_of t (Within session (Changing ch
       ∙ ap (λ (k : ℕ). slice_set (slice_set s.slots k (Some (s.revision + 1))) session None) same
       ∙ freed_after s.slots session (Some (s.revision + 1))
 
+-- nor the padding, unless it is a pad
+changed_settings : (t : TeamRules) (s : TeamState) (session : ℕ) (change : Change (List ℕ) Place) → is_pad (Within session (Changing change)) ≡ false
+    → settings_but session (outcome_of t (Within session (Changing change)) s).team ≡ settings_but session s
+changed_settings t s session change other =
+    ap₂ (λ (padding : ℕ) (slots : List (Option ℕ)). (padding, slots)) (padding_stays t (Within session (Changing change)) s other) (changed_slots t s session change)
+
 module _ (l : Legalizer) (old new : FloorState) (team : List ℕ) (session : ℕ) (change : Change (List ℕ) Place)
-    (requested : IsUnchangedOrStepped l old (To team (Within session (Changing change))) new) where
-  pub other_slots_stay : KeepsOtherSlots team session old new
-  other_slots_stay = elim (requested_step l old new team (Within session (Changing change)) requested) [
-    | inl same ↦ ap (λ (f : FloorState). session_slots_without session f team) same
+    (unpadded : is_pad (Within session (Changing change)) ≡ false) (requested : IsUnchangedOrStepped l old (To team (Within session (Changing change))) new) where
+  pub other_settings_stay : KeepsOtherSettings team session old new
+  other_settings_stay = elim (requested_step l old new team (Within session (Changing change)) requested) [
+    | inl same ↦ ap (λ (f : FloorState). settings_without session f team) same
     | inr served ↦
-        ap (λ (o : Option TeamState). option_map (λ (s : TeamState). slice_set s.slots session None) o) served.after
-        ∙ ap (λ (slots : List (Option ℕ)). Some slots) (changed_slots (team_rules l old.frame served.number served.state.padding) served.state session change)
-        ∙ sym (ap (λ (o : Option TeamState). option_map (λ (s : TeamState). slice_set s.slots session None) o) served.before)
+        ap (λ (o : Option TeamState). option_map (settings_but session) o) served.after
+        ∙ ap (λ (settings : ℕ × List (Option ℕ)). Some settings) (changed_settings (team_rules l old.frame served.number served.state.padding) served.state session change unpadded)
+        ∙ sym (ap (λ (o : Option TeamState). option_map (settings_but session) o) served.before)
   ]
 
   -- the committed places too are unchanged, unless the change is a commit
-  pub committed_and_slots_stay : is_commit (Within session (Changing change)) ≡ false → KeepsCommittedAndSlots team session old new
-  committed_and_slots_stay plain = elim (requested_step l old new team (Within session (Changing change)) requested) [
-    | inl same ↦ ap (λ (f : FloorState). committed_and_slots session f team) same
+  pub committed_and_settings_stay : is_commit (Within session (Changing change)) ≡ false → KeepsCommittedAndSettings team session old new
+  committed_and_settings_stay plain = elim (requested_step l old new team (Within session (Changing change)) requested) [
+    | inl same ↦ ap (λ (f : FloorState). committed_and_settings session f team) same
     | inr served ↦
         let t = team_rules l old.frame served.number served.state.padding in
-        ap (λ (o : Option TeamState). option_map (λ (s : TeamState). (committed_places s, slice_set s.slots session None)) o) served.after
-        ∙ ap₂ (λ (places : List (Option Place)) (slots : List (Option ℕ)). Some (places, slots)) (committed_stay t (Within session (Changing change)) served.state plain)
-        (changed_slots t served.state session change)
-        ∙ sym (ap (λ (o : Option TeamState). option_map (λ (s : TeamState). (committed_places s, slice_set s.slots session None)) o) served.before)
+        ap (λ (o : Option TeamState). option_map (λ (s : TeamState). (committed_places s, settings_but session s)) o) served.after
+        ∙ ap₂ (λ (places : List (Option Place)) (settings : ℕ × List (Option ℕ)). Some (places, settings)) (committed_stay t (Within session (Changing change)) served.state plain)
+        (changed_settings t served.state session change unpadded)
+        ∙ sym (ap (λ (o : Option TeamState). option_map (λ (s : TeamState). (committed_places s, settings_but session s)) o) served.before)
   ]
 
 -- ---- each of the two
 
-module _ (team : List ℕ) (session : ℕ) (old new : FloorState) (kept : KeepsCommittedAndSlots team session old new) where
-  abbrev first_part : Option (List (Option Place) × List (Option ℕ)) → Option (List (Option Place))
-  first_part o = option_map (λ (p : List (Option Place) × List (Option ℕ)). p.0) o
+module _ (team : List ℕ) (session : ℕ) (old new : FloorState) (kept : KeepsCommittedAndSettings team session old new) where
+  abbrev Both : Type 0
+  Both = List (Option Place) × (ℕ × List (Option ℕ))
 
-  abbrev second_part : Option (List (Option Place) × List (Option ℕ)) → Option (List (Option ℕ))
-  second_part o = option_map (λ (p : List (Option Place) × List (Option ℕ)). p.1) o
+  abbrev first_part : Option Both → Option (List (Option Place))
+  first_part o = option_map (λ (p : Both). p.0) o
 
-  abbrev both : Option TeamState → Option (List (Option Place) × List (Option ℕ))
-  both o = option_map (λ (s : TeamState). (committed_places s, slice_set s.slots session None)) o
+  abbrev second_part : Option Both → Option (ℕ × List (Option ℕ))
+  second_part o = option_map (λ (p : Both). p.1) o
+
+  abbrev both : Option TeamState → Option Both
+  both o = option_map (λ (s : TeamState). (committed_places s, settings_but session s)) o
 
   places_of_both : (o : Option TeamState) → first_part (both o) ≡ option_map committed_places o
   places_of_both None = refl
   places_of_both (Some s) = refl
 
-  slots_of_both : (o : Option TeamState) → second_part (both o) ≡ option_map (λ (s : TeamState). slice_set s.slots session None) o
-  slots_of_both None = refl
-  slots_of_both (Some s) = refl
+  settings_of_both : (o : Option TeamState) → second_part (both o) ≡ option_map (settings_but session) o
+  settings_of_both None = refl
+  settings_of_both (Some s) = refl
 
   pub committed_kept : KeepsCommittedPlaces team old new
   committed_kept = sym (places_of_both (state_of new team)) ∙ ap first_part kept ∙ places_of_both (state_of old team)
 
-  pub other_slots_kept : KeepsOtherSlots team session old new
-  other_slots_kept = sym (slots_of_both (state_of new team)) ∙ ap second_part kept ∙ slots_of_both (state_of old team)
+  pub other_settings_kept : KeepsOtherSettings team session old new
+  other_settings_kept = sym (settings_of_both (state_of new team)) ∙ ap second_part kept ∙ settings_of_both (state_of old team)
