@@ -106,17 +106,17 @@ fn performed(texts: &RowTexts<'_>, task: &Task<'_>, lines: &[u8]) -> Result<Ship
     let mut reader = lines;
     let mut written = Vec::new(texts.alloc);
     let mut faults = Vec::new(texts.alloc);
-    let mut around = Environment {
-        texts: *texts,
-        exports: KeptExport {
+    let mut around = Environment::new(
+        *texts,
+        KeptExport {
             text: Vec::new(texts.alloc),
         },
-        services: NoServices { failed: false },
-        reader: FromRead::new(&mut reader),
-        writer: ToWrite::new(&mut written),
-        faults: ToWrite::new(&mut faults),
-        progress: NoProgress,
-    };
+        NoServices { failed: false },
+        FromRead::new(&mut reader),
+        ToWrite::new(&mut written),
+        ToWrite::new(&mut faults),
+        NoProgress,
+    );
     perform_over(texts.alloc, &mut around, task);
     let exported = around.exports.text;
     written.extend_from_slice(&faults)?;

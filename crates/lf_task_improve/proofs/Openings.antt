@@ -35,11 +35,6 @@ opened_with_nets limits gives def lefs kept design netlist netted there = record
   nets_are = rw there at netted.is.nets_are;
 }
 
--- two facts of a value give what is to be shown of it
-pub ok_and : {A E : Type 0} (r : Result A E) (P R : A → Type 0) (Q : Type 0) → IfOk r P → OnOk r Q → ((value : A) → P value → Q → R value) → IfOk r R
-ok_and (Ok value) P R Q is also gives = gives value is also
-ok_and (Err fault) P R Q is also gives = tt
-
 -- a floor as loaded has as many teams as its frame
 pub begun_many : (loaded : Loaded) (floor : FloorState) → floor ≡ initial_floor loaded → length floor.teams ≡ length floor.frame.teams + 1
 begun_many loaded floor is = subst (λ (f : FloorState). length f.teams ≡ length f.frame.teams + 1) (sym is) (opening_whole loaded).0
