@@ -18,7 +18,7 @@ use Rattle.lf_io_files.specs.Shelf.{Put}
 use Rattle.lf_task_files.specs.Inputs.{path_of}
 use Rattle.lf_task_files.specs.declared.inputs.DesignInput.{DesignInput}
 use Rattle.lf_task_run.specs.Tasks.{IsTaskDone, IsTaskNotDone, Means, Request, request_of}
-use Rattle.lf_task_run.specs.declared.run_task.Job.{Job as FloorJob}
+use Rattle.lf_task_run.specs.declared.task.Job.{Job as FloorJob}
 use Rattle.lf_app.specs.JobFiles.{IsInputAt, request_at}
 
 -- The status of a fault is that of a task that failed.

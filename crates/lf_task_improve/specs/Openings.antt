@@ -37,4 +37,4 @@ pub record IsOpenedAsLoaded (gives : ReadsFile) (job : Request) (text : List ℕ
   pub teams : wires.teams.items ≡ teams_of_cells loaded
 
 abbrev pub OpensWithNets : Opens DesignWires
-OpensWithNets gives job text document loaded begin wires = IsOpenedAsLoaded gives job text document loaded begin wires
+OpensWithNets = IsOpenedAsLoaded

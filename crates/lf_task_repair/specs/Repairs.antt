@@ -16,7 +16,7 @@ use Rattle.lf_task_repair.specs.Reports.{IsReport, KeepsAllLegalPlaces, reach_of
 -- the floor is that of the design in the given state, and the limits of its repair are from the first
 -- places there
 abbrev pub OpensRepair : Opens RepairStart
-OpensRepair gives job text document loaded begin start = IsMeasuredFloor gives job.state loaded begin start.limits
+OpensRepair = λ gives job text document loaded begin start. IsMeasuredFloor gives job.state loaded begin start.limits
 
 -- why a repair has no floor: the design has none in the given state; or, if cells are to go near their
 -- nets, the pins or nets of its texts cannot be read

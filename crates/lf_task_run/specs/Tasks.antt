@@ -14,8 +14,8 @@ use Rattle.lf_task_faults.specs.declared.faults.Fault.{Fault}
 use Rattle.lf_task_faults.specs.declared.faults.Fault.TheVariants.{SetupOutOfMemory}
 use Rattle.lf_task_designs.specs.Designs.{AreKept, IsOpened, ReadsFile}
 use Rattle.lf_task_files.specs.Inputs.{path_of}
-use Rattle.lf_task_run.specs.declared.run_task.Begun.{Begun}
-use Rattle.lf_task_run.specs.declared.run_task.Job.{Job}
+use Rattle.lf_task_run.specs.declared.task.Begun.{Begun}
+use Rattle.lf_task_run.specs.declared.task.Job.{Job}
 use Rattle.lf_task_run.specs.Commands.{IsKeptRun, initial_lines}
 use Rattle.lf_task_run.specs.Outputs.{IsFileOutputFault, IsNotPut, IsPut, is_text_requested}
 use Rattle.lf_task_run.specs.Teams.{AreKnown, IsStatusOf, IsUnknown, OnlySelectedChange}

@@ -14,7 +14,7 @@
 //! - `progress`: how far a task is
 //! - `selected_teams`: the teams on which a task works
 //! - `results`: the report and the files that a task writes
-//! - `run_task`: the trait of works, and the whole task
+//! - `task`: the trait of works, and the whole task
 //!
 //! From `crates/lf_app/src/tasks.rt`:
 //!
@@ -26,11 +26,11 @@
 mod command_log;
 mod progress;
 mod results;
-mod run_task;
 mod selected_teams;
+mod task;
 
 pub use command_log::CommandLog;
 pub use progress::{NoProgress, Progress, ProgressSink, TimedProgress};
 pub use results::{TaskResults, is_text_requested, status_by};
-pub use run_task::{Begun, Job, Work, run_task};
 pub use selected_teams::{announce_team, is_selected};
+pub use task::{Begun, Job, Work, run_task};

@@ -11,7 +11,10 @@ use Rattle.lf_task_run.specs.Commands.{kept_text}
 use Rattle.lf_task_run.specs.Outputs.{IsNotPut, IsPut}
 use Rattle.lf_task_run.specs.Tasks.{IsWorkDone, request_of}
 use Rattle.lf_task_run.proofs.Ends.{memory_early, no_text, no_work, not_put, unknown_early}
-use Rattle.lf_task_run.proofs.run_task.run_task.Goals as goal
+use Rattle.lf_task_run.proofs.task.run_task.Goals as goal
+
+pub run-requires : goal.run-requires
+run-requires g c = record { whole = c.in_ok-begun.ensures.ok.whole; ready = c.in_ok-begun.ensures.ready; known = c.in_ok-all_known.ensures.ok }
 
 pub put_results-requires : goal.put_results-requires
 put_results-requires g c =
