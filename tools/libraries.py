@@ -88,7 +88,8 @@ GROUPS = {
     "tasks": Group(
         "lf_task_* lf_app lefence",
         "tasks over files. `_faults` prints faults, `_designs` opens designs, `_files` has `check`, `describe` and what"
-        " the other tasks share. `lf_app` selects the task, and `lefence` is the program",
+        " the other tasks share, and `_run` runs a work on a floor. `lf_app` selects the task, and `lefence` is the"
+        " program",
     ),
     "tests": Group("lf_tests_* lefence_rows lefence_bench", "tests in code, worked rows, and the bench of loading"),
 }
@@ -284,11 +285,11 @@ RULES = (
         "A command is answered the same over a socket, a pipe or a file.",
     ),
     Rule(
-        "lf_task_faults lf_task_designs lf_task_files lf_task_wires lf_task_serve lf_task_repair lf_task_improve lf_app"
-        " lefence",
+        "lf_task_faults lf_task_designs lf_task_files lf_task_wires lf_task_run lf_task_serve lf_task_repair"
+        " lf_task_improve lf_app lefence",
         Kind.ORDERED,
         "",
-        "What tasks share is below them. `lf_task_improve` is built on `_repair` and `_wires`.",
+        "What tasks share is below them. `lf_task_repair` and `lf_task_improve` are works that `lf_task_run` runs.",
     ),
     Rule(
         "lf_task_* -lf_task_files",
@@ -307,6 +308,12 @@ RULES = (
         Kind.UNNAMED,
         "lf_server wires -lf_wire_targets",
         "A repair is complete without connections, and all that it knows of nets is the targets that they give.",
+    ),
+    Rule(
+        "lf_task_run",
+        Kind.UNNAMED,
+        "lf_server wires lf_task_serve lf_task_wires",
+        "A task on a floor is complete without connections, and only its work knows what is opened with the floor.",
     ),
     Rule("lf_tests_*", Kind.RESERVED, "tests", "No code of the program is there for tests."),
 )

@@ -157,15 +157,15 @@ fn perform(rt: &HostRuntime, task: &Task<'_>) -> TaskExit {
         closed: &closed,
         is_silent: only_writes(task),
     };
-    let mut around = Environment {
-        texts: FsInputFiles::new(rt),
-        exports: FsOutputFiles::new(rt),
-        services: NetListener::new(rt),
-        reader: FromRead::new(&mut reader),
-        writer: ToWrite::new(&mut writer),
-        faults: ToWrite::new(&mut faults),
-        progress: TimedProgress::new(rt.alloc(), rt, pause(rt), rt.stderr()),
-    };
+    let mut around = Environment::new(
+        FsInputFiles::new(rt),
+        FsOutputFiles::new(rt),
+        NetListener::new(rt),
+        FromRead::new(&mut reader),
+        ToWrite::new(&mut writer),
+        ToWrite::new(&mut faults),
+        TimedProgress::new(rt.alloc(), rt, pause(rt), rt.stderr()),
+    );
     perform_over(rt.alloc(), &mut around, task)
 }
 

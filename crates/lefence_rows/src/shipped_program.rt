@@ -12,6 +12,7 @@ use lf_io_files::{OutputFiles, TextSource, WriteFailure};
 use lf_units::Sequence;
 use std::alloc::{AllocError, Global};
 use std::collections::VecDeque;
+use std::io::{Read, Write};
 
 /// The path of the LEF text. Every other path is that of the DEF text.
 const LEF: &str = "row.lef";
@@ -101,24 +102,36 @@ pub struct Shipped {
     pub exported: Vec<u8>,
 }
 
+/// Does the task over these texts and streams. Returns the exported text.
+fn exported_by<R: Read, W: Write, F: Write>(
+    texts: &RowTexts<'_>,
+    task: &Task<'_>,
+    reader: &mut R,
+    writer: &mut W,
+    faults: &mut F,
+) -> Vec<u8> {
+    let exports = KeptExport {
+        text: Vec::new(texts.alloc),
+    };
+    let mut around = Environment::new(
+        *texts,
+        exports,
+        NoServices { failed: false },
+        FromRead::new(reader),
+        ToWrite::new(writer),
+        ToWrite::new(faults),
+        NoProgress,
+    );
+    perform_over(texts.alloc, &mut around, task);
+    around.exports.text
+}
+
 /// Does the task over these texts and lines. The lines of a fault follow what is written.
 fn performed(texts: &RowTexts<'_>, task: &Task<'_>, lines: &[u8]) -> Result<Shipped, AllocError> {
     let mut reader = lines;
     let mut written = Vec::new(texts.alloc);
     let mut faults = Vec::new(texts.alloc);
-    let mut around = Environment {
-        texts: *texts,
-        exports: KeptExport {
-            text: Vec::new(texts.alloc),
-        },
-        services: NoServices { failed: false },
-        reader: FromRead::new(&mut reader),
-        writer: ToWrite::new(&mut written),
-        faults: ToWrite::new(&mut faults),
-        progress: NoProgress,
-    };
-    perform_over(texts.alloc, &mut around, task);
-    let exported = around.exports.text;
+    let exported = exported_by(texts, task, &mut reader, &mut written, &mut faults);
     written.extend_from_slice(&faults)?;
     Ok(Shipped { written, exported })
 }

@@ -1,10 +1,10 @@
 -- Tasks over a loaded design.
-use Rattle.std.proofs.Common.{◌≡◌, ◌⊎◌, arith, inl, inr, ℕ}
-use Rattle.std.specs.Prelude.{IfErr, Result}
+use Rattle.std.proofs.Common.{◌≡◌, ◌⊎◌, ◌∙◌, arith, ap, inl, inr, map, subst, sym, List, Option, ℕ}
+use Rattle.std.specs.Prelude.{IfErr, IfOk, Result}
 use Rattle.std.proofs.lemmas.Result.{IfErr-weaker}
 use Rattle.lf_cli.specs.declared.parse.Task.{Task}
 use Rattle.lf_cli.specs.declared.parse.Task.TheVariants.{Demo, Replay, Serve, Check, Describe, Improve, Repair, Wirelength}
-use Rattle.lf_cli.specs.Command.{Job, ReadsNone, as_job, check, demo, describe, improve, repair, replay, serve, wirelength}
+use Rattle.lf_cli.specs.Command.{Job, ReadsNone, RepairPaths, repair_paths, as_job, check, demo, describe, improve, repair, replay, serve, wirelength}
 use Rattle.lf_task_faults.specs.declared.faults.Fault.{Fault}
 use Rattle.lf_task_faults.specs.declared.faults.Fault.TheVariants.{Refused, File, RefusedState, NoTeam, ReadFault, WriteFault, TooManyLines, OutOfMemory, Output, Bind, Accept, NotWritten, SetupOutOfMemory, OutputOutOfMemory}
 use Rattle.lf_task_designs.specs.Designs.{ReadsFile}
@@ -12,6 +12,14 @@ use Rattle.lf_task_faults.specs.Faults.{status_of}
 use Rattle.lf_app.specs.Exits.{IsJobOutcome}
 use Rattle.lf_task_serve.specs.Exits.{Streams}
 use Rattle.lf_task_files.specs.Faults.{IsDone, IsFailure}
+use Rattle.std.specs.Borrow.{Bor}
+use Rattle.lf_floorplan.specs.declared.limits.Limits.{Limits}
+use Rattle.lf_io_files.specs.Shelf.{Put}
+use Rattle.lf_task_files.specs.Inputs.{path_of}
+use Rattle.lf_task_files.specs.declared.inputs.DesignInput.{DesignInput}
+use Rattle.lf_task_run.specs.Tasks.{IsTaskDone, IsTaskNotDone, Means, Request, request_of}
+use Rattle.lf_task_run.specs.declared.task.Job.{Job as FloorJob}
+use Rattle.lf_app.specs.JobFiles.{IsInputAt, request_at}
 
 -- The status of a fault is that of a task that failed.
 pub failing : (fault : Fault) (status : ℕ) → status ≡ status_of fault → IsFailure status
@@ -45,8 +53,12 @@ succeeds gives (serve def lefs state number port connections save export) io sta
 succeeds gives (check def lefs state number committed) io status (limits, slots, is) = is.2.done
 succeeds gives (describe def lefs state number) io status (limits, slots, is) = is.shown.2.done
 succeeds gives (wirelength def lefs state number) io status (limits, slots, is) = inl is.3
-succeeds gives (repair def lefs state number teams options files) io status (limits, slots, is) = is.repaired.committed_checked.done
-succeeds gives (improve def lefs number teams within options files) io status (limits, slots, is) = is.improved.committed_checked.done
+succeeds gives (repair def lefs state number teams options files) io status (limits, slots, is) = is.done.committed_checked.done
+succeeds gives (improve def lefs number teams within options files) io status (limits, slots, is) = is.done.committed_checked.done
+
+-- An outcome with this status is one with an equal status.
+pub ends_with_status : (gives : ReadsFile) (job : Job) (io : Streams) (given status : ℕ) → status ≡ given → IsJobOutcome gives job io given → IsJobOutcome gives job io status
+ends_with_status gives job io given status same is = subst (λ (n : ℕ). IsJobOutcome gives job io n) (sym same) is
 
 -- Only a check, a description, a repair or an improvement has status 4.
 pub checked : (gives : ReadsFile) (task : Task) (io : Streams) (status : ℕ) → IsJobOutcome gives (as_job task) io status → status ≡ 4 → ReadsNone task
@@ -71,3 +83,31 @@ stops_untouched r nothing work also more same untouched is keeps gives =
     by : (fault : Fault) → (nothing fault × same) ⊎ work fault → (nothing fault × untouched) ⊎ work fault
     by fault (inl none) = inl (none.0, keeps none.1)
     by fault (inr some) = inr some
+
+-- ---- jobs on a floor
+
+-- A job on the files of an input requests them.
+pub requested_at : (limits : Limits) (def : List ℕ) (lefs : List (List ℕ)) (state : Option (List ℕ)) (teams : List (List ℕ)) (files : RepairPaths) (input : DesignInput)
+    (names : List (Bor (List ℕ))) (job : FloorJob) → IsInputAt limits def lefs state input → job.input ≡ input → job.teams.now ≡ names → map (λ team. team.now) names ≡ teams
+    → repair_paths job.files ≡ files → request_of job ≡ request_at limits def lefs state teams files
+requested_at limits def lefs state teams files input names job i same listed named written =
+    ap (λ (x : DesignInput). request_at x.limits x.def.now (map (λ lef. lef.now) x.lefs.now) (path_of x.state) (map (λ team. team.now) job.teams.now) (repair_paths job.files)) same
+    ∙ ap (λ (x : Limits). request_at x input.def.now (map (λ lef. lef.now) input.lefs.now) (path_of input.state) (map (λ team. team.now) job.teams.now) (repair_paths job.files)) i.limits_are
+    ∙ ap (λ (x : List ℕ). request_at limits x (map (λ lef. lef.now) input.lefs.now) (path_of input.state) (map (λ team. team.now) job.teams.now) (repair_paths job.files)) i.def_is
+    ∙ ap (λ (x : List (List ℕ)). request_at limits def x (path_of input.state) (map (λ team. team.now) job.teams.now) (repair_paths job.files)) i.lefs_are
+    ∙ ap (λ (x : Option (List ℕ)). request_at limits def lefs x (map (λ team. team.now) job.teams.now) (repair_paths job.files)) i.state_is
+    ∙ ap (λ (x : List (Bor (List ℕ))). request_at limits def lefs state (map (λ team. team.now) x) (repair_paths job.files)) listed
+    ∙ ap (λ (x : List (List ℕ)). request_at limits def lefs state x (repair_paths job.files)) named
+    ∙ ap (λ (x : RepairPaths). request_at limits def lefs state teams x) written
+
+-- A task is done if it is for an equal request.
+pub done_at : {Opened : Type 0} (work : Means Opened) (gives : ReadsFile) (a b : Request) → a ≡ b → (r : Result ℕ Fault) (before after : Option (List ℕ))
+    (old new : Option (List Put)) → IfOk r (IsTaskDone work gives a before after old new) → IfOk r (IsTaskDone work gives b before after old new)
+done_at work gives a b same r before after old new is = subst (λ (q : Request). IfOk r (IsTaskDone work gives q before after old new)) same is
+
+-- The same for a task that is not done, with a further claim about its fault.
+pub not_done_at : {Opened : Type 0} (work : Means Opened) (gives : ReadsFile) (a b : Request) → a ≡ b → (r : Result ℕ Fault) (before after : Option (List ℕ))
+    (old new : Option (List Put)) (also more : Fault → Type 0) → IfErr r (λ fault. IsTaskNotDone work gives a before after old new fault × also fault)
+    → ((fault : Fault) → also fault → more fault) → IfErr r (λ fault. IsTaskNotDone work gives b before after old new fault × more fault)
+not_done_at work gives a b same r before after old new also more is implies =
+    IfErr-weaker r _ _ (λ fault both. (subst (λ (q : Request). IsTaskNotDone work gives q before after old new fault) same both.0, implies fault both.1)) is

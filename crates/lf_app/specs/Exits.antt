@@ -14,14 +14,14 @@ use Rattle.lf_task_designs.specs.Designs.{AreWithSlots, ReadsFile, IsDesignFault
 use Rattle.lf_task_faults.specs.Faults.{EndsWith}
 use Rattle.lf_task_serve.specs.Lines.{default_most_lines}
 use Rattle.lf_task_files.specs.States.{IsFloorFault, IsViewedDesignOf}
-use Rattle.lf_task_files.specs.Exits.{IsOpenDescribed}
-use Rattle.lf_task_serve.specs.Exits.{AnswersInput, EndsWithFault, IsJobStop, IsLinesFault, IsOffered}
+use Rattle.lf_task_files.specs.Exits.{IsOpenDescribed, IsOpenUndescribed, IsReported}
+use Rattle.lf_task_serve.specs.Exits.{AnswersInput, EndsWithFault, IsJobStop, IsLinesFault, IsOffered, IsServiceFault, IsUndone, IsServedDesign, Streams}
 use Rattle.lf_task_wires.specs.Wirelengths.{IsMeasured, IsNotMeasured}
-use Rattle.lf_task_repair.specs.Exits.{IsNotRepaired, IsOpenRepaired}
-use Rattle.lf_task_repair.specs.Repairs.{WritesExportAlone, WritesNoFile}
-use Rattle.lf_task_improve.specs.Exits.{IsNotImproved, IsOpenImproved}
-use Rattle.lf_task_files.specs.Exits.{IsOpenUndescribed, IsReported}
-use Rattle.lf_task_serve.specs.Exits.{IsServiceFault, IsUndone, IsServedDesign, Streams}
+use Rattle.lf_task_run.specs.Outputs.{WritesExportAlone, WritesNoFile}
+use Rattle.lf_task_run.specs.Tasks.{IsTaskDone, IsTaskNotDone}
+use Rattle.lf_task_repair.specs.Repairs.{repair_means}
+use Rattle.lf_task_improve.specs.Works.{improve_means}
+use Rattle.lf_app.specs.JobFiles.{request_at}
 
 -- A task ends with a fault of this kind.
 abbrev pub EndsTask : (Fault → Type 0) → Option (List ℕ) → Option (List ℕ) → Bool → TaskExit → Type 0
@@ -93,9 +93,11 @@ IsOutcomeWithin limits gives (describe def lefs state slots) io status =
 IsOutcomeWithin limits gives (wirelength def lefs state slots) io status =
     IsMeasured limits gives def lefs state io.before io.after status
 IsOutcomeWithin limits gives (repair def lefs state slots teams options files) io status =
-    IsOpenRepaired limits gives def lefs state teams options files io.before io.after io.old_puts io.new_puts status
+    IsTaskDone (repair_means options) gives (request_at limits def lefs state teams files) io.before io.after
+    io.old_puts io.new_puts status
 IsOutcomeWithin limits gives (improve def lefs slots teams within options files) io status =
-    IsOpenImproved limits gives def lefs teams within files io.before io.after io.old_puts io.new_puts status
+    IsTaskDone (improve_means within) gives (request_at limits def lefs None teams files) io.before io.after
+    io.old_puts io.new_puts status
 
 -- The outcome of a job that succeeds, with this status.
 abbrev pub IsJobOutcome : ReadsFile → Job → Streams → ℕ → Type 0
@@ -128,9 +130,11 @@ IsJobFaultWithin limits gives (describe def lefs state slots) fault io =
 IsJobFaultWithin limits gives (wirelength def lefs state slots) fault io =
     IsNotMeasured limits gives def lefs state io.before io.after fault
 IsJobFaultWithin limits gives (repair def lefs state slots teams options files) fault io =
-    IsNotRepaired limits gives def lefs state teams options files io.before io.after io.old_puts io.new_puts fault
+    IsTaskNotDone (repair_means options) gives (request_at limits def lefs state teams files) io.before io.after
+    io.old_puts io.new_puts fault
 IsJobFaultWithin limits gives (improve def lefs slots teams within options files) fault io =
-    IsNotImproved limits gives def lefs teams within files io.before io.after io.old_puts io.new_puts fault
+    IsTaskNotDone (improve_means within) gives (request_at limits def lefs None teams files) io.before io.after
+    io.old_puts io.new_puts fault
 
 -- Why a job fails.
 abbrev pub IsJobFault : ReadsFile → Job → Fault → Streams → Type 0

@@ -1,10 +1,11 @@
 -- The files that a job reads and writes, as its functions receive them.
 use Rattle.std.specs.Prelude.{◌≡◌, List, None, Option, map, ℕ}
 use Rattle.lf_floorplan.specs.declared.limits.Limits.{Limits}
-use Rattle.lf_cli.specs.Command.{Job, check, demo, describe, improve, repair, replay, serve, wirelength}
+use Rattle.lf_cli.specs.Command.{Job, RepairPaths, check, demo, describe, improve, repair, replay, serve, wirelength}
 use Rattle.lf_task_files.specs.declared.inputs.DesignInput.{DesignInput}
 use Rattle.lf_task_files.specs.declared.outputs.OutputPaths.{OutputPaths}
 use Rattle.lf_task_files.specs.Inputs.{path_of}
+use Rattle.lf_task_run.specs.Tasks.{Request}
 
 -- The input has these paths and limits.
 pub record IsInputAt (limits : Limits) (def : List ℕ) (lefs : List (List ℕ)) (state : Option (List ℕ))
@@ -35,3 +36,8 @@ abbrev pub AreOutputsOf : Job → OutputPaths → Type 0
 AreOutputsOf (replay def lefs state slots lines save export) outputs = AreOutputsAt save export outputs
 AreOutputsOf (serve def lefs state slots port connections save export) outputs = AreOutputsAt save export outputs
 AreOutputsOf job outputs = Unit {0}
+
+-- What a repair or an improvement requests.
+abbrev pub request_at : Limits → List ℕ → List (List ℕ) → Option (List ℕ) → List (List ℕ) → RepairPaths → Request
+request_at limits def lefs state teams files =
+    record { limits = limits; def = def; lefs = lefs; state = state; teams = teams; files = files }

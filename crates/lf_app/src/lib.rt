@@ -6,7 +6,7 @@
 //! `command_of`, `Help` and `help_of` come from `lf_cli`. `InputFiles` comes from
 //! `lf_task_designs`, which reads and loads designs. `Fault` and `TaskExit` come from
 //! `lf_task_faults`, which prints faults. `PortListener` and `serve_lines_within` come from
-//! `lf_task_serve`, and `Progress` from `lf_task_repair`.
+//! `lf_task_serve`, and `Progress` from `lf_task_run`.
 //!
 //! Status 0 or 4: the task succeeded, and no fault is written. The design is that of the LEF files,
 //! in the order of the words, and of the DEF file. Its limits are the standard ones, except the
@@ -77,6 +77,8 @@ pub use lf_task_faults::{
     BindFailure, Compression, Fault, FenceLine, Hint, OutputKind, ReadFailure, ReadFailureKind,
     Remark, StateRefusal, TaskExit, TextFile, TextKind, TextRefusal, status_of, write_fault,
 };
-pub use lf_task_repair::{NoProgress, Progress, TimedProgress};
-pub use lf_task_serve::{Environment, NetListener, PortListener, serve_lines_within};
+pub use lf_task_run::{NoProgress, Progress, TimedProgress};
+pub use lf_task_serve::{
+    Devices, DevicesOf, Environment, NetListener, PortListener, Shows, serve_lines_within,
+};
 pub use tasks::{perform, perform_over};

@@ -12,9 +12,8 @@ ghost use Rattle.lf_task_files.specs.Faults.{IsDone, IsFailure};
 ghost use Rattle.lf_task_files.specs.Inputs.{path_of};
 ghost use Rattle.lf_task_serve.specs.Faults.{BlamesStreams};
 ghost use Rattle.lf_task_serve.specs.Lines.{default_most_lines};
-ghost use Rattle.lf_task_serve.specs.Surroundings.{BlamesEnvironment, IsReady, KeepsDevices, io_of};
-ghost use Rattle.lf_app.specs.Exits.{NamesNoFile, NamesNoState, EndsTask, IsJobFault, IsJobFaultWithin, IsJobOutcome, IsOutcomeWithin, ReadsNoInput, RepairsNothing};
-ghost use Rattle.lf_app.specs.Exits.{reads_of, job_slots};
+ghost use Rattle.lf_task_serve.specs.Surroundings.{BlamesEnvironment, IsReady, KeepsStreams, streams_of};
+ghost use Rattle.lf_app.specs.Exits.{NamesNoFile, NamesNoState, EndsTask, IsJobFault, IsJobFaultWithin, IsJobOutcome, IsOutcomeWithin, ReadsNoInput, RepairsNothing, reads_of, job_slots};
 ghost use Rattle.lf_app.specs.JobFiles.{AreOutputsOf, IsInputAt, IsInputOf};
 ghost use Rattle.lf_app.specs.Offers.{IsOfferOf};
 
@@ -22,15 +21,16 @@ use lf_cli::{ImproveOptions, RepairFiles, RepairOptions, Slots, Task};
 use lf_def::DEMO_DEF;
 use lf_frame::Limits;
 use lf_io::{FromRead, Sink, Source, ToWrite};
-use lf_io_files::{FsOutputFiles, OutputFiles};
+use lf_io_files::FsOutputFiles;
 use lf_lef::DEMO_LEF;
-use lf_task_designs::{FsInputFiles, InputFiles, limits_for, load_texts};
+use lf_task_designs::{FsInputFiles, limits_for, load_texts};
 use lf_task_faults::{Fault, TaskExit, exit_with, report_fault};
 use lf_task_files::{DesignInput, OutputPaths, check, describe_files};
-use lf_task_improve::{ImproveJob, improve};
-use lf_task_repair::{NoProgress, Progress, RepairJob, repair};
+use lf_task_improve::Improve;
+use lf_task_repair::Repair;
+use lf_task_run::{Job, NoProgress, run_task};
 use lf_task_serve::{
-    Environment, LineSource, NetListener, PortListener, serve_files, serve_loaded,
+    Devices, Environment, LineSource, NetListener, Shows, serve_files, serve_loaded,
 };
 use lf_task_wires::wirelength;
 use std::alloc::Global;
@@ -151,92 +151,66 @@ fn outputs_of<'a>(task: &'a Task<'_>) -> OutputPaths<'a>
     }
 }
 
-/// Returns the repair of these teams of the design of the files.
-fn repair_job<'a>(
-    inputs: DesignInput<'a>,
-    teams: &'a [&'a str],
-    options: RepairOptions,
-    files: RepairFiles<'a>,
-) -> RepairJob<'a>
-    ensures def { result.def ≡ inputs.entry.def }
-    ensures lefs { result.lefs ≡ inputs.entry.lefs }
+/// Returns the job on these teams of the design of the files.
+fn job_of<'a>(input: DesignInput<'a>, teams: &'a [&'a str], files: RepairFiles<'a>) -> Job<'a>
+    ensures input { result.input ≡ input.entry }
     ensures teams { result.teams.now ≡ teams.now }
-    ensures options { result.options ≡ options }
-    ensures state { path_of result.state ≡ path_of inputs.entry.state }
     ensures files { repair_paths result.files ≡ repair_paths files.entry }
-    ensures limits { result.limits ≡ inputs.entry.limits }
 {
-    RepairJob {
-        def: inputs.def,
-        lefs: inputs.lefs,
-        state: inputs.state,
+    Job {
+        input,
         teams,
-        options,
         files,
-        limits: inputs.limits,
     }
 }
 
-/// Returns the improvement of these teams of the design of the files, which has no saved state.
-fn improve_job<'a>(
-    inputs: DesignInput<'a>,
-    teams: &'a [&'a str],
-    within: Option<u32>,
-    options: ImproveOptions,
-    files: RepairFiles<'a>,
-) -> ImproveJob<'a>
-    ensures def { result.def ≡ inputs.entry.def }
-    ensures lefs { result.lefs ≡ inputs.entry.lefs }
-    ensures teams { result.teams.now ≡ teams.now }
+/// Returns the repair with these options.
+fn repair_of(options: RepairOptions) -> Repair
+    ensures { result.options ≡ options }
+{
+    Repair { options }
+}
+
+/// Returns the improvement within this distance and with these options.
+fn improvement_of(within: Option<u32>, options: ImproveOptions) -> Improve
     ensures within { result.within ≡ within }
     ensures options { result.options ≡ options }
-    ensures files { repair_paths result.files ≡ repair_paths files.entry }
-    ensures limits { result.limits ≡ inputs.entry.limits }
 {
-    ImproveJob {
-        def: inputs.def,
-        lefs: inputs.lefs,
-        teams,
-        within,
-        options,
-        files,
-        limits: inputs.limits,
-    }
+    Improve { within, options }
 }
 
 /// Does the task on a design within these limits, and returns its exit status.
-fn outcome_within<
-    'a,
-    T: InputFiles,
-    E: OutputFiles,
-    V: PortListener,
-    R: Source,
-    W: Sink,
-    F,
-    P: Progress,
->(
+fn outcome_within<'a, D: Devices>(
     alloc: Global,
-    around: &mut Environment<T, E, V, R, W, F, P>,
+    around: &mut Environment<D>,
     task: &'a Task<'_>,
     limits: Limits,
 ) -> Result<u8, Fault<'a>>
-    requires ready { IsReady R.has_failed R.reads W.has_failed around.old.reader around.old.writer }
-    ensures ok { IfOk result (IsOutcomeWithin limits (T.gives around.old.texts) (as_job task.now)
-        (io_of R.remaining W.contents E.puts V.accepted around.old around.new)) }
-    ensures err { IfErr result (λ fault. IsJobFaultWithin limits (T.gives around.old.texts) (as_job task.now) fault
-        (io_of R.remaining W.contents E.puts V.accepted around.old around.new)
-        × BlamesEnvironment E.has_failed V.has_failed R.has_failed R.reads W.has_failed
-        (reads_of (as_job task.now)) around.old around.new fault) }
+    requires ready { IsReady D.Reader.has_failed D.Reader.reads D.Writer.has_failed around.old.reader around.old.writer }
+    ensures ok { let io = ⟦<Environment<D> as Shows>⟧.io in
+        IfOk result (IsOutcomeWithin limits (D.Texts.gives around.old.texts) (as_job task.now)
+        (streams_of (io around.old) (io around.new))) }
+    ensures err { let io = ⟦<Environment<D> as Shows>⟧.io in
+        IfErr result (λ fault. IsJobFaultWithin limits (D.Texts.gives around.old.texts) (as_job task.now) fault
+        (streams_of (io around.old) (io around.new))
+        × BlamesEnvironment
+        (reads_of (as_job task.now)) (around.new.writer ≡ around.old.writer)
+        (io around.old) (io around.new) fault) }
     ensures unread { ReadsNoInput (as_job task.now) → around.new.reader ≡ around.old.reader }
-    ensures unput { NamesNoState (as_job task.now)
-        → OnErr result (E.puts around.new.exports ≡ E.puts around.old.exports) }
+    ensures unput { let io = ⟦<Environment<D> as Shows>⟧.io in
+        NamesNoState (as_job task.now)
+        → OnErr result ((io around.new).puts ≡ (io around.old).puts) }
     ensures unasked { NamesNoFile (as_job task.now) → around.new.exports ≡ around.old.exports }
-    ensures offered { OnOk result
-        (IsOfferOf (as_job task.now) (V.offers around.old.services) (V.offers around.new.services)) }
-    ensures unoffered { (V.offers around.new.services ≡ V.offers around.old.services)
-        ⊎ IsOfferOf (as_job task.now) (V.offers around.old.services) (V.offers around.new.services) }
+    ensures offered { let io = ⟦<Environment<D> as Shows>⟧.io in
+        OnOk result
+        (IsOfferOf (as_job task.now) (io around.old).offers (io around.new).offers) }
+    ensures unoffered { let io = ⟦<Environment<D> as Shows>⟧.io in
+        ((io around.new).offers ≡ (io around.old).offers)
+        ⊎ IsOfferOf (as_job task.now) (io around.old).offers (io around.new).offers }
     ensures silent { RepairsNothing (as_job task.now) → around.new.progress ≡ around.old.progress }
-    ensures keeps { KeepsDevices R.holds W.holds around.old around.new }
+    ensures texts { around.new.texts ≡ around.old.texts }
+    ensures unreported { around.new.faults ≡ around.old.faults }
+    ensures keeps { let io = ⟦<Environment<D> as Shows>⟧.io in KeepsStreams (io around.old) (io around.new) }
 {
     let inputs = input_of(task, limits);
     match task {
@@ -267,11 +241,12 @@ fn outcome_within<
             files,
             ..
         } => {
-            let requested = repair_job(inputs, teams.as_slice(), *options, *files);
+            let job = job_of(inputs, teams.as_slice(), *files);
+            let work = repair_of(*options);
             let exports = &mut around.exports;
             let writer = &mut around.writer;
             let progress = &mut around.progress;
-            repair(alloc, &around.texts, exports, writer, progress, &requested)
+            run_task(alloc, &around.texts, exports, writer, progress, &job, &work)
         }
         Task::Improve {
             teams,
@@ -280,11 +255,12 @@ fn outcome_within<
             files,
             ..
         } => {
-            let requested = improve_job(inputs, teams.as_slice(), *within, *options, *files);
+            let job = job_of(inputs, teams.as_slice(), *files);
+            let work = improvement_of(*within, *options);
             let exports = &mut around.exports;
             let writer = &mut around.writer;
             let progress = &mut around.progress;
-            improve(alloc, &around.texts, exports, writer, progress, &requested)
+            run_task(alloc, &around.texts, exports, writer, progress, &job, &work)
         }
     }
 }
@@ -306,28 +282,36 @@ fn slots_of(task: &Task<'_>) -> Slots
 }
 
 /// Does the task, and returns its exit status.
-fn outcome<'a, T: InputFiles, E: OutputFiles, V: PortListener, R: Source, W: Sink, F, P: Progress>(
+fn outcome<'a, D: Devices>(
     alloc: Global,
-    around: &mut Environment<T, E, V, R, W, F, P>,
+    around: &mut Environment<D>,
     task: &'a Task<'_>,
 ) -> Result<u8, Fault<'a>>
-    requires ready { IsReady R.has_failed R.reads W.has_failed around.old.reader around.old.writer }
-    ensures ok { IfOk result (IsJobOutcome (T.gives around.old.texts) (as_job task.now)
-        (io_of R.remaining W.contents E.puts V.accepted around.old around.new)) }
-    ensures err { IfErr result (λ fault. IsJobFault (T.gives around.old.texts) (as_job task.now) fault
-        (io_of R.remaining W.contents E.puts V.accepted around.old around.new)
-        × BlamesEnvironment E.has_failed V.has_failed R.has_failed R.reads W.has_failed
-        (reads_of (as_job task.now)) around.old around.new fault) }
+    requires ready { IsReady D.Reader.has_failed D.Reader.reads D.Writer.has_failed around.old.reader around.old.writer }
+    ensures ok { let io = ⟦<Environment<D> as Shows>⟧.io in
+        IfOk result (IsJobOutcome (D.Texts.gives around.old.texts) (as_job task.now)
+        (streams_of (io around.old) (io around.new))) }
+    ensures err { let io = ⟦<Environment<D> as Shows>⟧.io in
+        IfErr result (λ fault. IsJobFault (D.Texts.gives around.old.texts) (as_job task.now) fault
+        (streams_of (io around.old) (io around.new))
+        × BlamesEnvironment
+        (reads_of (as_job task.now)) (around.new.writer ≡ around.old.writer)
+        (io around.old) (io around.new) fault) }
     ensures unread { ReadsNoInput (as_job task.now) → around.new.reader ≡ around.old.reader }
-    ensures unput { NamesNoState (as_job task.now)
-        → OnErr result (E.puts around.new.exports ≡ E.puts around.old.exports) }
+    ensures unput { let io = ⟦<Environment<D> as Shows>⟧.io in
+        NamesNoState (as_job task.now)
+        → OnErr result ((io around.new).puts ≡ (io around.old).puts) }
     ensures unasked { NamesNoFile (as_job task.now) → around.new.exports ≡ around.old.exports }
-    ensures offered { OnOk result
-        (IsOfferOf (as_job task.now) (V.offers around.old.services) (V.offers around.new.services)) }
-    ensures unoffered { (V.offers around.new.services ≡ V.offers around.old.services)
-        ⊎ IsOfferOf (as_job task.now) (V.offers around.old.services) (V.offers around.new.services) }
+    ensures offered { let io = ⟦<Environment<D> as Shows>⟧.io in
+        OnOk result
+        (IsOfferOf (as_job task.now) (io around.old).offers (io around.new).offers) }
+    ensures unoffered { let io = ⟦<Environment<D> as Shows>⟧.io in
+        ((io around.new).offers ≡ (io around.old).offers)
+        ⊎ IsOfferOf (as_job task.now) (io around.old).offers (io around.new).offers }
     ensures silent { RepairsNothing (as_job task.now) → around.new.progress ≡ around.old.progress }
-    ensures keeps { KeepsDevices R.holds W.holds around.old around.new }
+    ensures texts { around.new.texts ≡ around.old.texts }
+    ensures unreported { around.new.faults ≡ around.old.faults }
+    ensures keeps { let io = ⟦<Environment<D> as Shows>⟧.io in KeepsStreams (io around.old) (io around.new) }
 {
     let limits = limits_for(slots_of(task));
     outcome_within(alloc, around, task, limits)
@@ -359,43 +343,45 @@ fn outcome<'a, T: InputFiles, E: OutputFiles, V: PortListener, R: Source, W: Sin
 /// Only the demo and a replay read from the reader. If there is no fault, the exported text is
 /// written at the end to `exports`, then those of a repair or an improvement, and then the state. No
 /// other text is ever written there. Only the requested port of this machine is served.
-pub fn perform_over<
-    T: InputFiles,
-    E: OutputFiles,
-    V: PortListener,
-    R: Source,
-    W: Sink,
-    F: Sink,
-    P: Progress,
->(alloc: Global, around: &mut Environment<T, E, V, R, W, F, P>, task: &Task<'_>) -> TaskExit
-    requires readable { R.has_failed around.old.reader ≡ false }
-    requires fresh { R.reads around.old.reader ≡ 0 }
-    requires writable { W.has_failed around.old.writer ≡ false }
+pub fn perform_over<D: Devices>(
+    alloc: Global,
+    around: &mut Environment<D>,
+    task: &Task<'_>,
+) -> TaskExit
+    requires readable { D.Reader.has_failed around.old.reader ≡ false }
+    requires fresh { D.Reader.reads around.old.reader ≡ 0 }
+    requires writable { D.Writer.has_failed around.old.writer ≡ false }
     ensures status { IsDone result.status ⊎ IsFailure result.status }
-    ensures outcome { IsDone result.status → IsJobOutcome (T.gives around.old.texts) (as_job task.now)
-        (io_of R.remaining W.contents E.puts V.accepted around.old around.new) result.status }
+    ensures outcome { let io = ⟦<Environment<D> as Shows>⟧.io in
+        IsDone result.status → IsJobOutcome (D.Texts.gives around.old.texts) (as_job task.now)
+        (streams_of (io around.old) (io around.new)) result.status }
     ensures done { IsDone result.status → around.new.faults ≡ around.old.faults }
     ensures reported { IsDone result.status → IsTrue result.is_printed }
-    ensures fault { IsFailure result.status
-        → EndsTask (λ fault. IsJobFault (T.gives around.old.texts) (as_job task.now) fault
-        (io_of R.remaining W.contents E.puts V.accepted around.old around.new)
-        × BlamesEnvironment E.has_failed V.has_failed R.has_failed R.reads W.has_failed
-        (reads_of (as_job task.now)) around.old around.new fault)
-        (F.contents around.old.faults) (F.contents around.new.faults) (F.has_failed around.new.faults) result }
+    ensures fault { let io = ⟦<Environment<D> as Shows>⟧.io in
+        IsFailure result.status
+        → EndsTask (λ fault. IsJobFault (D.Texts.gives around.old.texts) (as_job task.now) fault
+        (streams_of (io around.old) (io around.new))
+        × BlamesEnvironment
+        (reads_of (as_job task.now)) (around.new.writer ≡ around.old.writer)
+        (io around.old) (io around.new) fault)
+        (D.Faults.contents around.old.faults) (D.Faults.contents around.new.faults) (D.Faults.has_failed around.new.faults) result }
     ensures checked { result.status ≡ 4 → ReadsNone task.now }
     ensures unread { ReadsNoInput (as_job task.now) → around.new.reader ≡ around.old.reader }
-    ensures unput { NamesNoState (as_job task.now) → IsFailure result.status
-        → E.puts around.new.exports ≡ E.puts around.old.exports }
+    ensures unput { let io = ⟦<Environment<D> as Shows>⟧.io in
+        NamesNoState (as_job task.now) → IsFailure result.status
+        → (io around.new).puts ≡ (io around.old).puts }
     ensures unasked { NamesNoFile (as_job task.now) → around.new.exports ≡ around.old.exports }
-    ensures offered { IsDone result.status
-        → IsOfferOf (as_job task.now) (V.offers around.old.services) (V.offers around.new.services) }
-    ensures unoffered { (V.offers around.new.services ≡ V.offers around.old.services)
-        ⊎ IsOfferOf (as_job task.now) (V.offers around.old.services) (V.offers around.new.services) }
+    ensures offered { let io = ⟦<Environment<D> as Shows>⟧.io in
+        IsDone result.status
+        → IsOfferOf (as_job task.now) (io around.old).offers (io around.new).offers }
+    ensures unoffered { let io = ⟦<Environment<D> as Shows>⟧.io in
+        ((io around.new).offers ≡ (io around.old).offers)
+        ⊎ IsOfferOf (as_job task.now) (io around.old).offers (io around.new).offers }
     ensures silent { RepairsNothing (as_job task.now) → around.new.progress ≡ around.old.progress }
     ensures texts { around.new.texts ≡ around.old.texts }
-    ensures reader_held { R.holds around.new.reader ≡ R.holds around.old.reader }
-    ensures writer_held { W.holds around.new.writer ≡ W.holds around.old.writer }
-    ensures faults_held { F.holds around.new.faults ≡ F.holds around.old.faults }
+    ensures reader_held { D.Reader.holds around.new.reader ≡ D.Reader.holds around.old.reader }
+    ensures writer_held { D.Writer.holds around.new.writer ≡ D.Writer.holds around.old.writer }
+    ensures faults_held { D.Faults.holds around.new.faults ≡ D.Faults.holds around.old.faults }
 {
     match outcome(alloc, around, task) {
         Ok(status) => exit_with(status),
@@ -441,15 +427,15 @@ fn perform_with<T: Files + Net + AllocGlobal, R: Source + Drop, W: Sink + Drop, 
     ensures writer_held { W.holds result.writer ≡ W.holds writer }
     ensures faults_held { F.holds result.faults ≡ F.holds faults }
 {
-    let mut around = Environment {
-        texts: FsInputFiles::new(rt),
-        exports: FsOutputFiles::new(rt),
-        services: NetListener::new(rt),
+    let mut around = Environment::new(
+        FsInputFiles::new(rt),
+        FsOutputFiles::new(rt),
+        NetListener::new(rt),
         reader,
         writer,
         faults,
-        progress: NoProgress,
-    };
+        NoProgress,
+    );
     let exit = perform_over(rt.alloc(), &mut around, task);
     let Environment {
         services,

@@ -1,6 +1,6 @@
 -- Designs with nets, step by step.
-use Rattle.std.proofs.Common.{◌≡◌, ◌∙◌, ◌+◌, ◌<◌, ◌^◌, ℕ, List, [], ◌∷◌, ◌++◌, Bool, Option, Some, Ok, Err, length, take, get_or, ap, subst, sym, arith, zero-add}
-use Rattle.std.specs.Prelude.{IfOk, OnOk, Result, option_map, slice_get}
+use Rattle.std.proofs.Common.{◌≡◌, ◌∙◌, ◌+◌, ◌<◌, ◌^◌, ℕ, List, [], ◌∷◌, ◌++◌, Bool, Option, Some, Ok, length, take, get_or, ap, subst, sym, arith, zero-add}
+use Rattle.std.specs.Prelude.{option_map, slice_get}
 use Rattle.std.proofs.lemmas.List.{take_more}
 use Rattle.std.proofs.lemmas.List.FromFn.{get_or-map-range_with_len, length-map-range_with_len}
 use Rattle.std.proofs.lemmas.Option.{get_or_from_slice_get, slice_get-map, slice_get_within}
@@ -34,11 +34,6 @@ opened_with_nets limits gives def lefs kept design netlist netted there = record
   loads = netted.is.loads;
   nets_are = rw there at netted.is.nets_are;
 }
-
--- two facts of a value give what is to be shown of it
-pub ok_and : {A E : Type 0} (r : Result A E) (P R : A → Type 0) (Q : Type 0) → IfOk r P → OnOk r Q → ((value : A) → P value → Q → R value) → IfOk r R
-ok_and (Ok value) P R Q is also gives = gives value is also
-ok_and (Err fault) P R Q is also gives = tt
 
 -- a floor as loaded has as many teams as its frame
 pub begun_many : (loaded : Loaded) (floor : FloorState) → floor ≡ initial_floor loaded → length floor.teams ≡ length floor.frame.teams + 1

@@ -24,11 +24,9 @@ use Rattle.lf_improve_team.specs.FloorLengths.{AreNetsOfFloor, IsWireLengthOn, W
 use Rattle.lf_improve_team.specs.TeamImprovements.{IsImprovable, KeepsTeamPlaces}
 use Rattle.lf_improve_report.specs.declared.improved.ImprovedTeam.{ImprovedTeam}
 use Rattle.lf_improve_report.specs.ImproveReports.{improved_team_name}
-use Rattle.lf_task_repair.specs.Repairs.{is_selected}
-use Rattle.lf_task_repair.specs.Reports.{selected_at, selected_names}
-use Rattle.lf_task_repair.proofs.Named.{others_before}
-use Rattle.lf_task_repair.proofs.Repairing.{AreUntouched, legal_same}
-use Rattle.lf_task_repair.proofs.TeamLines.{first_requested, moved_off_soft_same, selected_have, stats_same}
+use Rattle.lf_task_run.specs.Teams.{is_selected, selected_at, selected_names}
+use Rattle.lf_task_run.proofs.Named.{others_before}
+use Rattle.lf_task_run.proofs.Running.{AreUntouched, legal_same, first_requested, moved_off_soft_same, selected_have, stats_same}
 use Rattle.lf_task_improve.specs.Improvements.{AddsResults, AreLengthsOnFloor, IsImprovementOf, IsTeamResult}
 
 -- ---- a result stays true if the team is unchanged

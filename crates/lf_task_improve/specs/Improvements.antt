@@ -25,8 +25,7 @@ use Rattle.lf_repair_report.specs.Densities.{IsDensityOn}
 use Rattle.lf_improve_report.specs.declared.improved.ImprovedTeam.{ImprovedTeam}
 use Rattle.lf_improve_report.specs.declared.report.PinChange.{PinChange}
 use Rattle.lf_improve_report.specs.ImproveReports.{improve_report, improved_team_name}
-use Rattle.lf_task_repair.specs.Repairs.{AreKnown, IsKeptRun, OnlySelectedChange, initial_lines}
-use Rattle.lf_task_repair.specs.Reports.{selected_names}
+use Rattle.lf_task_run.specs.Teams.{selected_names}
 
 -- ---- a team
 
@@ -106,14 +105,3 @@ pub record IsImproveReport (teams : List (List ℕ)) (within : Option ℕ) (owne
   pub legal : Bool
   pub right : IsTrue legal ↔ IsCommittedLegal floor
   pub text_is : text ≡ improve_report floor.frame results before after density pins legal
-
--- the first floor is improved and becomes this one: each requested name is a team's; accepted
--- commands lead from the first floor to this one, and they are the lines that are kept; only
--- selected teams change, and a fully legal committed design stays so; the report is that of the
--- improvement
-pub record IsImprovement (teams : List (List ℕ)) (within : Option ℕ) (lines : Option (List ℕ)) (owners : List ℕ)
-    (nets : List (List NetPin)) (begin floor : FloorState) (kept : Option (List ℕ)) (report : List ℕ) : Type 0 where
-  pub known : AreKnown begin.frame teams
-  pub run : (l : Legalizer) → IsKeptRun l begin (initial_lines lines) kept floor
-  pub only : OnlySelectedChange teams begin floor
-  pub decides : IsImproveReport teams (distance_of_rows begin.frame within) owners nets begin floor report

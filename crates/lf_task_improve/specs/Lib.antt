@@ -1,3 +1,3 @@
-pub mod Exits
 pub mod Improvements
 pub mod Openings
+pub mod Works

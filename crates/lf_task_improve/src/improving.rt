@@ -1,17 +1,18 @@
 //! Improves the selected teams of a floor, one after the other.
 
-ghost use Rattle.std.specs.Prelude.{◌≡◌, ◌≢◌, ◌≤◌, ◌++◌, ◌∷◌, ◌+◌, ℕ, List, [], Some, IfErr, IfOk, IsTrue, OnOk, length, map, option_map};
+ghost use Rattle.std.specs.Prelude.{◌≡◌, ◌≢◌, ◌≤◌, ◌++◌, ◌∷◌, ◌+◌, ℕ, List, [], Some, IfErr, IfOk, OnOk, length, map};
 ghost use Rattle.lf_rules.specs.Legalizer.{Legalizer};
-ghost use Rattle.lf_cli.specs.Command.{repair_paths};
 ghost use Rattle.lf_floor_model.specs.Teams.{state_of, team_number};
 ghost use Rattle.lf_repair_team.specs.TeamRepairs.{ChangesOnly};
 ghost use Rattle.lf_improve_team.specs.FloorLengths.{AreNetsOfFloor, IsWireLengthOn};
 ghost use Rattle.lf_task_faults.specs.declared.faults.Fault.TheVariants.{SetupOutOfMemory};
-ghost use Rattle.lf_task_repair.specs.Repairs.{IsKeptRun, IsStatusOf, OnlySelectedChange, initial_lines, kept_text};
-ghost use Rattle.lf_task_repair.specs.Reports.{selected_at, selected_names};
-ghost use Rattle.lf_task_improve.specs.Improvements.{AddsResults, AreLengthsOnFloor, IsImproveReport, IsImprovementOf, IsPinDensityOn, distance_of_rows};
+ghost use Rattle.lf_task_run.specs.Commands.{IsKeptRun, kept_text};
+ghost use Rattle.lf_task_run.specs.Teams.{OnlySelectedChange, selected_at, selected_names, AreKnown};
+ghost use Rattle.lf_task_run.specs.Tasks.{IsWorkDone, request_of};
+ghost use Rattle.lf_task_improve.specs.Works.{improve_means};
+ghost use Rattle.lf_task_improve.specs.Improvements.{AddsResults, AreLengthsOnFloor, IsImprovementOf, IsPinDensityOn, distance_of_rows};
 
-use crate::improve_job::ImproveJob;
+use crate::improve_task::Improve;
 use crate::opening::DesignWires;
 use lf_density::PinDensity;
 use lf_floor::{Floor, team_name};
@@ -26,8 +27,8 @@ use lf_repair_report::{density_on, density_since};
 use lf_rules::legalizer_exists;
 use lf_task_faults::Fault;
 use lf_task_files::is_committed_legal;
-use lf_task_repair::{
-    CommandLog, FinishedTask, Progress, ProgressSink, announce_team, is_selected, status_by,
+use lf_task_run::{
+    CommandLog, Job, Progress, ProgressSink, TaskResults, announce_team, is_selected, status_by,
 };
 use lf_wire_density::pin_density_of_nets;
 use lf_wire_length::WireLengths;
@@ -120,7 +121,7 @@ fn add_result(
 }
 
 /// Improves the team with this number, if it is selected.
-#[tactic(auto, using(lf_task_repair::proofs::Repairing::nothing_requested, lf_task_repair::proofs::Repairing::none_changes))]
+#[tactic(auto, using(lf_task_run::proofs::Running::nothing_requested, lf_task_run::proofs::Running::none_changes))]
 fn improve_numbered<'f, P: Progress>(
     alloc: Global,
     floor: &mut Floor<IndexSeeker>,
@@ -213,41 +214,42 @@ fn pin_density_on(
 }
 
 /// Improves the selected teams. Returns their results.
-fn results_of<'a, P: Progress>(
+fn results_of<'f, P: Progress>(
     alloc: Global,
     floor: &mut Floor<IndexSeeker>,
     wires: &DesignWires,
-    requested: &ImproveJob<'a>,
+    teams: &[&str],
+    work: &Improve,
     length: u64,
     lines: &mut ProgressSink<'_, P>,
-) -> Result<ImproveResults, Fault<'a>>
+) -> Result<ImproveResults, Fault<'f>>
     requires measured { IsWireLengthOn wires.now.netlist.nets floor.old length }
     requires nets { AreNetsOfFloor wires.now.of_teams wires.now.netlist.nets floor.old }
     ensures run { (l : Legalizer)
         → OnOk result (IsKeptRun l floor.old (kept_text lines.old.lines) (kept_text lines.new.lines) floor.new) }
     ensures only { OnOk result
-        (OnlySelectedChange (map (λ team. team.now) requested.now.teams.now) floor.old floor.new) }
+        (OnlySelectedChange (map (λ team. team.now) teams.now) floor.old floor.new) }
     ensures reported { IfOk result (λ results. AddsResults
-        (selected_names floor.old.frame (map (λ team. team.now) requested.now.teams.now))
-        (distance_of_rows floor.old.frame requested.now.within) floor.old floor.new [] results.teams.items) }
+        (selected_names floor.old.frame (map (λ team. team.now) teams.now))
+        (distance_of_rows floor.old.frame work.now.within) floor.old floor.new [] results.teams.items) }
     ensures measured { IfOk result (λ results. IsWireLengthOn wires.now.netlist.nets floor.new results.length) }
     ensures longer { IfOk result (λ results. results.length ≤ length) }
     ensures err { IfErr result (λ fault. fault ≡ SetupOutOfMemory) }
 {
     let options = ImproveOptions {
-        rounds: requested.options.rounds,
-        within: distance_of_rows(floor.placement().frame(), requested.within),
+        rounds: work.options.rounds,
+        within: distance_of_rows(floor.placement().frame(), work.within),
     };
     let plan = ImprovePlan {
-        teams: requested.teams,
+        teams,
         wires: WireNets {
             netlist: &wires.netlist,
             of_teams: &wires.of_teams,
         },
         options,
         search: ImproveSearch {
-            moves: requested.options.moves,
-            density: requested.options.density,
+            moves: work.options.moves,
+            density: work.options.density,
         },
     };
     let mut results = ImproveResults {
@@ -259,34 +261,37 @@ fn results_of<'a, P: Progress>(
 }
 
 /// Improves the selected teams, and makes the report and the exit status.
-pub(crate) fn improve_selected<'a, P: Progress>(
+pub(crate) fn improve_selected<'f, P: Progress>(
     alloc: Global,
     floor: &mut Floor<IndexSeeker>,
     wires: &DesignWires,
-    requested: &ImproveJob<'a>,
+    work: &Improve,
+    job: &Job<'f>,
     progress: &mut P,
-) -> Result<FinishedTask, Fault<'a>>
-    requires teams { length floor.old.teams ≡ length floor.old.frame.teams + 1 }
+) -> Result<TaskResults, Fault<'f>>
+    requires whole { length floor.old.teams ≡ length floor.old.frame.teams + 1 }
     requires nets { AreNetsOfFloor wires.now.of_teams wires.now.netlist.nets floor.old }
-    ensures run { (l : Legalizer) → IfOk result
-        (λ done. IsKeptRun l floor.old (initial_lines (repair_paths requested.now.files).lines) (kept_text done.lines)
-        floor.new) }
-    ensures only { OnOk result
-        (OnlySelectedChange (map (λ team. team.now) requested.now.teams.now) floor.old floor.new) }
-    ensures reported { IfOk result (λ done. IsImproveReport (map (λ team. team.now) requested.now.teams.now)
-        (distance_of_rows floor.old.frame requested.now.within) wires.now.teams.items wires.now.netlist.nets
-        floor.old floor.new done.report.items) }
-    ensures committed_checked { IfOk result (λ done. IsStatusOf floor.new done.status) }
+    requires known { AreKnown floor.old.frame (request_of job.now).teams }
+    ensures ok { IfOk result (λ done. IsWorkDone (improve_means work.now.within) (request_of job.now) wires.now
+        floor.old floor.new (kept_text done.lines) done.report.items done.status) }
     ensures err { IfErr result (λ fault. fault ≡ SetupOutOfMemory) }
 {
     legalizer_exists();
     wire_length_is_one();
-    let lines = CommandLog::new(alloc, requested.files.lines);
+    let lines = CommandLog::new(alloc, job.files.lines);
     let mut lines = ProgressSink { lines, progress };
     let density_before = density_on(alloc, floor)?;
     let pins_before = pin_density_on(alloc, floor, wires)?;
     let before = lengths_on(alloc, floor, wires)?;
-    let results = results_of(alloc, floor, wires, requested, before.length, &mut lines)?;
+    let results = results_of(
+        alloc,
+        floor,
+        wires,
+        job.teams,
+        work,
+        before.length,
+        &mut lines,
+    )?;
     let after = lengths_on(alloc, floor, wires)?;
     let density = density_since(alloc, floor, density_before)?;
     let pins_after = pin_density_on(alloc, floor, wires)?;
@@ -310,7 +315,7 @@ pub(crate) fn improve_selected<'a, P: Progress>(
         legal,
     )?;
     let ProgressSink { lines, .. } = lines;
-    Ok(FinishedTask {
+    Ok(TaskResults {
         lines,
         report,
         status: status_by(legal),

@@ -1,31 +1,32 @@
-//! Improves the teams of a design from files, reports the results, and writes the requested files.
+//! Improves the teams of a design from files: the work of `lefence improve`.
 //!
-//! `improve` opens a design with its nets, and improves the selected teams one after the other
-//! (`lf_improve_team`). Cells move only if the wire length of the whole design becomes shorter. The
-//! result of each team and the lengths are reported in lines of JSON (`lf_improve_report`). The
-//! requested files are written at the end, as those of a repair (`lf_task_repair`). The exit status
-//! is 0, or 4 if the committed design is not fully legal. Messages of faults are not written here.
+//! `Improve` is a `Work` (`lf_task_run`). It opens a design with its nets, and improves the selected
+//! teams one after the other (`lf_improve_team`). Cells move only if the wire length of the whole
+//! design becomes shorter. The result of each team and the lengths are reported in lines of JSON
+//! (`lf_improve_report`).
 //!
 //! Used by `lf_app`.
 //!
 //! Modules, in reading order:
 //!
-//! - `improve_job`: the arguments of an improvement
 //! - `opening`: the design of files with its nets
 //! - `improving`: the improvement of the selected teams
-//! - `improve_task`: the whole task
+//! - `improve_task`: the work
 //!
 //! From `crates/lf_app/src/tasks.rt`:
 //!
 //! ```
-//! improve(alloc, &around.texts, exports, writer, progress, &requested)
+//! let work = improvement_of(*within, *options);
+//! let exports = &mut around.exports;
+//! let writer = &mut around.writer;
+//! let progress = &mut around.progress;
+//! run_task(alloc, &around.texts, exports, writer, progress, &job, &work)
 //! ```
 #![tactic(auto)]
 
-mod improve_job;
 mod improve_task;
 mod improving;
 mod opening;
 
-pub use improve_job::ImproveJob;
-pub use improve_task::improve;
+pub use improve_task::Improve;
+pub use opening::DesignWires;

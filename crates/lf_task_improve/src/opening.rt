@@ -1,18 +1,17 @@
 //! The design of files with its nets, and the floor with which its improvement begins.
 
-ghost use Rattle.std.specs.Prelude.{◌≡◌, ◌<◌, None, Some, IfErr, IfOk, length, map, slice_get};
-ghost use Rattle.lf_cli.specs.Command.{repair_paths};
+ghost use Rattle.std.specs.Prelude.{◌≡◌, ◌<◌, None, Some, IfErr, IfOk, length, slice_get};
+ghost use Rattle.lf_improve_team.specs.FloorLengths.{AreNetsOfFloor};
+ghost use Rattle.lf_task_faults.specs.Faults.{IsEarly};
 ghost use Rattle.lf_task_wires.specs.Wirelengths.{IsFilesFault};
-ghost use Rattle.lf_task_improve.specs.Openings.{IsReadyImprovement, teams_of_cells};
+ghost use Rattle.lf_task_run.specs.Tasks.{IsBegun, request_of};
+ghost use Rattle.lf_task_improve.specs.Openings.{OpensWithNets, teams_of_cells};
 
-use crate::improve_job::ImproveJob;
-use lf_floor::Floor;
 use lf_floorplan::Loaded;
-use lf_legalize::IndexSeeker;
-use lf_task_designs::{InputFiles, SourceText};
+use lf_task_designs::InputFiles;
 use lf_task_faults::Fault;
 use lf_task_files::start_floor;
-use lf_task_repair::is_text_requested;
+use lf_task_run::{Begun, Job, is_text_requested};
 use lf_task_wires::{NettedDesign, NettedInput, netted_design};
 use lf_wire_length::{Netlist, TeamNets};
 use std::alloc::{AllocError, Global};
@@ -38,39 +37,32 @@ fn teams_of_cells(alloc: Global, loaded: &Loaded) -> Result<Vec<u32>, AllocError
 
 /// The nets of a design, for improvements.
 #[derive(Drop)]
-pub(crate) struct DesignWires {
-    pub(crate) netlist: Netlist,
+pub struct DesignWires {
+    pub netlist: Netlist,
     /// The nets of each team.
-    pub(crate) of_teams: TeamNets,
+    pub of_teams: TeamNets,
     /// The number of each cell's team.
-    pub(crate) teams: Vec<u32>,
+    pub teams: Vec<u32>,
 }
 
-/// An improvement that is ready to begin.
-#[derive(Drop)]
-pub(crate) struct ReadyImprovement {
-    pub(crate) floor: Floor<IndexSeeker>,
-    pub(crate) wires: DesignWires,
-    /// The DEF text, if a requested file is made from it.
-    pub(crate) original: Option<SourceText>,
-}
-
-/// Opens the design of the files with its nets, and makes its floor.
-pub(crate) fn ready_improvement<'a, T: InputFiles>(
+/// Opens the design of the files with its nets, and makes its floor. The DEF text is kept if one of
+/// the requested files is made from it.
+pub(crate) fn open_with_nets<'f, T: InputFiles>(
     alloc: Global,
     texts: &T,
-    requested: &ImproveJob<'a>,
-) -> Result<ReadyImprovement, Fault<'a>>
-    ensures ok { IfOk result (IsReadyImprovement requested.now.limits (T.gives texts.now) requested.now.def.now
-        (map (λ lef. lef.now) requested.now.lefs.now) (repair_paths requested.now.files)) }
-    ensures err { IfErr result (IsFilesFault requested.now.limits (T.gives texts.now) requested.now.def.now
-        (map (λ lef. lef.now) requested.now.lefs.now) None) }
+    job: &Job<'f>,
+) -> Result<Begun<DesignWires>, Fault<'f>>
+    ensures ok { IfOk result (IsBegun OpensWithNets (T.gives texts.now) (request_of job.now)) }
+    ensures nets { IfOk result (λ begun. AreNetsOfFloor begun.opened.of_teams begun.opened.netlist.nets begun.floor) }
+    ensures err { IfErr result (IsFilesFault (request_of job.now).limits (T.gives texts.now) (request_of job.now).def
+        (request_of job.now).lefs None) }
+    ensures early { IfErr result IsEarly }
 {
-    let is_text_kept = is_text_requested(&requested.files);
+    let is_text_kept = is_text_requested(&job.files);
     let input = NettedInput {
-        def: requested.def,
-        lefs: requested.lefs,
-        limits: requested.limits,
+        def: job.input.def,
+        lefs: job.input.lefs,
+        limits: job.input.limits,
         is_text_kept,
     };
     let NettedDesign {
@@ -83,14 +75,13 @@ pub(crate) fn ready_improvement<'a, T: InputFiles>(
     let floor = start_floor(alloc, loaded)?;
     let count = floor.placement().frame().teams.len() + 1;
     let of_teams = netlist.nets_of_teams(alloc, teams.as_slice(), count)?;
-    let wires = DesignWires {
-        netlist,
-        of_teams,
-        teams,
-    };
-    Ok(ReadyImprovement {
+    Ok(Begun {
         floor,
-        wires,
         original,
+        opened: DesignWires {
+            netlist,
+            of_teams,
+            teams,
+        },
     })
 }

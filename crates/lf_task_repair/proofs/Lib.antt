@@ -1,3 +1,3 @@
-pub mod Named
-pub mod Repairing
-pub mod TeamLines
+mod Refusals
+mod Staying
+mod TeamLines

@@ -1,6 +1,6 @@
 -- Lines that report repaired teams, one after the other.
-use Rattle.std.proofs.Common.{◌≡◌, ◌≢◌, ◌∙◌, inl, inr, ⊎_elim, ℕ, ℤ, ◌+◌, ◌<◌, Bool, false, true, cond, List, [], ◌∷◌, ◌++◌, length, map, take, get_or, Option, None, Some, refl, sym, ap, ap₂, subst, append-nil, append_assoc, arith}
-use Rattle.std.specs.Prelude.{◌↔◌, ◌≤◌, All, Contains, filter, option_and_then, slice_get}
+use Rattle.std.proofs.Common.{◌≡◌, ◌≢◌, ◌∙◌, inl, inr, ⊎_elim, ℕ, ℤ, ◌+◌, ◌<◌, Bool, false, true, cond, List, [], ◌∷◌, ◌++◌, length, map, take, get_or, Option, Some, refl, sym, ap, ap₂, subst, append-nil, append_assoc, arith}
+use Rattle.std.specs.Prelude.{◌≤◌, All, filter, option_and_then, slice_get}
 use Rattle.std.specs.List.{flat_map}
 use Rattle.std.specs.Option.{option_map, option_map_or}
 use Rattle.std.proofs.lemmas.List.{map-append, take_all}
@@ -9,18 +9,15 @@ use Rattle.std.proofs.lemmas.List.Concat.{flat_map-append}
 use Rattle.std.proofs.lemmas.Option.{slice_get-get_or}
 use Rattle.lf_floorplan.specs.declared.frame.Frame.{Frame}
 use Rattle.lf_floorplan.specs.declared.place.Place.{Place}
-use Rattle.lf_floorplan.specs.Ground.{OverlapsSoft}
 use Rattle.lf_rules.specs.Choice.{spot_of}
-use Rattle.lf_rules.specs.Team.{box_in}
-use Rattle.lf_cells.specs.Cells.{working_at}
 use Rattle.lf_cells.specs.declared.cell.Cell.{Cell}
 use Rattle.lf_floor_model.specs.States.{FloorState, TeamState}
 use Rattle.lf_floor_model.specs.Outcomes.{name_at}
 use Rattle.lf_floor_model.specs.Steps.{AllCommittedIn}
 use Rattle.lf_floor_model.specs.VerbLaws.{committed_places}
 use Rattle.lf_floor_model.specs.Teams.{state_of, team_names, team_number}
-use Rattle.lf_repair_team.specs.Stats.{AreStatsOf, AreTeamMeans, AreTeamStats, HowMany, means_of}
-use Rattle.lf_repair_team.specs.TeamRepairs.{AreMovedOffSoft, HasNoPlace, HasNoPlaceOrIsListed, IsBeyond, IsIllegalIn, IsLegalIn, IsListedIn, StaysWithin, WasIllegal, place_of_cell_in, way_to}
+use Rattle.lf_repair_team.specs.Stats.{AreTeamMeans, means_of}
+use Rattle.lf_repair_team.specs.TeamRepairs.{HasNoPlace, HasNoPlaceOrIsListed, IsBeyond, IsIllegalIn, IsListedIn, StaysWithin, WasIllegal, place_of_cell_in, way_to}
 use Rattle.lf_repair_team.proofs.Legal.{committed_through}
 use Rattle.lf_repair_team.proofs.WithoutPlace.{none_through}
 use Rattle.lf_repair_strategy.specs.declared.stats.DisplacementMeans.{DisplacementMeans}
@@ -34,10 +31,10 @@ use Rattle.lf_task_files.specs.declared.measured.RepairLimits.{RepairLimits}
 use Rattle.lf_repair_report.specs.declared.totals.Totals.{Totals}
 use Rattle.lf_repair_report.specs.RepairReports.{AreGapsIn, IsOneMore, all_line, least_for, listed_reason, no_sums, totals_with_team, unrepaired_with}
 use Rattle.lf_floor.proofs.Saving.{names_many}
-use Rattle.lf_task_repair.specs.Repairs.{is_selected}
-use Rattle.lf_task_repair.specs.Reports.{AddsTeamLines, IsRepairOf, IsReport, AddsTotalLine, IsTeamReport, TeamReport, selected_at, selected_names, line_of_team, sums_with}
-use Rattle.lf_task_repair.proofs.Named.{numbered, others_before}
-use Rattle.lf_task_repair.proofs.Repairing.{AreUntouched, legal_same}
+use Rattle.lf_task_run.specs.Teams.{is_selected, selected_at, selected_names}
+use Rattle.lf_task_repair.specs.Reports.{AddsTeamLines, IsRepairOf, IsReport, AddsTotalLine, IsTeamReport, TeamReport, line_of_team, sums_with}
+use Rattle.lf_task_run.proofs.Named.{others_before}
+use Rattle.lf_task_run.proofs.Running.{AreUntouched, first_requested, legal_same, moved_off_soft_same, places_in, selected_have, stats_same}
 
 -- ---- a report stays true if the team is unchanged
 
@@ -47,68 +44,12 @@ left_same old new team own frame same left = record {
   illegal = λ legal. left.illegal (legal_same new old team own (sym frame) (sym same) legal);
 }
 
--- as many positions have an equivalent property
-as_many_have : (all : ℕ) (So Also : ℕ → Type 0) (count : ℕ) → ((own : ℕ) → So own ↔ Also own) → HowMany all So count → HowMany all Also count
-as_many_have all So Also count same is = record {
-  which = is.which;
-  rise = is.rise;
-  are = λ own. (
-    λ (listed : Contains is.which own). let found = (is.are own).0 listed in (found.0, (same own).0 found.1),
-    λ (found : (own < all) × Also own). (is.are own).1 (found.0, (same own).1 found.1),
-  );
-  many = is.many;
-}
-
--- the statistics are the same if the same cells were legal
-stats_alike : (wanted now : ℕ → Option Place) (Was Also : ℕ → Type 0) (all : ℕ) (r : RepairStats) → ((own : ℕ) → Was own ↔ Also own)
-    → AreStatsOf wanted now Was all r → AreStatsOf wanted now Also all r
-stats_alike wanted now Was Also all r same is = record {
-  cells = as_many_have all (λ own. Was own → ⊥) (λ own. Also own → ⊥) r.cells
-      (λ own. (λ (not : Was own → ⊥). λ (also : Also own). not ((same own).1 also), λ (not : Also own → ⊥). λ (was : Was own). not ((same own).0 was))) is.cells;
-  kept = as_many_have all (λ own. Was own × (now own ≡ wanted own)) (λ own. Also own × (now own ≡ wanted own)) r.kept
-      (λ own. (λ (both : Was own × (now own ≡ wanted own)). ((same own).0 both.0, both.1), λ (both : Also own × (now own ≡ wanted own)). ((same own).1 both.0, both.1))) is.kept;
-  displaced_legal = as_many_have all (λ own. Was own × (now own ≢ wanted own)) (λ own. Also own × (now own ≢ wanted own)) r.displaced_legal
-      (λ own. (λ (both : Was own × (now own ≢ wanted own)). ((same own).0 both.0, both.1), λ (both : Also own × (now own ≢ wanted own)). ((same own).1 both.0, both.1))) is.displaced_legal;
-  moved = is.moved;
-  placed = is.placed;
-  turned = is.turned;
-  total_displacement = is.total_displacement;
-  max_displacement = is.max_displacement;
-}
-
--- the places of the cells of a team in this state
-abbrev places_in : Option TeamState → ℕ → Option Place
-places_in o own = option_and_then (λ (s : TeamState). working_at s.cells own) o
-
-pub stats_same : (a b c d : FloorState) (team : List ℕ) (r : RepairStats) → c.frame ≡ a.frame → state_of c team ≡ state_of a team → state_of d team ≡ state_of b team
-    → AreTeamStats team a b r → AreTeamStats team c d r
-stats_same a b c d team r frame first last is s there =
-    stats_alike (places_in (state_of c team)) (places_in (state_of d team)) (IsLegalIn a team) (IsLegalIn c team) (length s.cells) r
-    (λ own. (legal_same a c team own frame first, legal_same c a team own (sym frame) (sym first)))
-    (subst (λ (o : Option TeamState). AreStatsOf (places_in (state_of c team)) (places_in o) (IsLegalIn a team) (length s.cells) r) (sym last)
-    (subst (λ (o : Option TeamState). AreStatsOf (places_in o) (places_in (state_of b team)) (IsLegalIn a team) (length s.cells) r) (sym first) (is s (sym first ∙ there))))
-
 means_same : (a b c d : FloorState) (team : List ℕ) (means : DisplacementMeans) → d.frame ≡ b.frame → state_of c team ≡ state_of a team → state_of d team ≡ state_of b team
     → AreTeamMeans team a b means → AreTeamMeans team c d means
 means_same a b c d team means frame first last is s there =
     subst (λ (f : Frame). means ≡ means_of f s.cells (places_in (state_of c team)) (places_in (state_of d team))) (sym frame)
     (subst (λ (o : Option TeamState). means ≡ means_of b.frame s.cells (places_in (state_of c team)) (places_in o)) (sym last)
     (subst (λ (o : Option TeamState). means ≡ means_of b.frame s.cells (places_in o) (places_in (state_of b team))) (sym first) (is s (sym last ∙ there))))
-
-pub moved_off_soft_same : (a b c d : FloorState) (team : List ℕ) → d.frame ≡ b.frame → state_of c team ≡ state_of a team → state_of d team ≡ state_of b team
-    → AreMovedOffSoft team a b → AreMovedOffSoft team c d
-moved_off_soft_same a b c d team frame first last are own placed moved =
-    let is = are own (λ none. placed (ap (λ (o : Option TeamState). places_in o own) last ∙ none))
-    (λ same. moved (ap (λ (o : Option TeamState). places_in o own) last ∙ same ∙ sym (ap (λ (o : Option TeamState). places_in o own) first))) in
-    record {
-      state = is.state;
-      cell = is.cell;
-      place = is.place;
-      there = last ∙ is.there;
-      cell_is = is.cell_is;
-      placed = is.placed;
-      off_soft = subst (λ (f : Frame). OverlapsSoft f (box_in f is.cell.mac (spot_of is.place)) → ⊥) (sym frame) is.off_soft;
-    }
 
 -- a cell of a listed macro stays one if the team is unchanged
 listed_same : (list : List ImpossibleMacro) (old new : FloorState) (team : List ℕ) (own : ℕ) → new.frame ≡ old.frame → state_of new team ≡ state_of old team
@@ -122,18 +63,6 @@ listed_same list old new team own frame same is = record {
   cell_is = is.cell_is;
   listed = is.listed;
 }
-
--- what holds for the names with this number holds for the selected one
-pub selected_have : (P : List ℕ → Type 0) (f : Frame) (teams : List (List ℕ)) (number : ℕ) → ((name : List ℕ) → team_number f name ≡ Some number → P name)
-    → All P (selected_at f teams number)
-selected_have P f teams number have = go (slice_get (team_names f) number) refl where
-  go : (o : Option (List ℕ)) → slice_get (team_names f) number ≡ o → All P (filter (is_selected teams) (option_map_or (λ name. name ∷ []) o []))
-  go None is = All-nil P
-  go (Some name) is = All-filter (is_selected teams) P (name ∷ []) (All-cons P name [] (have name (numbered f number name is)) (All-nil P))
-
--- the names of the selected teams among the first `count`
-abbrev pub first_requested : Frame → List (List ℕ) → ℕ → List (List ℕ)
-first_requested f teams count = filter (is_selected teams) (take count (team_names f))
 
 -- how far a cell may go
 module _ (reach : Option ℤ) where

@@ -1,15 +1,19 @@
 -- The report of a repair: the lines of its teams, and the line of all teams.
-use Rattle.std.specs.Prelude.{◌≡◌, ◌≢◌, ◌↔◌, ◌<◌, ◌++◌, ◌*◌, ◌^◌, ◌-◌, ℕ, ℤ, pos, Bool, IsTrue, List, [], ◌∷◌, All, AllPairs, Option, filter, flat_map, map, min, option_map, slice_get}
+use Rattle.std.specs.Prelude.{◌≡◌, ◌≢◌, ◌↔◌, ◌<◌, ◌++◌, ◌*◌, ◌^◌, ◌-◌, ℕ, ℤ, pos, Bool, IsTrue, List, [], ◌∷◌, All, AllPairs, Option, flat_map, map, min, option_map}
 use Rattle.std.specs.Int.RustNames.{unsigned_abs}
-use Rattle.std.specs.Option.{option_map_or}
 use Rattle.lf_floorplan.specs.declared.frame.Frame.{Frame}
 use Rattle.lf_rules.specs.Legalizer.{Legalizer}
 use Rattle.lf_floor_model.specs.States.{FloorState}
 use Rattle.lf_floor_model.specs.Steps.{AllCommittedIn}
-use Rattle.lf_floor_model.specs.Teams.{team_names, team_number}
+use Rattle.lf_floor_model.specs.Teams.{team_number}
 use Rattle.lf_floor_model.specs.Committed.{IsCommittedLegal}
+use Rattle.lf_cli.specs.declared.parse.LegalCells.{LegalCells}
+use Rattle.lf_cli.specs.declared.parse.LegalCells.TheVariants.{KeepLegal, MoveAsNeeded, MoveAll}
+use Rattle.lf_repair_strategy.specs.declared.pass.MovePolicy.{MovePolicy}
+use Rattle.lf_repair_strategy.specs.declared.pass.MovePolicy.TheVariants.{KeepLegal as Keep, MoveAsNeeded as AsNeeded, MoveAll as AllCells}
+use Rattle.lf_task_run.specs.Teams.{selected_names}
 use Rattle.lf_repair_team.specs.Stats.{AreTeamMeans, AreTeamStats}
-use Rattle.lf_repair_team.specs.TeamRepairs.{AreLegalExcept, AreMovedOffSoft, HasNoPlaceOrIsListed, IsIllegalIn, KeepsListedPlaces, StaysWithin, WasIllegal, committed_in, settings_in}
+use Rattle.lf_repair_team.specs.TeamRepairs.{KeepsLegalPlaces, AreLegalExcept, AreMovedOffSoft, HasNoPlaceOrIsListed, IsIllegalIn, KeepsListedPlaces, StaysWithin, WasIllegal, committed_in, settings_in}
 use Rattle.lf_repair_strategy.specs.declared.stats.RepairStats.{RepairStats}
 use Rattle.lf_density.specs.declared.density.Density.{Density}
 use Rattle.lf_repair_report.specs.declared.density.DensityChange.{DensityChange}
@@ -19,7 +23,20 @@ use Rattle.lf_repair_report.specs.declared.totals.Totals.{Totals}
 use Rattle.lf_repair_report.specs.RepairReports.{AreGapsIn, UnrepairedCells, all_line, least_for, no_sums, team_line, totals_with_team, unrepaired_with}
 use Rattle.lf_repair_bounds.specs.declared.reasons.ImpossibleMacro.{ImpossibleMacro}
 use Rattle.lf_task_files.specs.declared.measured.RepairLimits.{RepairLimits}
-use Rattle.lf_task_repair.specs.Repairs.{is_selected}
+
+-- ---- the cells that may move
+
+-- which of a team's cells may move
+abbrev pub how_of : LegalCells → MovePolicy
+how_of KeepLegal = Keep
+how_of MoveAsNeeded = AsNeeded
+how_of MoveAll = AllCells
+
+-- the legal cells of all teams are at the same places
+abbrev pub KeepsAllLegalPlaces : FloorState → FloorState → Type 0
+KeepsAllLegalPlaces old new = (team : List ℕ) → KeepsLegalPlaces team old new
+
+-- ---- the report
 
 -- the report of a team: its name, its unrepaired cells, the largest of the least displacements of
 -- its cells, and the statistics of its repair
@@ -36,15 +53,6 @@ line_of_team t = team_line t.name t.left t.least t.became
 abbrev pub sums_with : Totals → List TeamReport → Totals
 sums_with s [] = s
 sums_with s (t ∷ ts) = sums_with (totals_with_team s t.became t.least) ts
-
--- the names of the selected teams, in the frame's order, the ground team's last
-abbrev pub selected_names : Frame → List (List ℕ) → List (List ℕ)
-selected_names f teams = filter (is_selected teams) (team_names f)
-
--- the name of the team with this number, if it is selected
-abbrev pub selected_at : Frame → List (List ℕ) → ℕ → List (List ℕ)
-selected_at f teams number =
-    filter (is_selected teams) (option_map_or (λ name. name ∷ []) (slice_get (team_names f) number) [])
 
 -- how far a cell may go, in database units, if this is given as a number of rows. It saturates at the
 -- greatest number of 63 bits

@@ -1,5 +1,5 @@
 -- Steps of work on lines.
-use Rattle.std.proofs.Common.{◌≡◌, ◌⊎◌, inl, inr, refl, Bool, ℕ, List, Option}
+use Rattle.std.proofs.Common.{◌≡◌, ◌⊎◌, inl, inr, refl, ℕ, List, Option}
 use Rattle.lf_def.specs.Document.{Document}
 use Rattle.lf_io_files.specs.Shelf.{Put}
 use Rattle.lf_server.specs.Connections.{Accepted}
@@ -13,9 +13,8 @@ use Rattle.lf_task_files.specs.Exits.{IsExported}
 use Rattle.lf_task_files.specs.Faults.{IsOutputFault}
 use Rattle.lf_task_files.proofs.WorkSteps.{design_opened}
 use Rattle.lf_task_serve.specs.Exits.{IsUndone, Streams, streams}
-use Rattle.lf_task_serve.specs.Surroundings.{IsSound}
+use Rattle.lf_task_serve.specs.Surroundings.{Io, IsSound}
 use Rattle.lf_task_serve.specs.Work.{AreAnswered, IsServingFault, IsUnfinished, IsNotServedDesign}
-use Rattle.lf_task_serve.specs.declared.environment.Environment.{Environment}
 use Rattle.lf_task_serve.specs.declared.line_source.LineSource.{LineSource}
 use Rattle.lf_task_serve.specs.declared.line_source.LineSource.TheVariants.{Reader, Port}
 
@@ -58,6 +57,5 @@ outputs_unfinished save export lines begin floor text document fault io done (in
     inr (unsaved.0, record { floor = floor; work = done; between = io.new_puts; exports = unsaved.1; saves = refl })
 
 -- If nothing changes, nothing fails.
-pub still_sound : {T E V R W F P : Type 0} (e : E → Bool) (v : V → Bool) (r : R → Bool) (w : W → Bool) (around : Environment T E V R W F P)
-    → IsSound e v r w around around
-still_sound e v r w around = record { exports = refl; services = refl; reader = refl; writer = refl }
+pub still_sound : (io : Io) → IsSound io io
+still_sound io = record { exports = refl; services = refl; reader = refl; writer = refl }

@@ -2,7 +2,6 @@
 use Rattle.std.specs.Prelude.{◌≡◌, ◌⊎◌, ℕ, Bool, List, None, Ok, OnErr, OnOk, Option, Result, true}
 use Rattle.lf_lef.specs.Contents.{Contents}
 use Rattle.lf_def.specs.Document.{Document, document_of}
-use Rattle.lf_io_files.specs.Shelf.{Put}
 use Rattle.lf_floorplan.specs.declared.limits.Limits.{Limits}
 use Rattle.lf_floorplan.specs.declared.loaded.Loaded.{Loaded}
 use Rattle.lf_server.specs.declared.acceptor.ServiceConfig.{ServiceConfig}
@@ -15,13 +14,12 @@ use Rattle.lf_task_faults.specs.Faults.{BlamesDevices}
 use Rattle.lf_task_faults.specs.declared.faults.OutputKind.TheVariants.{Save}
 use Rattle.lf_task_files.specs.Faults.{IsOutputFault}
 use Rattle.lf_task_files.specs.States.{IsOpenedFloor, IsNotOpened}
-use Rattle.lf_task_serve.specs.declared.environment.Environment.{Environment}
 use Rattle.lf_task_serve.specs.declared.line_source.LineSource.{LineSource}
 use Rattle.lf_task_serve.specs.declared.line_source.LineSource.TheVariants.{Reader, Port}
 use Rattle.lf_task_serve.specs.Exits.{AnswersInput, EndsWithFault, IsFinished, IsOffered, IsServiceFault, IsServeFault, IsUntouched, Streams}
 use Rattle.lf_task_serve.specs.Lines.{ReadsFail}
 use Rattle.lf_task_serve.specs.Services.{OffersLocal}
-use Rattle.lf_task_serve.specs.Surroundings.{IsSound}
+use Rattle.lf_task_serve.specs.Surroundings.{Io, IsSound}
 
 -- The lines were answered to their end, on the floor with which they began.
 abbrev pub AreAnswered : LineSource → FloorState → FloorState → Streams → Type 0
@@ -68,15 +66,11 @@ abbrev pub IsReaderSpent : LineSource → Bool → ℕ → ℕ → Type 0
 IsReaderSpent (Reader limit) failed old new = ReadsFail limit failed old new
 IsReaderSpent (Port port connections) failed old new = ⊥
 
--- Which device is to blame for a fault of the lines.
-abbrev pub BlamesIn : {T E V R W F P : Type 0} → (E → Bool) → (V → Bool) → (R → Bool) → (R → ℕ)
-    → (W → Bool) → LineSource
-    → Environment T E V R W F P → Environment T E V R W F P → Fault → Type 0
-BlamesIn export_failed service_failed read_failed reads write_failed lines old new fault =
-    BlamesDevices fault (new.writer ≡ old.writer) (IsReaderSpent lines (read_failed new.reader) (reads old.reader)
-    (reads new.reader)) (write_failed new.writer ≡ true)
-    (export_failed new.exports ≡ true) (service_failed new.services ≡ true)
-    (IsSound export_failed service_failed read_failed write_failed old new)
+-- Which device is to blame for a fault of the lines. `kept` says that the writer is unchanged.
+abbrev pub BlamesIn : LineSource → Type 0 → Io → Io → Fault → Type 0
+BlamesIn lines kept old new fault =
+    BlamesDevices fault kept (IsReaderSpent lines new.read_failed old.reads new.reads) (new.write_failed ≡ true)
+    (new.put_failed ≡ true) (new.service_failed ≡ true) (IsSound old new)
 
 -- What was offered for the lines: a service, or nothing for lines of the reader.
 abbrev pub IsOfferFor : LineSource → Option (List ServiceConfig) → Option (List ServiceConfig) → Type 0
@@ -90,12 +84,10 @@ LeavesReader (Port port connections) old new = new ≡ old
 
 -- What the work on a design changes besides its lines. Files are written, services offered and the
 -- reader read only as requested. After a fault, no file is written if no state was requested.
-pub record LeavesDevices {T E V R W F P : Type 0} (puts : E → Option (List Put))
-    (offers : V → Option (List ServiceConfig)) (lines : LineSource) (save export : Option (List ℕ))
-    (result : Result ℕ Fault) (old new : Environment T E V R W F P) : Type 0 where
-  pub unput : save ≡ None → OnErr result (puts new.exports ≡ puts old.exports)
-  pub unasked : save ≡ None → export ≡ None → new.exports ≡ old.exports
-  pub offered : OnOk result (IsOfferFor lines (offers old.services) (offers new.services))
-  pub unoffered : (offers new.services ≡ offers old.services)
-      ⊎ IsOfferFor lines (offers old.services) (offers new.services)
-  pub unread : LeavesReader lines old.reader new.reader
+pub record LeavesDevices {E R : Type 0} (lines : LineSource) (save export : Option (List ℕ))
+    (result : Result ℕ Fault) (old_exports new_exports : E) (old_reader new_reader : R) (old new : Io) : Type 0 where
+  pub unput : save ≡ None → OnErr result (new.puts ≡ old.puts)
+  pub unasked : save ≡ None → export ≡ None → new_exports ≡ old_exports
+  pub offered : OnOk result (IsOfferFor lines old.offers new.offers)
+  pub unoffered : (new.offers ≡ old.offers) ⊎ IsOfferFor lines old.offers new.offers
+  pub unread : LeavesReader lines old_reader new_reader

@@ -30,7 +30,7 @@ mod listener;
 mod serve_lines;
 mod serve_task;
 
-pub use environment::Environment;
+pub use environment::{Devices, DevicesOf, Environment, Shows};
 pub use line_source::LineSource;
 pub use listener::{NetListener, PortListener};
 pub use serve_lines::serve_lines_within;

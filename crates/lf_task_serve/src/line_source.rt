@@ -7,15 +7,14 @@ ghost use Rattle.lf_task_serve.specs.Exits.{AnswersInput, EndsWithFault, IsOffer
 ghost use Rattle.lf_task_serve.specs.Faults.{BlamesStreams};
 ghost use Rattle.lf_task_serve.specs.Lines.{default_most_lines, reads_for};
 ghost use Rattle.lf_task_serve.specs.Services.{Offers};
-ghost use Rattle.lf_task_serve.specs.Surroundings.{IsReady, IsSound, KeepsDevices, io_of};
+ghost use Rattle.lf_task_serve.specs.Surroundings.{IsReady, IsSound, KeepsStreams, streams_of};
 ghost use Rattle.lf_task_serve.specs.Work.{AreAnswered, BlamesIn, IsServingFault, LeavesReader, IsOfferFor};
 
-use crate::environment::Environment;
+use crate::environment::{Devices, Environment, Shows};
 use crate::listener::{PortListener, local_service};
 use crate::serve_lines::{ending_fault, serve_lines_within};
 use lf_floor::Floor;
 use lf_io::{Sink, Source, send};
-use lf_io_files::OutputFiles;
 use lf_legalize::IndexSeeker;
 use lf_server::{ServiceConfig, serve_connections};
 use lf_task_faults::Fault;
@@ -98,25 +97,31 @@ fn serve_port<'a, V: PortListener, W: Sink>(
 }
 
 /// Answers the lines of the source on the floor.
-pub(crate) fn serve_source<'a, T, E: OutputFiles, V: PortListener, R: Source, W: Sink, F, P>(
+pub(crate) fn serve_source<'a, D: Devices>(
     alloc: Global,
-    around: &mut Environment<T, E, V, R, W, F, P>,
+    around: &mut Environment<D>,
     floor: &mut Floor<IndexSeeker>,
     lines: LineSource,
 ) -> Result<(), Fault<'a>>
-    requires ready { IsReady R.has_failed R.reads W.has_failed around.old.reader around.old.writer }
-    ensures ok { OnOk result
-        (AreAnswered lines floor.old floor.new (io_of R.remaining W.contents E.puts V.accepted around.old around.new)) }
+    requires ready { IsReady D.Reader.has_failed D.Reader.reads D.Writer.has_failed around.old.reader around.old.writer }
+    ensures ok { let io = ⟦<Environment<D> as Shows>⟧.io in
+        OnOk result
+        (AreAnswered lines floor.old floor.new (streams_of (io around.old) (io around.new))) }
     ensures components { floor.new.components ≡ floor.old.components }
-    ensures err { IfErr result (λ fault.
-        IsServingFault lines floor.old fault (io_of R.remaining W.contents E.puts V.accepted around.old around.new)
-        × BlamesIn E.has_failed V.has_failed R.has_failed R.reads W.has_failed lines around.old around.new fault) }
-    ensures sound { OnOk result (IsSound E.has_failed V.has_failed R.has_failed W.has_failed around.old around.new) }
+    ensures err { let io = ⟦<Environment<D> as Shows>⟧.io in
+        IfErr result (λ fault.
+        IsServingFault lines floor.old fault (streams_of (io around.old) (io around.new))
+        × BlamesIn lines (around.new.writer ≡ around.old.writer) (io around.old) (io around.new) fault) }
+    ensures sound { let io = ⟦<Environment<D> as Shows>⟧.io in
+        OnOk result (IsSound (io around.old) (io around.new)) }
     ensures exports { around.new.exports ≡ around.old.exports }
-    ensures offered { IsOfferFor lines (V.offers around.old.services) (V.offers around.new.services) }
+    ensures offered { let io = ⟦<Environment<D> as Shows>⟧.io in
+        IsOfferFor lines (io around.old).offers (io around.new).offers }
     ensures unread { LeavesReader lines around.old.reader around.new.reader }
     ensures silent { around.new.progress ≡ around.old.progress }
-    ensures keeps { KeepsDevices R.holds W.holds around.old around.new }
+    ensures texts { around.new.texts ≡ around.old.texts }
+    ensures unreported { around.new.faults ≡ around.old.faults }
+    ensures keeps { let io = ⟦<Environment<D> as Shows>⟧.io in KeepsStreams (io around.old) (io around.new) }
 {
     let reader = &mut around.reader;
     let writer = &mut around.writer;

@@ -14,21 +14,19 @@ ghost use Rattle.lf_task_files.specs.Inputs.{path_of};
 ghost use Rattle.lf_task_serve.specs.Exits.{AnswersInput, IsFinished, IsLinesFault, IsUndone, IsServedDesign};
 ghost use Rattle.lf_task_serve.specs.Faults.{BlamesStreams};
 ghost use Rattle.lf_task_serve.specs.Lines.{default_most_lines};
-ghost use Rattle.lf_task_serve.specs.Surroundings.{IsReady, KeepsDevices, io_of};
+ghost use Rattle.lf_task_serve.specs.Surroundings.{IsReady, KeepsStreams, streams_of};
 ghost use Rattle.lf_task_serve.specs.Work.{AreAnswered, BlamesIn, IsServingFault, IsOfOriginal, IsUnfinished, IsNotServedDesign, LeavesDevices};
 
-use crate::environment::Environment;
+use crate::environment::{Devices, Environment, Shows};
 use crate::line_source::{LineSource, serve_reader, serve_source};
-use crate::listener::PortListener;
 use crate::serve_lines::MOST_LINES;
 use lf_floor::Floor;
 use lf_floor_model::places_follow_design;
 use lf_frame::Loaded;
 use lf_io::{Sink, Source};
-use lf_io_files::OutputFiles;
 use lf_laws_roundtrip::loaded_cells_are_exportable;
 use lf_legalize::IndexSeeker;
-use lf_task_designs::{InputFiles, OpenedDesign, SourceText, open_design};
+use lf_task_designs::{OpenedDesign, SourceText, open_design};
 use lf_task_faults::Fault;
 use lf_task_files::{
     DesignInput, OutputPaths, check_outputs, open_floor, start_floor, write_outputs,
@@ -39,32 +37,37 @@ use std::alloc::Global;
 /// Works on a floor of the design: answers its lines, and then writes the requested files. No line
 /// is read if the files cannot be written, as far as this can be known in advance. `original` is
 /// the DEF text, which is needed to export.
-fn serve_floor<'a, T, E: OutputFiles, V: PortListener, R: Source, W: Sink, F, P>(
+fn serve_floor<'a, D: Devices>(
     alloc: Global,
-    around: &mut Environment<T, E, V, R, W, F, P>,
+    around: &mut Environment<D>,
     original: Option<&SourceText>,
     floor: &mut Floor<IndexSeeker>,
     lines: LineSource,
     outputs: OutputPaths<'a>,
 ) -> Result<u8, Fault<'a>>
-    requires ready { IsReady R.has_failed R.reads W.has_failed around.old.reader around.old.writer }
+    requires ready { IsReady D.Reader.has_failed D.Reader.reads D.Writer.has_failed around.old.reader around.old.writer }
     requires kept { original ≡ None → path_of outputs.export ≡ None }
     requires fits { (s : FloorState) (places : List (ℕ × Option Place)) → s.components ≡ floor.old.components
         → AreCommittedPlaces s places
         → CanBePut (option_copied original) places }
-    ensures ok { (text : List ℕ) (document : Document) → AreKept (option_copied original.entry) text document
+    ensures ok { let io = ⟦<Environment<D> as Shows>⟧.io in
+        (text : List ℕ) (document : Document) → AreKept (option_copied original.entry) text document
         → IfOk result (λ status. (status ≡ 0)
         × IsFinished (AreAnswered lines floor.old) (path_of outputs.entry.save) (path_of outputs.entry.export)
-        text document (io_of R.remaining W.contents E.puts V.accepted around.old around.new)) }
-    ensures err { (text : List ℕ) (document : Document) → AreKept (option_copied original.entry) text document
+        text document (streams_of (io around.old) (io around.new))) }
+    ensures err { let io = ⟦<Environment<D> as Shows>⟧.io in
+        (text : List ℕ) (document : Document) → AreKept (option_copied original.entry) text document
         → IfErr result
         (λ fault. IsUnfinished (path_of outputs.entry.save) (path_of outputs.entry.export) lines floor.old
-        text document fault (io_of R.remaining W.contents E.puts V.accepted around.old around.new)
-        × BlamesIn E.has_failed V.has_failed R.has_failed R.reads W.has_failed lines around.old around.new fault) }
-    ensures leaves { LeavesDevices E.puts V.offers lines (path_of outputs.entry.save)
-        (path_of outputs.entry.export) result around.old around.new }
+        text document fault (streams_of (io around.old) (io around.new))
+        × BlamesIn lines (around.new.writer ≡ around.old.writer) (io around.old) (io around.new) fault) }
+    ensures leaves { let io = ⟦<Environment<D> as Shows>⟧.io in
+        LeavesDevices lines (path_of outputs.entry.save) (path_of outputs.entry.export) result
+        around.old.exports around.new.exports around.old.reader around.new.reader (io around.old) (io around.new) }
     ensures silent { around.new.progress ≡ around.old.progress }
-    ensures keeps { KeepsDevices R.holds W.holds around.old around.new }
+    ensures texts { around.new.texts ≡ around.old.texts }
+    ensures unreported { around.new.faults ≡ around.old.faults }
+    ensures keeps { let io = ⟦<Environment<D> as Shows>⟧.io in KeepsStreams (io around.old) (io around.new) }
 {
     check_outputs(outputs, &mut around.exports)?;
     serve_source(alloc, around, floor, lines)?;
@@ -73,31 +76,36 @@ fn serve_floor<'a, T, E: OutputFiles, V: PortListener, R: Source, W: Sink, F, P>
 }
 
 /// Works on the design, in the state of the file of this path if one is given.
-fn serve_design<'a, T: InputFiles, E: OutputFiles, V: PortListener, R: Source, W: Sink, F, P>(
+fn serve_design<'a, D: Devices>(
     alloc: Global,
-    around: &mut Environment<T, E, V, R, W, F, P>,
+    around: &mut Environment<D>,
     design: OpenedDesign,
     state: Option<&'a str>,
     lines: LineSource,
     outputs: OutputPaths<'a>,
 ) -> Result<u8, Fault<'a>>
-    requires ready { IsReady R.has_failed R.reads W.has_failed around.old.reader around.old.writer }
+    requires ready { IsReady D.Reader.has_failed D.Reader.reads D.Writer.has_failed around.old.reader around.old.writer }
     requires kept { design.original ≡ None → path_of outputs.export ≡ None }
     requires loads { IsOfOriginal design.original design.loaded }
-    ensures ok { (text : List ℕ) (document : Document) → AreKept design.original text document
+    ensures ok { let io = ⟦<Environment<D> as Shows>⟧.io in
+        (text : List ℕ) (document : Document) → AreKept design.original text document
         → IfOk result (λ status. (status ≡ 0) × ((begin : FloorState)
-        × IsOpenedFloor (T.gives around.old.texts) (path_of state.entry) (initial_floor design.loaded) begin
+        × IsOpenedFloor (D.Texts.gives around.old.texts) (path_of state.entry) (initial_floor design.loaded) begin
         × IsFinished (AreAnswered lines begin) (path_of outputs.entry.save) (path_of outputs.entry.export)
-        text document (io_of R.remaining W.contents E.puts V.accepted around.old around.new))) }
-    ensures err { (text : List ℕ) (document : Document) → AreKept design.original text document
-        → IfErr result (λ fault. IsNotServedDesign (T.gives around.old.texts) (path_of state.entry)
+        text document (streams_of (io around.old) (io around.new)))) }
+    ensures err { let io = ⟦<Environment<D> as Shows>⟧.io in
+        (text : List ℕ) (document : Document) → AreKept design.original text document
+        → IfErr result (λ fault. IsNotServedDesign (D.Texts.gives around.old.texts) (path_of state.entry)
         (path_of outputs.entry.save) (path_of outputs.entry.export) lines
-        design.loaded text document fault (io_of R.remaining W.contents E.puts V.accepted around.old around.new)
-        × BlamesIn E.has_failed V.has_failed R.has_failed R.reads W.has_failed lines around.old around.new fault) }
-    ensures leaves { LeavesDevices E.puts V.offers lines (path_of outputs.entry.save)
-        (path_of outputs.entry.export) result around.old around.new }
+        design.loaded text document fault (streams_of (io around.old) (io around.new))
+        × BlamesIn lines (around.new.writer ≡ around.old.writer) (io around.old) (io around.new) fault) }
+    ensures leaves { let io = ⟦<Environment<D> as Shows>⟧.io in
+        LeavesDevices lines (path_of outputs.entry.save) (path_of outputs.entry.export) result
+        around.old.exports around.new.exports around.old.reader around.new.reader (io around.old) (io around.new) }
     ensures silent { around.new.progress ≡ around.old.progress }
-    ensures keeps { KeepsDevices R.holds W.holds around.old around.new }
+    ensures texts { around.new.texts ≡ around.old.texts }
+    ensures unreported { around.new.faults ≡ around.old.faults }
+    ensures keeps { let io = ⟦<Environment<D> as Shows>⟧.io in KeepsStreams (io around.old) (io around.new) }
 {
     kept_clauses_suffice();
     loaded_cells_are_exportable();
@@ -114,28 +122,33 @@ fn serve_design<'a, T: InputFiles, E: OutputFiles, V: PortListener, R: Source, W
 /// `Err` is the first fault, in this order: the LEF files, the DEF file, the design, the state, the
 /// paths of the requested files, the port, the lines, the exported text, the state. If the fault is
 /// not that of writing the state, no file is written.
-pub fn serve_files<'a, T: InputFiles, E: OutputFiles, V: PortListener, R: Source, W: Sink, F, P>(
+pub fn serve_files<'a, D: Devices>(
     alloc: Global,
-    around: &mut Environment<T, E, V, R, W, F, P>,
+    around: &mut Environment<D>,
     inputs: DesignInput<'a>,
     lines: LineSource,
     outputs: OutputPaths<'a>,
 ) -> Result<u8, Fault<'a>>
-    requires ready { IsReady R.has_failed R.reads W.has_failed around.old.reader around.old.writer }
-    ensures ok { IfOk result (λ status. IsServedDesign inputs.entry.limits (T.gives around.old.texts)
+    requires ready { IsReady D.Reader.has_failed D.Reader.reads D.Writer.has_failed around.old.reader around.old.writer }
+    ensures ok { let io = ⟦<Environment<D> as Shows>⟧.io in
+        IfOk result (λ status. IsServedDesign inputs.entry.limits (D.Texts.gives around.old.texts)
         inputs.entry.def.now (map (λ lef. lef.now) inputs.entry.lefs.now)
         (path_of inputs.entry.state) (path_of outputs.entry.save) (path_of outputs.entry.export) (AreAnswered lines)
-        (io_of R.remaining W.contents E.puts V.accepted around.old around.new) × (status ≡ 0)) }
-    ensures err { IfErr result (λ fault. IsUndone inputs.entry.limits (T.gives around.old.texts)
+        (streams_of (io around.old) (io around.new)) × (status ≡ 0)) }
+    ensures err { let io = ⟦<Environment<D> as Shows>⟧.io in
+        IfErr result (λ fault. IsUndone inputs.entry.limits (D.Texts.gives around.old.texts)
         inputs.entry.def.now (map (λ lef. lef.now) inputs.entry.lefs.now)
         (path_of inputs.entry.state) (path_of outputs.entry.save) (path_of outputs.entry.export) (IsServingFault lines)
         (AreAnswered lines) fault
-        (io_of R.remaining W.contents E.puts V.accepted around.old around.new)
-        × BlamesIn E.has_failed V.has_failed R.has_failed R.reads W.has_failed lines around.old around.new fault) }
-    ensures leaves { LeavesDevices E.puts V.offers lines (path_of outputs.entry.save)
-        (path_of outputs.entry.export) result around.old around.new }
+        (streams_of (io around.old) (io around.new))
+        × BlamesIn lines (around.new.writer ≡ around.old.writer) (io around.old) (io around.new) fault) }
+    ensures leaves { let io = ⟦<Environment<D> as Shows>⟧.io in
+        LeavesDevices lines (path_of outputs.entry.save) (path_of outputs.entry.export) result
+        around.old.exports around.new.exports around.old.reader around.new.reader (io around.old) (io around.new) }
     ensures silent { around.new.progress ≡ around.old.progress }
-    ensures keeps { KeepsDevices R.holds W.holds around.old around.new }
+    ensures texts { around.new.texts ≡ around.old.texts }
+    ensures unreported { around.new.faults ≡ around.old.faults }
+    ensures keeps { let io = ⟦<Environment<D> as Shows>⟧.io in KeepsStreams (io around.old) (io around.new) }
 {
     let DesignInput {
         def,

@@ -376,15 +376,15 @@ fn with_devices<V: PortListener, R: Read, W: Write, F: Write>(
         alloc: rt.alloc(),
         files,
     };
-    let mut around = Environment {
-        texts: FsInputFiles::new(&shelf),
-        exports: KeptThere { kept: exports },
-        services: OfferedThere { services },
-        reader: FromRead::new(reader),
-        writer: ToWrite::new(writer),
-        faults: ToWrite::new(faults),
-        progress: NoProgress,
-    };
+    let mut around = Environment::new(
+        FsInputFiles::new(&shelf),
+        KeptThere { kept: exports },
+        OfferedThere { services },
+        FromRead::new(reader),
+        ToWrite::new(writer),
+        ToWrite::new(faults),
+        NoProgress,
+    );
     let exit = perform_over(rt.alloc(), &mut around, task);
     End {
         exit,

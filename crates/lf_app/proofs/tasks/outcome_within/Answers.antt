@@ -2,8 +2,8 @@ use Rattle.std.proofs.Common.{◌∙◌, refl, subst, sym}
 use Rattle.lf_task_serve.specs.Lines.{default_most_lines}
 use Rattle.lf_task_serve.proofs.Answering.{streams_blame}
 use Rattle.lf_task_files.proofs.WorkSteps.{also_fails, blames_as, writer_blames}
-use Rattle.lf_task_repair.specs.Repairs.{WritesExportAlone, WritesNoFile}
-use Rattle.lf_app.proofs.TaskSteps.{stops_untouched}
+use Rattle.lf_task_run.specs.Outputs.{WritesExportAlone, WritesNoFile}
+use Rattle.lf_app.proofs.TaskSteps.{done_at, not_done_at, requested_at, stops_untouched}
 use Rattle.lf_app.proofs.tasks.outcome_within.Goals as goal
 
 pub returns-in-Replay-clause-ok : goal.returns-in-Replay-clause-ok
@@ -98,26 +98,26 @@ returns-in-Demo-clause-err g c =
 pub returns-in-Repair-clause-ok : goal.returns-in-Repair-clause-ok
 returns-in-Repair-clause-ok g c =
     let i = rw c.in-Repair.is at c.input_of-inputs.ensures in
-    let r = c.repair_job-requested.ensures in
-    let ok = rw (r.def, r.lefs, r.teams, r.options, r.state, r.files, r.limits) at c.repair.ensures.ok in
-    rw c.in-Repair.is (rw (i.def_is, i.lefs_are, i.state_is, i.limits_are, c.as_slice.ensures) at ok)
+    let job = c.job_of-job in
+    let ok = done_at _ _ _ _ (requested_at _ _ _ _ _ _ _ _ job.result i job.ensures.input (job.ensures.teams ∙ c.as_slice.ensures) refl job.ensures.files) c.run_task.result _ _ _ _ c.run_task.ensures.ok in
+    rw c.in-Repair.is (rw c.repair_of-work.ensures at ok)
 
 pub returns-in-Repair-clause-err : goal.returns-in-Repair-clause-err
 returns-in-Repair-clause-err g c =
     let i = rw c.in-Repair.is at c.input_of-inputs.ensures in
-    let r = c.repair_job-requested.ensures in
-    let err = rw (r.def, r.lefs, r.teams, r.options, r.state, r.files, r.limits) at c.repair.ensures.err in
-    rw c.in-Repair.is (also_fails c.repair.result _ _ _ (rw (i.def_is, i.lefs_are, i.state_is, i.limits_are, c.as_slice.ensures) at err)
+    let job = c.job_of-job in
+    let err = not_done_at _ _ _ _ (requested_at _ _ _ _ _ _ _ _ job.result i job.ensures.input (job.ensures.teams ∙ c.as_slice.ensures) refl job.ensures.files) c.run_task.result _ _ _ _ _ _ c.run_task.ensures.err
     (λ fault blames. blames_as fault _ _ _ _ _ _ _ _ _ _ _ _ blames (λ k. k) (λ none. absurd none) (λ w. w) (λ e. e) (λ none. absurd none)
-    (λ sound. record { exports = sound.1; services = refl; reader = refl; writer = sound.0 })))
+    (λ sound. record { exports = sound.1; services = refl; reader = refl; writer = sound.0 })) in
+    rw c.in-Repair.is (rw c.repair_of-work.ensures at err)
 
 pub returns-in-Repair-clause-unput : goal.returns-in-Repair-clause-unput
 returns-in-Repair-clause-unput g c = λ alone.
-    c.repair.ensures.unput (subst WritesExportAlone (sym c.repair_job-requested.ensures.files) (rw c.in-Repair.is at alone))
+    c.run_task.ensures.unput (subst WritesExportAlone (sym c.job_of-job.ensures.files) (rw c.in-Repair.is at alone))
 
 pub returns-in-Repair-clause-unasked : goal.returns-in-Repair-clause-unasked
 returns-in-Repair-clause-unasked g c = λ none.
-    c.repair.ensures.unasked (subst WritesNoFile (sym c.repair_job-requested.ensures.files) (rw c.in-Repair.is at none))
+    c.run_task.ensures.unasked (subst WritesNoFile (sym c.job_of-job.ensures.files) (rw c.in-Repair.is at none))
 
 pub returns-in-Repair-clause-silent : goal.returns-in-Repair-clause-silent
 returns-in-Repair-clause-silent g c = λ nothing. absurd (rw c.in-Repair.is at nothing)
@@ -125,26 +125,26 @@ returns-in-Repair-clause-silent g c = λ nothing. absurd (rw c.in-Repair.is at n
 pub returns-in-Improve-clause-ok : goal.returns-in-Improve-clause-ok
 returns-in-Improve-clause-ok g c =
     let i = rw c.in-Improve.is at c.input_of-inputs.ensures in
-    let r = c.improve_job-requested.ensures in
-    let ok = rw (r.def, r.lefs, r.teams, r.within, r.files, r.limits) at c.improve.ensures.ok in
-    rw c.in-Improve.is (rw (i.def_is, i.lefs_are, i.limits_are, c.as_slice-in-Improve.ensures) at ok)
+    let job = c.job_of-job-in-Improve in
+    let ok = done_at _ _ _ _ (requested_at _ _ _ _ _ _ _ _ job.result i job.ensures.input (job.ensures.teams ∙ c.as_slice-in-Improve.ensures) refl job.ensures.files) c.run_task-in-Improve.result _ _ _ _ c.run_task-in-Improve.ensures.ok in
+    rw c.in-Improve.is (rw c.improvement_of-work.ensures.within at ok)
 
 pub returns-in-Improve-clause-err : goal.returns-in-Improve-clause-err
 returns-in-Improve-clause-err g c =
     let i = rw c.in-Improve.is at c.input_of-inputs.ensures in
-    let r = c.improve_job-requested.ensures in
-    let err = rw (r.def, r.lefs, r.teams, r.within, r.files, r.limits) at c.improve.ensures.err in
-    rw c.in-Improve.is (also_fails c.improve.result _ _ _ (rw (i.def_is, i.lefs_are, i.limits_are, c.as_slice-in-Improve.ensures) at err)
+    let job = c.job_of-job-in-Improve in
+    let err = not_done_at _ _ _ _ (requested_at _ _ _ _ _ _ _ _ job.result i job.ensures.input (job.ensures.teams ∙ c.as_slice-in-Improve.ensures) refl job.ensures.files) c.run_task-in-Improve.result _ _ _ _ _ _ c.run_task-in-Improve.ensures.err
     (λ fault blames. blames_as fault _ _ _ _ _ _ _ _ _ _ _ _ blames (λ k. k) (λ none. absurd none) (λ w. w) (λ e. e) (λ none. absurd none)
-    (λ sound. record { exports = sound.1; services = refl; reader = refl; writer = sound.0 })))
+    (λ sound. record { exports = sound.1; services = refl; reader = refl; writer = sound.0 })) in
+    rw c.in-Improve.is (rw c.improvement_of-work.ensures.within at err)
 
 pub returns-in-Improve-clause-unput : goal.returns-in-Improve-clause-unput
 returns-in-Improve-clause-unput g c = λ alone.
-    c.improve.ensures.unput (subst WritesExportAlone (sym c.improve_job-requested.ensures.files) (rw c.in-Improve.is at alone))
+    c.run_task-in-Improve.ensures.unput (subst WritesExportAlone (sym c.job_of-job-in-Improve.ensures.files) (rw c.in-Improve.is at alone))
 
 pub returns-in-Improve-clause-unasked : goal.returns-in-Improve-clause-unasked
 returns-in-Improve-clause-unasked g c = λ none.
-    c.improve.ensures.unasked (subst WritesNoFile (sym c.improve_job-requested.ensures.files) (rw c.in-Improve.is at none))
+    c.run_task-in-Improve.ensures.unasked (subst WritesNoFile (sym c.job_of-job-in-Improve.ensures.files) (rw c.in-Improve.is at none))
 
 pub returns-in-Improve-clause-silent : goal.returns-in-Improve-clause-silent
 returns-in-Improve-clause-silent g c = λ nothing. absurd (rw c.in-Improve.is at nothing)

@@ -1,37 +1,31 @@
-use Rattle.std.proofs.Common.{ℕ, inl, inr, subst, sym}
-use Rattle.lf_cli.specs.Command.{as_job}
-use Rattle.lf_app.specs.Exits.{IsJobOutcome}
+use Rattle.std.proofs.Common.{inl, inr}
 use Rattle.lf_task_files.specs.Faults.{IsDone, IsFailure}
-use Rattle.lf_task_serve.specs.Surroundings.{io_of}
-use Rattle.lf_app.proofs.TaskSteps.{checked, failing, not_both, succeeds}
+use Rattle.lf_app.proofs.TaskSteps.{checked, ends_with_status, failing, not_both, succeeds}
 use Rattle.lf_task_files.proofs.WorkSteps.{blames_as}
 use Rattle.lf_app.proofs.tasks.perform_over.Goals as goal
 
 pub returns-in-Ok : goal.returns-in-Ok
 returns-in-Ok g c =
-    let gives = g.T.InputFiles.gives c.args.around.now.texts in
-    let io = io_of g.R.Source.remaining g.W.Sink.contents g.E.OutputFiles.puts g.V.Acceptor.accepted c.args.around.now c.outcome.new.around in
     let status = c.exit_with.result.status in
-    let is : IsJobOutcome gives (as_job c.args.task.now) io status =
-    subst (λ (n : ℕ). IsJobOutcome gives (as_job c.args.task.now) io n) (sym c.exit_with.ensures.status) c.in-Ok.ensures.ok in
-    let succeeded : IsDone status = succeeds gives (as_job c.args.task.now) io status is in
+    let is = ends_with_status _ _ _ _ status c.exit_with.ensures.status c.in-Ok.ensures.ok in
+    let succeeded : IsDone status = succeeds _ _ _ status is in
     record {
       status = inl succeeded;
       outcome = λ _. is;
-      done = λ _. c.in-Ok.ensures.keeps.unreported;
+      done = λ _. c.in-Ok.ensures.unreported;
       reported = λ _. c.exit_with.ensures.reported;
       fault = λ failed. absurd (not_both status succeeded failed);
-      checked = checked gives c.args.task.now io status is;
+      checked = checked _ c.args.task.now _ status is;
       unread = c.in-Ok.ensures.unread;
       unput = λ none failed. absurd (not_both status succeeded failed);
       unasked = c.in-Ok.ensures.unasked;
       offered = λ _. c.in-Ok.ensures.offered;
       unoffered = c.in-Ok.ensures.unoffered;
       silent = c.in-Ok.ensures.silent;
-      texts = c.in-Ok.ensures.keeps.texts;
+      texts = c.in-Ok.ensures.texts;
       reader_held = c.in-Ok.ensures.keeps.reader_held;
       writer_held = c.in-Ok.ensures.keeps.writer_held;
-      faults_held = cc c.in-Ok.ensures.keeps.unreported;
+      faults_held = cc c.in-Ok.ensures.unreported;
     }
 
 pub returns-in-Err : goal.returns-in-Err
@@ -50,7 +44,7 @@ returns-in-Err g c =
           blames_as c.in-Err.fault _ _ _ _ _ _ _ _ _ _ _ _ c.in-Err.ensures.err.1 (λ k. k) (λ r. r) (λ w. w) (λ e. e) (λ s. s)
               (λ sound. record { exports = sound.exports; services = sound.services; reader = sound.reader; writer = sound.writer }),
         ),
-        (rw c.in-Err.ensures.keeps.unreported at c.report_fault.ensures.ends),
+        (rw c.in-Err.ensures.unreported at c.report_fault.ensures.ends),
       );
       checked = λ four. absurd (not_both status (inr four) failed);
       unread = c.in-Err.ensures.unread;
@@ -59,8 +53,8 @@ returns-in-Err g c =
       offered = λ succeeded. absurd (not_both status succeeded failed);
       unoffered = c.in-Err.ensures.unoffered;
       silent = c.in-Err.ensures.silent;
-      texts = c.in-Err.ensures.keeps.texts;
+      texts = c.in-Err.ensures.texts;
       reader_held = c.in-Err.ensures.keeps.reader_held;
       writer_held = c.in-Err.ensures.keeps.writer_held;
-      faults_held = cc (c.in-Err.ensures.keeps.unreported, c.report_fault.ensures.faults_held);
+      faults_held = cc (c.in-Err.ensures.unreported, c.report_fault.ensures.faults_held);
     }

@@ -1,8 +1,8 @@
 use Rattle.std.proofs.Common.{ap}
 use Rattle.lf_floor_model.specs.States.{FloorState}
 use Rattle.lf_floor_model.specs.Teams.{state_of}
-use Rattle.lf_task_repair.specs.Repairs.{kept_text}
-use Rattle.lf_task_repair.proofs.Repairing.{of_team}
+use Rattle.lf_task_run.specs.Commands.{kept_text}
+use Rattle.lf_task_run.proofs.Running.{of_team}
 use Rattle.lf_task_improve.proofs.Results.{settled_by}
 use Rattle.lf_task_improve.proofs.improving.improve_named.Goals as goal
 

@@ -1,8 +1,8 @@
 use Rattle.std.proofs.Common.{◌≡◌, ◌∙◌, List, ℕ, Some, ap, false, map, rules, sym, true}
 use Rattle.std.specs.Prelude.{slice_get}
 use Rattle.lf_floor_model.specs.Teams.{team_names, team_number}
-use Rattle.lf_task_repair.specs.Repairs.{is_selected}
-use Rattle.lf_task_repair.proofs.Named.{numbered}
+use Rattle.lf_task_run.specs.Teams.{is_selected}
+use Rattle.lf_task_run.proofs.Named.{numbered}
 use Rattle.lf_task_improve.proofs.Results.{one_added, unselected_added}
 use Rattle.lf_task_improve.proofs.improving.improve_numbered.Goals as goal
 

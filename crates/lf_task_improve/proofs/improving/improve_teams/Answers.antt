@@ -1,6 +1,6 @@
 use Rattle.std.proofs.Common.{◌∙◌, map, refl, rules, arith}
-use Rattle.lf_task_repair.specs.Repairs.{kept_text}
-use Rattle.lf_task_repair.proofs.Repairing.{none_changes, nothing_requested, one_more_untouched, then_requested, then_kept}
+use Rattle.lf_task_run.specs.Commands.{kept_text}
+use Rattle.lf_task_run.proofs.Running.{none_changes, nothing_requested, one_more_untouched, then_requested, then_kept}
 use Rattle.lf_task_improve.proofs.Results.{all_added, nets_kept, next_added, none_added}
 use Rattle.lf_task_improve.proofs.improving.improve_teams.Goals as goal
 

@@ -2,9 +2,9 @@ use Rattle.std.proofs.Common.{map}
 use Rattle.std.specs.Prelude.{◌≤◌}
 use Rattle.lf_rules.specs.Legalizer.{Legalizer}
 use Rattle.lf_improve_team.specs.FloorLengths.{AreNetsOfFloor, IsWireLengthOn}
-use Rattle.lf_task_repair.specs.Repairs.{IsKeptRun, OnlySelectedChange, kept_text}
-use Rattle.lf_task_repair.proofs.Repairing.{AreUntouched}
-use Rattle.lf_task_repair.proofs.TeamLines.{first_requested}
+use Rattle.lf_task_run.specs.Commands.{IsKeptRun, kept_text}
+use Rattle.lf_task_run.specs.Teams.{OnlySelectedChange}
+use Rattle.lf_task_run.proofs.Running.{AreUntouched, first_requested}
 use Rattle.lf_task_improve.specs.Improvements.{AddsResults}
 use Rattle.lf_task_improve.proofs.improving.improve_teams.Given as goal
 

@@ -24,7 +24,7 @@ serve_floor-requires g c =
           (can_be_put design.original of.text of.document places of.are
           (c.kept_clauses_suffice.ensures.ready of.text of.document places of.read (c.loaded_cells_are_exportable.ensures _ design.loaded places of.loads
           (c.places_follow_design.ensures design.loaded s places
-          (same ∙ begun_components (g.T.InputFiles.gives c.args.around.now.texts) (path_of c.args.state) (initial_floor design.loaded) c.in_ok-floor.floor c.in_ok-floor.ensures.ok) are))));
+          (same ∙ begun_components _ (path_of c.args.state) (initial_floor design.loaded) c.in_ok-floor.floor c.in_ok-floor.ensures.ok) are))));
     }
 
 pub returns-clause-ok : goal.returns-clause-ok
@@ -43,6 +43,6 @@ returns-in_err-floor-clause-err g c = λ text document are.
     let p = err_from_is_err_and c.from_residual.result c.from_residual.ensures.1 in
     rw (p.1, p.2) (
       inl (c.in_err-floor.ensures.err, record { unread = refl; unwritten = refl; unput = refl; unaccepted = refl }),
-      early_blames _ _ _ _ _ _ _ refl (still_sound g.E.OutputFiles.has_failed g.V.Acceptor.has_failed g.R.Source.has_failed g.W.Sink.has_failed c.args.around.now)
-          (unbegun_early (g.T.InputFiles.gives c.args.around.now.texts) (path_of c.args.state) c.args.design.loaded _ c.in_err-floor.ensures.err),
+      early_blames _ _ _ _ _ _ _ refl (still_sound _)
+          (unbegun_early _ (path_of c.args.state) c.args.design.loaded _ c.in_err-floor.ensures.err),
     )

@@ -1,12 +1,8 @@
-use Rattle.std.proofs.Common.{◌≡◌, ◌∙◌, inl, map, refl, sym}
+use Rattle.std.proofs.Common.{◌∙◌, inl, map, refl, sym}
 use Rattle.std.proofs.lemmas.Result.{err_from_is_err_and}
-use Rattle.lf_task_designs.specs.Designs.{IsDesignFault}
-use Rattle.lf_task_serve.specs.Exits.{IsUndone}
-use Rattle.lf_task_serve.specs.Surroundings.{io_of}
-use Rattle.lf_task_serve.specs.Work.{AreAnswered, IsServingFault}
 use Rattle.lf_task_files.specs.Inputs.{path_of}
 use Rattle.lf_task_files.proofs.KeptTexts.{is_given, not_requested}
-use Rattle.lf_task_files.proofs.WorkSteps.{design_early, first_fails, step_fails, weaker_ok}
+use Rattle.lf_task_files.proofs.WorkSteps.{design_early, early_blames, step_fails, weaker_ok}
 use Rattle.lf_task_serve.proofs.LineSteps.{still_sound, undone}
 use Rattle.lf_task_serve.proofs.serve_task.serve_files.Goals as goal
 
@@ -46,13 +42,8 @@ returns-clause-err g c =
 pub returns-in_err-design-clause-err : goal.returns-in_err-design-clause-err
 returns-in_err-design-clause-err g c =
     let p = err_from_is_err_and c.from_residual.result c.from_residual.ensures.1 in
-    let gives = g.T.InputFiles.gives c.args.around.now.texts in
-    let def = c.args.inputs.def.now in
-    let lefs = map (λ lef. lef.now) c.args.inputs.lefs.now in
-    rw (p.1, p.2) (first_fails (IsDesignFault c.args.inputs.limits gives def lefs)
-    (λ fault. IsUndone c.args.inputs.limits gives def lefs (path_of c.args.inputs.state) (path_of c.args.outputs.save) (path_of c.args.outputs.export)
-    (IsServingFault c.args.lines) (AreAnswered c.args.lines) fault
-    (io_of g.R.Source.remaining g.W.Sink.contents g.E.OutputFiles.puts g.V.Acceptor.accepted c.args.around.now c.args.around.now))
-    (c.args.around.now.writer ≡ c.args.around.now.writer) _ _ _ _ _ _ refl
-    (still_sound g.E.OutputFiles.has_failed g.V.Acceptor.has_failed g.R.Source.has_failed g.W.Sink.has_failed c.args.around.now) c.in_err-design.ensures.err
-    (design_early c.args.inputs.limits gives def lefs) (λ fault why. inl (inl (inl why, record { unread = refl; unwritten = refl; unput = refl; unaccepted = refl }), refl)))
+    let why = c.in_err-design.ensures.err in
+    rw (p.1, p.2) (
+      inl (inl (inl why, record { unread = refl; unwritten = refl; unput = refl; unaccepted = refl }), refl),
+      early_blames _ _ _ _ _ _ _ refl (still_sound _) (design_early c.args.inputs.limits _ c.args.inputs.def.now (map (λ lef. lef.now) c.args.inputs.lefs.now) _ why),
+    )

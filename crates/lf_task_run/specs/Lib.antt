@@ -1,0 +1,4 @@
+pub mod Commands
+pub mod Outputs
+pub mod Tasks
+pub mod Teams
