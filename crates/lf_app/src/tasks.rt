@@ -186,7 +186,8 @@ fn outcome_within<'a, D: Devices>(
     task: &'a Task<'_>,
     limits: Limits,
 ) -> Result<u8, Fault<'a>>
-    requires ready { IsReady D.Reader.has_failed D.Reader.reads D.Writer.has_failed around.old.reader around.old.writer }
+    requires ready { IsReady D.Reader.has_failed D.Reader.reads D.Writer.has_failed
+        around.old.reader around.old.writer }
     ensures ok { let io = ⟦<Environment<D> as Shows>⟧.io in
         IfOk result (IsOutcomeWithin limits (D.Texts.gives around.old.texts) (as_job task.now)
         (streams_of (io around.old) (io around.new))) }
@@ -287,7 +288,8 @@ fn outcome<'a, D: Devices>(
     around: &mut Environment<D>,
     task: &'a Task<'_>,
 ) -> Result<u8, Fault<'a>>
-    requires ready { IsReady D.Reader.has_failed D.Reader.reads D.Writer.has_failed around.old.reader around.old.writer }
+    requires ready { IsReady D.Reader.has_failed D.Reader.reads D.Writer.has_failed
+        around.old.reader around.old.writer }
     ensures ok { let io = ⟦<Environment<D> as Shows>⟧.io in
         IfOk result (IsJobOutcome (D.Texts.gives around.old.texts) (as_job task.now)
         (streams_of (io around.old) (io around.new))) }

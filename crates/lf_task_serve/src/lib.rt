@@ -3,7 +3,8 @@
 //!
 //! `serve_files` opens a design, brings its floor into the state of a state file if one is given
 //! (`lf_task_files`), and answers lines or serves connections (`LineSource`). At the end it writes
-//! the exported text and the state, each if requested. `Environment` has all devices of a task.
+//! the exported text and the state, each if requested. `Environment` has all devices of a task; their
+//! types are one parameter (`Devices`).
 //! Each function returns the exit status 0, or the fault, which is not printed here.
 //!
 //! Used by `lf_app`.

@@ -103,7 +103,8 @@ pub(crate) fn serve_source<'a, D: Devices>(
     floor: &mut Floor<IndexSeeker>,
     lines: LineSource,
 ) -> Result<(), Fault<'a>>
-    requires ready { IsReady D.Reader.has_failed D.Reader.reads D.Writer.has_failed around.old.reader around.old.writer }
+    requires ready { IsReady D.Reader.has_failed D.Reader.reads D.Writer.has_failed
+        around.old.reader around.old.writer }
     ensures ok { let io = ⟦<Environment<D> as Shows>⟧.io in
         OnOk result
         (AreAnswered lines floor.old floor.new (streams_of (io around.old) (io around.new))) }

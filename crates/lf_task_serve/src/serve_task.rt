@@ -45,7 +45,8 @@ fn serve_floor<'a, D: Devices>(
     lines: LineSource,
     outputs: OutputPaths<'a>,
 ) -> Result<u8, Fault<'a>>
-    requires ready { IsReady D.Reader.has_failed D.Reader.reads D.Writer.has_failed around.old.reader around.old.writer }
+    requires ready { IsReady D.Reader.has_failed D.Reader.reads D.Writer.has_failed
+        around.old.reader around.old.writer }
     requires kept { original ≡ None → path_of outputs.export ≡ None }
     requires fits { (s : FloorState) (places : List (ℕ × Option Place)) → s.components ≡ floor.old.components
         → AreCommittedPlaces s places
@@ -84,7 +85,8 @@ fn serve_design<'a, D: Devices>(
     lines: LineSource,
     outputs: OutputPaths<'a>,
 ) -> Result<u8, Fault<'a>>
-    requires ready { IsReady D.Reader.has_failed D.Reader.reads D.Writer.has_failed around.old.reader around.old.writer }
+    requires ready { IsReady D.Reader.has_failed D.Reader.reads D.Writer.has_failed
+        around.old.reader around.old.writer }
     requires kept { design.original ≡ None → path_of outputs.export ≡ None }
     requires loads { IsOfOriginal design.original design.loaded }
     ensures ok { let io = ⟦<Environment<D> as Shows>⟧.io in
@@ -129,7 +131,8 @@ pub fn serve_files<'a, D: Devices>(
     lines: LineSource,
     outputs: OutputPaths<'a>,
 ) -> Result<u8, Fault<'a>>
-    requires ready { IsReady D.Reader.has_failed D.Reader.reads D.Writer.has_failed around.old.reader around.old.writer }
+    requires ready { IsReady D.Reader.has_failed D.Reader.reads D.Writer.has_failed
+        around.old.reader around.old.writer }
     ensures ok { let io = ⟦<Environment<D> as Shows>⟧.io in
         IfOk result (λ status. IsServedDesign inputs.entry.limits (D.Texts.gives around.old.texts)
         inputs.entry.def.now (map (λ lef. lef.now) inputs.entry.lefs.now)

@@ -111,3 +111,8 @@ returns-in_err-results-clause-err g c =
           (inr (inr c.in_err-results.ensures.err)) refl c.try_files.ensures.unput,
       early_blames _ _ _ _ _ _ _ refl (refl, c.in_ok-try_files.ensures.sound) (memory_early _ c.in_err-results.ensures.err),
     )
+
+pub returns-in_err-status-clause-unput : goal.returns-in_err-status-clause-unput
+returns-in_err-status-clause-unput g c = λ alone.
+    let p = err_from_is_err_and c.from_residual-in_err-status.result c.from_residual-in_err-status.ensures.1 in
+    rw p.1 (c.in_err-status.ensures.unput alone ∙ c.try_files.ensures.unput)
