@@ -1,4 +1,4 @@
-use Rattle.std.proofs.Common.{◌∙◌, inl, inr, refl}
+use Rattle.std.proofs.Common.{◌∙◌, ap, inl, inr, refl}
 use Rattle.std.proofs.lemmas.Result.{err_from_is_err_and}
 use Rattle.lf_task_files.specs.Inputs.{path_of}
 use Rattle.lf_task_files.proofs.WorkSteps.{blames_as, export_blames}
@@ -40,7 +40,7 @@ returns-in_err-serve_source-clause-err g c = λ text document kept.
     rw (p.1, p.2) (
       inl (
         inl (fault_beside c.args.lines c.args.floor.now _ _ _ _ _ _ _ _ _ _ _ why.0),
-        (rw (sym c.serve_source.ensures.exports) at c.check_outputs.ensures.unput),
+        ap (λ e. g.D.Exports.OutputFiles.puts e) c.serve_source.ensures.exports ∙ c.check_outputs.ensures.unput,
       ),
       blames_as _ _ _ _ _ _ _ _ _ _ _ _ _ why.1 (λ k. k) (λ r. r) (λ w. w) (λ e. e) (λ s. s)
           (λ sound. record { exports = sound.exports ∙ c.in_ok-check_outputs.ensures.sound; services = sound.services; reader = sound.reader; writer = sound.writer }),
