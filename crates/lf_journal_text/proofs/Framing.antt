@@ -151,9 +151,6 @@ module _ (time : ℕ) (p : List ℕ) (early : time < 10 ^ 13) (some : 0 < length
   before_time_long : length before_time ≡ 13
   before_time_long = omega (arith, length-append before_second (five ++ (32 ∷ [])), length-append five (32 ∷ []), digits_long 5 n, before_second_long)
 
-  as_sum : text ≡ (12 ∷ head) ++ (digits_of 10 total ++ (10 ∷ p))
-  as_sum = refl
-
   first_length : (are_digits 5 1 text ≡ true) × (number_at 5 1 text ≡ n)
   first_length =
       let d = digits_there 5 n (12 ∷ []) behind_first 1 refl (omega (arith, small)) in

@@ -105,9 +105,6 @@ entry_shorter bytes e rest is = omega (arith, ap length (entry_said bytes e rest
 
 -- ---- records
 
-more_entries : ℕ → Entry × List ℕ → Option (List Entry)
-more_entries n first = entries_at n first.1 >>= λ rest. Some (first.0 ∷ rest)
-
 pub entries_none : (n : ℕ) → entries_at n [] ≡ Some []
 unfolding entries_at
 entries_none n = refl
