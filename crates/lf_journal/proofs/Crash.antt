@@ -1,11 +1,11 @@
 -- What a crash leaves.
-use Rattle.std.proofs.Common.{◌≡◌, ◌≢◌, ◌⊎◌, ℕ, zero, suc, ◌+◌, ◌-◌, ◌<◌, ◌≤◌, max, min, true, false, List, [], ◌∷◌, ◌++◌, length, take, drop, slice_index, refl, sym, ◌∙◌, ap, subst, inl, inr, arith, append_assoc, length-append, length-drop, take-append-drop, ext_get_or}
+use Rattle.std.proofs.Common.{◌≡◌, ◌⊎◌, ℕ, zero, suc, ◌+◌, ◌-◌, ◌<◌, ◌≤◌, true, false, List, [], ◌∷◌, ◌++◌, length, take, drop, slice_index, refl, sym, ◌∙◌, ap, subst, inl, inr, arith, append_assoc, length-append, length-drop, take-append-drop, ext_get_or}
 use Rattle.std.proofs.lemmas.Bool.{cases_lt, cases_eq, cases_Bool}
 use Rattle.std.proofs.lemmas.List.{take_at, get_or_past, get_or-drop, get_or-take, length-take, length-take-le}
-use Rattle.std.proofs.lemmas.List.Prefix.{front_from_reads, at_from_reads}
+use Rattle.std.proofs.lemmas.List.Prefix.{at_from_reads}
 use Rattle.sqlite_disk.specs.Disk.{Holds, Torn, Mixed}
 use Rattle.lf_journal_text.specs.Batches.{batch_size, recovered, is_torn, is_intact, IsBatch, EndsWhole, StopsAt}
-use Rattle.lf_journal_text.proofs.Reading.{zeroed, same_size, gate_open, no_header, recovered_none, recovered_batch, ends_more, with_more, stops, batch_long}
+use Rattle.lf_journal_text.proofs.Reading.{zeroed, same_size, no_header, recovered_none, ends_more, with_more, stops, batch_long}
 use Rattle.lf_journal_text.proofs.Torn.{torn_by, mixed_torn, regated, torn_zeros, intact_at, torn_at}
 use Rattle.lf_journal.specs.Journals.{StandsFor, IsBeforeOrAfter, IsShut}
 
@@ -296,14 +296,6 @@ module _ (end n : ℕ) (old shut : List ℕ) (ends : EndsWhole (take end old)) (
           ]
         ]
       ]
-
--- no byte is left to clear
-pub nothing_to_clear : (end : ℕ) (old shut : List ℕ) → IsShut end old shut → length shut ≤ end + 1 → (i : ℕ) → end ≤ i → slice_index shut i ≡ 0
-nothing_to_clear end old shut is short i low =
-    elim (cases_eq i end) [
-      | inl first ↦ ap (λ (k : ℕ). slice_index shut k) first ∙ is.gate
-      | inr later ↦ get_or_past shut i 0 (omega arith)
-    ]
 
 -- a segment at rest stands for its batches
 pub settled_stands : (end : ℕ) (file : List ℕ) → EndsWhole (take end file) → ((i : ℕ) → end ≤ i → slice_index file i ≡ 0) → end < length file → StandsFor (recovered file) file

@@ -1,4 +1,4 @@
-use Rattle.std.proofs.Common.{◌≡◌, ◌⊎◌, ℕ, [], ◌∷◌, ◌++◌, List, drop, sym, ◌∙◌, ap, subst, inl, inr}
+use Rattle.std.proofs.Common.{◌≡◌, ℕ, [], ◌∷◌, ◌++◌, List, drop, sym, ◌∙◌, ap, subst, inl, inr}
 use Rattle.lf_journal_text.specs.Records.{beginning_text}
 use Rattle.lf_journal.specs.Journals.{StandsFor}
 use Rattle.lf_journal.proofs.Crash.{fresh}

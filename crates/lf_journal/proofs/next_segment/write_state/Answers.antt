@@ -1,5 +1,5 @@
 use Rattle.std.proofs.Common.{◌≡◌, ◌+◌, ℕ, List, length, slice_index, sym, ◌∙◌, ap, subst, arith, ext_get_or}
-use Rattle.sqlite_disk.specs.Disk.{Torn, Holds, Only}
+use Rattle.sqlite_disk.specs.Disk.{Holds, Only}
 use Rattle.lf_journal.proofs.next_segment.write_state.Goals as goal
 
 pub returns : goal.returns

@@ -1,6 +1,5 @@
-use Rattle.std.proofs.Common.{◌≡◌, ℕ, ◌+◌, List, length, take, max, sym, ◌∙◌, ap, subst, arith}
-use Rattle.lf_journal_text.specs.Batches.{recovered, StopsAt, EndsWhole}
-use Rattle.lf_journal.specs.Journals.{IsShut, StandsFor}
+use Rattle.std.proofs.Common.{ℕ, List, length, take, sym, ◌∙◌, ap, subst, arith}
+use Rattle.lf_journal_text.specs.Batches.{StopsAt, EndsWhole}
 use Rattle.lf_journal.proofs.Crash.{shut_again, shut_same}
 use Rattle.lf_journal.proofs.start.close_torn.Goals as goal
 

@@ -1,7 +1,7 @@
-use Rattle.std.proofs.Common.{◌≡◌, ℕ, ◌+◌, ◌<◌, ◌≤◌, [], ◌∷◌, List, length, drop, slice_index, true, refl, sym, ◌∙◌, ap, subst, arith}
-use Rattle.sqlite_disk.specs.Disk.{Torn, Holds, Only}
+use Rattle.std.proofs.Common.{◌≡◌, ℕ, ◌<◌, ◌≤◌, [], ◌∷◌, List, length, drop, slice_index, true, refl, sym, subst, arith}
+use Rattle.sqlite_disk.specs.Disk.{Torn, Holds}
 use Rattle.lf_journal_text.specs.Batches.{recovered, is_torn, StopsAt}
-use Rattle.lf_journal.specs.Journals.{IsShut, StandsFor}
+use Rattle.lf_journal.specs.Journals.{StandsFor}
 use Rattle.lf_journal.proofs.Crash.{shut_crash, shut_done, shut_already, shut_there}
 use Rattle.lf_journal.proofs.start.shut.Goals as goal
 
