@@ -16,8 +16,8 @@ from pathlib import Path
 
 # An import of names from a file of specs/ or proofs/ of a crate.
 IMPORT = re.compile(r"\buse Rattle\.(\w+)\.(specs|proofs)\.([\w.+]+)\.\{([^}]*)\}")
-# Files that the prover makes: the types of the code, and the goals of a function.
-MADE = re.compile(r"declared\b|.*\bGoals$")
+# Files that the prover makes: the types and the contracts of the code, and the goals of a function.
+MADE = re.compile(r"(?:declared|contracts)\b|.*\bGoals$")
 WORDS = r"(?:(?:abbrev|unfoldable|private|instance|pub|record|data|ruleset|syntax)\s+)*"
 # A declared name at the start of a line, a constructor or a field, and the names that a file passes on.
 DECLARED = re.compile(rf"^\s*{WORDS}([^\s:({{]+)\s*[:({{]|(?:\||\bpub)\s+([^\s:({{]+)", re.M)

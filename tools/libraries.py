@@ -71,6 +71,10 @@ GROUPS = {
         " changes the tables. `lf_floor` finds the team, saves and restores",
     ),
     "state": Group("lf_state_*", "the text of a saved state, and the tables that are restored from it"),
+    "journal": Group(
+        "lf_journal lf_journal_*",
+        "the journal of a hub. `_text` is its text, `lf_journal` puts batches on a disk, and `_file` is a file as a disk",
+    ),
     "repairs": Group("lf_repair_*", "legal places for many cells"),
     "wires": Group(
         "lf_wire_*",
@@ -270,6 +274,12 @@ RULES = (
         Kind.RESERVED,
         "lf_task_repair tests",
         "Nets only advise a repair where its cells without a place may go.",
+    ),
+    Rule(
+        "journal",
+        Kind.INDEPENDENT,
+        "all -lf_journal -lf_journal_text",
+        "A journal keeps lines and replies, whatever they mean, so a crash is understood without a floor.",
     ),
     Rule("io", Kind.INDEPENDENT, "all", "Devices and files are at the bottom, and any group may name `Output`."),
     Rule(

@@ -1,0 +1,4 @@
+pub mod Batches
+pub mod Numbers
+pub mod Records
+pub mod Views

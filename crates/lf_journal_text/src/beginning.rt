@@ -1,0 +1,56 @@
+//! The beginning of a segment.
+
+ghost use Rattle.std.specs.Prelude.{◌≡◌, ◌<◌, ◌^◌, ◌++◌, true, length, IfOk, OnOk};
+ghost use Rattle.std.specs.Str.{bytes_eq};
+ghost use Rattle.lf_journal_text.specs.Batches.{IsBatch};
+ghost use Rattle.lf_journal_text.specs.Records.{beginning, beginning_text, entry_text, is_line, state_name};
+
+use crate::batch::sum_from;
+use crate::frame::{batch_of, write_digits};
+use crate::records::{Record, write_record};
+use std::alloc::{AllocError, Global};
+
+/// Returns the name of a state: its length and its sum.
+#[tactic(auto, unfolding(crate::specs::Records::state_name))]
+fn name_of(alloc: Global, state: &[u8]) -> Result<Vec<u8>, AllocError>
+    ensures { IfOk result (λ name. name.items ≡ state_name state.now) }
+{
+    let mut name = Vec::new(alloc);
+    write_digits(&mut name, 13, state.len() as u64)?;
+    name.push(b' ')?;
+    write_digits(&mut name, 10, u64::from(sum_from(0, state)))?;
+    Ok(name)
+}
+
+/// Returns whether the last line of a beginning names this state.
+pub fn names_state(alloc: Global, name: &[u8], state: &[u8]) -> Result<bool, AllocError>
+    ensures { IfOk result (λ same. same ≡ bytes_eq name.now (state_name state.now)) }
+{
+    let due = name_of(alloc, state)?;
+    Ok(name == due.as_slice())
+}
+
+/// Returns the batch with which a segment begins. `design` is a line of the hub's: what a start
+/// compares, as the sums of the design's texts and the number of session slots.
+pub fn beginning_of(
+    alloc: Global,
+    time: u64,
+    design: &[u8],
+    state: &[u8],
+) -> Result<Vec<u8>, AllocError>
+    requires time { time < 10 ^ 13 }
+    requires line { is_line design.now ≡ true }
+    requires small { length design.now < 90000 }
+    ensures text { IfOk result (λ batch. batch.items ≡ beginning_text time design.now state.now) }
+    ensures batch { IfOk result (λ batch. IsBatch batch.items) }
+{
+    let name = name_of(alloc, state)?;
+    let mut records = Vec::new(alloc);
+    let record = Record {
+        origin: b"lefence-journal 4",
+        line: design,
+        reply: &name,
+    };
+    write_record(&mut records, &record)?;
+    batch_of(alloc, time, &records)
+}
