@@ -18,6 +18,8 @@ fn a_batch_is_there_after_a_crash(rt: HostRuntime) -> Result<(), Fail> {
     };
     journal.put(&beginning(alloc)?)?;
     let batch = batch(alloc)?;
+    assert!(rt; journal.end < 1_000_000);
+    assert!(rt; batch.len() < 1_000_000);
     journal.put(&batch)?;
     journal.disk.crash();
     let mut disk = journal.disk;
@@ -30,7 +32,8 @@ fn a_batch_is_there_after_a_crash(rt: HostRuntime) -> Result<(), Fail> {
 fn a_torn_batch_is_dropped(rt: HostRuntime) -> Result<(), Fail> {
     let alloc = rt.alloc();
     let mut text = segment(alloc)?;
-    let at = text.len() - 12;
+    let at = text.len().saturating_sub(12);
+    assert!(rt; at < text.len());
     text[at] = 0;
     let mut disk = Memory::new(alloc);
     disk.write_at(0, &text)?;
@@ -46,6 +49,7 @@ fn a_torn_batch_is_dropped(rt: HostRuntime) -> Result<(), Fail> {
 fn damage_is_left_as_it_is(rt: HostRuntime) -> Result<(), Fail> {
     let alloc = rt.alloc();
     let mut text = segment(alloc)?;
+    assert!(rt; 40 < text.len());
     text[40] ^= 1;
     let mut disk = Memory::new(alloc);
     disk.write_at(0, &text)?;
@@ -60,7 +64,8 @@ fn damage_is_left_as_it_is(rt: HostRuntime) -> Result<(), Fail> {
 fn each_call_may_be_the_last(rt: HostRuntime) -> Result<(), Fail> {
     let alloc = rt.alloc();
     let mut text = segment(alloc)?;
-    let at = text.len() - 12;
+    let at = text.len().saturating_sub(12);
+    assert!(rt; at < text.len());
     text[at] = 0;
     for calls in 0..24 {
         let mut memory = Memory::new(alloc);

@@ -23,8 +23,14 @@ fn a_file_is_opened_again(rt: HostRuntime) -> Result<(), Fail> {
         end: opened.text.len(),
         len: opened.len,
     };
-    journal.put(&beginning(alloc)?)?;
-    journal.put(&batch(alloc)?)?;
+    let first = beginning(alloc)?;
+    assert!(rt; journal.end < 1_000_000);
+    assert!(rt; first.len() < 1_000_000);
+    journal.put(&first)?;
+    let second = batch(alloc)?;
+    assert!(rt; journal.end < 1_000_000);
+    assert!(rt; second.len() < 1_000_000);
+    journal.put(&second)?;
     drop(journal);
     let mut again = open_file(&rt, FOLDER, PATH, Unknown)?;
     let opened = open(alloc, &mut again)?;

@@ -41,7 +41,7 @@ fn each_prefix_is_a_segment(rt: HostRuntime) -> Result<(), Fail> {
     let alloc = rt.alloc();
     let first = beginning(alloc)?.len();
     let text = segment(alloc)?;
-    let whole = text.len() - 8;
+    let whole = text.len().saturating_sub(8);
     for n in 0..text.len() {
         let due = usize::from(first <= n) + usize::from(whole <= n);
         assert_eq!(rt; batches_in(alloc, &text[..n])?, due);
@@ -56,7 +56,7 @@ fn each_changed_byte_is_found(rt: HostRuntime) -> Result<(), Fail> {
     let alloc = rt.alloc();
     let first = beginning(alloc)?.len();
     let text = segment(alloc)?;
-    for i in 0..text.len() - 8 {
+    for i in 0..text.len().saturating_sub(8) {
         let mut changed = Vec::new(alloc);
         changed.extend_from_slice(&text)?;
         changed[i] ^= 1;
@@ -82,7 +82,7 @@ fn zeros_are_torn_at_the_end_only(rt: HostRuntime) -> Result<(), Fail> {
     let alloc = rt.alloc();
     let first = beginning(alloc)?.len();
     let text = segment(alloc)?;
-    for i in 0..text.len() - 8 {
+    for i in 0..text.len().saturating_sub(8) {
         let mut changed = Vec::new(alloc);
         changed.extend_from_slice(&text)?;
         changed[i] = 0;

@@ -106,10 +106,10 @@ pub returns-in-Repair-clause-err : goal.returns-in-Repair-clause-err
 returns-in-Repair-clause-err g c =
     let i = rw c.in-Repair.is at c.input_of-inputs.ensures in
     let job = c.job_of-job in
-    let err = not_done_at _ _ _ _ (requested_at _ _ _ _ _ _ _ _ job.result i job.ensures.input (job.ensures.teams ∙ c.as_slice.ensures) refl job.ensures.files) c.run_task.result _ _ _ _ _ _ c.run_task.ensures.err
+    rw c.in-Repair.is (not_done_at _ _ _ _ (requested_at _ _ _ _ _ _ _ _ job.result i job.ensures.input (job.ensures.teams ∙ c.as_slice.ensures) refl job.ensures.files) c.run_task.result _ _ _ _ _ _
+    (rw c.repair_of-work.ensures at c.run_task.ensures.err)
     (λ fault blames. blames_as fault _ _ _ _ _ _ _ _ _ _ _ _ blames (λ k. k) (λ none. absurd none) (λ w. w) (λ e. e) (λ none. absurd none)
-    (λ sound. record { exports = sound.1; services = refl; reader = refl; writer = sound.0 })) in
-    rw c.in-Repair.is (rw c.repair_of-work.ensures at err)
+    (λ sound. record { exports = sound.1; services = refl; reader = refl; writer = sound.0 })))
 
 pub returns-in-Repair-clause-unput : goal.returns-in-Repair-clause-unput
 returns-in-Repair-clause-unput g c = λ alone.
@@ -133,10 +133,10 @@ pub returns-in-Improve-clause-err : goal.returns-in-Improve-clause-err
 returns-in-Improve-clause-err g c =
     let i = rw c.in-Improve.is at c.input_of-inputs.ensures in
     let job = c.job_of-job-in-Improve in
-    let err = not_done_at _ _ _ _ (requested_at _ _ _ _ _ _ _ _ job.result i job.ensures.input (job.ensures.teams ∙ c.as_slice-in-Improve.ensures) refl job.ensures.files) c.run_task-in-Improve.result _ _ _ _ _ _ c.run_task-in-Improve.ensures.err
+    rw c.in-Improve.is (not_done_at _ _ _ _ (requested_at _ _ _ _ _ _ _ _ job.result i job.ensures.input (job.ensures.teams ∙ c.as_slice-in-Improve.ensures) refl job.ensures.files) c.run_task-in-Improve.result _ _ _ _ _ _
+    (rw c.improvement_of-work.ensures.within at c.run_task-in-Improve.ensures.err)
     (λ fault blames. blames_as fault _ _ _ _ _ _ _ _ _ _ _ _ blames (λ k. k) (λ none. absurd none) (λ w. w) (λ e. e) (λ none. absurd none)
-    (λ sound. record { exports = sound.1; services = refl; reader = refl; writer = sound.0 })) in
-    rw c.in-Improve.is (rw c.improvement_of-work.ensures.within at err)
+    (λ sound. record { exports = sound.1; services = refl; reader = refl; writer = sound.0 })))
 
 pub returns-in-Improve-clause-unput : goal.returns-in-Improve-clause-unput
 returns-in-Improve-clause-unput g c = λ alone.

@@ -7,4 +7,4 @@ use Rattle.lf_app.proofs.tasks.perform_with.Goals as goal
 pub returns-clause-fault : goal.returns-clause-fault
 returns-clause-fault g c = λ failed.
     std_fault (λ path text. ⊤) (as_job c.args.task.now) _ _ _ _ _ _ _ _ _ _ _ _ _ _ _ _ _ _ _ _ c.perform_over-exit.result
-    (c.perform_over-exit.ensures.fault failed) refl refl refl refl refl refl (λ same. same)
+    (rw c.new-around.ensures at (c.perform_over-exit.ensures.fault failed)) refl refl refl refl refl refl (λ same. same)
