@@ -106,8 +106,9 @@ pub returns-in-Repair-clause-err : goal.returns-in-Repair-clause-err
 returns-in-Repair-clause-err g c =
     let i = rw c.in-Repair.is at c.input_of-inputs.ensures in
     let job = c.job_of-job in
-    rw c.in-Repair.is (not_done_at _ _ _ _ (requested_at _ _ _ _ _ _ _ _ job.result i job.ensures.input (job.ensures.teams ∙ c.as_slice.ensures) refl job.ensures.files) c.run_task.result _ _ _ _ _ _
-    (rw c.repair_of-work.ensures at c.run_task.ensures.err)
+    let err = not_done_at _ _ _ _ (requested_at _ _ _ _ _ _ _ _ job.result i job.ensures.input (job.ensures.teams ∙ c.as_slice.ensures) refl job.ensures.files) c.run_task.result _ _ _ _ _ _
+    (rw c.repair_of-work.ensures at c.run_task.ensures.err) (λ fault blames. blames) in
+    rw c.in-Repair.is (also_fails c.run_task.result _ _ _ err
     (λ fault blames. blames_as fault _ _ _ _ _ _ _ _ _ _ _ _ blames (λ k. k) (λ none. absurd none) (λ w. w) (λ e. e) (λ none. absurd none)
     (λ sound. record { exports = sound.1; services = refl; reader = refl; writer = sound.0 })))
 
@@ -133,8 +134,9 @@ pub returns-in-Improve-clause-err : goal.returns-in-Improve-clause-err
 returns-in-Improve-clause-err g c =
     let i = rw c.in-Improve.is at c.input_of-inputs.ensures in
     let job = c.job_of-job-in-Improve in
-    rw c.in-Improve.is (not_done_at _ _ _ _ (requested_at _ _ _ _ _ _ _ _ job.result i job.ensures.input (job.ensures.teams ∙ c.as_slice-in-Improve.ensures) refl job.ensures.files) c.run_task-in-Improve.result _ _ _ _ _ _
-    (rw c.improvement_of-work.ensures.within at c.run_task-in-Improve.ensures.err)
+    let err = not_done_at _ _ _ _ (requested_at _ _ _ _ _ _ _ _ job.result i job.ensures.input (job.ensures.teams ∙ c.as_slice-in-Improve.ensures) refl job.ensures.files) c.run_task-in-Improve.result _ _ _ _ _ _
+    (rw c.improvement_of-work.ensures.within at c.run_task-in-Improve.ensures.err) (λ fault blames. blames) in
+    rw c.in-Improve.is (also_fails c.run_task-in-Improve.result _ _ _ err
     (λ fault blames. blames_as fault _ _ _ _ _ _ _ _ _ _ _ _ blames (λ k. k) (λ none. absurd none) (λ w. w) (λ e. e) (λ none. absurd none)
     (λ sound. record { exports = sound.1; services = refl; reader = refl; writer = sound.0 })))
 
