@@ -11,6 +11,7 @@ use Rattle.lf_task_designs.specs.Designs.{ReadsFile}
 use Rattle.lf_task_faults.specs.Faults.{status_of}
 use Rattle.lf_app.specs.Exits.{IsJobOutcome}
 use Rattle.lf_task_serve.specs.Exits.{Streams}
+use Rattle.lf_task_serve.specs.Surroundings.{Io, IsSound}
 use Rattle.lf_task_files.specs.Faults.{IsDone, IsFailure}
 use Rattle.std.specs.Borrow.{Bor}
 use Rattle.lf_floorplan.specs.declared.limits.Limits.{Limits}
@@ -111,3 +112,8 @@ pub not_done_at : {Opened : Type 0} (work : Means Opened) (gives : ReadsFile) (a
     → ((fault : Fault) → also fault → more fault) → IfErr r (λ fault. IsTaskNotDone work gives b before after old new fault × more fault)
 not_done_at work gives a b same r before after old new also more is implies =
     IfErr-weaker r _ _ (λ fault both. (subst (λ (q : Request). IsTaskNotDone work gives q before after old new fault) same both.0, implies fault both.1)) is
+
+-- No device has failed if none of these has.
+pub sound_by : (old new : Io) → new.put_failed ≡ old.put_failed → new.service_failed ≡ old.service_failed → new.read_failed ≡ old.read_failed
+    → new.write_failed ≡ old.write_failed → IsSound old new
+sound_by old new puts services reads writes = record { exports = puts; services = services; reader = reads; writer = writes }

@@ -3,7 +3,7 @@ use Rattle.lf_task_serve.specs.Lines.{default_most_lines}
 use Rattle.lf_task_serve.proofs.Answering.{streams_blame}
 use Rattle.lf_task_files.proofs.WorkSteps.{also_fails, blames_as, writer_blames}
 use Rattle.lf_task_run.specs.Outputs.{WritesExportAlone, WritesNoFile}
-use Rattle.lf_app.proofs.TaskSteps.{done_at, not_done_at, requested_at, stops_untouched}
+use Rattle.lf_app.proofs.TaskSteps.{done_at, not_done_at, requested_at, sound_by, stops_untouched}
 use Rattle.lf_app.proofs.tasks.outcome_within.Goals as goal
 
 pub returns-in-Replay-clause-ok : goal.returns-in-Replay-clause-ok
@@ -110,7 +110,7 @@ returns-in-Repair-clause-err g c =
     (rw c.repair_of-work.ensures at c.run_task.ensures.err) (λ fault blames. blames) in
     rw c.in-Repair.is (also_fails c.run_task.result _ _ _ err
     (λ fault blames. blames_as fault _ _ _ _ _ _ _ _ _ _ _ _ blames (λ k. k) (λ none. absurd none) (λ w. w) (λ e. e) (λ none. absurd none)
-    (λ sound. record { exports = sound.1; services = refl; reader = refl; writer = sound.0 })))
+    (λ sound. sound_by _ _ sound.1 refl refl sound.0)))
 
 pub returns-in-Repair-clause-unput : goal.returns-in-Repair-clause-unput
 returns-in-Repair-clause-unput g c = λ alone.
@@ -138,7 +138,7 @@ returns-in-Improve-clause-err g c =
     (rw c.improvement_of-work.ensures.within at c.run_task-in-Improve.ensures.err) (λ fault blames. blames) in
     rw c.in-Improve.is (also_fails c.run_task-in-Improve.result _ _ _ err
     (λ fault blames. blames_as fault _ _ _ _ _ _ _ _ _ _ _ _ blames (λ k. k) (λ none. absurd none) (λ w. w) (λ e. e) (λ none. absurd none)
-    (λ sound. record { exports = sound.1; services = refl; reader = refl; writer = sound.0 })))
+    (λ sound. sound_by _ _ sound.1 refl refl sound.0)))
 
 pub returns-in-Improve-clause-unput : goal.returns-in-Improve-clause-unput
 returns-in-Improve-clause-unput g c = λ alone.
