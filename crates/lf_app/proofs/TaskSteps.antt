@@ -1,5 +1,5 @@
 -- Tasks over a loaded design.
-use Rattle.std.proofs.Common.{◌≡◌, ◌⊎◌, ◌∙◌, arith, ap, inl, inr, map, subst, sym, List, Option, ℕ}
+use Rattle.std.proofs.Common.{◌≡◌, ◌⊎◌, ◌∙◌, arith, ap, inl, inr, map, subst, sym, Bool, List, Option, ℕ}
 use Rattle.std.specs.Prelude.{IfErr, IfOk, Result}
 use Rattle.std.proofs.lemmas.Result.{IfErr-weaker}
 use Rattle.lf_cli.specs.declared.parse.Task.{Task}
@@ -19,6 +19,7 @@ use Rattle.lf_io_files.specs.Shelf.{Put}
 use Rattle.lf_task_files.specs.Inputs.{path_of}
 use Rattle.lf_task_files.specs.declared.inputs.DesignInput.{DesignInput}
 use Rattle.lf_task_run.specs.Tasks.{IsTaskDone, IsTaskNotDone, Means, Request, request_of}
+use Rattle.lf_task_run.specs.Outputs.{BlamesOutputs}
 use Rattle.lf_task_run.specs.declared.task.Job.{Job as FloorJob}
 use Rattle.lf_app.specs.JobFiles.{IsInputAt, request_at}
 
@@ -108,10 +109,11 @@ done_at work gives a b same r before after old new is = subst (λ (q : Request).
 
 -- The same for a task that is not done, with a further claim about its fault.
 pub not_done_at : {Opened : Type 0} (work : Means Opened) (gives : ReadsFile) (a b : Request) → a ≡ b → (r : Result ℕ Fault) (before after : Option (List ℕ))
-    (old new : Option (List Put)) (also more : Fault → Type 0) → IfErr r (λ fault. IsTaskNotDone work gives a before after old new fault × also fault)
-    → ((fault : Fault) → also fault → more fault) → IfErr r (λ fault. IsTaskNotDone work gives b before after old new fault × more fault)
-not_done_at work gives a b same r before after old new also more is implies =
-    IfErr-weaker r _ _ (λ fault both. (subst (λ (q : Request). IsTaskNotDone work gives q before after old new fault) same both.0, implies fault both.1)) is
+    (old new : Option (List Put)) (kept : Type 0) (write_before write_now file_before file_now : Bool)
+    → IfErr r (λ fault. IsTaskNotDone work gives a before after old new fault × BlamesOutputs fault kept write_before write_now file_before file_now)
+    → IfErr r (λ fault. IsTaskNotDone work gives b before after old new fault × BlamesOutputs fault kept write_before write_now file_before file_now)
+not_done_at work gives a b same r before after old new kept write_before write_now file_before file_now is =
+    IfErr-weaker r _ _ (λ fault both. (subst (λ (q : Request). IsTaskNotDone work gives q before after old new fault) same both.0, both.1)) is
 
 -- No device has failed if none of these has.
 pub sound_by : (old new : Io) → new.put_failed ≡ old.put_failed → new.service_failed ≡ old.service_failed → new.read_failed ≡ old.read_failed

@@ -80,7 +80,10 @@ fn each_call_may_be_the_last(rt: HostRuntime) -> Result<(), Fail> {
                 end: opened.text.len(),
                 len: opened.len,
             };
-            acknowledged = journal.put(&batch(alloc)?).is_ok();
+            let next = batch(alloc)?;
+            assert!(rt; journal.end < 1_000_000);
+            assert!(rt; next.len() < 1_000_000);
+            acknowledged = journal.put(&next).is_ok();
             disk = journal.disk;
         }
         disk.crash();
