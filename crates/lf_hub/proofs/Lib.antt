@@ -1,0 +1,7 @@
+pub mod Slots
+pub mod Steps
+pub mod Kept
+pub mod Sessions
+pub mod Bounds
+pub mod Crash
+pub mod Answered
