@@ -1,7 +1,7 @@
 -- The slots of a hub after one of them changes.
-use Rattle.std.proofs.Common.{◌≡◌, ◌≢◌, ℕ, ◌<◌, ◌≤◌, ◌+◌, ◌⊎◌, inl, inr, Bool, true, false, cond, nat_lt, List, [], ◌∷◌, ◌++◌, length, refl, sym, ap, subst, ◌∙◌, arith, append-nil, length-append}
+use Rattle.std.proofs.Common.{◌≡◌, ◌≢◌, ℕ, zero, suc, ◌<◌, ◌≤◌, ◌+◌, ◌⊎◌, inl, inr, Bool, true, false, cond, nat_lt, List, [], ◌∷◌, ◌++◌, length, refl, sym, ap, subst, ◌∙◌, arith, append-nil, length-append}
 use Rattle.std.specs.Prelude.{◌==◌, ◌||◌, slice_set, slice_index_or}
-use Rattle.std.proofs.lemmas.Bool.{eq-eqb, ne_eqb, cases_eq, cond-true, cond-false, lt-ltb, le-ltb, or_from}
+use Rattle.std.proofs.lemmas.Bool.{eq-eqb, ne_eqb, cases_eq, cond-true, cond-false, lt-ltb, le-ltb, or_from, cases_lt}
 use Rattle.std.proofs.lemmas.Bool.Decides.{nat_tests}
 use Rattle.std.proofs.lemmas.List.{get_or-set_same, get_or-set_other, length-set}
 use Rattle.lf_hub_clients.specs.Connections.{Connection, released}
@@ -40,16 +40,31 @@ last-at [] c = refl
 last-at (x ∷ slots) c = last-at slots c
 
 others-at : (slots : List Connection) (c : Connection) (i : ℕ) → (i ≡ length slots → ⊥) → connection_at i (slots ++ c ∷ []) ≡ connection_at i slots
-others-at slots c i n = grind (arith, nat_tests)
+others-at [] c zero n = absurd (n refl)
+others-at [] c (suc i) n = refl
+others-at (x ∷ slots) c zero n = refl
+others-at (x ∷ slots) c (suc i) n = others-at slots c i (λ e. n (ap suc e))
+
+-- either the slot is there, or it is the one behind the others
+by-place : (P : List Connection → Type 0) (slots : List Connection) (k : ℕ) (c : Connection) → k ≤ length slots
+    → (k < length slots → P (slice_set slots k c)) → (k ≡ length slots → P (slots ++ c ∷ [])) → P (put_at k c slots)
+by-place P slots k c h old new = elim (cases_lt k (length slots)) as (λ _. P (put_at k c slots))
+  [ inl below ↦ subst P (sym (put-old slots k c below)) (old below) | inr past ↦ subst P (sym (put-new slots k c past)) (new (omega arith)) ]
 
 pub put-same : (slots : List Connection) (k : ℕ) (c : Connection) → k ≤ length slots → connection_at k (put_at k c slots) ≡ c
-put-same slots k c h = grind (arith, nat_tests)
+put-same slots k c h = by-place (λ s. connection_at k s ≡ c) slots k c h
+  (λ below. get_or-set_same slots k c no_connection below)
+  (λ e. subst (λ j. connection_at j (slots ++ c ∷ []) ≡ c) (sym e) (last-at slots c))
 
 pub put-other : (slots : List Connection) (i k : ℕ) (c : Connection) → k ≤ length slots → (i ≡ k → ⊥) → connection_at i (put_at k c slots) ≡ connection_at i slots
-put-other slots i k c h n = grind (arith, nat_tests)
+put-other slots i k c h n = by-place (λ s. connection_at i s ≡ connection_at i slots) slots k c h
+  (λ below. get_or-set_other slots k i c no_connection n)
+  (λ e. others-at slots c i (λ g. n (g ∙ sym e)))
 
 pub put-length : (slots : List Connection) (i k : ℕ) (c : Connection) → k ≤ length slots → i < length (put_at k c slots) → (i ≡ k → ⊥) → i < length slots
-put-length slots i k c h below n = grind (arith, nat_tests)
+put-length slots i k c h below n = by-place (λ s. i < length s → i < length slots) slots k c h
+  (λ _ b. omega (arith, b, length-set slots k c))
+  (λ e b. omega (arith, b, e, n, length-append slots (c ∷ []))) below
 
 -- ---- all that is held may be sent
 

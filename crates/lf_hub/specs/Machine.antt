@@ -7,7 +7,7 @@ use Rattle.lf_hub_clients.specs.declared.client.Stage.TheVariants.{Open, Done, L
 use Rattle.lf_hub_clients.specs.declared.floor.Outcome.{Outcome}
 use Rattle.lf_hub_clients.specs.declared.floor.Outcome.TheVariants.{Unchanged, Changed, Opened, Closed, Named, Ended}
 use Rattle.lf_hub_clients.specs.Connections.{Connection, new_connection, with_bytes, with_answer, released, after_sending, leaving, freed, may_answer, room_of, turn_of}
-use Rattle.lf_hub_clients.specs.Turns.{Turn, is_change}
+use Rattle.lf_hub_clients.specs.Turns.{Turn, closing_turn, is_change}
 use Rattle.lf_hub.specs.declared.open_sessions.OpenSession.{OpenSession}
 
 -- The connections that were made so far; the connection of each slot; the open sessions; the slots
@@ -142,7 +142,7 @@ May h (Answers slot turn) = (slot < length h.slots) × (may_answer (connection_a
     × (turn ≡ turn_of (connection_at slot h.slots) turn.line turn.reply turn.outcome)
 May h (Closes slot s turn) = (slot < length h.slots) × ((connection_at slot h.slots).stage ≡ Leaving)
     × (session_of slot h.sessions ≡ Some s)
-    × (turn ≡ record (turn_of (connection_at slot h.slots) turn.line turn.reply turn.outcome) { access = Changes; is_own = false })
+    × (turn ≡ closing_turn (connection_at slot h.slots).number (connection_at slot h.slots).team turn.line turn.reply turn.outcome)
 May h Syncs = Unit {0}
 May h (Sends slot count) = (slot < length h.slots) × (count ≤ length (connection_at slot h.slots).ready)
 May h (Leaves slot) = (slot < length h.slots) × (is_live (connection_at slot h.slots).stage ≡ true)

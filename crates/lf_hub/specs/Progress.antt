@@ -2,8 +2,7 @@
 use Rattle.std.specs.Prelude.{◌≡◌, ℕ, Bool, false, List, Option, Some, None, option_map}
 use Rattle.lf_hub_clients.specs.declared.floor.Outcome.{Outcome}
 use Rattle.lf_hub_clients.specs.Connections.{may_answer, turn_of}
-use Rattle.lf_hub_clients.specs.declared.client.Access.TheVariants.{Changes}
-use Rattle.lf_hub_clients.specs.Turns.{Turn}
+use Rattle.lf_hub_clients.specs.Turns.{Turn, closing_turn}
 use Rattle.lf_hub_turns.specs.Queues.{Queues, next_turn, turn_done}
 use Rattle.lf_hub.specs.declared.open_sessions.OpenSession.{OpenSession}
 use Rattle.lf_hub.specs.declared.hub_core.Progress.{Progress}
@@ -25,8 +24,9 @@ next_client q = option_map (λ turn. turn.1) (next_turn q)
 abbrev pub last_turn : Hub → ℕ → Outcome → CoreState → Turn
 last_turn hub slot outcome new = turn_of (connection_at slot hub.slots) new.line new.reply outcome
 
-abbrev pub closing_turn : Hub → ℕ → Outcome → CoreState → Turn
-closing_turn hub slot outcome new = record (last_turn hub slot outcome new) { access = Changes; is_own = false }
+abbrev pub last_closing : Hub → ℕ → Outcome → CoreState → Turn
+last_closing hub slot outcome new =
+    closing_turn (connection_at slot hub.slots).number (connection_at slot hub.slots).team new.line new.reply outcome
 
 module _ {S : Type 0} (takes : S → Turn → S → Type 0) where
   -- An event happens, and it is the turn of this slot.
@@ -47,8 +47,8 @@ module _ {S : Type 0} (takes : S → Turn → S → Type 0) where
       × takes floor (last_turn old.hub slot outcome new) after_floor
       × (new.turns ≡ turn_done stays old.turns)
   Advances old floor (Closed slot session outcome) new after_floor =
-      Happens old slot (Closes slot session (closing_turn old.hub slot outcome new)) new
-      × takes floor (closing_turn old.hub slot outcome new) after_floor
+      Happens old slot (Closes slot session (last_closing old.hub slot outcome new)) new
+      × takes floor (last_closing old.hub slot outcome new) after_floor
       × (new.turns ≡ turn_done true old.turns)
   Advances old floor (Freed slot) new after_floor =
       Happens old slot (Frees slot) new × (new.turns ≡ turn_done false old.turns) × (after_floor ≡ floor)

@@ -3,8 +3,7 @@
 ghost use Rattle.std.specs.Prelude.{◌≡◌, ◌<◌, ◌≤◌, ◌+◌, ◌++◌, ◌∷◌, [], ℕ, Some, IfNone, IfOk, IfSome, OnErr, OnOk, cond, decimal, length, min, take, replicate, true, false, vec_capacity, vec_len};
 ghost use Rattle.lf_hub_clients.specs.Connections.{freed, may_answer, room_of, turn_of, with_answer};
 ghost use Rattle.lf_hub_clients.specs.Lines.{waiting_limit};
-ghost use Rattle.lf_hub_clients.specs.Turns.{IsAnswered, is_change, short_limit};
-ghost use Rattle.lf_hub_clients.specs.declared.client.Access.TheVariants.{Changes};
+ghost use Rattle.lf_hub_clients.specs.Turns.{IsAnswered, closing_turn, is_change, short_limit};
 ghost use Rattle.lf_hub_turns.specs.Queues.{joined};
 ghost use Rattle.lf_hub.specs.Machine.{May, Opens, Comes, Answers, Syncs, Sends, Leaves, after, changed_at, connection_at, is_live, released_at};
 ghost use Rattle.lf_hub.specs.Progress.{Advances, next_client};
@@ -166,8 +165,7 @@ fn close_session<F: Floor>(
     requires line_room { short_limit ≤ vec_capacity line.old }
     requires room { short_limit ≤ vec_capacity reply.old }
     ensures answered { IsAnswered F.answers F.shows floor.old
-        (record { number = number; team = team; access = Changes; line = line.new.items; reply = reply.new.items;
-          outcome = result; is_own = false }) floor.new }
+        (closing_turn number team line.new.items reply.new.items result) floor.new }
     ensures short { length reply.new.items ≤ short_limit }
     ensures within { length line.new.items ≤ waiting_limit }
     ensures capacity { vec_capacity reply.old ≤ vec_capacity reply.new }
@@ -273,9 +271,27 @@ impl Core {
     /// Returns the connection in a slot.
     pub fn client(&self, slot: usize) -> Option<&Client>
         ensures some { IfSome result (λ client. client.now ≡ connection_at slot self.now.hub.slots) }
+        ensures below { IfSome result (λ client. slot < length self.now.hub.slots) }
         ensures none { IfNone result (length self.now.hub.slots ≤ slot) }
     {
         self.clients.get(slot)
+    }
+
+    /// Returns whether a client in a slot has not left it.
+    pub fn is_live(&self, slot: usize) -> bool
+        ensures below { result ≡ true → slot < length self.now.hub.slots }
+        ensures live { slot < length self.now.hub.slots
+            → result ≡ is_live (connection_at slot self.now.hub.slots).stage }
+    {
+        if slot >= self.clients.len() {
+            return false;
+        }
+        match self.clients[slot].stage() {
+            Stage::Open => true,
+            Stage::Done => true,
+            Stage::Leaving => false,
+            Stage::Free => false,
+        }
     }
 
     /// Returns the records since the last sync.

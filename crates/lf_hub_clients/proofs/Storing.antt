@@ -1,9 +1,10 @@
 -- What a byte, and a line that leaves, do to the lines of stored bytes.
-use Rattle.std.proofs.Common.{◌≡◌, ◌≢◌, ℕ, suc, ◌+◌, ◌<◌, ◌≤◌, Bool, true, false, not, cond, nat_lt, List, [], ◌∷◌, ◌++◌, length, take, drop, Option, None, Some, refl, sym, ap, ◌∙◌, arith, append_assoc, append-nil, length-append}
+use Rattle.std.proofs.Common.{◌≡◌, ◌≢◌, ℕ, suc, ◌+◌, ◌<◌, ◌≤◌, Bool, true, false, not, cond, nat_lt, List, [], ◌∷◌, ◌++◌, length, take, drop, None, Some, refl, sym, ap, ◌∙◌, arith, append_assoc, append-nil, length-append}
 use Rattle.std.proofs.lemmas.Bool.Decides.{nat_tests}
 use Rattle.std.proofs.lemmas.List.{drop-append-le}
-use Rattle.std.specs.List.{position_or_len}
-use Rattle.lf_hub_clients.specs.Lines.{is_line_feed, line_limit, longer, lines_after, begun_after, lines_size}
+use Rattle.std.specs.List.{position, position_or_len}
+use Rattle.std.proofs.lemmas.Bool.{ltb-true, lt-ltb, cond-true}
+use Rattle.lf_hub_clients.specs.Lines.{is_line_feed, line_limit, lines_after, begun_after, lines_size}
 use Rattle.lf_hub_clients.specs.Stored.{stored_lines, stored_begun}
 
 lines-feed-next : (begun text : List ℕ) (x b : ℕ) (ends : Bool) → stored_lines [] (text ++ b ∷ []) ≡ stored_lines [] text ++ stored_begun [] text ∷ [] → stored_lines (begun ++ x ∷ []) (text ++ b ∷ []) ≡ stored_lines (begun ++ x ∷ []) text ++ stored_begun (begun ++ x ∷ []) text ∷ []
@@ -123,3 +124,33 @@ no-feed b h = grind (arith, nat_tests)
 
 pub short : (n : ℕ) → n < 4097 → nat_lt n line_limit ≡ true
 short n h = grind (arith, nat_tests)
+
+-- the size of the lines of a buffer
+pub view-size : (text : List ℕ) → lines_size (stored_lines [] text) + length (stored_begun [] text) ≡ length text
+view-size text = let whole = stored_size [] text in omega arith
+
+-- no more lines than bytes
+few-next : (begun text : List ℕ) (x : ℕ) (ends : Bool) → length (stored_lines [] text) ≤ length text → length (stored_lines (begun ++ x ∷ []) text) ≤ length text
+    → length (cond ends (begun ∷ stored_lines [] text) (stored_lines (begun ++ x ∷ []) text)) ≤ length (x ∷ text)
+few-next begun text x true p q = omega arith
+few-next begun text x false p q = omega arith
+
+pub few-lines : (begun text : List ℕ) → length (stored_lines begun text) ≤ length text
+few-lines begun [] = omega arith
+few-lines begun (x ∷ text) = few-next begun text x (is_line_feed x) (few-lines [] text) (few-lines (begun ++ x ∷ []) text)
+
+-- where the first line feed is
+position-some : (b : Bool) (n i : ℕ) → cond b (Some n) None ≡ Some i → (b ≡ true) × (i ≡ n)
+position-some true n i h = (refl, cc)
+position-some false n i h = absurd (cc)
+
+pub feed-at : (text : List ℕ) (i : ℕ) → position is_line_feed text ≡ Some i → (position_or_len is_line_feed text < length text) × (i ≡ position_or_len is_line_feed text)
+feed-at text i h =
+    let parts = position-some (nat_lt (position_or_len is_line_feed text) (length text)) (position_or_len is_line_feed text) i h in
+    (ltb-true (position_or_len is_line_feed text) (length text) parts.0, parts.1)
+
+pub no-feed-at : (text : List ℕ) → position is_line_feed text ≡ None → position_or_len is_line_feed text < length text → ⊥
+no-feed-at text h some =
+    let found = cond-true (nat_lt (position_or_len is_line_feed text) (length text)) (Some (position_or_len is_line_feed text)) None (lt-ltb (position_or_len is_line_feed text) (length text) some) in
+    let impossible : Some (position_or_len is_line_feed text) ≡ None = sym found ∙ h in
+    cc

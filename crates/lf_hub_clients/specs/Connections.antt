@@ -1,12 +1,12 @@
 -- What a hub has of one connection, and what may happen to it.
-use Rattle.std.specs.Prelude.{◌≡◌, ℕ, ◌+◌, ◌-◌, Bool, true, false, ◌&&◌, cond, nat_lt, List, [], ◌∷◌, ◌++◌, drop, length}
+use Rattle.std.specs.Prelude.{ℕ, ◌+◌, ◌-◌, Bool, true, false, ◌&&◌, cond, nat_lt, List, [], ◌∷◌, ◌++◌, drop, length}
 use Rattle.lf_hub_clients.specs.declared.client.Access.{Access}
 use Rattle.lf_hub_clients.specs.declared.client.Stage.{Stage}
 use Rattle.lf_hub_clients.specs.declared.client.Stage.TheVariants.{Open, Done, Leaving, Free}
 use Rattle.lf_hub_clients.specs.declared.floor.Outcome.{Outcome}
 use Rattle.lf_hub_clients.specs.declared.floor.Outcome.TheVariants.{Unchanged, Changed, Opened, Closed, Named, Ended}
 use Rattle.lf_hub_clients.specs.Lines.{lines_after, begun_after, lines_size, waiting_limit}
-use Rattle.lf_hub_clients.specs.Turns.{Turn}
+use Rattle.lf_hub_clients.specs.Turns.{Turn, sent_turn}
 
 -- A connection: its number, team, access and stage; its label; the lines that wait, and the line that
 -- has begun; the bytes of replies that may be sent, and those that are held until the next sync.
@@ -55,15 +55,7 @@ may_answer c = is_open c.stage && nat_lt 0 (length c.lines) && nat_lt (length c.
 
 -- The line of a connection, answered.
 abbrev pub turn_of : Connection → List ℕ → List ℕ → Outcome → Turn
-turn_of c line reply outcome = record {
-  number = c.number;
-  team = c.team;
-  access = c.access;
-  line = line;
-  reply = reply;
-  outcome = outcome;
-  is_own = true;
-}
+turn_of c line reply outcome = sent_turn c.number c.team c.access line reply outcome
 
 -- These bytes come from the client.
 abbrev pub with_bytes : List ℕ → Connection → Connection

@@ -34,6 +34,29 @@ pub record Turn : Type 0 where
   pub outcome : Outcome
   pub is_own : Bool
 
+-- A line that a client sent, and one by which the hub closes a session of a client that is gone.
+abbrev pub sent_turn : ℕ → ℕ → Access → List ℕ → List ℕ → Outcome → Turn
+sent_turn number team access line reply outcome = record {
+  number = number;
+  team = team;
+  access = access;
+  line = line;
+  reply = reply;
+  outcome = outcome;
+  is_own = true;
+}
+
+abbrev pub closing_turn : ℕ → ℕ → List ℕ → List ℕ → Outcome → Turn
+closing_turn number team line reply outcome = record {
+  number = number;
+  team = team;
+  access = Changes;
+  line = line;
+  reply = reply;
+  outcome = outcome;
+  is_own = false;
+}
+
 module _ {S : Type 0} (answers : ℕ → List ℕ → S → List ℕ → Outcome → S → Type 0) (shows : ℕ → List ℕ → S → List ℕ → Type 0) where
   -- The floor answers the line, and changes only if that is an accepted change. A line of a client
   -- that may only query changes nothing.

@@ -3,7 +3,7 @@
 ghost use Rattle.std.specs.Prelude.{◌≡◌, ◌≤◌, ◌+◌, ◌++◌, ◌∷◌, ◌⊎◌, [], ℕ, IfOk, OnErr, OnOk, length, take, min, true, false, vec_capacity, vec_len};
 ghost use Rattle.lf_hub_clients.specs.Connections.{new_connection, with_bytes, with_answer, released, after_sending, leaving, freed, room_of, may_answer, turn_of, label_after, stage_after};
 ghost use Rattle.lf_hub_clients.specs.Lines.{waiting_limit};
-ghost use Rattle.lf_hub_clients.specs.Turns.{IsAnswered, is_change, refusal, short_limit};
+ghost use Rattle.lf_hub_clients.specs.Turns.{IsAnswered, is_change, refusal, sent_turn, short_limit};
 
 use crate::buffer::append;
 use crate::floor::{Floor, Outcome};
@@ -93,15 +93,7 @@ fn ask<F: Floor>(
     requires empty { reply.old.items ≡ [] }
     requires room { short_limit ≤ vec_capacity reply.old }
     ensures answered { (number : ℕ) → IsAnswered F.answers F.shows floor.old
-        (record {
-          number = number;
-          team = team;
-          access = access;
-          line = line.now;
-          reply = reply.new.items;
-          outcome = result;
-          is_own = true;
-        }) floor.new }
+        (sent_turn number team access line.now reply.new.items result) floor.new }
     ensures unchanged { is_change result ≡ false → floor.new ≡ floor.old }
     ensures untaken { takes_changes ≡ false → is_change result ≡ false }
     ensures short { is_change result ≡ true → length reply.new.items ≤ short_limit }
@@ -303,6 +295,7 @@ impl Client {
         ensures err { OnErr result (self.new ≡ self.old) }
         ensures kept { OnErr result (floor.new ≡ floor.old) }
         ensures capacity { vec_capacity reply.old ≤ vec_capacity reply.new }
+        ensures line_capacity { vec_capacity line.old ≤ vec_capacity line.new }
     {
         self.replies.reserve(SHORT)?;
         if !self.lines.take_line(line)? {

@@ -39,6 +39,10 @@ pub fn is_change(outcome: Outcome) -> bool
 /// The buffers are empty and have room for 4,096 bytes, as many as a reply to an accepted change may
 /// have.
 pub trait Floor {
+    ghost use Rattle.std.specs.Prelude.{◌≡◌, ◌≤◌, ◌⊎◌, [], Bool, ℕ, List, length, false, true, vec_capacity};
+    ghost use Rattle.lf_hub_clients.specs.Turns.{is_change, short_limit};
+    ghost use Rattle.lf_hub_clients.specs.declared.floor.Outcome.{Outcome};
+
     /// Holds if a line of the team, on the first floor, gets this reply, has this outcome, and leaves
     /// the second floor.
     ghost answers: { ℕ → List ℕ → Self → List ℕ → Outcome → Self → Type 0 };

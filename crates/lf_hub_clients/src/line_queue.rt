@@ -40,7 +40,6 @@ impl Model for LineQueue {
     } };
 
     ghost invariant = { λ q. (q.start ≤ vec_len q.bytes) × (vec_len q.bytes - q.start ≤ waiting_limit)
-        × (q.count ≤ vec_len q.bytes)
         × (q.count ≡ length (stored_lines [] (drop q.start q.bytes.items)))
         × (q.begun ≡ length (stored_begun [] (drop q.start q.bytes.items))) };
 }
@@ -178,6 +177,7 @@ impl LineQueue {
         ensures within { IfOk result (λ taken. taken ≡ true → length line.new.items ≤ waiting_limit) }
         ensures none { IfOk result (λ taken. taken ≡ false → (self.old.lines ≡ []) × (self.new ≡ self.old)) }
         ensures begun { self.new.begun ≡ self.old.begun }
+        ensures capacity { vec_capacity line.old ≤ vec_capacity line.new }
         ensures err { OnErr result (self.new ≡ self.old) }
     {
         if self.count == 0 {

@@ -1,5 +1,5 @@
 -- The clients of a team take turns.
-use Rattle.std.proofs.Common.{◌≡◌, ℕ, ◌<◌, ◌≤◌, ◌+◌, ◌⊎◌, inl, inr, Bool, true, false, not, cond, nat_lt, List, [], ◌∷◌, ◌++◌, length, Option, Some, None, refl, sym, ap, subst, ◌∙◌, arith, length-append}
+use Rattle.std.proofs.Common.{◌≡◌, ℕ, zero, suc, ◌<◌, ◌≤◌, ◌+◌, ◌⊎◌, inl, inr, Bool, true, false, not, cond, nat_lt, List, [], ◌∷◌, ◌++◌, length, Option, Some, None, refl, sym, ap, subst, ◌∙◌, arith, length-append}
 use Rattle.std.specs.Prelude.{◌==◌, ◌||◌, ◌&&◌, slice_set, slice_index_or, replicate}
 use Rattle.std.proofs.lemmas.Bool.{eq-eqb, ne_eqb, true≢false, false≢true, cases_eq, and_parts, ltb-true, or_left, or_right, or_parts, not-true, cases_lt, cond-true, cond-false}
 use Rattle.std.proofs.lemmas.Bool.Decides.{nat_tests}
@@ -13,16 +13,29 @@ use Rattle.lf_hub_turns.proofs.Teams.{HasTurn, whose, nobodys, done, within}
 -- ---- tables of tests
 
 front-same : (xs : List Bool) (y : Bool) (c : ℕ) → c < length xs → slice_index_or (xs ++ y ∷ []) c true ≡ slice_index_or xs c true
-front-same xs y c h = grind (arith, nat_tests, common_steps)
+front-same [] y c h = absurd (omega arith)
+front-same (x ∷ xs) y zero h = refl
+front-same (x ∷ xs) y (suc c) h = front-same xs y c (omega arith)
+
+beyond : (xs : List Bool) (i : ℕ) → length xs ≤ i → slice_index_or xs i true ≡ true
+beyond [] i h = refl
+beyond (x ∷ xs) zero h = absurd (omega arith)
+beyond (x ∷ xs) (suc i) h = beyond xs i (omega arith)
 
 false-within : (xs : List Bool) (c : ℕ) → slice_index_or xs c true ≡ false → c < length xs
-false-within xs c h = grind (arith, nat_tests, common_steps)
+false-within xs c h = elim (cases_lt c (length xs)) as (λ _. c < length xs)
+  [ inl below ↦ below | inr past ↦ absurd (true≢false (sym (beyond xs c past) ∙ h)) ]
+
+empty-at : (teams u : ℕ) → slice_index_or (replicate teams []) u [] ≡ []
+empty-at zero u = refl
+empty-at (suc teams) zero = refl
+empty-at (suc teams) (suc u) = empty-at teams u
 
 none-at : (teams u c : ℕ) → is_in c (slice_index_or (replicate teams []) u []) ≡ false
-none-at teams u c = grind (arith, nat_tests, common_steps)
+none-at teams u c = ap (is_in c) (empty-at teams u)
 
 distinct-at : (teams u : ℕ) → Distinct (slice_index_or (replicate teams []) u [])
-distinct-at teams u = subst Distinct (sym (grind (arith, nat_tests, common_steps))) tt
+distinct-at teams u = subst Distinct (sym (empty-at teams u)) tt
 
 -- ---- every event
 
@@ -50,17 +63,19 @@ module _ (q : Queues) (team client : ℕ) where
   -- a client other than the one that joins is where it was
   joined-member : team < length q.clients → (u c : ℕ) → (c ≡ client → ⊥) → is_in c (queue_of u (joining team client q)) ≡ true → is_in c (queue_of u q) ≡ true
   joined-member below u c n h =
-      elim (cases_eq u team) as (λ _. is_in c (queue_of u q) ≡ true)
-        [ inl e ↦ subst (λ v. is_in c (queue_of v q) ≡ true) (sym e)
+      elim (cases_eq u team) as (λ _. is_in c (queue_of u q) ≡ true) [
+        | inl e ↦ subst (λ v. is_in c (queue_of v q) ≡ true) (sym e)
             (in-pushed c (queue_of team q) client (subst (λ xs. is_in c xs ≡ true) (joined-same below) (subst (λ v. is_in c (queue_of v (joining team client q)) ≡ true) e h)) n)
-        | inr o ↦ subst (λ xs. is_in c xs ≡ true) (joined-other u o) h ]
+        | inr o ↦ subst (λ xs. is_in c xs ≡ true) (joined-other u o) h
+      ]
 
   -- the one that joins is in the queue of its team alone
   joined-only : Fine q → slice_index_or q.waits client true ≡ false → (u : ℕ) → is_in client (queue_of u (joining team client q)) ≡ true → u ≡ team
   joined-only fine idle u h =
-      elim (cases_eq u team) as (λ _. u ≡ team)
-        [ inl e ↦ e
-        | inr o ↦ absurd (true≢false (sym (fine.waits u client (subst (λ xs. is_in client xs ≡ true) (joined-other u o) h)) ∙ idle)) ]
+      elim (cases_eq u team) as (λ _. u ≡ team) [
+        | inl e ↦ e
+        | inr o ↦ absurd (true≢false (sym (fine.waits u client (subst (λ xs. is_in client xs ≡ true) (joined-other u o) h)) ∙ idle))
+      ]
 
   idle-out : Fine q → slice_index_or q.waits client true ≡ false → (b : Bool) → is_in client (queue_of team q) ≡ b → b ≡ false
   idle-out fine idle true h = absurd (true≢false (sym (fine.waits team client h) ∙ idle))
@@ -71,20 +86,24 @@ module _ (q : Queues) (team client : ℕ) where
       let there : client < length q.waits = false-within q.waits client idle in
       let long : length (slice_set q.waits client true) ≡ length q.waits = length-set q.waits client true in
       record {
-        apart = λ u. elim (cases_eq u team) as (λ _. Distinct (queue_of u (joining team client q)))
-          [ inl e ↦ subst (λ v. Distinct (queue_of v (joining team client q))) (sym e)
+        apart = λ u. elim (cases_eq u team) as (λ _. Distinct (queue_of u (joining team client q))) [
+          | inl e ↦ subst (λ v. Distinct (queue_of v (joining team client q))) (sym e)
               (subst Distinct (sym (joined-same below)) (distinct-push (queue_of team q) client (fine.apart team) (idle-out fine idle (is_in client (queue_of team q)) refl)))
-          | inr o ↦ subst Distinct (sym (joined-other u o)) (fine.apart u) ];
-        below = λ u c h. elim (cases_eq c client) as (λ _. c < length (slice_set q.waits client true))
-          [ inl e ↦ omega (arith, e, there, long)
-          | inr n ↦ (let b = fine.below u c (joined-member below u c n h) in omega (arith, b, long)) ];
-        waits = λ u c h. elim (cases_eq c client) as (λ _. slice_index_or (slice_set q.waits client true) c true ≡ true)
-          [ inl e ↦ ap (λ v. slice_index_or (slice_set q.waits client true) v true) e ∙ get_or-set_same q.waits client true true there
-          | inr n ↦ get_or-set_other q.waits client c true true n ∙ fine.waits u c (joined-member below u c n h) ];
-        one = λ t u c h g. elim (cases_eq c client) as (λ _. t ≡ u)
-          [ inl e ↦ joined-only fine idle t (subst (λ v. is_in v (queue_of t (joining team client q)) ≡ true) e h)
+          | inr o ↦ subst Distinct (sym (joined-other u o)) (fine.apart u)
+        ];
+        below = λ u c h. elim (cases_eq c client) as (λ _. c < length (slice_set q.waits client true)) [
+          | inl e ↦ omega (arith, e, there, long)
+          | inr n ↦ (let b = fine.below u c (joined-member below u c n h) in omega (arith, b, long))
+        ];
+        waits = λ u c h. elim (cases_eq c client) as (λ _. slice_index_or (slice_set q.waits client true) c true ≡ true) [
+          | inl e ↦ ap (λ v. slice_index_or (slice_set q.waits client true) v true) e ∙ get_or-set_same q.waits client true true there
+          | inr n ↦ get_or-set_other q.waits client c true true n ∙ fine.waits u c (joined-member below u c n h)
+        ];
+        one = λ t u c h g. elim (cases_eq c client) as (λ _. t ≡ u) [
+          | inl e ↦ joined-only fine idle t (subst (λ v. is_in v (queue_of t (joining team client q)) ≡ true) e h)
               ∙ sym (joined-only fine idle u (subst (λ v. is_in v (queue_of u (joining team client q)) ≡ true) e g))
-          | inr n ↦ fine.one t u c (joined-member below t c n h) (joined-member below u c n g) ];
+          | inr n ↦ fine.one t u c (joined-member below t c n h) (joined-member below u c n g)
+        ];
       }
 
   joined-fine : (b : Bool) → may_join team client q ≡ b → Fine q → Fine (cond b (joining team client q) q)
@@ -97,7 +116,7 @@ module _ (q : Queues) (team client : ℕ) where
 left-member : (stays : Bool) (x c : ℕ) (xs : List ℕ) → is_in c (first_done stays (x ∷ xs)) ≡ true → is_in c (x ∷ xs) ≡ true
 left-member true x c xs h =
     elim (cases_eq c x) as (λ _. is_in c (x ∷ xs) ≡ true)
-      [ inl e ↦ or_left (c == x) (is_in c xs) (eq-eqb c x e) | inr n ↦ or_right (c == x) (is_in c xs) (in-pushed c xs x h n) ]
+    [ inl e ↦ or_left (c == x) (is_in c xs) (eq-eqb c x e) | inr n ↦ or_right (c == x) (is_in c xs) (in-pushed c xs x h n) ]
 left-member false x c xs h = or_right (c == x) (is_in c xs) h
 
 module _ (q : Queues) (stays : Bool) (t : HasTurn q) where
@@ -109,11 +128,12 @@ module _ (q : Queues) (stays : Bool) (t : HasTurn q) where
 
   now-member : (u c : ℕ) → is_in c (queue_of u (with_clients t.team t.client stays (first_done stays (t.client ∷ t.clients)) q)) ≡ true → is_in c (queue_of u q) ≡ true
   now-member u c h =
-      elim (cases_eq u t.team) as (λ _. is_in c (queue_of u q) ≡ true)
-        [ inl e ↦ subst (λ v. is_in c (queue_of v q) ≡ true) (sym e) (subst (λ xs. is_in c xs ≡ true) (sym t.first_client)
+      elim (cases_eq u t.team) as (λ _. is_in c (queue_of u q) ≡ true) [
+        | inl e ↦ subst (λ v. is_in c (queue_of v q) ≡ true) (sym e) (subst (λ xs. is_in c xs ≡ true) (sym t.first_client)
             (left-member stays t.client c t.clients (subst (λ xs. is_in c xs ≡ true) now-same
-              (subst (λ v. is_in c (queue_of v (with_clients t.team t.client stays (first_done stays (t.client ∷ t.clients)) q)) ≡ true) e h))))
-        | inr o ↦ subst (λ xs. is_in c xs ≡ true) (now-other u o) h ]
+            (subst (λ v. is_in c (queue_of v (with_clients t.team t.client stays (first_done stays (t.client ∷ t.clients)) q)) ≡ true) e h))))
+        | inr o ↦ subst (λ xs. is_in c xs ≡ true) (now-other u o) h
+      ]
 
   first-there : is_in t.client (queue_of t.team q) ≡ true
   first-there = subst (λ xs. is_in t.client xs ≡ true) (sym t.first_client) (or_left (t.client == t.client) (is_in t.client t.clients) (eq-eqb t.client t.client refl))
@@ -123,7 +143,7 @@ gone q true t u fine h = refl
 gone q false t u fine h =
     let team : u ≡ t.team = fine.one u t.team t.client (now-member q false t u t.client h) (first-there q false t) in
     let here = subst (λ xs. is_in t.client xs ≡ true) (now-same q false t)
-        (subst (λ v. is_in t.client (queue_of v (with_clients t.team t.client false (first_done false (t.client ∷ t.clients)) q)) ≡ true) team h) in
+    (subst (λ v. is_in t.client (queue_of v (with_clients t.team t.client false (first_done false (t.client ∷ t.clients)) q)) ≡ true) team h) in
     absurd (true≢false (sym here ∙ (subst Distinct t.first_client (fine.apart t.team)).0))
 
 done-fine : (q : Queues) (stays : Bool) (t : HasTurn q) → Fine q → Fine (with_clients t.team t.client stays (first_done stays (t.client ∷ t.clients)) q)
@@ -132,15 +152,17 @@ done-fine q stays t fine =
     let there : t.client < length q.waits = fine.below t.team t.client (first-there q stays t) in
     let long : length (slice_set q.waits t.client stays) ≡ length q.waits = length-set q.waits t.client stays in
     record {
-      apart = λ u. elim (cases_eq u t.team) as (λ _. Distinct (queue_of u now))
-        [ inl e ↦ subst (λ v. Distinct (queue_of v now)) (sym e) (subst Distinct (sym (now-same q stays t))
+      apart = λ u. elim (cases_eq u t.team) as (λ _. Distinct (queue_of u now)) [
+        | inl e ↦ subst (λ v. Distinct (queue_of v now)) (sym e) (subst Distinct (sym (now-same q stays t))
             (distinct-done stays t.client t.clients (subst Distinct t.first_client (fine.apart t.team))))
-        | inr o ↦ subst Distinct (sym (now-other q stays t u o)) (fine.apart u) ];
+        | inr o ↦ subst Distinct (sym (now-other q stays t u o)) (fine.apart u)
+      ];
       below = λ u c h. let b = fine.below u c (now-member q stays t u c h) in omega (arith, b, long);
-      waits = λ u c h. elim (cases_eq c t.client) as (λ _. slice_index_or (slice_set q.waits t.client stays) c true ≡ true)
-        [ inl e ↦ ap (λ v. slice_index_or (slice_set q.waits t.client stays) v true) e ∙ get_or-set_same q.waits t.client stays true there
+      waits = λ u c h. elim (cases_eq c t.client) as (λ _. slice_index_or (slice_set q.waits t.client stays) c true ≡ true) [
+        | inl e ↦ ap (λ v. slice_index_or (slice_set q.waits t.client stays) v true) e ∙ get_or-set_same q.waits t.client stays true there
             ∙ gone q stays t u fine (subst (λ v. is_in v (queue_of u now) ≡ true) e h)
-        | inr n ↦ get_or-set_other q.waits t.client c stays true n ∙ fine.waits u c (now-member q stays t u c h) ];
+        | inr n ↦ get_or-set_other q.waits t.client c stays true n ∙ fine.waits u c (now-member q stays t u c h)
+      ];
       one = λ a b c h g. fine.one a b c (now-member q stays t a c h) (now-member q stays t b c g);
     }
 
@@ -149,7 +171,7 @@ fine_next q Grows fine = grows-fine q fine
 fine_next q (Joins team client) fine = joined-fine q team client (may_join team client q) refl fine
 fine_next q (Ends stays) fine =
     elim (whose q) as (λ _. Fine (turn_done stays q))
-      [ inl none ↦ subst Fine (sym (nobodys q stays none)) fine | inr t ↦ subst Fine (sym (done q stays t)) (done-fine q stays t fine) ]
+    [ inl none ↦ subst Fine (sym (nobodys q stays none)) fine | inr t ↦ subst Fine (sym (done q stays t)) (done-fine q stays t fine) ]
 
 pub fine_run : (es : List TurnEvent) (q : Queues) → Fine q → Fine (run_turns es q)
 fine_run [] q fine = fine
@@ -165,12 +187,13 @@ joined-there : (q : Queues) (team client of c : ℕ) (b : Bool) → may_join tea
 joined-there q team client of c false may h = (h, refl)
 joined-there q team client of c true may h =
     let below : team < length q.clients = ltb-true team (length q.clients) (and_parts (nat_lt team (length q.clients)) (not (slice_index_or q.waits client true)) may).0 in
-    elim (cases_eq of team) as (λ _. (is_in c (queue_of of (joining team client q)) ≡ true) × (before c (queue_of of (joining team client q)) ≡ before c (queue_of of q)))
-      [ inl e ↦
+    elim (cases_eq of team) as (λ _. (is_in c (queue_of of (joining team client q)) ≡ true) × (before c (queue_of of (joining team client q)) ≡ before c (queue_of of q))) [
+      | inl e ↦
           let is : queue_of of (joining team client q) ≡ queue_of of q ++ client ∷ [] =
-              ap (λ v. queue_of v (joining team client q)) e ∙ joined-same q team client below ∙ ap (λ v. queue_of v q ++ client ∷ []) (sym e) in
+          ap (λ v. queue_of v (joining team client q)) e ∙ joined-same q team client below ∙ ap (λ v. queue_of v q ++ client ∷ []) (sym e) in
           (subst (λ xs. is_in c xs ≡ true) (sym is) (in-front c (queue_of of q) (client ∷ []) h), ap (before c) is ∙ before-push c (queue_of of q) client h)
-      | inr o ↦ (subst (λ xs. is_in c xs ≡ true) (sym (joined-other q team client of o)) h, ap (before c) (joined-other q team client of o)) ]
+      | inr o ↦ (subst (λ xs. is_in c xs ≡ true) (sym (joined-other q team client of o)) h, ap (before c) (joined-other q team client of o))
+    ]
 
 front-join : (q : Queues) (of c team client : ℕ) (more : List ℕ) → is_in c (queue_of of q) ≡ true
     → (is_in c (queue_of of (joined team client q)) ≡ true → Front c more (queue_of of (joined team client q))) → Front c more (queue_of of q)
@@ -192,26 +215,28 @@ front-turn : (q : Queues) (of c : ℕ) (more : List ℕ) (stays : Bool) → is_i
     → (is_in c (queue_of of (turn_done stays q)) ≡ true → is_in c more ≡ false → Front c more (queue_of of (turn_done stays q))) → Front c (client_of_turn of (next_turn q) ++ more) (queue_of of q)
 front-turn q of c more stays h out later =
     let parts = out-both c (client_of_turn of (next_turn q)) more out in
-    elim (whose q) as (λ _. Front c (client_of_turn of (next_turn q) ++ more) (queue_of of q))
-      [ inl none ↦
+    elim (whose q) as (λ _. Front c (client_of_turn of (next_turn q) ++ more) (queue_of of q)) [
+      | inl none ↦
           let same = nobodys q stays none in
           let f = later (subst (λ (r : Queues). is_in c (queue_of of r) ≡ true) (sym same) h) parts.1 in
           (f.0, ap (λ (o : Option (ℕ × ℕ)). client_of_turn of o ++ more ++ f.0) none ∙ f.1 ∙ ap (λ (r : Queues). before c (queue_of of r)) same)
-      | inr t ↦ elim (cases_eq t.team of) as (λ _. Front c (client_of_turn of (next_turn q) ++ more) (queue_of of q))
-          [ inl e ↦
-              let turn : client_of_turn of (next_turn q) ≡ t.client ∷ [] =
-                  ap (client_of_turn of) t.next ∙ cond-true (t.team == of) (t.client ∷ []) [] (eq-eqb t.team of e) in
-              let n : c ≡ t.client → ⊥ = λ g. true≢false (sym (or_left (c == t.client) false (eq-eqb c t.client g)) ∙ subst (λ xs. is_in c xs ≡ false) turn parts.0) in
-              let f : Front c (t.client ∷ more) (queue_of of q) = subst (λ v. Front c (t.client ∷ more) (queue_of v q)) e
-                  (front-own q c more stays t (subst (λ v. is_in c (queue_of v q) ≡ true) (sym e) h) n
-                    (λ there. subst (λ v. Front c more (queue_of v (turn_done stays q))) (sym e) (later (subst (λ v. is_in c (queue_of v (turn_done stays q)) ≡ true) e there) parts.1))) in
-              subst (λ xs. Front c (xs ++ more) (queue_of of q)) (sym turn) f
-          | inr o ↦
-              let turn : client_of_turn of (next_turn q) ≡ [] =
-                  ap (client_of_turn of) t.next ∙ cond-false (t.team == of) (t.client ∷ []) [] (ne_eqb t.team of o) in
-              let same : queue_of of (turn_done stays q) ≡ queue_of of q = ap (queue_of of) (done q stays t) ∙ now-other q stays t of (λ g. o (sym g)) in
-              let f = later (subst (λ xs. is_in c xs ≡ true) (sym same) h) parts.1 in
-              subst (λ xs. Front c (xs ++ more) (queue_of of q)) (sym turn) (f.0, f.1 ∙ ap (before c) same) ] ]
+      | inr t ↦ elim (cases_eq t.team of) as (λ _. Front c (client_of_turn of (next_turn q) ++ more) (queue_of of q)) [
+        | inl e ↦
+            let turn : client_of_turn of (next_turn q) ≡ t.client ∷ [] =
+            ap (client_of_turn of) t.next ∙ cond-true (t.team == of) (t.client ∷ []) [] (eq-eqb t.team of e) in
+            let n : c ≡ t.client → ⊥ = λ g. true≢false (sym (or_left (c == t.client) false (eq-eqb c t.client g)) ∙ subst (λ xs. is_in c xs ≡ false) turn parts.0) in
+            let f : Front c (t.client ∷ more) (queue_of of q) = subst (λ v. Front c (t.client ∷ more) (queue_of v q)) e
+            (front-own q c more stays t (subst (λ v. is_in c (queue_of v q) ≡ true) (sym e) h) n
+            (λ there. subst (λ v. Front c more (queue_of v (turn_done stays q))) (sym e) (later (subst (λ v. is_in c (queue_of v (turn_done stays q)) ≡ true) e there) parts.1))) in
+            subst (λ xs. Front c (xs ++ more) (queue_of of q)) (sym turn) f
+        | inr o ↦
+            let turn : client_of_turn of (next_turn q) ≡ [] =
+            ap (client_of_turn of) t.next ∙ cond-false (t.team == of) (t.client ∷ []) [] (ne_eqb t.team of o) in
+            let same : queue_of of (turn_done stays q) ≡ queue_of of q = ap (queue_of of) (done q stays t) ∙ now-other q stays t of (λ g. o (sym g)) in
+            let f = later (subst (λ xs. is_in c xs ≡ true) (sym same) h) parts.1 in
+            subst (λ xs. Front c (xs ++ more) (queue_of of q)) (sym turn) (f.0, f.1 ∙ ap (before c) same)
+      ]
+    ]
 
 pub client_front : (es : List TurnEvent) (q : Queues) (of c : ℕ) → is_in c (queue_of of q) ≡ true → is_in c (client_turns of es q) ≡ false → Front c (client_turns of es q) (queue_of of q)
 client_front [] q of c h out = (before c (queue_of of q), refl)

@@ -20,13 +20,13 @@ pub in-front : (t : ℕ) (xs ys : List ℕ) → is_in t xs ≡ true → is_in t 
 in-front t [] ys h = absurd (true≢false (sym h))
 in-front t (x ∷ xs) ys h =
     elim (or_cases (t == x) (is_in t xs) h) as (λ _. ((t == x) || is_in t (xs ++ ys)) ≡ true)
-      [ inl e ↦ or_left (t == x) (is_in t (xs ++ ys)) e | inr r ↦ or_right (t == x) (is_in t (xs ++ ys)) (in-front t xs ys r) ]
+    [ inl e ↦ or_left (t == x) (is_in t (xs ++ ys)) e | inr r ↦ or_right (t == x) (is_in t (xs ++ ys)) (in-front t xs ys r) ]
 
 pub in-pushed : (t : ℕ) (xs : List ℕ) (y : ℕ) → is_in t (xs ++ y ∷ []) ≡ true → (t ≡ y → ⊥) → is_in t xs ≡ true
 in-pushed t [] y h n = absurd (true≢false (sym h ∙ or_from (t == y) false (ne_eqb t y n) refl))
 in-pushed t (x ∷ xs) y h n =
     elim (or_cases (t == x) (is_in t (xs ++ y ∷ [])) h) as (λ _. ((t == x) || is_in t xs) ≡ true)
-      [ inl e ↦ or_left (t == x) (is_in t xs) e | inr r ↦ or_right (t == x) (is_in t xs) (in-pushed t xs y r n) ]
+    [ inl e ↦ or_left (t == x) (is_in t xs) e | inr r ↦ or_right (t == x) (is_in t xs) (in-pushed t xs y r n) ]
 
 pub in-last : (xs : List ℕ) (y : ℕ) → is_in y (xs ++ y ∷ []) ≡ true
 in-last [] y = or_left (y == y) false (eq-eqb y y refl)
@@ -86,7 +86,7 @@ pub count-before : (u t : ℕ) (xs : List ℕ) → count u (before t xs) ≤ cou
 count-before u t [] = omega arith
 count-before u t (x ∷ xs) =
     subst (λ n. n ≤ count u (x ∷ xs)) (sym (count-if u (t == x) x (before t xs)))
-      (count-before-next (t == x) (u == x) (count u (before t xs)) (count u xs) (count-before u t xs))
+    (count-before-next (t == x) (u == x) (count u (before t xs)) (count u xs) (count-before u t xs))
 
 count-front-next : (b : Bool) (m n : ℕ) → m ≤ n → cond b (1 + m) m ≤ cond b (1 + n) n
 count-front-next true m n h = omega arith
@@ -114,7 +114,7 @@ pub before-push : (t : ℕ) (xs : List ℕ) (y : ℕ) → is_in t xs ≡ true �
 before-push t [] y h = absurd (true≢false (sym h))
 before-push t (x ∷ xs) y h =
     before-next (t == x) x (before t (xs ++ y ∷ [])) (before t xs)
-      (λ e. before-push t xs y (elim (or_cases (t == x) (is_in t xs) h) as (λ _. is_in t xs ≡ true) [ inl s ↦ absurd (true≢false (sym s ∙ e)) | inr r ↦ r ]))
+    (λ e. before-push t xs y (elim (or_cases (t == x) (is_in t xs) h) as (λ _. is_in t xs ≡ true) [ inl s ↦ absurd (true≢false (sym s ∙ e)) | inr r ↦ r ]))
 
 -- the first one has its turn: a number that is not first is still there, and one fewer is before it
 pub record Moves (t x : ℕ) (xs : List ℕ) (ys : List ℕ) : Type 0 where

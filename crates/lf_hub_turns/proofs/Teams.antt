@@ -1,7 +1,7 @@
 -- Teams take turns.
-use Rattle.std.proofs.Common.{◌≡◌, ℕ, ◌<◌, ◌≤◌, ◌+◌, ◌⊎◌, inl, inr, Bool, true, false, not, cond, nat_lt, List, [], ◌∷◌, ◌++◌, length, Option, Some, None, refl, sym, ap, subst, ◌∙◌, arith}
+use Rattle.std.proofs.Common.{◌≡◌, ℕ, zero, suc, ◌<◌, ◌≤◌, ◌+◌, ◌⊎◌, inl, inr, Bool, true, false, not, cond, nat_lt, List, [], ◌∷◌, ◌++◌, length, Option, Some, None, refl, sym, ap, subst, ◌∙◌, arith}
 use Rattle.std.specs.Prelude.{◌==◌, ◌||◌, ◌&&◌, slice_set, slice_index_or, replicate}
-use Rattle.std.proofs.lemmas.Bool.{eq-eqb, ne_eqb, true≢false, false≢true, cases_eq, cases_Bool, and_parts, ltb-true, or_left, or_right, or_parts, cond-true, cond-false, not-true}
+use Rattle.std.proofs.lemmas.Bool.{eq-eqb, ne_eqb, true≢false, false≢true, cases_eq, cases_lt, and_parts, ltb-true, or_left, or_right, or_parts, cond-true, cond-false, not-true}
 use Rattle.std.proofs.lemmas.List.{get_or-set_same, get_or-set_other}
 use Rattle.lf_hub_turns.specs.Queues.{Queues, queue_of, is_none, first_in, first_done, joining, may_join, joined, client_of, turn_of, next_turn, with_clients, after_turn, turn_done}
 use Rattle.lf_hub_turns.specs.Fairness.{TurnEvent, Grows, Joins, Ends, after_event, run_turns, no_client, team_of_turn, team_turns, is_in, count, TeamsTakeTurns}
@@ -21,8 +21,14 @@ pub record HasTurn (q : Queues) : Type 0 where
 with-client : (q : Queues) (team : ℕ) (teams : List ℕ) → q.teams ≡ team ∷ teams → (clients : List ℕ) → queue_of team q ≡ clients → (next_turn q ≡ None) ⊎ HasTurn q
 with-client q team teams e [] f = inl (ap (λ (xs : List ℕ). turn_of q (first_in xs)) e ∙ ap (λ (cs : List ℕ). client_of team (first_in cs)) f)
 with-client q team teams e (client ∷ clients) f = inr (record {
-  team = team; client = client; teams = teams; clients = clients; first_team = e; first_client = f;
-  next = ap (λ (xs : List ℕ). turn_of q (first_in xs)) e ∙ ap (λ (cs : List ℕ). client_of team (first_in cs)) f })
+  team = team;
+  client = client;
+  teams = teams;
+  clients = clients;
+  first_team = e;
+  first_client = f;
+  next = ap (λ (xs : List ℕ). turn_of q (first_in xs)) e ∙ ap (λ (cs : List ℕ). client_of team (first_in cs)) f;
+})
 
 with-team : (q : Queues) (teams : List ℕ) → q.teams ≡ teams → (next_turn q ≡ None) ⊎ HasTurn q
 with-team q [] e = inl (ap (λ (xs : List ℕ). turn_of q (first_in xs)) e)
@@ -44,8 +50,14 @@ done q stays t =
     ∙ ap (λ (cs : List ℕ). with_clients t.team t.client stays (first_done stays cs) q) t.first_client
 
 -- a team with a client has a queue
+beyond : (xs : List (List ℕ)) (i : ℕ) → length xs ≤ i → slice_index_or xs i [] ≡ []
+beyond [] i h = refl
+beyond (x ∷ xs) zero h = absurd (omega arith)
+beyond (x ∷ xs) (suc i) h = beyond xs i (omega arith)
+
 pub within : (xs : List (List ℕ)) (team client : ℕ) (clients : List ℕ) → slice_index_or xs team [] ≡ client ∷ clients → team < length xs
-within xs team client clients h = grind (arith)
+within xs team client clients h = elim (cases_lt team (length xs)) as (λ _. team < length xs)
+  [ inl below ↦ below | inr past ↦ absurd (let q : client ∷ clients ≡ [] = sym h ∙ beyond xs team past in cc) ]
 
 -- ---- every event
 
@@ -73,10 +85,11 @@ module _ (q : Queues) (team client : ℕ) where
   joining-fine : team < length q.clients → Fine q → Fine (joining team client q)
   joining-fine below fine = record {
     apart = join-teams (is_none (queue_of team q)) refl fine;
-    busy = λ u h. elim (cases_eq u team) as (λ _. is_none (queue_of u (joining team client q)) ≡ false)
-      [ inl e ↦ ap (λ v. is_none (queue_of v (joining team client q))) e
+    busy = λ u h. elim (cases_eq u team) as (λ _. is_none (queue_of u (joining team client q)) ≡ false) [
+      | inl e ↦ ap (λ v. is_none (queue_of v (joining team client q))) e
           ∙ ap is_none (get_or-set_same q.clients team (queue_of team q ++ client ∷ []) [] below) ∙ push-is-some (queue_of team q) client
-      | inr n ↦ ap is_none (get_or-set_other q.clients team u (queue_of team q ++ client ∷ []) [] n) ∙ fine.busy u (join-member (is_none (queue_of team q)) u n h) ];
+      | inr n ↦ ap is_none (get_or-set_other q.clients team u (queue_of team q ++ client ∷ []) [] n) ∙ fine.busy u (join-member (is_none (queue_of team q)) u n h)
+    ];
   }
 
   joined-fine : (b : Bool) → may_join team client q ≡ b → Fine q → Fine (cond b (joining team client q) q)
@@ -100,12 +113,13 @@ module _ (q : Queues) (stays : Bool) (t : HasTurn q) where
       record {
         apart = subst (λ xs. Distinct (first_done more xs)) (sym t.first_team) (distinct-done more t.team t.teams (subst Distinct t.first_team fine.apart));
         busy = λ u h.
-          let here = subst (λ xs. is_in u (first_done more xs) ≡ true) t.first_team h in
-          elim (cases_eq u t.team) as (λ _. is_none (slice_index_or (slice_set q.clients t.team now) u []) ≡ false)
-          [ inl e ↦ ap (λ v. is_none (slice_index_or (slice_set q.clients t.team now) v [])) e
-              ∙ ap is_none (get_or-set_same q.clients t.team now [] below)
-              ∙ not-true (is_none now) (own-team more fine (subst (λ v. is_in v (first_done more (t.team ∷ t.teams)) ≡ true) e here))
-          | inr n ↦ ap is_none (get_or-set_other q.clients t.team u now [] n) ∙ fine.busy u (rest-teams more u n here) ];
+            let here = subst (λ xs. is_in u (first_done more xs) ≡ true) t.first_team h in
+            elim (cases_eq u t.team) as (λ _. is_none (slice_index_or (slice_set q.clients t.team now) u []) ≡ false) [
+              | inl e ↦ ap (λ v. is_none (slice_index_or (slice_set q.clients t.team now) v [])) e
+                  ∙ ap is_none (get_or-set_same q.clients t.team now [] below)
+                  ∙ not-true (is_none now) (own-team more fine (subst (λ v. is_in v (first_done more (t.team ∷ t.teams)) ≡ true) e here))
+              | inr n ↦ ap is_none (get_or-set_other q.clients t.team u now [] n) ∙ fine.busy u (rest-teams more u n here)
+            ];
       }
 
 fine_next : (q : Queues) (e : TurnEvent) → Fine q → Fine (after_event q e)
@@ -113,7 +127,7 @@ fine_next q Grows fine = record { apart = fine.apart; busy = fine.busy }
 fine_next q (Joins team client) fine = joined-fine q team client (may_join team client q) refl fine
 fine_next q (Ends stays) fine =
     elim (whose q) as (λ _. Fine (turn_done stays q))
-      [ inl none ↦ subst Fine (sym (nobodys q stays none)) fine | inr t ↦ subst Fine (sym (done q stays t)) (done-fine q stays t fine) ]
+    [ inl none ↦ subst Fine (sym (nobodys q stays none)) fine | inr t ↦ subst Fine (sym (done q stays t)) (done-fine q stays t fine) ]
 
 pub fine_run : (es : List TurnEvent) (q : Queues) → Fine q → Fine (run_turns es q)
 fine_run [] q fine = fine
@@ -137,9 +151,10 @@ ends-there q stays t u h n =
     let now = first_done stays (t.client ∷ t.clients) in
     let more = not (is_none now) in
     let teams : (turn_done stays q).teams ≡ first_done more (t.team ∷ t.teams) = ap (λ (r : Queues). r.teams) (done q stays t) ∙ ap (first_done more) t.first_team in
-    let m = moves u t.team t.teams more (subst (λ xs. is_in u xs ≡ true) t.first_team h) n in
-    (subst (λ xs. is_in u xs ≡ true) (sym teams) m.there,
-      ap (before u) t.first_team ∙ m.before_it ∙ ap (λ xs. t.team ∷ before u xs) (sym teams))
+    let m = moves u t.team t.teams more (subst (λ xs. is_in u xs ≡ true) t.first_team h) n in (
+      subst (λ xs. is_in u xs ≡ true) (sym teams) m.there,
+      ap (before u) t.first_team ∙ m.before_it ∙ ap (λ xs. t.team ∷ before u xs) (sym teams),
+    )
 
 -- the turns of a list of events are a front of those that stood before
 Front : ℕ → List ℕ → List ℕ → Type 0
@@ -149,8 +164,8 @@ front-turn : (q : Queues) (u : ℕ) (more : List ℕ) (stays : Bool) → is_in u
     → (is_in u (turn_done stays q).teams ≡ true → is_in u more ≡ false → Front u more (turn_done stays q).teams) → Front u (team_of_turn (next_turn q) ++ more) q.teams
 front-turn q u more stays h out later =
     let parts = out-both u (team_of_turn (next_turn q)) more out in
-    elim (whose q) as (λ _. Front u (team_of_turn (next_turn q) ++ more) q.teams)
-      [ inl none ↦
+    elim (whose q) as (λ _. Front u (team_of_turn (next_turn q) ++ more) q.teams) [
+      | inl none ↦
           let same = nobodys q stays none in
           let f = later (subst (λ (r : Queues). is_in u r.teams ≡ true) (sym same) h) parts.1 in
           (f.0, ap (λ (o : Option (ℕ × ℕ)). team_of_turn o ++ more ++ f.0) none ∙ f.1 ∙ ap (λ (r : Queues). before u r.teams) same)
@@ -159,7 +174,8 @@ front-turn q u more stays h out later =
           let n : u ≡ t.team → ⊥ = λ e. true≢false (sym (or_left (u == t.team) false (eq-eqb u t.team e)) ∙ one) in
           let moved = ends-there q stays t u h n in
           let f = later moved.0 parts.1 in
-          (f.0, ap (λ (o : Option (ℕ × ℕ)). team_of_turn o ++ more ++ f.0) t.next ∙ ap (λ l. t.team ∷ l) f.1 ∙ sym moved.1) ]
+          (f.0, ap (λ (o : Option (ℕ × ℕ)). team_of_turn o ++ more ++ f.0) t.next ∙ ap (λ l. t.team ∷ l) f.1 ∙ sym moved.1)
+    ]
 
 front-join : (q : Queues) (u team client : ℕ) (more : List ℕ) → is_in u q.teams ≡ true → (is_in u (joined team client q).teams ≡ true → Front u more (joined team client q).teams) → Front u more q.teams
 front-join q u team client more h later =

@@ -29,7 +29,8 @@ abbrev pub joining : ℕ → ℕ → Queues → Queues
 joining team client q = record {
   teams = cond (is_none (queue_of team q)) (q.teams ++ team ∷ []) q.teams;
   clients = slice_set q.clients team (queue_of team q ++ client ∷ []);
-  waits = slice_set q.waits client true }
+  waits = slice_set q.waits client true;
+}
 
 -- A client that waits already does not join again.
 abbrev pub may_join : ℕ → ℕ → Queues → Bool
@@ -56,7 +57,8 @@ abbrev pub with_clients : ℕ → ℕ → Bool → List ℕ → Queues → Queue
 with_clients team client stays clients q = record {
   teams = first_done (not (is_none clients)) q.teams;
   clients = slice_set q.clients team clients;
-  waits = slice_set q.waits client stays }
+  waits = slice_set q.waits client stays;
+}
 
 abbrev pub after_turn : Option (ℕ × ℕ) → Bool → Queues → Queues
 after_turn None stays q = q

@@ -1,5 +1,5 @@
-use Rattle.std.proofs.Common.{◌≡◌, ◌≤◌, ◌+◌, ◌∙◌, drop, length, List, ℕ, ◌++◌, ◌∷◌, [], sym, ap, arith}
-use Rattle.lf_hub_clients.specs.Stored.{stored_lines, stored_begun}
+use Rattle.std.proofs.Common.{◌≡◌, ◌+◌, ◌∙◌, drop, length, [], sym, ap, arith}
+use Rattle.lf_hub_clients.specs.Stored.{stored_begun}
 use Rattle.lf_hub_clients.specs.Lines.{line_limit}
 use Rattle.std.specs.Prelude.{nat_lt, true}
 use Rattle.lf_hub_clients.proofs.Storing.{feed-taken, more-taken, feed-begun, more-begun, one-more, lines-count, begun-count, begun-feed, lines-more, is-feed, no-feed, short}
