@@ -55,7 +55,7 @@ pub record Within (w : World) (c : Connection) : Type 0 where
   pub replies : (most : ℕ) → list_all (is_within most) (turns_in w) ≡ true → length c.ready + length c.held ≤ unsent_limit + most
 
 -- a world with the same lines, or with more of them
-pub Later : World → World → Type 0
+abbrev pub Later : World → World → Type 0
 Later w v = (most : ℕ) → list_all (is_within most) (turns_in v) ≡ true → list_all (is_within most) (turns_in w) ≡ true
 
 later-within : (w v : World) (c : Connection) → Later w v → Within w c → Within v c
@@ -81,7 +81,7 @@ bounded-change w v k f below later here all i h =
       (subst (Within v) (sym (changed-same w.hub.slots k f below)) here)
       (λ n. subst (Within v) (sym (changed-other w.hub.slots i k f n)) (later-within w v (connection_at i w.hub.slots) later (all i was)))
 
-AllWithin : World → Type 0
+abbrev pub AllWithin : World → Type 0
 AllWithin w = (i : ℕ) → i < length w.hub.slots → Within w (connection_at i w.hub.slots)
 
 same-turns : (w v : World) → turns_in v ≡ turns_in w → Later w v

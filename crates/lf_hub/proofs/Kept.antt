@@ -89,7 +89,7 @@ pub agreeing-fresh : (w v : World) (n : ℕ) → Agrees w v n → IsFresh w n �
 agreeing-fresh w v n a f = record { lines = a.lines ∙ f.lines; safe = a.safe ∙ f.safe; held = a.held ∙ f.held; came = a.came ∙ f.came; sent = a.sent ∙ f.sent }
 
 -- the numbers of all lines were given before
-pub AllOld : ℕ → List Turn → Type 0
+abbrev pub AllOld : ℕ → List Turn → Type 0
 AllOld made [] = Unit {0}
 AllOld made (t ∷ ts) = (t.number < made) × AllOld made ts
 
@@ -559,7 +559,7 @@ teams-more w team access (t ∷ ts) old p =
       λ own. p.1 own ∙ sym (entry-other t.number w.hub.made access (w.access t.number) other),
       teams-more w team access ts old.1 p.2)
 
-pub TeamsKept : World → Type 0
+abbrev pub TeamsKept : World → Type 0
 TeamsKept w = AllOld w.hub.made (turns_in w) × ForOwnTeams w.team w.access (turns_in w)
 
 teams-push : (w v : World) (k : ℕ) (t : Turn) → Kept w → k < length w.hub.slots → t.number ≡ (connection_at k w.hub.slots).number → t.team ≡ (connection_at k w.hub.slots).team

@@ -17,9 +17,9 @@ pub struct OpenSession {
 pub(crate) fn session_of(sessions: &[OpenSession], slot: usize) -> Option<OpenSession>
     ensures { result ≡ session_of slot sessions.now }
 {
-    for open in sessions {
-        if open.slot == slot {
-            return Some(*open);
+    for own in sessions {
+        if own.slot == slot {
+            return Some(*own);
         }
     }
     None

@@ -26,15 +26,15 @@ false-within : (xs : List Bool) (c : ℕ) → slice_index_or xs c true ≡ false
 false-within xs c h = elim (cases_lt c (length xs)) as (λ _. c < length xs)
   [ inl below ↦ below | inr past ↦ absurd (true≢false (sym (beyond xs c past) ∙ h)) ]
 
-empty-at : (teams u : ℕ) → slice_index_or (replicate teams []) u [] ≡ []
+empty-at : (teams u : ℕ) → slice_index_or {A = List ℕ} (replicate teams []) u [] ≡ []
 empty-at zero u = refl
 empty-at (suc teams) zero = refl
 empty-at (suc teams) (suc u) = empty-at teams u
 
-none-at : (teams u c : ℕ) → is_in c (slice_index_or (replicate teams []) u []) ≡ false
+none-at : (teams u c : ℕ) → is_in c (slice_index_or {A = List ℕ} (replicate teams []) u []) ≡ false
 none-at teams u c = ap (is_in c) (empty-at teams u)
 
-distinct-at : (teams u : ℕ) → Distinct (slice_index_or (replicate teams []) u [])
+distinct-at : (teams u : ℕ) → Distinct (slice_index_or {A = List ℕ} (replicate teams []) u [])
 distinct-at teams u = subst Distinct (sym (empty-at teams u)) tt
 
 -- ---- every event
@@ -179,7 +179,7 @@ fine_run (e ∷ es) q fine = fine_run es (after_event q e) (fine_next q e fine)
 
 -- ---- turns
 
-Front : ℕ → List ℕ → List ℕ → Type 0
+abbrev pub Front : ℕ → List ℕ → List ℕ → Type 0
 Front c turns clients = (rest : List ℕ) × (turns ++ rest ≡ before c clients)
 
 joined-there : (q : Queues) (team client of c : ℕ) (b : Bool) → may_join team client q ≡ b → is_in c (queue_of of q) ≡ true

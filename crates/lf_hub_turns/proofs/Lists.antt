@@ -1,11 +1,11 @@
 -- Queues of numbers that are apart.
-use Rattle.std.proofs.Common.{◌≡◌, ℕ, ◌<◌, ◌≤◌, ◌+◌, ◌⊎◌, inl, inr, Bool, true, false, cond, List, [], ◌∷◌, ◌++◌, length, refl, sym, ap, subst, ◌∙◌, arith}
-use Rattle.std.specs.Prelude.{◌==◌, ◌||◌}
+use Rattle.std.proofs.Common.{◌≡◌, ℕ, zero, suc, add-one, ◌<◌, ◌≤◌, ◌+◌, ◌⊎◌, inl, inr, Bool, true, false, cond, List, [], ◌∷◌, ◌++◌, length, refl, sym, ap, subst, ◌∙◌, arith}
+use Rattle.std.specs.Prelude.{◌==◌, ◌||◌, replicate}
 use Rattle.std.proofs.lemmas.Bool.{eq-eqb, ne_eqb, eqb-true, eqb-false, true≢false, cases_eq, cases_Bool, or_left, or_right, or_parts, or_from, or_cases, cond-true, cond-false}
 use Rattle.lf_hub_turns.specs.Queues.{first_done}
 use Rattle.lf_hub_turns.specs.Fairness.{is_in, count}
 
-pub Distinct : List ℕ → Type 0
+abbrev pub Distinct : List ℕ → Type 0
 Distinct [] = Unit {0}
 Distinct (x ∷ xs) = (is_in x xs ≡ false) × Distinct xs
 
@@ -133,3 +133,11 @@ moves t x xs stays h n = moved stays
     moved : (s : Bool) → Moves t x xs (first_done s (x ∷ xs))
     moved true = record { there = in-front t xs (x ∷ []) rest; before_it = first ∙ ap (λ l. x ∷ l) (sym (before-push t xs x rest)) }
     moved false = record { there = rest; before_it = first }
+
+-- one more empty queue
+more-copies : (n : ℕ) (x : List ℕ) → replicate n x ++ x ∷ [] ≡ replicate (suc n) x
+more-copies zero x = refl
+more-copies (suc n) x = ap (λ l. x ∷ l) (more-copies n x)
+
+pub copies_push : (n : ℕ) (x : List ℕ) → replicate n x ++ x ∷ [] ≡ replicate (n + 1) x
+copies_push n x = rw add-one (more-copies n x)

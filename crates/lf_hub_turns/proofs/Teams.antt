@@ -157,7 +157,7 @@ ends-there q stays t u h n =
     )
 
 -- the turns of a list of events are a front of those that stood before
-Front : ℕ → List ℕ → List ℕ → Type 0
+abbrev pub Front : ℕ → List ℕ → List ℕ → Type 0
 Front u turns teams = (rest : List ℕ) × (turns ++ rest ≡ before u teams)
 
 front-turn : (q : Queues) (u : ℕ) (more : List ℕ) (stays : Bool) → is_in u q.teams ≡ true → is_in u (team_of_turn (next_turn q) ++ more) ≡ false

@@ -54,6 +54,7 @@ fn add_client(clients: &mut [Queue], team: usize, client: usize) -> Result<(), A
 }
 
 /// Makes this many empty queues. `Err` if an allocation fails.
+#[tactic(auto, using(crate::proofs::Lists::copies_push))]
 fn empty_queues(alloc: Global, count: usize) -> Result<Vec<Queue>, AllocError>
     ensures { IfOk result (λ queues. queues.items ≡ replicate count []) }
 {
