@@ -7,11 +7,11 @@ use Rattle.lf_hub_clients.specs.Turns.{Turn, FloorAnswers, IsRefused, IsAnswered
 
 module _ {S : Type 0} (answers : ℕ → List ℕ → S → List ℕ → Outcome → S → Type 0) (shows : ℕ → List ℕ → S → List ℕ → Type 0) where
   floor-keeps : (a : Access) (old new : S) (t : Turn) → FloorAnswers answers shows a old t new → is_change t.outcome ≡ false → new ≡ old
-  floor-keeps Changes old new t f no = f.1 no
-  floor-keeps Queries old new t f no = f.2
+  floor-keeps Changes old new t f quiet = f.1 quiet
+  floor-keeps Queries old new t f quiet = f.2
 
   pub others-keep : (old : S) (t : Turn) (new : S) → IsAnswered answers shows old t new → is_change t.outcome ≡ false → new ≡ old
-  others-keep old t new is no = elim is as (λ _. new ≡ old) [ inl f ↦ floor-keeps t.access old new t f no | inr r ↦ r.2 ]
+  others-keep old t new is quiet = elim is as (λ _. new ≡ old) [ inl f ↦ floor-keeps t.access old new t f quiet | inr r ↦ r.2 ]
 
   query-floor : (a : Access) (old new : S) (t : Turn) → a ≡ Queries → FloorAnswers answers shows a old t new → (is_change t.outcome ≡ false) × (new ≡ old)
   query-floor Queries old new t only f = (ap is_change f.1, f.2)
@@ -23,5 +23,5 @@ module _ {S : Type 0} (answers : ℕ → List ℕ → S → List ℕ → Outcome
   pub query-keeps : (old new : S) (t : Turn) → t.access ≡ Queries → IsAnswered answers shows old t new → new ≡ old
   query-keeps old new t only is = (query-both old new t only is).1
 
-  pub query-is-no-change : (old new : S) (t : Turn) → t.access ≡ Queries → IsAnswered answers shows old t new → is_change t.outcome ≡ false
-  query-is-no-change old new t only is = (query-both old new t only is).0
+  pub query-is-quiet-change : (old new : S) (t : Turn) → t.access ≡ Queries → IsAnswered answers shows old t new → is_change t.outcome ≡ false
+  query-is-quiet-change old new t only is = (query-both old new t only is).0

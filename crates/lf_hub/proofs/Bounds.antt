@@ -1,8 +1,9 @@
 -- The memory of a connection is bounded.
 use Rattle.std.proofs.Common.{◌≡◌, ℕ, ◌<◌, ◌≤◌, ◌+◌, ◌-◌, Bool, true, false, cond, nat_lt, List, [], ◌∷◌, ◌++◌, length, take, drop, refl, sym, ap, subst, ◌∙◌, arith, append-nil, length-append, length-drop}
-use Rattle.std.specs.Prelude.{◌==◌, ◌&&◌, nat_le, list_all}
+use Rattle.std.specs.Prelude.{◌==◌, ◌&&◌, nat_le}
 use Rattle.std.proofs.lemmas.Bool.{and_parts, ltb-true, leb-true}
 use Rattle.std.proofs.lemmas.List.Folds.{list_all-append}
+use Rattle.std.specs.List.{list_all}
 use Rattle.lf_hub_clients.specs.declared.client.Access.{Access}
 use Rattle.lf_hub_clients.specs.declared.client.Stage.{Stage}
 use Rattle.lf_hub_clients.specs.Connections.{Connection, new_connection, with_bytes, with_answer, released, after_sending, leaving, freed, room_of, may_answer, is_open, unsent_limit, without_first}
@@ -65,7 +66,7 @@ pushed-parts : (w v : World) (t : Turn) (most : ℕ) → turns_in v ≡ turns_in
     → (list_all (is_within most) (turns_in w) ≡ true) × (length t.reply ≤ most)
 pushed-parts w v t most is all =
     let both = and_parts (list_all (is_within most) (turns_in w)) (list_all (is_within most) (t ∷ []))
-        (sym (list_all-append (is_within most) (turns_in w) (t ∷ [])) ∙ ap (list_all (is_within most)) (sym is) ∙ all) in
+    (sym (list_all-append (is_within most) (turns_in w) (t ∷ [])) ∙ ap (list_all (is_within most)) (sym is) ∙ all) in
     (both.0, leb-true (length t.reply) most (one (is_within most t) both.1))
   where
     one : (b : Bool) → (b && true) ≡ true → b ≡ true
@@ -78,8 +79,8 @@ bounded-change : (w v : World) (k : ℕ) (f : Connection → Connection) → k <
 bounded-change w v k f below later here all i h =
     let was : i < length w.hub.slots = omega (arith, changed-length w.hub.slots k f) in
     each (λ j. Within v (connection_at j (changed_at k f w.hub.slots))) i k
-      (subst (Within v) (sym (changed-same w.hub.slots k f below)) here)
-      (λ n. subst (Within v) (sym (changed-other w.hub.slots i k f n)) (later-within w v (connection_at i w.hub.slots) later (all i was)))
+    (subst (Within v) (sym (changed-same w.hub.slots k f below)) here)
+    (λ n. subst (Within v) (sym (changed-other w.hub.slots i k f n)) (later-within w v (connection_at i w.hub.slots) later (all i was)))
 
 abbrev pub AllWithin : World → Type 0
 AllWithin w = (i : ℕ) → i < length w.hub.slots → Within w (connection_at i w.hub.slots)
@@ -93,27 +94,33 @@ bounded_next w (Opens k team access) kept may all = λ i.
     let v = happens w (Opens k team access) in
     let slots = put_at k c w.hub.slots in
     each (λ j. j < length slots → Within v (connection_at j slots)) i k
-      (λ h. subst (Within v) (sym (put-same w.hub.slots k c may.0)) (record { lines = omega arith; replies = λ most _. omega arith }))
-      (λ n h. subst (Within v) (sym (put-other w.hub.slots i k c may.0 n))
-        (later-within w v (connection_at i w.hub.slots) (same-turns w v refl) (all i (put-length w.hub.slots i k c may.0 h n))))
+    (λ h. subst (Within v) (sym (put-same w.hub.slots k c may.0)) (record { lines = omega arith; replies = λ most _. omega arith }))
+    (λ n h. subst (Within v) (sym (put-other w.hub.slots i k c may.0 n))
+    (later-within w v (connection_at i w.hub.slots) (same-turns w v refl) (all i (put-length w.hub.slots i k c may.0 h n))))
 bounded_next w (Comes k bytes) kept may all =
     let v = happens w (Comes k bytes) in
     let c = connection_at k w.hub.slots in
     let this = all k may.0 in
     bounded-change w v k (with_bytes bytes) may.0 (same-turns w v refl) (record {
-      lines = omega (arith, size-append c.lines (lines_after c.begun bytes), size-after c.begun bytes,
-        fits-room (is_open c.stage) (lines_size c.lines + length c.begun) (length bytes) this.lines may.1);
-      replies = this.replies }) all
+      lines = omega (
+        arith,
+        size-append c.lines (lines_after c.begun bytes),
+        size-after c.begun bytes,
+        fits-room (is_open c.stage) (lines_size c.lines + length c.begun) (length bytes) this.lines may.1,
+      );
+      replies = this.replies;
+    }) all
 bounded_next w (Answers k t) kept may all =
     let v = happens w (Answers k t) in
     let c = connection_at k w.hub.slots in
     let this = all k may.0 in
     let few : length c.ready + length c.held < unsent_limit = ltb-true (length c.ready + length c.held) unsent_limit
-        (and_parts (is_open c.stage && nat_lt 0 (length c.lines)) (nat_lt (length c.ready + length c.held) unsent_limit) may.1).1 in
+    (and_parts (is_open c.stage && nat_lt 0 (length c.lines)) (nat_lt (length c.ready + length c.held) unsent_limit) may.1).1 in
     let pushed = turns-push w.safe w.held t in
     bounded-change w v k (with_answer t) may.0 (λ most h. (pushed-parts w v t most pushed h).0) (record {
       lines = omega (arith, this.lines, size-first c.lines);
-      replies = λ most h. omega (arith, few, length-append c.held t.reply, (pushed-parts w v t most pushed h).1) }) all
+      replies = λ most h. omega (arith, few, length-append c.held t.reply, (pushed-parts w v t most pushed h).1);
+    }) all
 bounded_next w (Closes k s t) kept may all = λ i h.
     let v = happens w (Closes k s t) in
     later-within w v (connection_at i w.hub.slots) (λ most g. (pushed-parts w v t most (turns-push w.safe w.held t) g).0) (all i h)
@@ -124,14 +131,16 @@ bounded_next w Syncs kept may all = λ i h.
     let later : Later w v = same-turns w v (append-nil (w.safe ++ w.held)) in
     subst (Within v) (sym (released-all w.hub.answered w.hub.slots i was (kept.held i was))) (record {
       lines = (all i was).lines;
-      replies = λ most g. let before = (all i was).replies most (later most g) in omega (arith, before, length-append c.ready c.held) })
+      replies = λ most g. let before = (all i was).replies most (later most g) in omega (arith, before, length-append c.ready c.held);
+    })
 bounded_next w (Sends k count) kept may all =
     let v = happens w (Sends k count) in
     let c = connection_at k w.hub.slots in
     let this = all k may.0 in
     bounded-change w v k (after_sending count) may.0 (same-turns w v refl) (record {
       lines = this.lines;
-      replies = λ most h. let before = this.replies most h in omega (arith, before, length-drop count c.ready) }) all
+      replies = λ most h. let before = this.replies most h in omega (arith, before, length-drop count c.ready);
+    }) all
 bounded_next w (Leaves k) kept may all =
     bounded-change w (happens w (Leaves k)) k leaving may.0 (same-turns w (happens w (Leaves k)) refl) (record { lines = omega arith; replies = λ most h. omega arith }) all
 bounded_next w (Frees k) kept may all =

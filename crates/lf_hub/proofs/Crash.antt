@@ -67,9 +67,9 @@ crashed takes w old new left others journal follows =
     let front = front-accepted w.held left in
     let kept = w.safe ++ take front.0 w.held in
     let whole : turns_in w ≡ kept ++ drop front.0 w.held =
-        ap (λ l. w.safe ++ l) (sym (take-append-drop front.0 w.held)) ∙ sym (append_assoc w.safe (take front.0 w.held) (drop front.0 w.held)) in
+    ap (λ l. w.safe ++ l) (sym (take-append-drop front.0 w.held)) ∙ sym (append_assoc w.safe (take front.0 w.held) (drop front.0 w.held)) in
     let until = follow-front takes kept (drop front.0 w.held) old new (subst (λ ts. Follow takes old ts new) whole follows) in
     let records : w.synced ++ take left w.written ≡ accepted kept =
-        ap (λ l. l ++ take left w.written) journal.synced ∙ ap (λ l. accepted w.safe ++ take left l) journal.written
-        ∙ ap (λ l. accepted w.safe ++ l) front.1 ∙ sym (filter-append is_accepted w.safe (take front.0 w.held)) in
+    ap (λ l. l ++ take left w.written) journal.synced ∙ ap (λ l. accepted w.safe ++ take left l) journal.written
+    ∙ ap (λ l. accepted w.safe ++ l) front.1 ∙ sym (filter-append is_accepted w.safe (take front.0 w.held)) in
     (front.0, until.0, subst (λ ts. Follow takes old ts until.0) (sym records) (follow-accepted takes kept old until.0 others until.1), until.1)

@@ -32,7 +32,7 @@ pub answering-is-live : (c : Connection) → may_answer c ≡ true → is_live c
 answering-is-live c h =
     open_is_live c.stage (and_parts (is_open c.stage) (nat_lt 0 (length c.lines)) (and_parts (is_open c.stage && nat_lt 0 (length c.lines)) (nat_lt (length c.ready + length c.held) unsent_limit) h).0).0
 
-after_live : (o : Outcome) (s : Stage) → is_live s ≡ true → is_live (stage_after o s) ≡ true
+pub after_live : (o : Outcome) (s : Stage) → is_live s ≡ true → is_live (stage_after o s) ≡ true
 after_live Unchanged s h = h
 after_live Changed s h = h
 after_live (Opened n) s h = h
@@ -110,25 +110,25 @@ module _ (w v : World) (k : ℕ) (f : Connection → Connection) where
       → (i : ℕ) → (connection_at i (changed_at k f w.hub.slots)).number ≡ (connection_at i w.hub.slots).number
   same-number below number i =
       each (λ j. (connection_at j (changed_at k f w.hub.slots)).number ≡ (connection_at j w.hub.slots).number) i k
-        (ap (λ (c : Connection). c.number) (changed-same w.hub.slots k f below) ∙ number)
-        (λ n. ap (λ (c : Connection). c.number) (changed-other w.hub.slots i k f n))
+      (ap (λ (c : Connection). c.number) (changed-same w.hub.slots k f below) ∙ number)
+      (λ n. ap (λ (c : Connection). c.number) (changed-other w.hub.slots i k f n))
 
   changed-slot : Kept w → k < length w.hub.slots → SlotKept v (f (connection_at k w.hub.slots))
       → ((n : ℕ) → (n ≡ (connection_at k w.hub.slots).number → ⊥) → Agrees w v n)
       → (i : ℕ) → i < length w.hub.slots → SlotKept v (connection_at i (changed_at k f w.hub.slots))
   changed-slot kept below here others i was =
       each (λ j. SlotKept v (connection_at j (changed_at k f w.hub.slots))) i k
-        (subst (SlotKept v) (sym (changed-same w.hub.slots k f below)) here)
-        (λ n. subst (SlotKept v) (sym (changed-other w.hub.slots i k f n))
-          (agreeing w v (connection_at i w.hub.slots) (others (connection_at i w.hub.slots).number (kept.apart i k was below n)) (kept.slots i was)))
+      (subst (SlotKept v) (sym (changed-same w.hub.slots k f below)) here)
+      (λ n. subst (SlotKept v) (sym (changed-other w.hub.slots i k f n))
+      (agreeing w v (connection_at i w.hub.slots) (others (connection_at i w.hub.slots).number (kept.apart i k was below n)) (kept.slots i was)))
 
   changed-held : Kept w → k < length w.hub.slots → ((i : ℕ) → is_in i v.hub.answered ≡ false → is_in i w.hub.answered ≡ false)
       → (is_in k v.hub.answered ≡ false → (f (connection_at k w.hub.slots)).held ≡ [])
       → (i : ℕ) → i < length w.hub.slots → is_in i v.hub.answered ≡ false → (connection_at i (changed_at k f w.hub.slots)).held ≡ []
   changed-held kept below answered here i was =
       each (λ j. is_in j v.hub.answered ≡ false → (connection_at j (changed_at k f w.hub.slots)).held ≡ []) i k
-        (λ out. ap (λ (c : Connection). c.held) (changed-same w.hub.slots k f below) ∙ here out)
-        (λ n out. ap (λ (c : Connection). c.held) (changed-other w.hub.slots i k f n) ∙ kept.held i was (answered i out))
+      (λ out. ap (λ (c : Connection). c.held) (changed-same w.hub.slots k f below) ∙ here out)
+      (λ n out. ap (λ (c : Connection). c.held) (changed-other w.hub.slots i k f n) ∙ kept.held i was (answered i out))
 
 -- a world in which one connection has changed
 pub record Change (w v : World) (k : ℕ) (f : Connection → Connection) : Type 0 where
@@ -159,15 +159,15 @@ changed w v k f kept change =
     let long = changed-length w.hub.slots k f in
     record {
       slots = λ i h. subst (λ (s : List Connection). SlotKept v (connection_at i s)) (sym is)
-        (changed-slot w v k f kept change.below change.here change.others i (omega (arith, ap length is, long)));
+          (changed-slot w v k f kept change.below change.here change.others i (omega (arith, ap length is, long)));
       apart = λ i j h g n e. kept.apart i j (omega (arith, ap length is, long)) (omega (arith, ap length is, long)) n
-        (sym (same-number w v k f change.below change.number i) ∙ ap (λ (s : List Connection). (connection_at i s).number) (sym is) ∙ e
+          (sym (same-number w v k f change.below change.number i) ∙ ap (λ (s : List Connection). (connection_at i s).number) (sym is) ∙ e
           ∙ ap (λ (s : List Connection). (connection_at j s).number) is ∙ same-number w v k f change.below change.number j);
       fresh = λ n h. agreeing-fresh w v n (change.others n (λ e. absurd (omega (arith, old, h, e, change.made)))) (kept.fresh n (omega (arith, h, change.made)));
       lines = λ n. each (λ m. IsPrefixOf (own_lines m (turns_in v)) (lines_sent (v.came m))) n number change.lines (λ o. lines-agree w v n (change.others n o) (kept.lines n));
       replies = λ n. each (λ m. IsPrefixOf (v.sent m) (own_replies m v.safe)) n number change.replies (λ o. replies-agree w v n (change.others n o) (kept.replies n));
       held = λ i h out. ap (λ (s : List Connection). (connection_at i s).held) is
-        ∙ changed-held w v k f kept change.below change.answered change.held i (omega (arith, ap length is, long)) out;
+          ∙ changed-held w v k f kept change.below change.answered change.held i (omega (arith, ap length is, long)) out;
       journal = change.journal;
     }
 
@@ -189,9 +189,9 @@ comes-kept w k bytes kept below =
       here = record {
         old = this.old;
         lines = λ live. sym (append_assoc (own_lines c.number (turns_in w)) c.lines (lines_after c.begun bytes))
-          ∙ ap (λ l. l ++ lines_after c.begun bytes) (this.lines live)
-          ∙ ap (λ b. lines_sent (w.came c.number) ++ lines_after b bytes) (this.begun live)
-          ∙ sym more ∙ ap lines_sent (sym now);
+            ∙ ap (λ l. l ++ lines_after c.begun bytes) (this.lines live)
+            ∙ ap (λ b. lines_sent (w.came c.number) ++ lines_after b bytes) (this.begun live)
+            ∙ sym more ∙ ap lines_sent (sym now);
         begun = λ live. ap (λ b. begun_after b bytes) (this.begun live) ∙ sym (begun-append [] (w.came c.number) bytes) ∙ ap line_begun (sym now);
         ready = this.ready;
         held = this.held;
@@ -202,13 +202,15 @@ comes-kept w k bytes kept below =
       };
       others = λ n o. record { made = omega arith; team = refl; access = refl; came = entry-other n c.number all (w.came n) o; sent = refl; lines = refl; safe = refl; held = refl };
       made = omega arith;
-      lines = (before.0 ++ lines_after (line_begun (w.came c.number)) bytes,
+      lines = (
+        before.0 ++ lines_after (line_begun (w.came c.number)) bytes,
         sym (append_assoc (own_lines c.number (turns_in w)) before.0 (lines_after (line_begun (w.came c.number)) bytes))
-        ∙ ap (λ l. l ++ lines_after (line_begun (w.came c.number)) bytes) before.1 ∙ sym more ∙ ap lines_sent (sym now));
+            ∙ ap (λ l. l ++ lines_after (line_begun (w.came c.number)) bytes) before.1 ∙ sym more ∙ ap lines_sent (sym now),
+      );
       replies = kept.replies c.number;
       answered = λ i out. out;
       held = kept.held k below;
-      journal = kept.journal;
+      journal = record { synced = kept.journal.synced; written = kept.journal.written; text = kept.journal.text };
     })
 
 -- ---- bytes are sent
@@ -223,11 +225,15 @@ take-empty (suc n) = refl
 
 sent-prefix : (w : World) (c : Connection) (count : ℕ) (sent : List ℕ) → SlotKept w c → IsPrefixOf (w.sent c.number) (own_replies c.number w.safe)
     → sent ≡ w.sent c.number ++ take count c.ready → (live : Bool) → is_live c.stage ≡ live → IsPrefixOf sent (own_replies c.number w.safe)
-sent-prefix w c count sent this before now true live = (drop count c.ready,
-    ap (λ l. l ++ drop count c.ready) now ∙ append_assoc (w.sent c.number) (take count c.ready) (drop count c.ready)
-    ∙ ap (λ l. w.sent c.number ++ l) (take-append-drop count c.ready) ∙ this.ready live)
-sent-prefix w c count sent this before now false left = (before.0,
-    ap (λ l. l ++ before.0) (now ∙ ap (λ r. w.sent c.number ++ take count r) (this.gone left) ∙ ap (λ l. w.sent c.number ++ l) (take-empty count) ∙ append-nil (w.sent c.number)) ∙ before.1)
+sent-prefix w c count sent this before now true live = (
+  drop count c.ready,
+  ap (λ l. l ++ drop count c.ready) now ∙ append_assoc (w.sent c.number) (take count c.ready) (drop count c.ready)
+      ∙ ap (λ l. w.sent c.number ++ l) (take-append-drop count c.ready) ∙ this.ready live,
+)
+sent-prefix w c count sent this before now false left = (
+  before.0,
+  ap (λ l. l ++ before.0) (now ∙ ap (λ r. w.sent c.number ++ take count r) (this.gone left) ∙ ap (λ l. w.sent c.number ++ l) (take-empty count) ∙ append-nil (w.sent c.number)) ∙ before.1,
+)
 
 sends-kept : (w : World) (k count : ℕ) → Kept w → k < length w.hub.slots → count ≤ length (connection_at k w.hub.slots).ready → Kept (happens w (Sends k count))
 sends-kept w k count kept below within =
@@ -237,7 +243,7 @@ sends-kept w k count kept below within =
     let all = w.sent c.number ++ take count c.ready in
     let now : v.sent c.number ≡ all = entry-same c.number all (w.sent c.number) in
     let whole : all ++ drop count c.ready ≡ w.sent c.number ++ c.ready =
-        append_assoc (w.sent c.number) (take count c.ready) (drop count c.ready) ∙ ap (λ l. w.sent c.number ++ l) (take-append-drop count c.ready) in
+    append_assoc (w.sent c.number) (take count c.ready) (drop count c.ready) ∙ ap (λ l. w.sent c.number ++ l) (take-append-drop count c.ready) in
     changed w v k (after_sending count) kept (record {
       below = below;
       slots = refl;
@@ -259,7 +265,7 @@ sends-kept w k count kept below within =
       replies = sent-prefix w c count (v.sent c.number) this (kept.replies c.number) now (is_live c.stage) refl;
       answered = λ i out. out;
       held = kept.held k below;
-      journal = kept.journal;
+      journal = record { synced = kept.journal.synced; written = kept.journal.written; text = kept.journal.text };
     })
 
 -- ---- a line is answered
@@ -297,10 +303,10 @@ answers-kept w k t kept may =
     let mine : is_line_of c.number t ≡ true = is-own c.number t number (ap (λ (u : Turn). u.is_own) may.3) in
     let pushed = turns-push w.safe w.held t in
     let line : own_lines c.number (turns_in v) ++ d.lines ≡ lines_sent (w.came c.number) =
-        ap (λ l. own_lines c.number l ++ d.lines) pushed
-        ∙ ap (λ l. l ++ d.lines) (lines-mine c.number (turns_in w) t mine)
-        ∙ append_assoc (own_lines c.number (turns_in w)) (t.line ∷ []) d.lines
-        ∙ ap (λ l. own_lines c.number (turns_in w) ++ l) (sym may.2) ∙ this.lines live in
+    ap (λ l. own_lines c.number l ++ d.lines) pushed
+    ∙ ap (λ l. l ++ d.lines) (lines-mine c.number (turns_in w) t mine)
+    ∙ append_assoc (own_lines c.number (turns_in w)) (t.line ∷ []) d.lines
+    ∙ ap (λ l. own_lines c.number (turns_in w) ++ l) (sym may.2) ∙ this.lines live in
     changed w v k (with_answer t) kept (record {
       below = may.0;
       slots = refl;
@@ -317,10 +323,17 @@ answers-kept w k t kept may =
         access = this.access;
       };
       others = λ n o.
-        let not_mine = not-own n t (λ e. o (sym e ∙ number)) in
-        record { made = omega arith; team = refl; access = refl; came = refl; sent = refl;
-          lines = ap (own_lines n) pushed ∙ lines-other n (turns_in w) t not_mine;
-          safe = refl; held = replies-other n w.held t not_mine };
+          let not_mine = not-own n t (λ e. o (sym e ∙ number)) in
+          record {
+            made = omega arith;
+            team = refl;
+            access = refl;
+            came = refl;
+            sent = refl;
+            lines = ap (own_lines n) pushed ∙ lines-other n (turns_in w) t not_mine;
+            safe = refl;
+            held = replies-other n w.held t not_mine;
+          };
       made = omega arith;
       lines = (d.lines, line);
       replies = kept.replies c.number;
@@ -335,9 +348,9 @@ answers-kept w k t kept may =
 pub unchanged : (w v : World) → Kept w → v.hub.slots ≡ w.hub.slots → v.hub.answered ≡ w.hub.answered → ((n : ℕ) → Agrees w v n) → v.hub.made ≡ w.hub.made → JournalIsExact v → Kept v
 unchanged w v kept slots answered a made journal = record {
   slots = λ i h. subst (λ (s : List Connection). SlotKept v (connection_at i s)) (sym slots)
-    (agreeing w v (connection_at i w.hub.slots) (a (connection_at i w.hub.slots).number) (kept.slots i (omega (arith, ap length slots))));
+      (agreeing w v (connection_at i w.hub.slots) (a (connection_at i w.hub.slots).number) (kept.slots i (omega (arith, ap length slots))));
   apart = λ i j h g n e. kept.apart i j (omega (arith, ap length slots)) (omega (arith, ap length slots)) n
-    (ap (λ (s : List Connection). (connection_at i s).number) (sym slots) ∙ e ∙ ap (λ (s : List Connection). (connection_at j s).number) slots);
+      (ap (λ (s : List Connection). (connection_at i s).number) (sym slots) ∙ e ∙ ap (λ (s : List Connection). (connection_at j s).number) slots);
   fresh = λ n h. agreeing-fresh w v n (a n) (kept.fresh n (omega (arith, made)));
   lines = λ n. lines-agree w v n (a n) (kept.lines n);
   replies = λ n. replies-agree w v n (a n) (kept.replies n);
@@ -351,10 +364,17 @@ closes-kept w k s t kept may =
     let pushed = turns-push w.safe w.held t in
     let not_sent : t.is_own ≡ false = ap (λ (u : Turn). u.is_own) may.3 in
     unchanged w v kept refl refl
-      (λ n. record { made = omega arith; team = refl; access = refl; came = refl; sent = refl;
-        lines = ap (own_lines n) pushed ∙ lines-other n (turns_in w) t (not-sent n t not_sent);
-        safe = refl; held = replies-other n w.held t (not-sent n t not_sent) })
-      refl (journal-push w v t kept.journal refl refl refl refl refl)
+    (λ n. record {
+      made = omega arith;
+      team = refl;
+      access = refl;
+      came = refl;
+      sent = refl;
+      lines = ap (own_lines n) pushed ∙ lines-other n (turns_in w) t (not-sent n t not_sent);
+      safe = refl;
+      held = replies-other n w.held t (not-sent n t not_sent);
+    })
+    refl (journal-push w v t kept.journal refl refl refl refl refl)
 
 -- ---- the records are on the disk
 
@@ -363,38 +383,43 @@ syncs-kept w kept =
     let v = happens w Syncs in
     let long = released-length w.hub.answered w.hub.slots in
     let same : (i : ℕ) → i < length w.hub.slots → connection_at i v.hub.slots ≡ released (connection_at i w.hub.slots) =
-        λ i h. released-all w.hub.answered w.hub.slots i h (kept.held i h) in
+    λ i h. released-all w.hub.answered w.hub.slots i h (kept.held i h) in
     let turns : turns_in v ≡ turns_in w = append-nil (w.safe ++ w.held) in
     let j = kept.journal in
     record {
       slots = λ i h.
-        let was : i < length w.hub.slots = omega (arith, long) in
-        let c = connection_at i w.hub.slots in
-        let this : SlotKept w c = kept.slots i was in
-        subst (SlotKept v) (sym (same i was)) (record {
-          old = this.old;
-          lines = λ live. ap (λ l. own_lines c.number l ++ c.lines) turns ∙ this.lines live;
-          begun = this.begun;
-          ready = λ live. sym (append_assoc (w.sent c.number) c.ready c.held) ∙ ap (λ l. l ++ c.held) (this.ready live)
-            ∙ ap (λ l. own_replies c.number w.safe ++ l) (this.held live) ∙ sym (own_replies-append c.number w.safe w.held);
-          held = λ live. refl;
-          gone = λ left. ap (λ l. l ++ c.held) (this.gone left) ∙ this.gone_held left;
-          gone_held = λ _. refl;
-          team = this.team;
-          access = this.access;
-        });
+          let was : i < length w.hub.slots = omega (arith, long) in
+          let c = connection_at i w.hub.slots in
+          let this : SlotKept w c = kept.slots i was in
+          subst (SlotKept v) (sym (same i was)) (record {
+            old = this.old;
+            lines = λ live. ap (λ l. own_lines c.number l ++ c.lines) turns ∙ this.lines live;
+            begun = this.begun;
+            ready = λ live. sym (append_assoc (w.sent c.number) c.ready c.held) ∙ ap (λ l. l ++ c.held) (this.ready live)
+                ∙ ap (λ l. own_replies c.number w.safe ++ l) (this.held live) ∙ sym (own_replies-append c.number w.safe w.held);
+            held = λ live. refl;
+            gone = λ left. ap (λ l. l ++ c.held) (this.gone left) ∙ this.gone_held left;
+            gone_held = λ _. refl;
+            team = this.team;
+            access = this.access;
+          });
       apart = λ i k h g n e.
-        let was_i : i < length w.hub.slots = omega (arith, long) in
-        let was_k : k < length w.hub.slots = omega (arith, long) in
-        kept.apart i k was_i was_k n
+          let was_i : i < length w.hub.slots = omega (arith, long) in
+          let was_k : k < length w.hub.slots = omega (arith, long) in
+          kept.apart i k was_i was_k n
           (ap (λ (c : Connection). c.number) (sym (same i was_i)) ∙ e ∙ ap (λ (c : Connection). c.number) (same k was_k));
       fresh = λ n h. let f = kept.fresh n h in record {
         lines = ap (own_lines n) turns ∙ f.lines;
         safe = own_replies-append n w.safe w.held ∙ ap (λ l. l ++ own_replies n w.held) f.safe ∙ f.held;
-        held = refl; came = f.came; sent = f.sent };
+        held = refl;
+        came = f.came;
+        sent = f.sent;
+      };
       lines = λ n. let p = kept.lines n in (p.0, ap (λ l. own_lines n l ++ p.0) turns ∙ p.1);
-      replies = λ n. let p = kept.replies n in (p.0 ++ own_replies n w.held,
-        sym (append_assoc (w.sent n) p.0 (own_replies n w.held)) ∙ ap (λ l. l ++ own_replies n w.held) p.1 ∙ sym (own_replies-append n w.safe w.held));
+      replies = λ n. let p = kept.replies n in (
+        p.0 ++ own_replies n w.held,
+        sym (append_assoc (w.sent n) p.0 (own_replies n w.held)) ∙ ap (λ l. l ++ own_replies n w.held) p.1 ∙ sym (own_replies-append n w.safe w.held),
+      );
       held = λ i h out. ap (λ (c : Connection). c.held) (same i (omega (arith, long)));
       journal = record {
         synced = ap (λ l. l ++ w.written) j.synced ∙ ap (λ l. accepted w.safe ++ l) j.written ∙ sym (filter-append is_accepted w.safe w.held);
@@ -411,10 +436,14 @@ gone-kept : (w v : World) (k : ℕ) (f : Connection → Connection) → Kept w �
 gone-kept w v k f kept below is number here held =
     let a : (n : ℕ) → Agrees w v n = λ n. record {
       made = omega (arith, ap (λ (u : World). u.hub.made) is);
-      team = ap (λ (u : World). u.team n) is; access = ap (λ (u : World). u.access n) is;
-      came = ap (λ (u : World). u.came n) is; sent = ap (λ (u : World). u.sent n) is;
+      team = ap (λ (u : World). u.team n) is;
+      access = ap (λ (u : World). u.access n) is;
+      came = ap (λ (u : World). u.came n) is;
+      sent = ap (λ (u : World). u.sent n) is;
       lines = ap (λ (u : World). own_lines n (turns_in u)) is;
-      safe = ap (λ (u : World). own_replies n u.safe) is; held = ap (λ (u : World). own_replies n u.held) is } in
+      safe = ap (λ (u : World). own_replies n u.safe) is;
+      held = ap (λ (u : World). own_replies n u.held) is;
+    } in
     let c = connection_at k w.hub.slots in
     changed w v k f kept (record {
       below = below;
@@ -436,9 +465,15 @@ leaves-kept w k kept below =
     let this : SlotKept w c = kept.slots k below in
     gone-kept w (happens w (Leaves k)) k leaving kept below refl refl (record {
       old = this.old;
-      lines = λ live. absurd (false≢true live); begun = λ live. absurd (false≢true live);
-      ready = λ live. absurd (false≢true live); held = λ live. absurd (false≢true live);
-      gone = λ _. refl; gone_held = λ _. refl; team = this.team; access = this.access }) refl
+      lines = λ live. absurd (false≢true live);
+      begun = λ live. absurd (false≢true live);
+      ready = λ live. absurd (false≢true live);
+      held = λ live. absurd (false≢true live);
+      gone = λ _. refl;
+      gone_held = λ _. refl;
+      team = this.team;
+      access = this.access;
+    }) refl
 
 left-not-live : (s : Stage) → s ≡ Leaving → is_live s ≡ false
 left-not-live s e = ap is_live e
@@ -450,9 +485,15 @@ frees-kept w k kept below left =
     let gone = left-not-live c.stage left in
     gone-kept w (happens w (Frees k)) k freed kept below refl refl (record {
       old = this.old;
-      lines = λ live. absurd (false≢true live); begun = λ live. absurd (false≢true live);
-      ready = λ live. absurd (false≢true live); held = λ live. absurd (false≢true live);
-      gone = λ _. this.gone gone; gone_held = λ _. this.gone_held gone; team = this.team; access = this.access }) (this.gone_held gone)
+      lines = λ live. absurd (false≢true live);
+      begun = λ live. absurd (false≢true live);
+      ready = λ live. absurd (false≢true live);
+      held = λ live. absurd (false≢true live);
+      gone = λ _. this.gone gone;
+      gone_held = λ _. this.gone_held gone;
+      team = this.team;
+      access = this.access;
+    }) (this.gone_held gone)
 
 -- ---- a client connects
 
@@ -463,8 +504,15 @@ opens-kept w k team access kept within =
     let c = new_connection made team access in
     let f : IsFresh w made = kept.fresh made (omega arith) in
     let others : (n : ℕ) → (n ≡ made → ⊥) → Agrees w v n = λ n o. record {
-      made = omega arith; team = entry-other n made team (w.team n) o; access = entry-other n made access (w.access n) o;
-      came = refl; sent = refl; lines = refl; safe = refl; held = refl } in
+      made = omega arith;
+      team = entry-other n made team (w.team n) o;
+      access = entry-other n made access (w.access n) o;
+      came = refl;
+      sent = refl;
+      lines = refl;
+      safe = refl;
+      held = refl;
+    } in
     let was : (i : ℕ) → i < length v.hub.slots → (i ≡ k → ⊥) → i < length w.hub.slots = λ i h n. put-length w.hub.slots i k c within h n in
     let new : connection_at k v.hub.slots ≡ c = put-same w.hub.slots k c within in
     let old : (i : ℕ) → (i ≡ k → ⊥) → connection_at i v.hub.slots ≡ connection_at i w.hub.slots = λ i n. put-other w.hub.slots i k c within n in
@@ -472,33 +520,33 @@ opens-kept w k team access kept within =
     let number-old : (i : ℕ) → (i ≡ k → ⊥) → (connection_at i v.hub.slots).number ≡ (connection_at i w.hub.slots).number = λ i n. ap (λ (d : Connection). d.number) (old i n) in
     record {
       slots = λ i. each (λ j. j < length v.hub.slots → SlotKept v (connection_at j v.hub.slots)) i k
-        (λ _. subst (SlotKept v) (sym new) (record {
-          old = omega arith;
-          lines = λ _. ap (λ l. l ++ []) f.lines ∙ sym (ap lines_sent f.came);
-          begun = λ _. sym (ap line_begun f.came);
-          ready = λ _. ap (λ l. l ++ []) f.sent ∙ sym f.safe;
-          held = λ _. sym f.held;
-          gone = λ left. absurd (true≢false left);
-          gone_held = λ left. absurd (true≢false left);
-          team = entry-same made team (w.team made);
-          access = entry-same made access (w.access made);
-        }))
-        (λ n h. let this = kept.slots i (was i h n) in
+          (λ _. subst (SlotKept v) (sym new) (record {
+            old = omega arith;
+            lines = λ _. ap (λ l. l ++ []) f.lines ∙ sym (ap lines_sent f.came);
+            begun = λ _. sym (ap line_begun f.came);
+            ready = λ _. ap (λ l. l ++ []) f.sent ∙ sym f.safe;
+            held = λ _. sym f.held;
+            gone = λ left. absurd (true≢false left);
+            gone_held = λ left. absurd (true≢false left);
+            team = entry-same made team (w.team made);
+            access = entry-same made access (w.access made);
+          }))
+          (λ n h. let this = kept.slots i (was i h n) in
           subst (SlotKept v) (sym (old i n))
           (agreeing w v (connection_at i w.hub.slots) (others (connection_at i w.hub.slots).number (λ e. absurd (omega (arith, this.old, e)))) this));
       apart = λ i j. each (λ a. a < length v.hub.slots → j < length v.hub.slots → (a ≡ j → ⊥) → (connection_at a v.hub.slots).number ≡ (connection_at j v.hub.slots).number → ⊥) i k
-        (λ h g n e.
+          (λ h g n e.
           let o : j ≡ k → ⊥ = λ q. n (sym q) in
           absurd (omega (arith, (kept.slots j (was j g o)).old, e, number-new, number-old j o)))
-        (λ o. each (λ b. i < length v.hub.slots → b < length v.hub.slots → (i ≡ b → ⊥) → (connection_at i v.hub.slots).number ≡ (connection_at b v.hub.slots).number → ⊥) j k
+          (λ o. each (λ b. i < length v.hub.slots → b < length v.hub.slots → (i ≡ b → ⊥) → (connection_at i v.hub.slots).number ≡ (connection_at b v.hub.slots).number → ⊥) j k
           (λ h g n e. absurd (omega (arith, (kept.slots i (was i h o)).old, e, number-new, number-old i o)))
           (λ p h g n e. kept.apart i j (was i h o) (was j g p) n (sym (number-old i o) ∙ e ∙ number-old j p)));
       fresh = λ n h. agreeing-fresh w v n (others n (λ e. absurd (omega (arith, h, e)))) (kept.fresh n (omega (arith, h)));
       lines = kept.lines;
       replies = kept.replies;
       held = λ i. each (λ j. j < length v.hub.slots → is_in j v.hub.answered ≡ false → (connection_at j v.hub.slots).held ≡ []) i k
-        (λ _ _. ap (λ (d : Connection). d.held) new)
-        (λ n h out. ap (λ (d : Connection). d.held) (old i n) ∙ kept.held i (was i h n) out);
+          (λ _ _. ap (λ (d : Connection). d.held) new)
+          (λ n h out. ap (λ (d : Connection). d.held) (old i n) ∙ kept.held i (was i h n) out);
       journal = record { synced = kept.journal.synced; written = kept.journal.written; text = kept.journal.text };
     }
 
@@ -554,10 +602,11 @@ teams-more : (w : World) (team : ℕ) (access : Access) (ts : List Turn) → All
     → ForOwnTeams (with_entry w.hub.made team w.team) (with_entry w.hub.made access w.access) ts
 teams-more w team access [] old p = tt
 teams-more w team access (t ∷ ts) old p =
-    let other : t.number ≡ w.hub.made → ⊥ = λ e. absurd (omega (arith, old.0, e)) in
-    (p.0 ∙ sym (entry-other t.number w.hub.made team (w.team t.number) other),
+    let other : t.number ≡ w.hub.made → ⊥ = λ e. absurd (omega (arith, old.0, e)) in (
+      p.0 ∙ sym (entry-other t.number w.hub.made team (w.team t.number) other),
       λ own. p.1 own ∙ sym (entry-other t.number w.hub.made access (w.access t.number) other),
-      teams-more w team access ts old.1 p.2)
+      teams-more w team access ts old.1 p.2,
+    )
 
 abbrev pub TeamsKept : World → Type 0
 TeamsKept w = AllOld w.hub.made (turns_in w) × ForOwnTeams w.team w.access (turns_in w)
@@ -566,11 +615,12 @@ teams-push : (w v : World) (k : ℕ) (t : Turn) → Kept w → k < length w.hub.
     → (t.is_own ≡ true → t.access ≡ (connection_at k w.hub.slots).access) → v.hub.made ≡ w.hub.made → v.team ≡ w.team → v.access ≡ w.access → v.safe ≡ w.safe → v.held ≡ w.held ++ t ∷ [] → TeamsKept w → TeamsKept v
 teams-push w v k t kept below number team access made teams accesses safe held p =
     let this = kept.slots k below in
-    let turns : turns_in v ≡ turns_in w ++ t ∷ [] = ap (λ l. l ++ v.held) safe ∙ ap (λ l. w.safe ++ l) held ∙ turns-push w.safe w.held t in
-    (subst (λ m. AllOld m (turns_in v)) (sym made) (subst (AllOld w.hub.made) (sym turns) (old-append w.hub.made (turns_in w) (t ∷ []) p.0 (omega (arith, this.old, number), tt))),
+    let turns : turns_in v ≡ turns_in w ++ t ∷ [] = ap (λ l. l ++ v.held) safe ∙ ap (λ l. w.safe ++ l) held ∙ turns-push w.safe w.held t in (
+      subst (λ m. AllOld m (turns_in v)) (sym made) (subst (AllOld w.hub.made) (sym turns) (old-append w.hub.made (turns_in w) (t ∷ []) p.0 (omega (arith, this.old, number), tt))),
       subst (λ (a : ℕ → ℕ). ForOwnTeams a v.access (turns_in v)) (sym teams) (subst (λ (a : ℕ → Access). ForOwnTeams w.team a (turns_in v)) (sym accesses)
-        (subst (ForOwnTeams w.team w.access) (sym turns) (teams-append w.team w.access (turns_in w) (t ∷ []) p.1
-          (team ∙ sym this.team ∙ ap w.team (sym number), λ own. access own ∙ sym this.access ∙ ap w.access (sym number), tt)))))
+          (subst (ForOwnTeams w.team w.access) (sym turns) (teams-append w.team w.access (turns_in w) (t ∷ []) p.1
+          (team ∙ sym this.team ∙ ap w.team (sym number), λ own. access own ∙ sym this.access ∙ ap w.access (sym number), tt)))),
+    )
 
 teams_next : (w : World) (e : HubEvent) → Kept w → May w.hub e → TeamsKept w → TeamsKept (happens w e)
 teams_next w (Opens k team access) kept may p = (old-more w.hub.made (turns_in w) p.0, teams-more w team access (turns_in w) p.0 p.1)

@@ -57,8 +57,8 @@ same-stage : (w : World) (k i : ℕ) (f : Connection → Connection) → k < len
     → (connection_at i (changed_at k f w.hub.slots)).stage ≡ (connection_at i w.hub.slots).stage
 same-stage w k i f below same =
     each (λ j. (connection_at j (changed_at k f w.hub.slots)).stage ≡ (connection_at j w.hub.slots).stage) i k
-      (ap (λ (c : Connection). c.stage) (changed-same w.hub.slots k f below) ∙ same)
-      (λ n. ap (λ (c : Connection). c.stage) (changed-other w.hub.slots i k f n))
+    (ap (λ (c : Connection). c.stage) (changed-same w.hub.slots k f below) ∙ same)
+    (λ n. ap (λ (c : Connection). c.stage) (changed-other w.hub.slots i k f n))
 
 stays-closed : (w : World) (k : ℕ) (f : Connection → Connection) → k < length w.hub.slots → (f (connection_at k w.hub.slots)).stage ≡ (connection_at k w.hub.slots).stage → SessionsAreClosed w
     → (i : ℕ) → i < length (changed_at k f w.hub.slots) → (connection_at i (changed_at k f w.hub.slots)).stage ≡ Free → session_of i w.hub.sessions ≡ None
@@ -75,17 +75,17 @@ closed_next w (Opens k team access) kept may closed = λ i.
     let c = new_connection w.hub.made team access in
     let slots = put_at k c w.hub.slots in
     each (λ j. j < length slots → (connection_at j slots).stage ≡ Free → session_of j w.hub.sessions ≡ None) i k
-      (λ h free. absurd (live-not-free Open refl (sym (ap (λ (d : Connection). d.stage) (put-same w.hub.slots k c may.0)) ∙ free)))
-      (λ n h free. closed i (put-length w.hub.slots i k c may.0 h n) (sym (ap (λ (d : Connection). d.stage) (put-other w.hub.slots i k c may.0 n)) ∙ free))
+    (λ h free. absurd (live-not-free Open refl (sym (ap (λ (d : Connection). d.stage) (put-same w.hub.slots k c may.0)) ∙ free)))
+    (λ n h free. closed i (put-length w.hub.slots i k c may.0 h n) (sym (ap (λ (d : Connection). d.stage) (put-other w.hub.slots i k c may.0 n)) ∙ free))
 closed_next w (Comes k bytes) kept may closed = stays-closed w k (with_bytes bytes) may.0 refl closed
 closed_next w (Answers k t) kept may closed = λ i.
     let c = connection_at k w.hub.slots in
     let slots = changed_at k (with_answer t) w.hub.slots in
     each (λ j. j < length slots → (connection_at j slots).stage ≡ Free → session_of j (sessions_after k t.team t.outcome w.hub.sessions) ≡ None) i k
-      (λ h free. absurd (live-not-free (stage_after t.outcome c.stage) (after_live t.outcome c.stage (answering-is-live c may.1))
-        (sym (ap (λ (d : Connection). d.stage) (changed-same w.hub.slots k (with_answer t) may.0)) ∙ free)))
-      (λ n h free. none-after i k t.team t.outcome w.hub.sessions (λ e. n (sym e))
-        (closed i (omega (arith, changed-length w.hub.slots k (with_answer t))) (sym (ap (λ (d : Connection). d.stage) (changed-other w.hub.slots i k (with_answer t) n)) ∙ free)))
+    (λ h free. absurd (live-not-free (stage_after t.outcome c.stage) (after_live t.outcome c.stage (answering-is-live c may.1))
+    (sym (ap (λ (d : Connection). d.stage) (changed-same w.hub.slots k (with_answer t) may.0)) ∙ free)))
+    (λ n h free. none-after i k t.team t.outcome w.hub.sessions (λ e. n (sym e))
+    (closed i (omega (arith, changed-length w.hub.slots k (with_answer t))) (sym (ap (λ (d : Connection). d.stage) (changed-other w.hub.slots i k (with_answer t) n)) ∙ free)))
 closed_next w (Closes k s t) kept may closed = λ i h free. none-without i s.team s.session w.hub.sessions (closed i h free)
 closed_next w Syncs kept may closed = λ i h free.
     let was : i < length w.hub.slots = omega (arith, released-length w.hub.answered w.hub.slots) in
@@ -94,13 +94,13 @@ closed_next w (Sends k count) kept may closed = stays-closed w k (after_sending 
 closed_next w (Leaves k) kept may closed = λ i.
     let slots = changed_at k leaving w.hub.slots in
     each (λ j. j < length slots → (connection_at j slots).stage ≡ Free → session_of j w.hub.sessions ≡ None) i k
-      (λ h free. absurd (left-not-free Leaving refl (sym (ap (λ (d : Connection). d.stage) (changed-same w.hub.slots k leaving may.0)) ∙ free)))
-      (λ n h free. closed i (omega (arith, changed-length w.hub.slots k leaving)) (sym (ap (λ (d : Connection). d.stage) (changed-other w.hub.slots i k leaving n)) ∙ free))
+    (λ h free. absurd (left-not-free Leaving refl (sym (ap (λ (d : Connection). d.stage) (changed-same w.hub.slots k leaving may.0)) ∙ free)))
+    (λ n h free. closed i (omega (arith, changed-length w.hub.slots k leaving)) (sym (ap (λ (d : Connection). d.stage) (changed-other w.hub.slots i k leaving n)) ∙ free))
 closed_next w (Frees k) kept may closed = λ i.
     let slots = changed_at k freed w.hub.slots in
     each (λ j. j < length slots → (connection_at j slots).stage ≡ Free → session_of j w.hub.sessions ≡ None) i k
-      (λ h free. may.2)
-      (λ n h free. closed i (omega (arith, changed-length w.hub.slots k freed)) (sym (ap (λ (d : Connection). d.stage) (changed-other w.hub.slots i k freed n)) ∙ free))
+    (λ h free. may.2)
+    (λ n h free. closed i (omega (arith, changed-length w.hub.slots k freed)) (sym (ap (λ (d : Connection). d.stage) (changed-other w.hub.slots i k freed n)) ∙ free))
 
 pub closed_run : (es : List HubEvent) (w : World) → Kept w → Runs es w → SessionsAreClosed w → SessionsAreClosed (run es w)
 closed_run [] w kept runs closed = closed

@@ -49,22 +49,22 @@ others-at (x ∷ slots) c (suc i) n = others-at slots c i (λ e. n (ap suc e))
 by-place : (P : List Connection → Type 0) (slots : List Connection) (k : ℕ) (c : Connection) → k ≤ length slots
     → (k < length slots → P (slice_set slots k c)) → (k ≡ length slots → P (slots ++ c ∷ [])) → P (put_at k c slots)
 by-place P slots k c h old new = elim (cases_lt k (length slots)) as (λ _. P (put_at k c slots))
-  [ inl below ↦ subst P (sym (put-old slots k c below)) (old below) | inr past ↦ subst P (sym (put-new slots k c past)) (new (omega arith)) ]
+    [ inl below ↦ subst P (sym (put-old slots k c below)) (old below) | inr past ↦ subst P (sym (put-new slots k c past)) (new (omega arith)) ]
 
 pub put-same : (slots : List Connection) (k : ℕ) (c : Connection) → k ≤ length slots → connection_at k (put_at k c slots) ≡ c
 put-same slots k c h = by-place (λ s. connection_at k s ≡ c) slots k c h
-  (λ below. get_or-set_same slots k c no_connection below)
-  (λ e. subst (λ j. connection_at j (slots ++ c ∷ []) ≡ c) (sym e) (last-at slots c))
+    (λ below. get_or-set_same slots k c no_connection below)
+    (λ e. subst (λ j. connection_at j (slots ++ c ∷ []) ≡ c) (sym e) (last-at slots c))
 
 pub put-other : (slots : List Connection) (i k : ℕ) (c : Connection) → k ≤ length slots → (i ≡ k → ⊥) → connection_at i (put_at k c slots) ≡ connection_at i slots
 put-other slots i k c h n = by-place (λ s. connection_at i s ≡ connection_at i slots) slots k c h
-  (λ below. get_or-set_other slots k i c no_connection n)
-  (λ e. others-at slots c i (λ g. n (g ∙ sym e)))
+    (λ below. get_or-set_other slots k i c no_connection n)
+    (λ e. others-at slots c i (λ g. n (g ∙ sym e)))
 
 pub put-length : (slots : List Connection) (i k : ℕ) (c : Connection) → k ≤ length slots → i < length (put_at k c slots) → (i ≡ k → ⊥) → i < length slots
 put-length slots i k c h below n = by-place (λ s. i < length s → i < length slots) slots k c h
-  (λ _ b. omega (arith, b, length-set slots k c))
-  (λ e b. omega (arith, b, e, n, length-append slots (c ∷ []))) below
+    (λ _ b. omega (arith, b, length-set slots k c))
+    (λ e b. omega (arith, b, e, n, length-append slots (c ∷ []))) below
 
 -- ---- all that is held may be sent
 
@@ -90,11 +90,11 @@ released-all [] slots i below none = idle (connection_at i slots) (none refl)
 released-all (k ∷ which) slots i below none =
     let later : i < length (changed_at k released slots) = omega (arith, changed-length slots k released) in
     each (λ j. j < length slots → (is_in j (k ∷ which) ≡ false → (connection_at j slots).held ≡ [])
-          → ((is_in j which ≡ false → (connection_at j (changed_at k released slots)).held ≡ []) → connection_at j (released_at which (changed_at k released slots)) ≡ released (connection_at j (changed_at k released slots)))
-          → connection_at j (released_at which (changed_at k released slots)) ≡ released (connection_at j slots)) i k
-      (λ b h ih. ih (λ _. ap (λ (c : Connection). c.held) (changed-same slots k released b)) ∙ ap released (changed-same slots k released b) ∙ released-twice (connection_at k slots))
-      (λ n b h ih. ih (λ out. ap (λ (c : Connection). c.held) (changed-other slots i k released n) ∙ h (or_from (i == k) (is_in i which) (ne_eqb i k n) out)) ∙ ap released (changed-other slots i k released n))
-      below none (released-all which (changed_at k released slots) i later)
+    → ((is_in j which ≡ false → (connection_at j (changed_at k released slots)).held ≡ []) → connection_at j (released_at which (changed_at k released slots)) ≡ released (connection_at j (changed_at k released slots)))
+    → connection_at j (released_at which (changed_at k released slots)) ≡ released (connection_at j slots)) i k
+    (λ b h ih. ih (λ _. ap (λ (c : Connection). c.held) (changed-same slots k released b)) ∙ ap released (changed-same slots k released b) ∙ released-twice (connection_at k slots))
+    (λ n b h ih. ih (λ out. ap (λ (c : Connection). c.held) (changed-other slots i k released n) ∙ h (or_from (i == k) (is_in i which) (ne_eqb i k n) out)) ∙ ap released (changed-other slots i k released n))
+    below none (released-all which (changed_at k released slots) i later)
 
 -- a slot that is not there does not change
 set-beyond : (slots : List Connection) (k : ℕ) (c : Connection) → length slots ≤ k → slice_set slots k c ≡ slots

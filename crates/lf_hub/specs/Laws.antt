@@ -1,5 +1,6 @@
 -- What holds of a hub after every list of events.
-use Rattle.std.specs.Prelude.{◌≡◌, ◌≢◌, ◌<◌, ◌≤◌, ℕ, ◌+◌, Bool, true, false, nat_le, List, [], ◌∷◌, ◌++◌, length, flat_map, take, list_all, None}
+use Rattle.std.specs.Prelude.{◌≡◌, ◌≢◌, ◌<◌, ◌≤◌, ℕ, ◌+◌, Bool, true, false, nat_le, List, [], ◌∷◌, ◌++◌, length, flat_map, take, None}
+use Rattle.std.specs.List.{list_all}
 use Rattle.lf_hub_clients.specs.declared.client.Access.{Access}
 use Rattle.lf_hub_clients.specs.declared.client.Stage.{Stage}
 use Rattle.lf_hub_clients.specs.declared.client.Stage.TheVariants.{Free}

@@ -103,16 +103,19 @@ pub data HubEvent : Type 0 where
 abbrev pub after : Hub → HubEvent → Hub
 after h (Opens slot team access) = record h {
   made = h.made + 1;
-  slots = put_at slot (new_connection h.made team access) h.slots }
+  slots = put_at slot (new_connection h.made team access) h.slots;
+}
 after h (Comes slot bytes) = record h { slots = changed_at slot (with_bytes bytes) h.slots }
 after h (Answers slot turn) = record h {
   slots = changed_at slot (with_answer turn) h.slots;
   sessions = sessions_after slot turn.team turn.outcome h.sessions;
   answered = h.answered ++ slot ∷ [];
-  records = h.records ++ record_of turn }
+  records = h.records ++ record_of turn;
+}
 after h (Closes slot s turn) = record h {
   sessions = without_session s.team s.session h.sessions;
-  records = h.records ++ record_of turn }
+  records = h.records ++ record_of turn;
+}
 after h Syncs = record h { slots = released_at h.answered h.slots; answered = []; records = [] }
 after h (Sends slot count) = record h { slots = changed_at slot (after_sending count) h.slots }
 after h (Leaves slot) = record h { slots = changed_at slot leaving h.slots }

@@ -1,5 +1,5 @@
 -- What a turn does.
-use Rattle.std.specs.Prelude.{◌≡◌, ℕ, Bool, false, List, Option, Some, None, option_map}
+use Rattle.std.specs.Prelude.{◌≡◌, ℕ, Bool, true, false, List, Option, Some, None, option_map}
 use Rattle.lf_hub_clients.specs.declared.floor.Outcome.{Outcome}
 use Rattle.lf_hub_clients.specs.Connections.{may_answer, turn_of}
 use Rattle.lf_hub_clients.specs.Turns.{Turn, closing_turn}

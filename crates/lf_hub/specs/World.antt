@@ -24,8 +24,15 @@ pub record World : Type 0 where
 abbrev pub start : World
 start = record {
   hub = record { made = 0; slots = []; sessions = []; answered = []; records = [] };
-  team = λ _. 0; access = λ _. Changes; came = λ _. []; sent = λ _. [];
-  safe = []; held = []; synced = []; written = [] }
+  team = λ _. 0;
+  access = λ _. Changes;
+  came = λ _. [];
+  sent = λ _. [];
+  safe = [];
+  held = [];
+  synced = [];
+  written = [];
+}
 
 -- A table with another entry.
 abbrev pub with_entry : {X : Type 0} → ℕ → X → (ℕ → X) → ℕ → X
@@ -44,17 +51,23 @@ with_hub e w = record w { hub = after w.hub e }
 abbrev pub happens : World → HubEvent → World
 happens w (Opens slot team access) = record (with_hub (Opens slot team access) w) {
   team = with_entry w.hub.made team w.team;
-  access = with_entry w.hub.made access w.access }
+  access = with_entry w.hub.made access w.access;
+}
 happens w (Comes slot bytes) = record (with_hub (Comes slot bytes) w) {
-  came = with_entry (number_at slot w) (w.came (number_at slot w) ++ bytes) w.came }
+  came = with_entry (number_at slot w) (w.came (number_at slot w) ++ bytes) w.came;
+}
 happens w (Answers slot turn) = with_turn turn (with_hub (Answers slot turn) w)
 happens w (Closes slot s turn) = with_turn turn (with_hub (Closes slot s turn) w)
 happens w Syncs = record (with_hub Syncs w) {
-  safe = w.safe ++ w.held; held = [];
-  synced = w.synced ++ w.written; written = [] }
+  safe = w.safe ++ w.held;
+  held = [];
+  synced = w.synced ++ w.written;
+  written = [];
+}
 happens w (Sends slot count) = record (with_hub (Sends slot count) w) {
   sent = with_entry (number_at slot w)
-      (w.sent (number_at slot w) ++ take count (connection_at slot w.hub.slots).ready) w.sent }
+      (w.sent (number_at slot w) ++ take count (connection_at slot w.hub.slots).ready) w.sent;
+}
 happens w (Leaves slot) = with_hub (Leaves slot) w
 happens w (Frees slot) = with_hub (Frees slot) w
 

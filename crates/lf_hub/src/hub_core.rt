@@ -28,7 +28,10 @@ pub enum Progress {
     /// Nobody waits.
     Idle,
     /// The client in this slot has no line that may be answered. `stays` says whether it still waits.
-    Passed { slot: usize, stays: bool },
+    Passed {
+        slot: usize,
+        stays: bool,
+    },
     /// A line of the client in this slot was answered. `stays` says whether it still waits.
     Answered {
         slot: usize,
@@ -42,7 +45,9 @@ pub enum Progress {
         outcome: Outcome,
     },
     /// The slot may have another client.
-    Freed { slot: usize },
+    Freed {
+        slot: usize,
+    },
 }
 
 /// The clients of a hub, whose turn it is, and the records since the last sync.
@@ -457,7 +462,7 @@ impl Core {
         ensures turns { OnErr result (self.new.turns ≡ self.old.turns) }
         ensures kept { OnErr result (floor.new ≡ floor.old) }
     {
-        let Some(open) = session_of(self.sessions.as_slice(), slot) else {
+        let Some(own) = session_of(self.sessions.as_slice(), slot) else {
             self.free.push(slot)?;
             free_client(self.clients.as_mut_slice(), slot);
             self.turns.end_turn(false);
@@ -474,11 +479,11 @@ impl Core {
             floor,
             number,
             team,
-            open.session,
+            own.session,
             &mut self.line,
             &mut self.reply,
         );
-        remove_session(&mut self.sessions, open.team, open.session);
+        remove_session(&mut self.sessions, own.team, own.session);
         put_record(
             &mut self.records,
             number,
@@ -489,7 +494,7 @@ impl Core {
         self.turns.end_turn(true);
         Ok(Progress::Closed {
             slot,
-            session: open,
+            session: own,
             outcome,
         })
     }

@@ -1,13 +1,11 @@
 -- The clients of a team take turns.
-use Rattle.std.proofs.Common.{◌≡◌, ℕ, zero, suc, ◌<◌, ◌≤◌, ◌+◌, ◌⊎◌, inl, inr, Bool, true, false, not, cond, nat_lt, List, [], ◌∷◌, ◌++◌, length, Option, Some, None, refl, sym, ap, subst, ◌∙◌, arith, length-append}
-use Rattle.std.specs.Prelude.{◌==◌, ◌||◌, ◌&&◌, slice_set, slice_index_or, replicate}
-use Rattle.std.proofs.lemmas.Bool.{eq-eqb, ne_eqb, true≢false, false≢true, cases_eq, and_parts, ltb-true, or_left, or_right, or_parts, not-true, cases_lt, cond-true, cond-false}
-use Rattle.std.proofs.lemmas.Bool.Decides.{nat_tests}
-use Rattle.std.proofs.lemmas.Grind.{common_steps}
+use Rattle.std.proofs.Common.{◌≡◌, ℕ, zero, suc, ◌<◌, ◌≤◌, inl, inr, Bool, true, false, not, cond, nat_lt, List, [], ◌∷◌, ◌++◌, length, Option, refl, sym, ap, subst, ◌∙◌, arith, length-append}
+use Rattle.std.specs.Prelude.{◌==◌, slice_set, slice_index_or, replicate}
+use Rattle.std.proofs.lemmas.Bool.{eq-eqb, ne_eqb, true≢false, cases_eq, and_parts, ltb-true, or_left, or_right, not-true, cases_lt, cond-true, cond-false}
 use Rattle.std.proofs.lemmas.List.{get_or-set_same, get_or-set_other, length-set}
-use Rattle.lf_hub_turns.specs.Queues.{Queues, queue_of, is_none, first_in, first_done, joining, may_join, joined, next_turn, with_clients, turn_done}
-use Rattle.lf_hub_turns.specs.Fairness.{TurnEvent, Grows, Joins, Ends, after_event, run_turns, no_client, client_of_turn, client_turns, is_in, count, ClientsTakeTurns}
-use Rattle.lf_hub_turns.proofs.Lists.{Distinct, before, in-front, in-pushed, out-both, distinct-push, distinct-done, front-once, before-push, Moves, moves}
+use Rattle.lf_hub_turns.specs.Queues.{Queues, queue_of, first_done, joining, may_join, joined, next_turn, with_clients, turn_done}
+use Rattle.lf_hub_turns.specs.Fairness.{TurnEvent, Grows, Joins, Ends, after_event, run_turns, no_client, client_of_turn, client_turns, is_in, ClientsTakeTurns}
+use Rattle.lf_hub_turns.proofs.Lists.{Distinct, before, in-front, in-pushed, out-both, distinct-push, distinct-done, front-once, before-push, moves}
 use Rattle.lf_hub_turns.proofs.Teams.{HasTurn, whose, nobodys, done, within}
 
 -- ---- tables of tests
@@ -24,7 +22,7 @@ beyond (x ∷ xs) (suc i) h = beyond xs i (omega arith)
 
 false-within : (xs : List Bool) (c : ℕ) → slice_index_or xs c true ≡ false → c < length xs
 false-within xs c h = elim (cases_lt c (length xs)) as (λ _. c < length xs)
-  [ inl below ↦ below | inr past ↦ absurd (true≢false (sym (beyond xs c past) ∙ h)) ]
+    [ inl below ↦ below | inr past ↦ absurd (true≢false (sym (beyond xs c past) ∙ h)) ]
 
 empty-at : (teams u : ℕ) → slice_index_or {A = List ℕ} (replicate teams []) u [] ≡ []
 empty-at zero u = refl

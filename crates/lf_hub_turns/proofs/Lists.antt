@@ -1,7 +1,7 @@
 -- Queues of numbers that are apart.
-use Rattle.std.proofs.Common.{◌≡◌, ℕ, zero, suc, add-one, ◌<◌, ◌≤◌, ◌+◌, ◌⊎◌, inl, inr, Bool, true, false, cond, List, [], ◌∷◌, ◌++◌, length, refl, sym, ap, subst, ◌∙◌, arith}
+use Rattle.std.proofs.Common.{◌≡◌, ℕ, zero, suc, add-one, ◌≤◌, ◌+◌, inl, inr, Bool, true, false, cond, List, [], ◌∷◌, ◌++◌, refl, sym, ap, subst, ◌∙◌, arith}
 use Rattle.std.specs.Prelude.{◌==◌, ◌||◌, replicate}
-use Rattle.std.proofs.lemmas.Bool.{eq-eqb, ne_eqb, eqb-true, eqb-false, true≢false, cases_eq, cases_Bool, or_left, or_right, or_parts, or_from, or_cases, cond-true, cond-false}
+use Rattle.std.proofs.lemmas.Bool.{eq-eqb, ne_eqb, eqb-true, true≢false, or_left, or_right, or_parts, or_from, or_cases, cond-false}
 use Rattle.lf_hub_turns.specs.Queues.{first_done}
 use Rattle.lf_hub_turns.specs.Fairness.{is_in, count}
 
@@ -27,10 +27,6 @@ in-pushed t [] y h n = absurd (true≢false (sym h ∙ or_from (t == y) false (n
 in-pushed t (x ∷ xs) y h n =
     elim (or_cases (t == x) (is_in t (xs ++ y ∷ [])) h) as (λ _. ((t == x) || is_in t xs) ≡ true)
     [ inl e ↦ or_left (t == x) (is_in t xs) e | inr r ↦ or_right (t == x) (is_in t xs) (in-pushed t xs y r n) ]
-
-pub in-last : (xs : List ℕ) (y : ℕ) → is_in y (xs ++ y ∷ []) ≡ true
-in-last [] y = or_left (y == y) false (eq-eqb y y refl)
-in-last (x ∷ xs) y = or_right (y == x) (is_in y (xs ++ y ∷ [])) (in-last xs y)
 
 pub out-both : (t : ℕ) (xs ys : List ℕ) → is_in t (xs ++ ys) ≡ false → (is_in t xs ≡ false) × (is_in t ys ≡ false)
 out-both t [] ys h = (refl, h)

@@ -1,11 +1,11 @@
 -- Teams take turns.
-use Rattle.std.proofs.Common.{◌≡◌, ℕ, zero, suc, ◌<◌, ◌≤◌, ◌+◌, ◌⊎◌, inl, inr, Bool, true, false, not, cond, nat_lt, List, [], ◌∷◌, ◌++◌, length, Option, Some, None, refl, sym, ap, subst, ◌∙◌, arith}
-use Rattle.std.specs.Prelude.{◌==◌, ◌||◌, ◌&&◌, slice_set, slice_index_or, replicate}
-use Rattle.std.proofs.lemmas.Bool.{eq-eqb, ne_eqb, true≢false, false≢true, cases_eq, cases_lt, and_parts, ltb-true, or_left, or_right, or_parts, cond-true, cond-false, not-true}
+use Rattle.std.proofs.Common.{◌≡◌, ℕ, zero, suc, ◌<◌, ◌≤◌, ◌⊎◌, inl, inr, Bool, true, false, not, cond, nat_lt, List, [], ◌∷◌, ◌++◌, length, Option, Some, None, refl, sym, ap, subst, ◌∙◌, arith}
+use Rattle.std.specs.Prelude.{◌==◌, slice_set, slice_index_or}
+use Rattle.std.proofs.lemmas.Bool.{eq-eqb, true≢false, cases_eq, cases_lt, and_parts, ltb-true, or_left, or_right, not-true}
 use Rattle.std.proofs.lemmas.List.{get_or-set_same, get_or-set_other}
 use Rattle.lf_hub_turns.specs.Queues.{Queues, queue_of, is_none, first_in, first_done, joining, may_join, joined, client_of, turn_of, next_turn, with_clients, after_turn, turn_done}
-use Rattle.lf_hub_turns.specs.Fairness.{TurnEvent, Grows, Joins, Ends, after_event, run_turns, no_client, team_of_turn, team_turns, is_in, count, TeamsTakeTurns}
-use Rattle.lf_hub_turns.proofs.Lists.{Distinct, before, in-front, in-pushed, in-last, out-both, out-pushed, distinct-push, distinct-done, front-once, before-push, Moves, moves}
+use Rattle.lf_hub_turns.specs.Fairness.{TurnEvent, Grows, Joins, Ends, after_event, run_turns, no_client, team_of_turn, team_turns, is_in, TeamsTakeTurns}
+use Rattle.lf_hub_turns.proofs.Lists.{Distinct, before, in-front, in-pushed, out-both, distinct-push, distinct-done, front-once, before-push, moves}
 
 -- ---- the client whose turn it is
 
@@ -57,7 +57,7 @@ beyond (x ∷ xs) (suc i) h = beyond xs i (omega arith)
 
 pub within : (xs : List (List ℕ)) (team client : ℕ) (clients : List ℕ) → slice_index_or xs team [] ≡ client ∷ clients → team < length xs
 within xs team client clients h = elim (cases_lt team (length xs)) as (λ _. team < length xs)
-  [ inl below ↦ below | inr past ↦ absurd (let q : client ∷ clients ≡ [] = sym h ∙ beyond xs team past in cc) ]
+    [ inl below ↦ below | inr past ↦ absurd (let q : client ∷ clients ≡ [] = sym h ∙ beyond xs team past in cc) ]
 
 -- ---- every event
 
