@@ -23,5 +23,5 @@ module _ {S : Type 0} (answers : ℕ → List ℕ → S → List ℕ → Outcome
   pub query-keeps : (old new : S) (t : Turn) → t.access ≡ Queries → IsAnswered answers shows old t new → new ≡ old
   query-keeps old new t only is = (query-both old new t only is).1
 
-  pub query-is-quiet-change : (old new : S) (t : Turn) → t.access ≡ Queries → IsAnswered answers shows old t new → is_change t.outcome ≡ false
-  query-is-quiet-change old new t only is = (query-both old new t only is).0
+  pub query-is-no-change : (old new : S) (t : Turn) → t.access ≡ Queries → IsAnswered answers shows old t new → is_change t.outcome ≡ false
+  query-is-no-change old new t only is = (query-both old new t only is).0

@@ -5,3 +5,4 @@ pub mod Sessions
 pub mod Bounds
 pub mod Crash
 pub mod Answered
+pub mod Steppings

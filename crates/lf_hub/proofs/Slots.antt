@@ -95,12 +95,3 @@ released-all (k ∷ which) slots i below none =
     (λ b h ih. ih (λ _. ap (λ (c : Connection). c.held) (changed-same slots k released b)) ∙ ap released (changed-same slots k released b) ∙ released-twice (connection_at k slots))
     (λ n b h ih. ih (λ out. ap (λ (c : Connection). c.held) (changed-other slots i k released n) ∙ h (or_from (i == k) (is_in i which) (ne_eqb i k n) out)) ∙ ap released (changed-other slots i k released n))
     below none (released-all which (changed_at k released slots) i later)
-
--- a slot that is not there does not change
-set-beyond : (slots : List Connection) (k : ℕ) (c : Connection) → length slots ≤ k → slice_set slots k c ≡ slots
-set-beyond [] k c h = refl
-set-beyond (x ∷ slots) zero c h = absurd (omega arith)
-set-beyond (x ∷ slots) (suc k) c h = ap (λ l. x ∷ l) (set-beyond slots k c (omega arith))
-
-pub changed-beyond : (slots : List Connection) (k : ℕ) (f : Connection → Connection) → length slots ≤ k → changed_at k f slots ≡ slots
-changed-beyond slots k f h = set-beyond slots k (f (connection_at k slots)) h

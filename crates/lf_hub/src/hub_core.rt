@@ -88,11 +88,6 @@ impl Model for Core {
     ghost invariant = { λ c. (short_limit ≤ vec_capacity c.line) × (short_limit ≤ vec_capacity c.reply) };
 }
 
-/// Lemma: a number of 64 bits has at most 20 digits.
-fn number_is_short(number: u64)
-    ensures { length (decimal number) ≤ 20 }
-{}
-
 /// Appends bytes to a buffer that has room for them.
 fn append(buffer: &mut Vec<u8>, bytes: &[u8])
     requires { vec_len buffer.old + length bytes.now ≤ vec_capacity buffer.old }
@@ -116,7 +111,6 @@ fn put_record(records: &mut Vec<u8>, number: u64, line: &[u8], reply: &[u8], out
     if !is_change(outcome) {
         return;
     }
-    number_is_short(number);
     let mut digits = Buffer::new();
     append(records, digits.format(number).as_bytes());
     append(records, b"\n");
