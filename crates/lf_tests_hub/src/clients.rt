@@ -20,9 +20,9 @@ fn sends_own_replies_after_the_sync(rt: HostRuntime) -> Result<(), Fail> {
     assert!(rt; floor.count == 2);
     assert!(rt; may_send(&core, first, b""));
     assert!(rt; may_send(&core, second, b""));
-    assert!(rt; core.records() == b"0\nadd\nok\n1\nadd\nok\n");
+    assert!(rt; core.records() == b"0\nadd\nok\n1\nadd\nok\n".as_slice());
     core.synced(&mut slots);
-    assert!(rt; core.records() == b"");
+    assert!(rt; core.records() == b"".as_slice());
     assert!(rt; may_send(&core, first, b"ok\nno 1 BadRequest\n"));
     assert!(rt; may_send(&core, second, b"ok\n"));
     assert!(rt; send(&mut core, first, b"d\n"));
@@ -49,7 +49,7 @@ fn queries_and_ends(rt: HostRuntime) -> Result<(), Fail> {
     assert!(rt; may_send(&core, client, b"ok\nok\n"));
     assert!(rt; !send(&mut core, client, b"add\n"));
     match core.client(client) {
-        Some(ended) => assert!(rt; ended.label() == b"iam"),
+        Some(ended) => assert!(rt; ended.label() == b"iam".as_slice()),
         None => assert!(rt; false),
     }
     Ok(())
@@ -65,7 +65,7 @@ fn refuses_changes_without_room(rt: HostRuntime) -> Result<(), Fail> {
     assert!(rt; send(&mut core, client, b"add\n"));
     assert!(rt; answer_all(&mut core, &mut floor, false));
     assert!(rt; floor.count == 0);
-    assert!(rt; core.records() == b"");
+    assert!(rt; core.records() == b"".as_slice());
     core.synced(&mut slots);
     assert!(rt; may_send(&core, client, b"no 12 OutOfMemory\n"));
     Ok(())

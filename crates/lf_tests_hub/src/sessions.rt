@@ -23,13 +23,13 @@ fn closes_the_sessions_of_a_client_that_leaves(rt: HostRuntime) -> Result<(), Fa
     assert!(rt; core.opens(0, Access::Changes)? == 1);
     assert!(rt; answer_all(&mut core, &mut floor, true));
     assert!(rt; floor.count == 1);
-    assert!(rt; core.records() == b"0\nclose\nok\n");
+    assert!(rt; core.records() == b"0\nclose\nok\n".as_slice());
     core.synced(&mut slots);
     assert!(rt; may_send(&core, first, b""));
     let next = core.opens(0, Access::Changes)?;
     assert!(rt; next == first);
     assert!(rt; send(&mut core, next, b"add\n"));
     assert!(rt; answer_all(&mut core, &mut floor, true));
-    assert!(rt; core.records() == b"2\nadd\nok\n");
+    assert!(rt; core.records() == b"2\nadd\nok\n".as_slice());
     Ok(())
 }

@@ -18,6 +18,8 @@ fn teams_and_clients_take_turns(rt: HostRuntime) -> Result<(), Fail> {
     assert!(rt; send(&mut core, same_team, b"add\n"));
     assert!(rt; send(&mut core, other_team, b"add\n"));
     assert!(rt; answer_all(&mut core, &mut floor, true));
-    assert!(rt; core.records() == b"0\nadd\nok\n2\nadd\nok\n1\nadd\nok\n0\nadd\nok\n0\nadd\nok\n");
+    assert!(rt;
+        core.records() == b"0\nadd\nok\n2\nadd\nok\n1\nadd\nok\n0\nadd\nok\n0\nadd\nok\n".as_slice()
+    );
     Ok(())
 }
