@@ -65,6 +65,11 @@ GROUPS = {
         "lf_cli lf_proto lf_sessions lf_server",
         "the command line, requests and replies, session slots, connections",
     ),
+    "hub": Group(
+        "lf_hub lf_hub_*",
+        "many clients over one floor. `_clients` has the lines and replies of one connection, `_turns` says whose line"
+        " is next, and `lf_hub` proves laws of all of them. It knows no socket and no disk",
+    ),
     "floor": Group(
         "lf_floor lf_floor_*",
         "the state of all teams. `lf_floor_model` defines outcomes and proves laws, and has no code. `lf_floor_verbs`"
@@ -159,6 +164,12 @@ RULES = (
         Kind.INDEPENDENT,
         "lf_lex readers loading lf_proto floor io",
         "A verdict or a search needs a frame and cells, wherever they come from.",
+    ),
+    Rule(
+        "hub",
+        Kind.INDEPENDENT,
+        "texts loading placement protocol floor state io",
+        "What a hub does with lines does not depend on what they mean, nor on sockets and disks.",
     ),
     Rule(
         "protocol",

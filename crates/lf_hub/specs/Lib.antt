@@ -1,0 +1,4 @@
+pub mod Machine
+pub mod World
+pub mod Laws
+pub mod Progress

@@ -1,0 +1,5 @@
+pub mod Lines
+pub mod Stored
+pub mod Replies
+pub mod Turns
+pub mod Connections

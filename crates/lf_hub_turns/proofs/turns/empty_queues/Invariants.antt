@@ -1,0 +1,6 @@
+use Rattle.std.proofs.Common.{◌≡◌, []}
+use Rattle.std.specs.Prelude.{replicate}
+use Rattle.lf_hub_turns.proofs.turns.empty_queues.Given as goal
+
+abbrev pub invariant-loop : goal.invariant-loop
+invariant-loop l = l.queues.items ≡ replicate l.counter []
