@@ -38,8 +38,10 @@ def design(sites: int, cells: dict[str, str], rest: str = "", rows: int = 1) -> 
 
 
 def random_design(generator: random.Random) -> str:
-    """A design of three short rows or of a long one, with up to three soft blockages. Some cells are two rows high, some
-    are unplaced, and some break rules."""
+    """A design of three short rows or of a long one, with up to three soft blockages.
+
+    Some cells are two rows high, some are unplaced, and some break rules.
+    """
     rows, sites = generator.choice(((3, 12), (3, 24), (3, 36), (1, 150)))
     cells = {}
     for cell in range(generator.randrange(4, sites)):
@@ -151,8 +153,7 @@ class Promises(InFolder):
             self.assertEqual(outcomes, sorted(outcomes, reverse=True), made.name)
 
     def legal_cells(self, padding: int) -> set[str]:
-        """Sets the padding of the team, and saves the state. Returns the names of the cells that are placed and break no
-        rule."""
+        """Sets the padding of the team and saves the state. Returns the names of placed cells that break no rule."""
         lines = f"open -\npad - 0 {padding}\ncheck - 0\nclose - 0\n"
         status, replies, said = run(["replay", *self.texts, "--save", str(self.begin)], lines)
         self.assertEqual((status, said), (0, ""))

@@ -47,7 +47,7 @@ def rows_of(count: int, sites: int) -> list[str]:
 
 
 def large_design() -> str:
-    """Each cell is half a site off its place, with room next to it. Each net joins a cell and the one after the next."""
+    """Each cell is half a site off its place, with room beside it. Each net joins a cell and the one after the next."""
     components = [
         f"- c{cell} CELL + PLACED ( {600 * (cell % CELLS_OF_ROW) + 100} {2_000 * (cell // CELLS_OF_ROW)} ) N ;\n"
         for cell in range(CELLS)

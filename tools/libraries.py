@@ -78,7 +78,7 @@ GROUPS = {
     "state": Group("lf_state_*", "the text of a saved state, and the tables that are restored from it"),
     "journal": Group(
         "lf_journal lf_journal_*",
-        "the journal of a hub. `_text` is its text, `lf_journal` puts batches on a disk, and `_file` is a file as a disk",
+        "the journal of a hub. `_text` is its text, `lf_journal` puts batches on a disk, `_file` is a file as a disk",
     ),
     "repairs": Group("lf_repair_*", "legal places for many cells"),
     "wires": Group(
