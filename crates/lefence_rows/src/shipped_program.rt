@@ -12,7 +12,7 @@ use lf_io_files::{OutputFiles, TextSource, WriteFailure};
 use lf_units::Sequence;
 use std::alloc::{AllocError, Global};
 use std::collections::VecDeque;
-use std::io::{Read, Write};
+use std::io::{Empty, Read, Write};
 
 /// The path of the LEF text. Every other path is that of the DEF text.
 const LEF: &str = "row.lef";
@@ -68,7 +68,7 @@ struct NoServices {
 }
 
 impl Acceptor for NoServices {
-    type Reader = ClientReader<&'static [u8]>;
+    type Reader = ClientReader<Empty>;
 
     type Writer = ClientWriter<Vec<u8>>;
 
@@ -76,12 +76,12 @@ impl Acceptor for NoServices {
 
     fn accept(
         &mut self,
-    ) -> Result<Connection<ClientReader<&'static [u8]>, ClientWriter<Vec<u8>>>, DeviceFault> {
+    ) -> Result<Connection<ClientReader<Empty>, ClientWriter<Vec<u8>>>, DeviceFault> {
         self.failed = true;
         Err(DeviceFault)
     }
 
-    fn close(&mut self, connection: Connection<ClientReader<&'static [u8]>, ClientWriter<Vec<u8>>>)
+    fn close(&mut self, connection: Connection<ClientReader<Empty>, ClientWriter<Vec<u8>>>)
         ensures failed { self.new.failed ≡ self.old.failed }
     {
         drop(connection);
