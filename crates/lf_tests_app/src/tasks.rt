@@ -730,6 +730,8 @@ const IMPROVEMENT: &str = "\
     \"fullest_10_before\":20,\"fullest_2\":20,\"fullest_20\":20,\"fullest_20_before\":20,\
     \"fullest_2_before\":20,\"fullest_5\":20,\"fullest_5_before\":20,\"largest\":3200,\
     \"legal\":false,\"length\":2400,\"length_before\":3600,\"mean\":3200,\"moved\":1,\
+    \"pins_10\":2,\"pins_10_before\":2,\"pins_2\":2,\"pins_20\":2,\"pins_20_before\":2,\
+    \"pins_2_before\":2,\"pins_5\":2,\"pins_5_before\":2,\
     \"skipped\":1,\"teams\":3,\"total\":3200,\"turned\":1}\n";
 
 #[test]
