@@ -23,7 +23,8 @@ ghost use Rattle.lf_floor_model.specs.CommittedRuns.{CommitsMakeLegal, EachTidie
 ghost use Rattle.lf_floor_model.specs.Steps.{IsAnswerOf, CommitsLegally, IsGivenAnswer, KeepsIfRefused, LegalizesLegally, PlacesLegally, SwapsLegally, TidiesLegally};
 ghost use Rattle.lf_floor_model.specs.Steps.{IsOutOfMemoryAnswer, MayRunOutOfMemory, Step, IsTo, answer_at};
 
-use crate::cell_places::{CellPlaces, PlaceKind, all_committed, places_of};
+use crate::committed::{CommittedPlaces, all_committed, committed_of};
+use crate::working::{WorkingPlaces, working_of};
 use lf_floor_verbs::{Tables, TeamContext};
 use lf_floorplan::{Frame, Loaded, Place};
 use lf_legalize::Seeker;
@@ -201,17 +202,17 @@ impl<S: Seeker + Drop> Floor<S> {
     }
 
     /// The same list, without allocating: its places are looked up one by one.
-    pub fn committed(&self) -> CellPlaces<'_>
+    pub fn committed(&self) -> CommittedPlaces<'_>
         ensures { AreCommittedPlaces self.now result }
     {
-        places_of(self.tables.placement.cells(), PlaceKind::Committed)
+        committed_of(self.tables.placement.cells())
     }
 
     /// The same list with the working places of the cells, committed or not.
-    pub fn working(&self) -> CellPlaces<'_>
+    pub fn working(&self) -> WorkingPlaces<'_>
         ensures { ListsWorkingPlaces self.now result }
     {
-        places_of(self.tables.placement.cells(), PlaceKind::Working)
+        working_of(self.tables.placement.cells())
     }
 
     /// A law: each team of a floor is a team of its frame, whatever commands the floor has run. Its

@@ -20,7 +20,6 @@ use std::alloc::Global;
 /// Reads a pin, or END PINS. Returns whether more pins follow.
 #[tactic(auto, unfolding(lf_def::specs::Entries::entry_or_end))]
 fn pin_or_end<'a>(
-    alloc: Global,
     lexer: &mut Lexer<'a>,
     pins: &mut Sequence<DesignPin<'a>>,
 ) -> Result<bool, ReadError>
@@ -31,7 +30,7 @@ fn pin_or_end<'a>(
 {
     let token = token(lexer)?;
     if is_token(b"-", &token) {
-        let pin = design_pin(alloc, lexer)?;
+        let pin = design_pin(lexer)?;
         pins.push(pin)?;
         return Ok(true);
     }
@@ -44,24 +43,19 @@ fn pin_or_end<'a>(
 
 /// Reads the pins of a section, and its END. Pins borrow the text, so this loop does not use
 /// `read_block`.
-fn all_pins<'a>(
-    alloc: Global,
-    lexer: &mut Lexer<'a>,
-    pins: &mut Sequence<DesignPin<'a>>,
-) -> Result<(), ReadError>
+fn all_pins<'a>(lexer: &mut Lexer<'a>, pins: &mut Sequence<DesignPin<'a>>) -> Result<(), ReadError>
     requires range { All IsDesignPin pins.old }
     ensures read { Reads (λ _. pins.new) result
         (block (entry_or_end (codes "PINS") pin_grammar.design_pin) pins.old) lexer.old lexer.new }
     ensures range { All IsDesignPin pins.new }
 {
-    while pin_or_end(alloc, lexer, pins)? {}
+    while pin_or_end(lexer, pins)? {}
     Ok(())
 }
 
 /// Reads a PINS section, after its keyword, and appends its pins.
 #[tactic(auto, unfolding(lf_def::specs::Entries::section))]
 pub(crate) fn pins_section<'a>(
-    alloc: Global,
     lexer: &mut Lexer<'a>,
     pins: &mut Sequence<DesignPin<'a>>,
 ) -> Result<(), ReadError>
@@ -71,7 +65,7 @@ pub(crate) fn pins_section<'a>(
     ensures range { All IsDesignPin pins.new }
 {
     skip_to_semicolon(lexer)?;
-    all_pins(alloc, lexer, pins)
+    all_pins(lexer, pins)
 }
 
 /// Reads a net, after its minus, and appends it. `Err(TooMany)` at the 16,777,217th net, or at a
