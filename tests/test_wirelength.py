@@ -49,6 +49,32 @@ SIZE = (Fraction(400), Fraction(2000))
 # the middles of the pins at 1,000 database units per micron, after ORIGIN is added
 MIDDLES = {"A": (Fraction(100), Fraction(400)), "Y": (Fraction(350), Fraction(700))}
 ORIENTS = ("N", "S", "FN", "FS")
+# how a port of a pin of the design is turned about the origin: the new x and y by the old x and y
+TURNS = {
+    "N": (1, 0, 0, 1),
+    "W": (0, -1, 1, 0),
+    "S": (-1, 0, 0, -1),
+    "E": (0, 1, -1, 0),
+    "FN": (-1, 0, 0, 1),
+    "FW": (0, 1, 1, 0),
+    "FS": (1, 0, 0, -1),
+    "FE": (0, -1, -1, 0),
+}
+# a cell of the net of a pin of the design, whose point is at ( 2100 400 )
+ONE_NET = """DESIGN one ;
+UNITS DISTANCE MICRONS 1000 ;
+ROW r core 0 0 N DO 60 BY 1 STEP 200 0 ;
+COMPONENTS 1 ;
+- u CELL + PLACED ( 2000 0 ) N ;
+END COMPONENTS
+PINS 1 ;
+- p + NET n CLAUSES ;
+END PINS
+NETS 1 ;
+- n ( PIN p ) ( u A ) ;
+END NETS
+END DESIGN
+"""
 
 
 def turned(orient: str, spot: Spot) -> Spot:
@@ -58,8 +84,34 @@ def turned(orient: str, spot: Spot) -> Spot:
     return x, y
 
 
+class Port:
+    """A random port of a pin of the design: where it is placed, and the corners of its rectangles and polygons."""
+
+    def __init__(self, chance: random.Random) -> None:
+        self.place = chance.randrange(-500, 9000), chance.randrange(-500, 9000)
+        self.orient = chance.choice(list(TURNS))
+        corners = [(chance.randrange(-90, 90), chance.randrange(-90, 90)) for _ in range(5)]
+        self.corners = corners[: chance.choice([0, 2, 5])]
+        self.is_placed = chance.randrange(4) > 0
+
+    def text(self) -> str:
+        """The clauses of the port."""
+        points = [f"( {x} {y} )" for x, y in self.corners]
+        shapes = [f"+ LAYER m1 SPACING 5 {' '.join(points[:2])}"] if points else []
+        shapes += [f"+ POLYGON m1 {' '.join(points[2:])}"] if points[2:] else []
+        x, y = self.place
+        return " ".join(shapes + [f"+ FIXED ( {x} {y} ) {self.orient}"] * self.is_placed)
+
+    def spot(self) -> Spot:
+        """The middle of its shapes, turned and placed."""
+        a, b, c, d = TURNS[self.orient]
+        xs = [a * x + b * y for x, y in self.corners] or [0]
+        ys = [c * x + d * y for x, y in self.corners] or [0]
+        return self.place[0] + Fraction(min(xs) + max(xs), 2), self.place[1] + Fraction(min(ys) + max(ys), 2)
+
+
 class Design:
-    """A design of cells at random places, and of random nets over them and over two pins."""
+    """A design of cells at random places, and of random nets over them and over three pins."""
 
     def __init__(self, seed: int) -> None:
         chance = random.Random(seed)
@@ -74,6 +126,9 @@ class Design:
         self.nets[0].append(("PIN", "in"))
         self.nets[1].append(("PIN", "nowhere"))
         self.nets[2].append(("unknown", "A"))
+        self.ports = [Port(chance) for _ in range(chance.randrange(1, 4))]
+        self.ports[0].is_placed = True
+        self.nets[3].append(("PIN", "out"))
 
     def text(self) -> str:
         """The DEF text."""
@@ -95,7 +150,8 @@ class Design:
                 f"COMPONENTS {len(cells)} ;",
                 *cells,
                 "END COMPONENTS",
-                "PINS 2 ;",
+                "PINS 3 ;",
+                f"- out + NET n3 {' + PORT '.join(port.text() for port in self.ports)} ;",
                 "- in + NET n0 + PLACED ( -100 7 ) N ;",
                 "- nowhere + NET n1 ;",
                 "END PINS",
@@ -111,19 +167,21 @@ class Design:
             ]
         )
 
-    def spot(self, owner: str, pin: str) -> Spot | None:
-        """The point of a pin, or None if it does not count."""
+    def spots(self, owner: str, pin: str) -> list[Spot]:
+        """The points of a pin, none if it does not count."""
         if (owner, pin) == ("PIN", "in"):
-            return Fraction(-100), Fraction(7)
+            return [(Fraction(-100), Fraction(7))]
+        if (owner, pin) == ("PIN", "out"):
+            return [port.spot() for port in self.ports if port.is_placed]
         if owner not in self.places:
-            return None
+            return []
         x, y, orient = self.places[owner]
         right, up = turned(orient, MIDDLES[pin])
-        return 200 * x + right, 2000 * y + up
+        return [(200 * x + right, 2000 * y + up)]
 
     def length(self, net: list[tuple[str, str]]) -> Fraction:
         """The width plus the height of the least box around the pins of a net that count."""
-        spots = [spot for owner, pin in net if (spot := self.spot(owner, pin))]
+        spots = [spot for owner, pin in net for spot in self.spots(owner, pin)]
         if not spots:
             return Fraction(0)
         xs, ys = [x for x, _ in spots], [y for _, y in spots]
@@ -147,7 +205,7 @@ class Design:
                 }
             )
         whole = sum(length for length, _ in lengths)
-        counts = [len([0 for owner, pin in net if self.spot(owner, pin)]) for net in self.nets]
+        counts = [sum(len(self.spots(owner, pin)) for owner, pin in net) for net in self.nets]
         lines.append(
             {
                 "crossing": int(sum(crossing)),
@@ -181,6 +239,29 @@ class Wirelength(unittest.TestCase):
                 status, written, said = run(["wirelength", str(path), str(lef)])
                 self.assertEqual((status, said), (0, ""))
                 self.assertEqual([json.loads(line) for line in written.splitlines()], design.lines())
+
+    def test_pins_of_the_design(self) -> None:
+        """A pin of the design is at the middle of the shapes of each of its ports that are placed."""
+        shape = "+ LAYER m1 ( -70 0 ) ( 70 480 )"
+        lengths = {
+            "+ PLACED ( 0 0 ) N": 2500,
+            f"{shape} + PLACED ( 0 0 ) N": 2260,
+            f"+ PLACED ( 0 0 ) N {shape}": 2260,
+            f"{shape} + PLACED ( 0 0 ) W": 2740,
+            f"+ PORT {shape} + PLACED ( 0 0 ) N + PORT {shape} + PLACED ( 8000 0 ) N": 8160,
+            f"+ PORT {shape} + PLACED ( 0 0 ) N + PORT {shape}": 2260,
+            "+ POLYGON m1 ( -70 0 ) ( 70 0 ) ( 0 480 ) + COVER ( 0 0 ) N": 2260,
+            "+ VIA via1 ( 0 480 ) + FIXED ( 0 0 ) N": 2500,
+            shape: 0,
+        }
+        with tempfile.TemporaryDirectory() as folder:
+            lef, path = Path(folder, "cells.lef"), Path(folder, "one.def")
+            lef.write_text(LEF)
+            for clauses, length in lengths.items():
+                path.write_text(ONE_NET.replace("CLAUSES", clauses))
+                last = json.loads(run(["wirelength", str(path), str(lef)])[1].splitlines()[-1])
+                self.assertEqual((last["length"], last["doubled"]), (length, 2 * length), clauses)
+                self.assertEqual(last["pins"], clauses.count(") N") + clauses.count(") W") + 1)
 
     def test_refusals(self) -> None:
         """A text whose nets are bad is loaded by `check`, and refused here with its line."""

@@ -49,9 +49,8 @@ class Nets(FrontCase):
             place = f"+ {kind} ( {rng.randrange(-99, 9999)} {rng.randrange(9999)} ) {rng.choice(ORIENTS)}"
             parts.append(f"- c{number} {macro} {place if number else ''} + SOURCE DIST ;\n")
         for number in range(4):
-            place = f"+ {rng.choice(['PLACED', 'FIXED', 'COVER'])} ( {rng.randrange(9999)} 77 ) N"
-            head = f"- p{number} + NET n + DIRECTION INPUT + LAYER m1 ( 0 0 ) ( 9 9 )"
-            pins.append(f"{head} {place if number else ''} ;\n")
+            ports = [self.port_of(rng, number > 0) for _ in range(rng.choice([1, 1, 2, 3]))]
+            pins.append(f"- p{number} + NET n + DIRECTION INPUT {' + PORT '.join(ports)} ;\n")
         names = ["A", "Z", "SIZE", "NONE", "D[0]", "lost"]
         for number in range(20):
             ends = [f"( c{rng.randrange(13)} {rng.choice(names)} )" for _ in range(rng.randrange(5))]
@@ -63,14 +62,24 @@ class Nets(FrontCase):
         sections = "".join(f"{name} {len(found)} ;\n{''.join(found)}END {name}\n" for name, found in texts)
         return f"VERSION 5.8 ;\nDESIGN t ;\nUNITS DISTANCE MICRONS 1000 ;\n{rows}{sections}END DESIGN\n"
 
+    def port_of(self, rng: random.Random, is_placed: bool) -> str:
+        """The clauses of a port of a pin, with up to three shapes, in any order."""
+        place = f"+ {rng.choice(['PLACED', 'FIXED', 'COVER'])} ( {rng.randrange(9999)} 77 ) {rng.choice(ORIENTS)}"
+        clauses = [place] * (is_placed and rng.randrange(4) > 0)
+        for _ in range(rng.randrange(4)):
+            points = [f"( {rng.randrange(-99, 99)} {rng.randrange(-99, 99)} )" for _ in range(4)]
+            layer = f"+ LAYER m1 {rng.choice(['', 'MASK 2', 'SPACING 30'])} {' '.join(points[:2])}"
+            clauses.append(rng.choice([layer, f"+ POLYGON m2 {' '.join(points)}", f"+ VIA v {points[0]}"]))
+        rng.shuffle(clauses)
+        return " ".join(clauses)
+
     def test_lengths_are_those_of_the_program(self) -> None:
         for turn in range(12):
             self.design.write_text(self.design_of(random.Random(f"{SEED} {turn}")))
             netlist = Netlist(Design(self.design.read_bytes()), [LEF.encode()], 1000)
             total = Program(self.program, [self.design, self.lef]).wire_length()
             self.assertEqual(sum(map(netlist.length, netlist.nets)), total["doubled"])
-            points = [netlist.point(pin) for net in netlist.nets for pin in net.pins]
-            self.assertEqual(sum(point is not None for point in points), total["pins"])
+            self.assertEqual(sum(len(netlist.points(pin)) for net in netlist.nets for pin in net.pins), total["pins"])
 
     def test_only_the_nets_of_some_cells(self) -> None:
         design = Design(self.design_of(self.rng).encode())

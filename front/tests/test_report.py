@@ -34,7 +34,7 @@ END COMPONENTS
 """
 # A net with an odd name, of two cells and a pin of the design, and one of a single pin; pins for INV.
 NETS = """PINS 1 ;
-- p + NET n + DIRECTION INPUT + LAYER m1 ( 0 0 ) ( 9 9 ) + FIXED ( 30 40 ) N ;
+- p + NET n + DIRECTION INPUT + LAYER m1 ( 0 0 ) ( 20 20 ) + FIXED ( 20 30 ) N ;
 END PINS
 NETS 2 ;
 - </script>n ( one A ) ( two A ) ( PIN p ) ;

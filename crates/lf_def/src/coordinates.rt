@@ -59,7 +59,7 @@ pub(crate) fn count(lexer: &mut Lexer, most: u32) -> Result<u32, ReadError>
 
 /// Reads `x y )`, after the first parenthesis.
 #[tactic(auto, unfolding(crate::specs::Coordinates::point_rest))]
-pub(crate) fn point_rest(lexer: &mut Lexer) -> Result<Point, ReadError>
+pub fn point_rest(lexer: &mut Lexer) -> Result<Point, ReadError>
     ensures read { Reads (λ p. p) result grammar.point_rest lexer.old lexer.new }
     ensures range { IfOk result (λ p. HasCoordinates p) }
 {
@@ -71,7 +71,7 @@ pub(crate) fn point_rest(lexer: &mut Lexer) -> Result<Point, ReadError>
 
 /// Reads `( x y )`.
 #[tactic(auto, unfolding(crate::specs::Coordinates::def_point))]
-fn point(lexer: &mut Lexer) -> Result<Point, ReadError>
+pub fn point(lexer: &mut Lexer) -> Result<Point, ReadError>
     ensures read { Reads (λ p. p) result grammar.def_point lexer.old lexer.new }
     ensures range { IfOk result (λ p. HasCoordinates p) }
 {
@@ -133,7 +133,7 @@ pub(crate) fn rect(lexer: &mut Lexer) -> Result<Rect, ReadError>
 }
 
 /// Returns the orientation that a token names. `Err(Unexpected)` if it names no orientation.
-pub(crate) fn orient_of(token: &Token) -> Result<Orient, ReadError>
+pub fn orient_of(token: &Token) -> Result<Orient, ReadError>
     ensures { MatchResult result (λ o. grammar.orient_of (lexeme token.now) ≡ Ok o)
         (λ e. Fails e (grammar.orient_of (lexeme token.now))) }
 {

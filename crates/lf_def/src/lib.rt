@@ -61,6 +61,7 @@ mod statements;
 pub use blockages::Blockage;
 pub use built_in::DEMO_DEF;
 pub use components::{Component, Location, PlacementClause, PlacementKind};
+pub use coordinates::{orient_of, point, point_rest};
 pub use document::DefDoc;
 pub use groups::Group;
 pub use header::DocumentHeader;
@@ -74,3 +75,4 @@ pub use laws::{
 pub use read::read_def;
 pub use regions::{Region, RegionKind};
 pub use rows::RowStatement;
+pub use statements::is_skipped_section;

@@ -22,7 +22,7 @@ use lf_units::Sequence;
 use std::alloc::Global;
 
 /// True if the token begins a section that is skipped up to END and its keyword.
-fn is_skipped_section(token: &Token) -> bool
+pub fn is_skipped_section(token: &Token) -> bool
     ensures { result ≡ grammar.is_skipped_section (lexeme token.now) }
 {
     is_token(b"PROPERTYDEFINITIONS", token)

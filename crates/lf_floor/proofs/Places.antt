@@ -13,8 +13,8 @@ use Rattle.lf_floor_model.specs.States.{FloorState, TeamState}
 use Rattle.lf_floor_model.specs.Places.{AreCommittedPlaces, IsCommittedAt, cell_in, component_entry}
 use Rattle.lf_floor_model.proofs.Openings.{map_at, pairs_map}
 use Rattle.lf_floor_verbs.specs.declared.tables.Tables.{Tables}
-use Rattle.lf_floor.specs.Entries.{committed_entry}
-use Rattle.lf_floor.specs.Working.{ListsWorkingPlaces, with_working, with_working_team, working_entry}
+use Rattle.lf_floor.specs.Entries.{committed_entry, working_entry}
+use Rattle.lf_floor.specs.Working.{ListsWorkingPlaces, with_working, with_working_team}
 use Rattle.lf_floor_verbs.specs.Tables.{AreTables, floor_in, teams_in}
 use Rattle.lf_floor.proofs.Rows.{count_teams, team_there}
 use Rattle.lf_floor.proofs.Saving.{get_mapped}

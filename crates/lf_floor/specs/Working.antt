@@ -1,8 +1,7 @@
 -- The working places of a floor, as the committed places of the floor in which they are committed.
 use Rattle.std.specs.Prelude.{ℕ, List, map, Option}
 use Rattle.lf_floorplan.specs.declared.place.Place.{Place}
-use Rattle.lf_cells.specs.declared.cell.CellId.{CellId}
-use Rattle.lf_cells.specs.Cells.{Cells, as_committed, cells_of, entry_position, working_at}
+use Rattle.lf_cells.specs.Cells.{as_committed}
 use Rattle.lf_floor_model.specs.Places.{AreCommittedPlaces}
 use Rattle.lf_floor_model.specs.States.{FloorState, TeamState}
 
@@ -17,7 +16,3 @@ with_working floor = record floor { teams = map with_working_team floor.teams }
 -- the list is that of the committed places if all teams' working places were committed
 abbrev pub ListsWorkingPlaces : FloorState → List (ℕ × Option Place) → Type 0
 ListsWorkingPlaces floor places = AreCommittedPlaces (with_working floor) places
-
--- the position of the cell's entry among all COMPONENTS, and its working place
-abbrev pub working_entry : Cells → CellId → ℕ × Option Place
-working_entry table id = (entry_position table id, working_at (cells_of table id.team) id.own)

@@ -23,8 +23,7 @@ ghost use Rattle.lf_floor_model.specs.CommittedRuns.{CommitsMakeLegal, EachTidie
 ghost use Rattle.lf_floor_model.specs.Steps.{IsAnswerOf, CommitsLegally, IsGivenAnswer, KeepsIfRefused, LegalizesLegally, PlacesLegally, SwapsLegally, TidiesLegally};
 ghost use Rattle.lf_floor_model.specs.Steps.{IsOutOfMemoryAnswer, MayRunOutOfMemory, Step, IsTo, answer_at};
 
-use crate::committed::{CommittedPlaces, all_committed, committed_of};
-use crate::working::{WorkingPlaces, working_of};
+use crate::cell_places::{CellPlaces, PlaceKind, all_committed, places_of};
 use lf_floor_verbs::{Tables, TeamContext};
 use lf_floorplan::{Frame, Loaded, Place};
 use lf_legalize::Seeker;
@@ -202,17 +201,17 @@ impl<S: Seeker + Drop> Floor<S> {
     }
 
     /// The same list, without allocating: its places are looked up one by one.
-    pub fn committed(&self) -> CommittedPlaces<'_>
+    pub fn committed(&self) -> CellPlaces<'_>
         ensures { AreCommittedPlaces self.now result }
     {
-        committed_of(self.tables.placement.cells())
+        places_of(self.tables.placement.cells(), PlaceKind::Committed)
     }
 
     /// The same list with the working places of the cells, committed or not.
-    pub fn working(&self) -> WorkingPlaces<'_>
+    pub fn working(&self) -> CellPlaces<'_>
         ensures { ListsWorkingPlaces self.now result }
     {
-        working_of(self.tables.placement.cells())
+        places_of(self.tables.placement.cells(), PlaceKind::Working)
     }
 
     /// A law: each team of a floor is a team of its frame, whatever commands the floor has run. Its

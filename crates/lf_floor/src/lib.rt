@@ -19,8 +19,7 @@
 //! Modules, in reading order:
 //!
 //! - `floor`: the floor, its steps and runs
-//! - `committed`: the committed places of all cells
-//! - `working`: the working places of all cells
+//! - `cell_places`: the committed or the working places of all cells
 //! - `queries`: queries of teams by their numbers
 //! - `response`: replies whose DEF text is written separately
 //! - `state_view`: the names and saved values of a floor, as the writer of state texts reads them
@@ -39,7 +38,7 @@
 /// Requests and replies, the arguments and results of the floor's methods.
 pub use lf_proto as proto;
 
-mod committed;
+mod cell_places;
 mod floor;
 mod queries;
 mod response;
@@ -47,9 +46,8 @@ mod restore;
 mod snapshot;
 mod start_unplaced;
 mod state_view;
-mod working;
 
-pub use committed::CommittedPlaces;
+pub use cell_places::CellPlaces;
 pub use floor::Floor;
 pub use lf_floor_model::{
     best_is_found, change_counts, command_keeps_committed, commit_finds_legal, commit_lasts,
@@ -66,4 +64,3 @@ pub use lf_floor_model::{
 pub use response::Response;
 pub use snapshot::StateSnapshot;
 pub use state_view::team_name;
-pub use working::WorkingPlaces;

@@ -3,7 +3,7 @@
 ghost use Rattle.std.specs.Prelude.{◌≡◌, slice_index_or};
 ghost use Rattle.lf_improve_team.specs.FloorLengths.{listed_place};
 
-use lf_floor::WorkingPlaces;
+use lf_floor::CellPlaces;
 use lf_floorplan::Place;
 use lf_wire_length::PlacedCells;
 use std::marker::Model;
@@ -14,7 +14,7 @@ use std::marker::Model;
 /// Contracts see the list of working places and the list of teams.
 #[derive(Drop)]
 pub struct CellsOnFloor<'a> {
-    places: WorkingPlaces<'a>,
+    places: CellPlaces<'a>,
     teams: &'a [u32],
 }
 
@@ -29,7 +29,7 @@ impl<'a> Model for CellsOnFloor<'a> {
 
 impl<'a> CellsOnFloor<'a> {
     /// The cells at these places, of these teams.
-    pub fn new(places: WorkingPlaces<'a>, teams: &'a [u32]) -> CellsOnFloor<'a>
+    pub fn new(places: CellPlaces<'a>, teams: &'a [u32]) -> CellsOnFloor<'a>
         ensures { result ≡ (places.entry, teams.now) }
     {
         CellsOnFloor { places, teams }

@@ -34,7 +34,7 @@ pub(crate) fn micros(lexer: &mut Lexer) -> Result<i64, ReadError>
 
 /// Reads a point, given its first token.
 #[tactic(auto, unfolding(crate::specs::Lengths::point_from))]
-pub(crate) fn point_from(lexer: &mut Lexer, token: &Token) -> Result<Point, ReadError>
+pub fn point_from(lexer: &mut Lexer, token: &Token) -> Result<Point, ReadError>
     ensures read { Reads (λ p. p) result
         (grammar.point_from (lexeme token.now)) lexer.old lexer.new }
     ensures range { IfOk result (λ p. HasRange p) }
@@ -53,7 +53,7 @@ pub(crate) fn point_from(lexer: &mut Lexer, token: &Token) -> Result<Point, Read
 
 /// Reads a point.
 #[tactic(auto, unfolding(crate::specs::Lengths::lef_point))]
-pub(crate) fn point(lexer: &mut Lexer) -> Result<Point, ReadError>
+pub fn point(lexer: &mut Lexer) -> Result<Point, ReadError>
     ensures read { Reads (λ p. p) result grammar.lef_point lexer.old lexer.new }
     ensures range { IfOk result (λ p. HasRange p) }
 {

@@ -41,6 +41,9 @@ pub use laws::{
     lef_statements_read_alike, lef_statements_take_tokens, nothing_after_end_library_counts,
     skipped_statements_play_no_part,
 };
+pub use lengths::{point, point_from};
 pub use lf_floorplan::{Macro, Site};
 pub use library::Library;
-pub use read::read_lef;
+pub use macros::skip_macro_statement;
+pub use pins::{past_iterate, past_mask};
+pub use read::{read_lef, skip_lef_statement, skip_to_named_end};

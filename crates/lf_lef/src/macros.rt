@@ -50,9 +50,9 @@ impl Block for PassedStatements {
     }
 }
 
-/// Skips a statement of a macro, after its first token.
+/// Skips a statement of a macro that placement does not need, after its first token.
 #[tactic(auto, unfolding(crate::specs::Macros::skip_lef_from))]
-fn skip_from(lexer: &mut Lexer, token: &Token) -> Result<(), ReadError>
+pub fn skip_macro_statement(lexer: &mut Lexer, token: &Token) -> Result<(), ReadError>
     ensures { ReadsOn (λ x. x) result (grammar.skip_lef_from (lexeme token.now)) lexer.old lexer.new }
 {
     if is_token(b"OBS", token) || is_token(b"DENSITY", token) {
@@ -97,7 +97,7 @@ fn macro_statement_from(
         let pin = read_pin(alloc, lexer)?;
         parts.pins.push(pin)?;
     } else {
-        skip_from(lexer, token)?;
+        skip_macro_statement(lexer, token)?;
     }
     Ok(true)
 }

@@ -37,8 +37,9 @@ pub struct Pin {
     pub reaches: Sequence<Reach>,
 }
 
+/// Skips `MASK n`, if the token is its keyword. Returns the token after it, or `first`.
 #[tactic(auto, unfolding(crate::specs::Pins::past_mask))]
-fn past_mask<'a>(lexer: &mut Lexer<'a>, first: Token<'a>) -> Result<Token<'a>, ReadError>
+pub fn past_mask<'a>(lexer: &mut Lexer<'a>, first: Token<'a>) -> Result<Token<'a>, ReadError>
     ensures { ReadsOn lexeme result (grammar.past_mask (lexeme first.entry)) lexer.old lexer.new }
 {
     if !is_token(b"MASK", &first) {
@@ -48,8 +49,9 @@ fn past_mask<'a>(lexer: &mut Lexer<'a>, first: Token<'a>) -> Result<Token<'a>, R
     token(lexer)
 }
 
+/// Skips `ITERATE`, if the token is this keyword. Returns the token after it, or `first`.
 #[tactic(auto, unfolding(crate::specs::Pins::past_iterate))]
-fn past_iterate<'a>(lexer: &mut Lexer<'a>, first: Token<'a>) -> Result<Token<'a>, ReadError>
+pub fn past_iterate<'a>(lexer: &mut Lexer<'a>, first: Token<'a>) -> Result<Token<'a>, ReadError>
     ensures { ReadsOn lexeme result
         (grammar.past_iterate (lexeme first.entry)) lexer.old lexer.new }
 {

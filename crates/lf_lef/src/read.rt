@@ -89,8 +89,9 @@ fn is_group(token: &Token) -> bool
         || is_token(b"CORRECTIONTABLE", token)
 }
 
+/// Reads a name, and skips to just after the next `END name`. `Err(UnexpectedEnd)` if there is none.
 #[tactic(auto, unfolding(crate::specs::Library::to_named_end))]
-fn to_named_end(lexer: &mut Lexer) -> Result<(), ReadError>
+pub fn skip_to_named_end(lexer: &mut Lexer) -> Result<(), ReadError>
     ensures { Reads (λ x. x) result grammar.to_named_end lexer.old lexer.new }
 {
     let name = name(lexer)?;
@@ -99,11 +100,11 @@ fn to_named_end(lexer: &mut Lexer) -> Result<(), ReadError>
 
 /// Skips a statement other than SITE and MACRO, after its first token.
 #[tactic(auto, unfolding(crate::specs::Library::skip_lef_from))]
-fn skip_from(lexer: &mut Lexer, token: &Token) -> Result<(), ReadError>
+pub fn skip_lef_statement(lexer: &mut Lexer, token: &Token) -> Result<(), ReadError>
     ensures { ReadsOn (λ x. x) result (grammar.skip_lef_from (lexeme token.now)) lexer.old lexer.new }
 {
     if is_named(token) {
-        to_named_end(lexer)
+        skip_to_named_end(lexer)
     } else if is_group(token) {
         skip_to_end(lexer, token.text)
     } else if is_token(b"BEGINEXT", token) {
@@ -135,7 +136,7 @@ fn statement_from(
     } else if is_token(b"MACRO", token) {
         cell(library, lexer)?;
     } else {
-        skip_from(lexer, token)?;
+        skip_lef_statement(lexer, token)?;
     }
     Ok(true)
 }

@@ -24,8 +24,7 @@
 //! - `describe_task`: the description of a design
 //! - `committed_legality`: whether the committed design of a floor is fully legal
 //! - `output_file`: a file that a task writes
-//! - `export`: the exported text
-//! - `working_export`: the text with the working places
+//! - `export`: the exported text, and the text with the working places
 //! - `save`: the saved state
 //! - `outputs`: the exported text and the state, written after the work
 //!
@@ -52,16 +51,14 @@ mod outputs;
 mod restore;
 mod save;
 mod viewed;
-mod working_export;
 
 pub use check_task::check;
 pub use committed_legality::is_committed_legal;
 pub use describe_task::{describe_files, seen_of_document};
 pub use exit_status::{ILLEGAL_STATUS, LEGAL_STATUS};
-pub use export::save_export;
+pub use export::{save_export, save_working};
 pub use inputs::{DesignInput, open_floor, start_floor};
 pub use measured::{MeasuredFloor, RepairLimits, open_measured};
 pub use output_file::{check_output_path, put_file};
 pub use outputs::{OutputPaths, check_outputs, write_outputs};
 pub use save::save_to;
-pub use working_export::save_working;

@@ -64,7 +64,8 @@ END INV
 END LIBRARY
 ";
 
-/// Three cells, one of them unplaced, and a FIXED macro. The third net has pins that do not count,
+/// Three cells, one of them unplaced, and a FIXED macro. The pin of the first net has two ports: the
+/// middle of one is at ( -160 70 ) and of the other at ( 615 40 ). The third net has pins that do not count,
 /// and the last net is a supply.
 const DEF: &[u8] = b"VERSION 5.8 ;
 DESIGN top ;
@@ -77,7 +78,8 @@ COMPONENTS 4 ;
 - u3 INV ;
 END COMPONENTS
 PINS 3 ;
-- in + NET a + PLACED ( -100 50 ) N ;
+- in + NET a + PORT + LAYER m1 ( 0 0 ) ( 40 120 ) + PLACED ( -100 50 ) W
+  + PORT + POLYGON m1 ( 0 0 ) ( 30 0 ) ( 30 -20 ) + FIXED ( 600 50 ) N ;
 - in + NET a + PLACED ( 9 9 ) N ;
 - nowhere + NET c ;
 END PINS
@@ -163,9 +165,9 @@ fn binds_nets(rt: HostRuntime) -> Result<(), Fail> {
     };
     let found = measure_on(rt.alloc(), &document)?;
     assert_eq!(rt; (found.lengths.nets, found.supplies), (3, 1));
-    assert_eq!(rt; found.lengths.length, 17100);
+    assert_eq!(rt; found.lengths.length, 18370);
     let counts = NetCounts {
-        pins: 6,
+        pins: 7,
         one_pin: 1,
         unknown: 4,
         unplaced: 2,

@@ -2,7 +2,7 @@
 
 use crate::faults::at_line;
 use lf_lex::{FaultNumber, LoadFault};
-use lf_wire_nets::{DesignNet, DesignPin, NetTerm, read_nets};
+use lf_wire_nets::{DesignNet, DesignPin, DesignPort, NetTerm, read_nets};
 use std::alloc::{AllocError, Global};
 use std::test::Fail;
 
@@ -105,13 +105,40 @@ END DESIGN
 NETS 1 ;
 ";
 
-/// Appends the name of a pin of the design and its point.
+/// Shapes of pins: several in a port, with their words; ports that are not placed; and vias.
+const SHAPES: &[u8] = b"DESIGN shapes ;
+PINS 4 ;
+- a + NET a
+  + LAYER M1 MASK 1 SPACING 20 ( 5 -5 ) ( -10 20 )
+  + POLYGON M2 DESIGNRULEWIDTH 30 ( 0 0 ) ( 40 0 ) ( 40 -7 )
+  + FIXED ( 100 200 ) S + PLACED ( 1 2 ) N ;
+- b + NET b + PLACED ( 7 8 ) FW
+  + PORT + LAYER M1 ( 0 0 ) ( 1 1 )
+  + PORT + LAYER M1 ( 2 2 ) ( 3 3 ) + COVER ( 9 9 ) E
+  + PORT + VIA via1 MASK 121 ( 5 5 ) + PLACED ( 0 1 ) N ;
+- c + NET c + ANTENNAPINPARTIALMETALAREA 4 LAYER M1 + LAYER M1 + PORT + PLACED ( 6 6 ) FE ;
+- d + NET d + LAYER M1 ( 0 0 ) ( 8 8 ) ;
+END PINS
+END DESIGN
+";
+
+/// Appends where a port of a pin is placed, and the box around its shapes in front of that.
+fn push_port(alloc: Global, lines: &mut Vec<u8>, port: &DesignPort) -> Result<(), AllocError> {
+    if let Some(rect) = port.shape {
+        let (x1, y1, x2, y2) = (rect.x1, rect.y1, rect.x2, rect.y2);
+        let numbers = format!(in alloc; " [{x1} {y1} {x2} {y2}]")?;
+        lines.extend_from_slice(numbers.as_bytes())?;
+    }
+    let (x, y, orient) = (port.at.x, port.at.y, port.at.orient);
+    let numbers = format!(in alloc; " {x} {y} {orient:?}")?;
+    lines.extend_from_slice(numbers.as_bytes())
+}
+
+/// Appends the name of a pin of the design and its ports.
 fn push_pin(alloc: Global, lines: &mut Vec<u8>, pin: &DesignPin<'_>) -> Result<(), AllocError> {
     lines.extend_from_slice(pin.name())?;
-    if let Some(point) = pin.point() {
-        let (x, y) = (point.x, point.y);
-        let numbers = format!(in alloc; " {x} {y}")?;
-        lines.extend_from_slice(numbers.as_bytes())?;
+    for port in pin.ports() {
+        push_port(alloc, lines, port)?;
     }
     lines.extend_from_slice(b"\n")
 }
@@ -165,15 +192,21 @@ fn refusal<'a>(rt: &HostRuntime, text: &'a [u8]) -> Option<LoadFault<'a>> {
 /// Pins of the design and of components. SPECIALNETS have no nets.
 #[test]
 fn reads_qflow(rt: HostRuntime) -> Result<(), Fail> {
-    let expected = b"a<0> -1230 200\ny\nN a<0> u1.A\nN u1.Y u2.A\n4\n";
+    let expected = b"a<0> [-15 -15 15 15] -1230 200 N\ny\nN a<0> u1.A\nN u1.Y u2.A\n4\n";
     assert!(rt; lines_of(rt.alloc(), QFLOW)?.as_slice() == expected.as_slice());
     Ok(())
 }
 
-/// The first placement and the first USE count, and routing is skipped.
+/// Each port of a pin counts. The first USE counts, and routing is skipped.
 #[test]
 fn reads_openroad(rt: HostRuntime) -> Result<(), Fail> {
-    let expected = b"clk 400 7000\nVSS\nN clk ff_1.CK\nS ff_1.VSS\nN\n3\n";
+    let expected = b"clk [-400 -150 400 150] 400 7000 N [-400 -150 400 150] 8000 10 FS
+VSS
+N clk ff_1.CK
+S ff_1.VSS
+N
+3
+";
     assert!(rt; lines_of(rt.alloc(), OPENROAD)?.as_slice() == expected.as_slice());
     Ok(())
 }
@@ -181,8 +214,22 @@ fn reads_openroad(rt: HostRuntime) -> Result<(), Fail> {
 /// Tokens after a pin's name, subnets and quoted texts are skipped. PINS may follow NETS.
 #[test]
 fn reads_innovus(rt: HostRuntime) -> Result<(), Fail> {
-    let expected = b"p\\[1\\] 12 -7\nN i0/u\\[3\\].A p\\[1\\]\nS i0/u7.VDD\n3\n";
+    let expected = b"p\\[1\\] [0 0 8 8] 12 -7 FE\nN i0/u\\[3\\].A p\\[1\\]\nS i0/u7.VDD\n3\n";
     assert!(rt; lines_of(rt.alloc(), INNOVUS)?.as_slice() == expected.as_slice());
+    Ok(())
+}
+
+/// A port has the least box around all points of its LAYER and POLYGON clauses. A port that is not
+/// placed does not count, and vias do not widen a box.
+#[test]
+fn reads_shapes(rt: HostRuntime) -> Result<(), Fail> {
+    let expected = b"a [-10 -7 40 20] 100 200 S
+b 7 8 FW [2 2 3 3] 9 9 E 0 1 N
+c 6 6 FE
+d
+0
+";
+    assert!(rt; lines_of(rt.alloc(), SHAPES)?.as_slice() == expected.as_slice());
     Ok(())
 }
 
@@ -240,6 +287,22 @@ fn refuses_bad_pins(rt: HostRuntime) -> Result<(), Fail> {
     );
     let second = b"PINS 1 ;\n- p + PLACED ( 1 2 ) N\n+ PLACED ( 1 a ) N ;";
     assert!(rt; refuses(&rt, second, FaultNumber::BadNumber, 4)?);
+    assert!(rt;
+        refuses(
+            &rt,
+            b"PINS 1 ;\n- p + LAYER M1 ( 0 0 )\n( 0.5 1 ) ;",
+            FaultNumber::BadNumber,
+            4
+        )?
+    );
+    assert!(rt;
+        refuses(
+            &rt,
+            b"PINS 1 ;\n- p + POLYGON M1 ( 0 0\n1 ) ;",
+            FaultNumber::Unexpected,
+            4
+        )?
+    );
     assert!(rt; refuses(&rt, b"PINS 1 ;\n- p ;\nEND NETS", FaultNumber::WrongEnd, 4)?);
     Ok(())
 }

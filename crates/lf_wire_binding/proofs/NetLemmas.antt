@@ -1,12 +1,15 @@
 -- Nets with more pins.
-use Rattle.std.proofs.Common.{◌≡◌, ℕ, ◌+◌, ◌<◌, Bool, true, false, cond, List, [], ◌∷◌, ◌++◌, length, map, drop, refl, sym, ap, ◌∙◌, arith}
-use Rattle.std.specs.Prelude.{count_by, filter}
+use Rattle.std.proofs.Common.{◌≡◌, ℕ, ◌+◌, ◌<◌, Bool, true, false, cond, List, [], ◌∷◌, ◌++◌, length, map, drop, get_or, refl, sym, ap, ◌∙◌, arith}
+use Rattle.std.specs.Prelude.{◌==◌, count_by, filter}
+use Rattle.std.specs.List.{flat_map}
+use Rattle.std.proofs.lemmas.Bool.{eqb-true}
 use Rattle.std.proofs.lemmas.Grind.{common_steps}
 use Rattle.lf_wire_length.specs.declared.pins.NetPin.{NetPin}
+use Rattle.lf_wire_length.specs.declared.pins.NetPin.TheVariants.{Unplaced}
 use Rattle.lf_wire_length.specs.Stored.{with_pin}
 use Rattle.lf_wire_nets.specs.declared.nets.DesignNet.{DesignNet}
-use Rattle.lf_wire_nets.specs.declared.terms.NetTerm.{NetTerm}
-use Rattle.lf_wire_binding.specs.Binding.{bound_net, bound_nets, is_signal, is_supply}
+use Rattle.lf_wire_nets.specs.declared.design_pins.DesignPort.{DesignPort}
+use Rattle.lf_wire_binding.specs.Binding.{bound_net, bound_nets, is_signal, is_supply, pin_of_port, pins_of_ports}
 use Rattle.lf_wire_binding.specs.Texts.{DesignFacts}
 use Rattle.lf_wire_binding.specs.Rows.{with_pins}
 
@@ -30,13 +33,44 @@ nets_remain pin [] some = absurd (omega arith)
 nets_remain pin (n ∷ []) some = omega arith
 nets_remain pin (n ∷ m ∷ nets) some = omega arith
 
--- One pin more, and the remaining ones, come to what these pins did.
-pub one_bound : (bind : NetTerm → NetPin) (terms : List NetTerm) (i : ℕ) (t : NetTerm) (pin : NetPin) (before after all : List (List NetPin)) →
-    drop i terms ≡ t ∷ drop (i + 1) terms → pin ≡ bind t → after ≡ with_pin pin before →
-    with_pins (map bind (drop i terms)) before ≡ all → with_pins (map bind (drop (i + 1) terms)) after ≡ all
-one_bound bind terms i t pin before after all here is pushed e =
-    ap (with_pins (map bind (drop (i + 1) terms))) (pushed ∙ ap (λ p. with_pin p before) is)
-    ∙ sym (ap (λ ts. with_pins (map bind ts) before) here) ∙ e
+pub nets_remain_with : (pins : List NetPin) (nets : List (List NetPin)) → 0 < length nets → 0 < length (with_pins pins nets)
+nets_remain_with [] nets some = some
+nets_remain_with (pin ∷ pins) nets some = nets_remain_with pins (with_pin pin nets) (nets_remain pin nets some)
+
+-- Pins one list after the other.
+pins_after_pins : (first later : List NetPin) (nets : List (List NetPin)) → with_pins (first ++ later) nets ≡ with_pins later (with_pins first nets)
+pins_after_pins [] later nets = refl
+pins_after_pins (pin ∷ first) later nets = pins_after_pins first later (with_pin pin nets)
+
+-- The pin of one port more, and those of the remaining ones, come to what these ports did.
+pub one_port : (ports : List DesignPort) (i : ℕ) (d : DesignPort) (pin : NetPin) (before after all : List (List NetPin)) → i < length ports →
+    pin ≡ pin_of_port (get_or ports i d) → after ≡ with_pin pin before →
+    with_pins (map pin_of_port (drop i ports)) before ≡ all → with_pins (map pin_of_port (drop (i + 1) ports)) after ≡ all
+one_port ports i d pin before after all within is pushed e =
+    let here : drop i ports ≡ get_or ports i d ∷ drop (i + 1) ports = grind (arith, common_steps) in
+    ap (with_pins (map pin_of_port (drop (i + 1) ports))) (pushed ∙ ap (λ p. with_pin p before) is)
+    ∙ sym (ap (λ xs. with_pins (map pin_of_port xs) before) here) ∙ e
+
+-- The pins of one entry more, and those of the remaining ones, come to what these entries did.
+pub one_bound : {X : Type 0} (bind : X → List NetPin) (entries : List X) (i : ℕ) (x : X) (before after all : List (List NetPin)) →
+    drop i entries ≡ x ∷ drop (i + 1) entries → after ≡ with_pins (bind x) before →
+    with_pins (flat_map bind (drop i entries)) before ≡ all → with_pins (flat_map bind (drop (i + 1) entries)) after ≡ all
+one_bound bind entries i x before after all here pushed e =
+    let rest = flat_map bind (drop (i + 1) entries) in
+    ap (with_pins rest) pushed
+    ∙ sym (pins_after_pins (bind x) rest before)
+    ∙ sym (ap (λ xs. with_pins (flat_map bind xs) before) here) ∙ e
+
+-- The pins of a pin of the design whose ports are placed.
+pub some_port : (ports : List DesignPort) → (length ports == 0) ≡ false → pins_of_ports ports ≡ map pin_of_port ports
+some_port [] e = absurd cc
+some_port (p ∷ ports) e = refl
+
+pub no_port : (ports : List DesignPort) → (length ports == 0) ≡ true → pins_of_ports ports ≡ Unplaced ∷ []
+no_port [] e = refl
+no_port (p ∷ ports) e =
+    let none : length (p ∷ ports) ≡ 0 = eqb-true (length (p ∷ ports)) 0 e in
+    absurd (omega arith)
 
 first_net : (f : DesignFacts) (n : DesignNet) (nets : List DesignNet) → bound_nets f (n ∷ nets) ≡ bound_nets f (n ∷ []) ++ bound_nets f nets
 first_net f n nets = by (is_signal n)

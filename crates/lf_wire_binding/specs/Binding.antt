@@ -1,9 +1,9 @@
 -- The nets of a design, each pin bound to what its names denote: to a pin of a cell, or to a point
 -- that no command moves.
-use Rattle.std.specs.Prelude.{ℕ, ◌<◌, ⊤, Bool, not, List, find, filter, map, option_map, position, Option, Some, None, slice_get}
+use Rattle.std.specs.Prelude.{ℕ, ◌<◌, pos, ◌+ℤ◌, ⊤, Bool, not, List, [], ◌∷◌, find, filter, map, option_map, position, Option, Some, None, slice_get}
+use Rattle.std.specs.List.{flat_map}
 use Rattle.std.specs.Option.{option_and_then}
 use Rattle.std.specs.Str.{bytes_eq}
-use Rattle.lf_units.specs.declared.geometry.Point.{Point}
 use Rattle.lf_units.specs.declared.geometry.Rect.{Rect}
 use Rattle.lf_floorplan.specs.declared.macros.Macro.{Macro}
 use Rattle.lf_floorplan.specs.declared.loaded.Loaded.{Loaded}
@@ -15,6 +15,7 @@ use Rattle.lf_def.specs.declared.components.Location.{Location}
 use Rattle.lf_wire_pins.specs.declared.macros.MacroPins.{MacroPins}
 use Rattle.lf_wire_pins.specs.declared.pins.MacroPin.{MacroPin}
 use Rattle.lf_wire_nets.specs.declared.design_pins.DesignPin.{DesignPin}
+use Rattle.lf_wire_nets.specs.declared.design_pins.DesignPort.{DesignPort}
 use Rattle.lf_wire_nets.specs.declared.nets.DesignNet.{DesignNet}
 use Rattle.lf_wire_nets.specs.declared.terms.NetTerm.{NetTerm}
 use Rattle.lf_wire_length.specs.declared.points.HalfPoint.{HalfPoint}
@@ -93,32 +94,43 @@ pin_of_component d name pin None = pin_of_fixed d pin (find (is_fixed_named name
 
 -- ---- pins of the design
 
-abbrev pub doubled_point : Point → HalfPoint
-doubled_point p = record { x = twice p.x; y = twice p.y }
+-- The middle of a port's shapes in half database units, before the port is turned and placed.
+-- Without a shape it is the point that is placed.
+abbrev pub middle_of_shape : Option Rect → HalfPoint
+middle_of_shape None = record { x = pos 0; y = pos 0 }
+middle_of_shape (Some b) = record { x = b.x1 +ℤ b.x2; y = b.y1 +ℤ b.y2 }
 
-abbrev pub pin_at_point : Option Point → NetPin
-pin_at_point None = Unplaced
-pin_at_point (Some point) = Fixed (doubled_point point)
+-- The offset of a port from where it is placed: it is turned as a macro without extent.
+abbrev pub offset_of_port : DesignPort → PinOffset
+offset_of_port p = record { size = record { x = pos 0; y = pos 0 }; middle = middle_of_shape p.shape }
 
--- The pin of the design: it is at the point of its first placement.
-abbrev pub pin_of_design : Option DesignPin → NetPin
-pin_of_design None = Unknown
-pin_of_design (Some p) = pin_at_point p.point
+-- The pin of the design at a port: the middle of its shapes is turned and placed.
+abbrev pub pin_of_port : DesignPort → NetPin
+pin_of_port p = Fixed (fixed_point p.at (offset_of_port p))
+
+-- The pins of a pin of the design: one at each port that is placed. It is unplaced if there is none.
+abbrev pub pins_of_ports : List DesignPort → List NetPin
+pins_of_ports [] = Unplaced ∷ []
+pins_of_ports (port ∷ ports) = map pin_of_port (port ∷ ports)
+
+abbrev pub pins_of_design : Option DesignPin → List NetPin
+pins_of_design None = Unknown ∷ []
+pins_of_design (Some p) = pins_of_ports p.ports
 
 -- ---- nets
 
--- The pin of a component, or else of the design, with these names.
-abbrev pub bound_names : DesignFacts → Option (List ℕ) → List ℕ → NetPin
-bound_names d None pin = pin_of_design (find (is_design_pin_named pin) d.pins)
-bound_names d (Some name) pin = pin_of_component d name pin (position (is_cell_named name) d.loaded.cells)
+-- The pin of a component, or else those of the design, with these names.
+abbrev pub bound_names : DesignFacts → Option (List ℕ) → List ℕ → List NetPin
+bound_names d None pin = pins_of_design (find (is_design_pin_named pin) d.pins)
+bound_names d (Some name) pin = pin_of_component d name pin (position (is_cell_named name) d.loaded.cells) ∷ []
 
--- The pin that a term of a net denotes.
-abbrev pub bound_pin : DesignFacts → NetTerm → NetPin
-bound_pin d t = bound_names d t.component t.pin
+-- The pins that a term of a net denotes.
+abbrev pub bound_pins : DesignFacts → NetTerm → List NetPin
+bound_pins d t = bound_names d t.component t.pin
 
 -- The pins of a net.
 abbrev pub bound_net : DesignFacts → DesignNet → List NetPin
-bound_net d n = map (bound_pin d) n.terms
+bound_net d n = flat_map (bound_pins d) n.terms
 
 abbrev pub is_supply : DesignNet → Bool
 is_supply n = n.supply

@@ -1,18 +1,19 @@
 //! The nets of a design, bound to its cells.
 
-ghost use Rattle.std.specs.Prelude.{◌≡◌, ◌<◌, ◌≤◌, ◌++◌, ◌∷◌, [], IfOk, OnOk, count_by, length, map};
-ghost use Rattle.lf_wire_nets.specs.Ranges.{AreDesignNets};
-ghost use Rattle.lf_wire_binding.specs.Binding.{bound_net, bound_nets, bound_pin, is_supply};
-ghost use Rattle.lf_wire_binding.specs.Names.{AreNamesOf};
+ghost use Rattle.std.specs.Prelude.{◌≡◌, ◌<◌, ◌≤◌, ◌++◌, ◌∷◌, [], All, IfOk, OnOk, count_by, find, length, map};
+ghost use Rattle.std.specs.List.{flat_map};
+ghost use Rattle.lf_wire_nets.specs.Ranges.{AreDesignNets, IsDesignPort};
+ghost use Rattle.lf_wire_binding.specs.Binding.{bound_net, bound_nets, bound_pins, is_supply, pin_of_port, pins_of_design, pins_of_ports};
+ghost use Rattle.lf_wire_binding.specs.Names.{AreNamesOf, is_design_pin_named};
 ghost use Rattle.lf_wire_binding.specs.Rows.{AreRowsKnown, with_pins};
 ghost use Rattle.lf_wire_binding.specs.Texts.{facts_of};
 
 use crate::names::{NameTables, name_tables};
 use crate::rows::{NetRows, netlist_of, no_rows, push_pin, start_net};
-use crate::terms::bound_pin;
+use crate::terms::{component_pin, design_pin_named, pin_of_port};
 use crate::texts::DesignTexts;
-use lf_wire_length::{Netlist, NetlistError};
-use lf_wire_nets::{DesignNet, NetTerm};
+use lf_wire_length::{NetPin, Netlist, NetlistError};
+use lf_wire_nets::{DesignNet, DesignPort, NetTerm};
 use std::alloc::Global;
 
 /// The nets of a design, their pins bound to its cells.
@@ -21,6 +22,80 @@ pub struct BoundNets {
     pub netlist: Netlist,
     /// The number of supplies, which the netlist does not have.
     pub supplies: usize,
+}
+
+/// Appends a pin of the design at each of these ports to the last net.
+fn push_ports(rows: &mut NetRows, ports: &[DesignPort]) -> Result<(), NetlistError>
+    requires ports { All IsDesignPort ports.now }
+    requires known { AreRowsKnown rows.old }
+    requires net { 0 < length rows.old.netlist.nets }
+    ensures known { OnOk result (AreRowsKnown rows.new) }
+    ensures nets { OnOk result
+        (rows.new.netlist.nets ≡ with_pins (map pin_of_port ports.now) rows.old.netlist.nets) }
+{
+    for port in ports {
+        push_pin(rows, &pin_of_port(port))?;
+    }
+    Ok(())
+}
+
+/// Appends the pins of a pin of the design with these ports to the last net.
+#[tactic(auto, using(crate::proofs::NetLemmas::some_port, crate::proofs::NetLemmas::no_port))]
+fn bind_ports(rows: &mut NetRows, ports: &[DesignPort]) -> Result<(), NetlistError>
+    requires ports { All IsDesignPort ports.now }
+    requires known { AreRowsKnown rows.old }
+    requires net { 0 < length rows.old.netlist.nets }
+    ensures known { OnOk result (AreRowsKnown rows.new) }
+    ensures nets { OnOk result
+        (rows.new.netlist.nets ≡ with_pins (pins_of_ports ports.now) rows.old.netlist.nets) }
+{
+    if ports.is_empty() {
+        push_pin(rows, &NetPin::Unplaced)
+    } else {
+        push_ports(rows, ports)
+    }
+}
+
+/// Appends the pins of the pin of the design with this name to the last net.
+fn bind_design_pin(
+    texts: &DesignTexts,
+    tables: &NameTables,
+    rows: &mut NetRows,
+    name: &[u8],
+) -> Result<(), NetlistError>
+    requires tables { AreNamesOf (facts_of texts.now) tables.now }
+    requires range { AreDesignNets texts.now.nets.now }
+    requires known { AreRowsKnown rows.old }
+    requires net { 0 < length rows.old.netlist.nets }
+    ensures known { OnOk result (AreRowsKnown rows.new) }
+    ensures nets { OnOk result (rows.new.netlist.nets ≡ with_pins
+        (pins_of_design (find (is_design_pin_named name.now) texts.now.nets.now.pins)) rows.old.netlist.nets) }
+{
+    match design_pin_named(texts.nets.pins.as_slice(), &tables.pins, name) {
+        Some(pin) => bind_ports(rows, pin.ports()),
+        None => push_pin(rows, &NetPin::Unknown),
+    }
+}
+
+/// Appends the pins that this term denotes to the last net.
+fn bind_term(
+    texts: &DesignTexts,
+    tables: &NameTables,
+    rows: &mut NetRows,
+    term: &NetTerm,
+) -> Result<(), NetlistError>
+    requires tables { AreNamesOf (facts_of texts.now) tables.now }
+    requires range { AreDesignNets texts.now.nets.now }
+    requires known { AreRowsKnown rows.old }
+    requires net { 0 < length rows.old.netlist.nets }
+    ensures known { OnOk result (AreRowsKnown rows.new) }
+    ensures nets { OnOk result
+        (rows.new.netlist.nets ≡ with_pins (bound_pins (facts_of texts.now) term.now) rows.old.netlist.nets) }
+{
+    match term.component() {
+        Some(name) => push_pin(rows, &component_pin(texts, tables, name, term.pin())),
+        None => bind_design_pin(texts, tables, rows, term.pin()),
+    }
 }
 
 /// Appends the pins that these terms denote to the last net.
@@ -35,12 +110,11 @@ fn bind_terms(
     requires known { AreRowsKnown rows.old }
     requires net { 0 < length rows.old.netlist.nets }
     ensures known { OnOk result (AreRowsKnown rows.new) }
-    ensures nets { OnOk result
-        (rows.new.netlist.nets ≡ with_pins (map (bound_pin (facts_of texts.now)) terms.now) rows.old.netlist.nets) }
+    ensures nets { OnOk result (rows.new.netlist.nets
+        ≡ with_pins (flat_map (bound_pins (facts_of texts.now)) terms.now) rows.old.netlist.nets) }
 {
     for term in terms {
-        let pin = bound_pin(texts, tables, term);
-        push_pin(rows, &pin)?;
+        bind_term(texts, tables, rows, term)?;
     }
     Ok(())
 }
@@ -118,7 +192,8 @@ fn bind_all(
 /// - If several macros or pins have one name, the first is used.
 /// - A pin is unknown if the texts have no such component, no such pin of its macro, no rectangle
 ///   of that pin, or no such pin of the design.
-/// - A pin of the design without a placement is unplaced.
+/// - A pin of the design is once at each of its ports that are placed: at the middle of the port's
+///   shapes, or where it is placed if it has no shape. If none is placed, it is unplaced.
 ///
 /// `Err(OutOfMemory)` if an allocation fails. `Err(TooMany)` if a netlist cannot hold all nets, pins
 /// or rows.

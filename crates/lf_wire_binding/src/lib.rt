@@ -2,8 +2,8 @@
 //!
 //! A term of a net names a pin of a component, or a pin of the design. A pin of a movable cell is
 //! bound to the number of the cell, and to where the pin is in its macro. A pin of a FIXED or COVER
-//! component is bound to a point, and so is a pin of the design. A pin that the texts do not have is
-//! unknown (`specs/Binding.antt`). Supplies are not bound.
+//! component is bound to a point, and a pin of the design to a point for each of its ports. A pin
+//! that the texts do not have is unknown (`specs/Binding.antt`). Supplies are not bound.
 //!
 //! `bind_nets` returns a `Netlist` of `lf_wire_length`. Contracts see the list of its nets, each with
 //! the pins that its terms denote.

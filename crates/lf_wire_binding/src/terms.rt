@@ -3,13 +3,13 @@
 ghost use Rattle.std.specs.Prelude.{◌≡◌, ◌<◌, All, IfSome, Some, find, length, position, slice_get};
 ghost use Rattle.std.specs.Option.{option_copied};
 ghost use Rattle.lf_floorplan.specs.Boxes.{macro_of};
-ghost use Rattle.lf_def.specs.Ranges.{HasCoordinates, IsComponent, IsLocation};
+ghost use Rattle.lf_def.specs.Ranges.{IsComponent, IsLocation, IsRect};
 ghost use Rattle.lf_wire_length.specs.declared.pins.NetPin.TheVariants.{OfCell};
-ghost use Rattle.lf_wire_length.specs.Bounds.{IsOffsetPoint, IsPinInMacro};
+ghost use Rattle.lf_wire_length.specs.Bounds.{IsMiddlePoint, IsOffsetPoint, IsPinInMacro};
 ghost use Rattle.lf_wire_length.specs.Stored.{pin_of_cell};
-ghost use Rattle.lf_wire_nets.specs.Ranges.{AreDesignNets, IsDesignPin};
-ghost use Rattle.lf_wire_binding.specs.Binding.{IsBoundPin, bound_pin, doubled_point, fixed_point, is_frame_macro_named, location_of, macro_of_cell};
-ghost use Rattle.lf_wire_binding.specs.Binding.{offset_in_component, offset_in_macro, pin_at_offset, pin_at_point, pin_of_component, pin_of_design, pin_of_fixed};
+ghost use Rattle.lf_wire_nets.specs.Ranges.{IsDesignPin, IsDesignPort};
+ghost use Rattle.lf_wire_binding.specs.Binding.{IsBoundPin, fixed_point, is_frame_macro_named, location_of, macro_of_cell, middle_of_shape};
+ghost use Rattle.lf_wire_binding.specs.Binding.{offset_in_component, offset_in_macro, offset_of_port, pin_at_offset, pin_of_component, pin_of_fixed, pin_of_port};
 ghost use Rattle.lf_wire_binding.specs.FirstNames.{FindsFirst};
 ghost use Rattle.lf_wire_binding.specs.Names.{AreNamesOf, is_cell_named, is_design_pin_named, is_fixed_named};
 ghost use Rattle.lf_wire_binding.specs.Ranges.{IsLefMacro};
@@ -21,9 +21,9 @@ use crate::offsets::offset_in_macro;
 use crate::texts::DesignTexts;
 use lf_def::{Component, Location};
 use lf_floorplan::{Frame, Loaded, Macro, Place, mac_at};
-use lf_units::Point;
+use lf_units::{Point, Rect};
 use lf_wire_length::{HalfPoint, NetPin, PinOffset, point_of_cell_pin};
-use lf_wire_nets::{DesignPin, NetTerm};
+use lf_wire_nets::{DesignPin, DesignPort};
 
 /// Returns the macro of the cell of this number.
 fn macro_of_cell(loaded: &Loaded, number: usize) -> &Macro
@@ -191,7 +191,12 @@ fn fixed_pin_named(texts: &DesignTexts, tables: &NameTables, name: &[u8], pin: &
 }
 
 /// Returns the pin of a component with these names.
-fn component_pin(texts: &DesignTexts, tables: &NameTables, name: &[u8], pin: &[u8]) -> NetPin
+pub(crate) fn component_pin(
+    texts: &DesignTexts,
+    tables: &NameTables,
+    name: &[u8],
+    pin: &[u8],
+) -> NetPin
     requires { AreNamesOf (facts_of texts.now) tables.now }
     ensures in_range { IsBoundPin result }
     ensures is { result ≡ pin_of_component (facts_of texts.now) name.now pin.now
@@ -203,31 +208,45 @@ fn component_pin(texts: &DesignTexts, tables: &NameTables, name: &[u8], pin: &[u
     }
 }
 
-/// Returns the point in half database units.
-fn doubled_point(point: &Point) -> HalfPoint
-    requires { HasCoordinates point.now }
-    ensures in_range { IsOffsetPoint result }
-    ensures is { result ≡ doubled_point point.now }
+/// Returns the middle of a port's shapes in half database units, before the port is turned and
+/// placed. Without a shape it is the point that is placed.
+fn middle_of_shape(shape: &Option<Rect>) -> HalfPoint
+    requires { IfSome shape.now IsRect }
+    ensures in_range { IsMiddlePoint result }
+    ensures is { result ≡ middle_of_shape shape.now }
 {
-    let x = point.x + point.x;
-    let y = point.y + point.y;
-    HalfPoint { x, y }
-}
-
-/// Returns the pin of the design at the point of its first placement.
-fn point_pin(point: &Option<Point>) -> NetPin
-    requires { IfSome point.now (λ p. HasCoordinates p) }
-    ensures in_range { IsBoundPin result }
-    ensures is { result ≡ pin_at_point point.now }
-{
-    match point {
-        Some(point) => NetPin::Fixed(doubled_point(point)),
-        None => NetPin::Unplaced,
+    match shape {
+        Some(rect) => HalfPoint {
+            x: rect.x1 + rect.x2,
+            y: rect.y1 + rect.y2,
+        },
+        None => HalfPoint { x: 0, y: 0 },
     }
 }
 
+/// Returns the offset of a port from where it is placed: it is turned as a macro without extent.
+fn offset_of_port(port: &DesignPort) -> PinOffset
+    requires { IsDesignPort port.now }
+    ensures in_macro { IsPinInMacro result }
+    ensures is { result ≡ offset_of_port port.now }
+{
+    PinOffset {
+        size: Point { x: 0, y: 0 },
+        middle: middle_of_shape(&port.shape),
+    }
+}
+
+/// Returns the pin of the design at this port.
+pub(crate) fn pin_of_port(port: &DesignPort) -> NetPin
+    requires { IsDesignPort port.now }
+    ensures in_range { IsBoundPin result }
+    ensures is { result ≡ pin_of_port port.now }
+{
+    NetPin::Fixed(fixed_point(&port.at, &offset_of_port(port)))
+}
+
 /// Returns the first pin of the design with this name. `None` if there is no such pin.
-fn design_pin_named<'a, 't>(
+pub(crate) fn design_pin_named<'a, 't>(
     pins: &'a [DesignPin<'t>],
     names: &FirstNames,
     name: &[u8],
@@ -238,30 +257,4 @@ fn design_pin_named<'a, 't>(
     ensures in_range { IfSome result (λ p. IsDesignPin p.now) }
 {
     entry_named(pins, names, name)
-}
-
-/// Returns the pin of the design with this name.
-fn design_pin(texts: &DesignTexts, tables: &NameTables, name: &[u8]) -> NetPin
-    requires tables { AreNamesOf (facts_of texts.now) tables.now }
-    requires range { AreDesignNets texts.now.nets.now }
-    ensures in_range { IsBoundPin result }
-    ensures is { result ≡ pin_of_design (find (is_design_pin_named name.now) texts.now.nets.now.pins) }
-{
-    match design_pin_named(texts.nets.pins.as_slice(), &tables.pins, name) {
-        Some(pin) => point_pin(&pin.point()),
-        None => NetPin::Unknown,
-    }
-}
-
-/// Returns the pin that a term of a net denotes.
-pub(crate) fn bound_pin(texts: &DesignTexts, tables: &NameTables, term: &NetTerm) -> NetPin
-    requires tables { AreNamesOf (facts_of texts.now) tables.now }
-    requires range { AreDesignNets texts.now.nets.now }
-    ensures in_range { IsBoundPin result }
-    ensures is { result ≡ bound_pin (facts_of texts.now) term.now }
-{
-    match term.component() {
-        Some(name) => component_pin(texts, tables, name, term.pin()),
-        None => design_pin(texts, tables, term.pin()),
-    }
 }

@@ -1,16 +1,28 @@
 -- The ranges of the pins and nets of a DEF text.
 use Rattle.std.specs.Prelude.{ℕ, ◌≤◌, length, All, IfSome}
 use Rattle.lf_lex.specs.Reading.{IsName}
-use Rattle.lf_def.specs.Ranges.{HasCoordinates}
+use Rattle.lf_def.specs.Ranges.{IsLocation, IsRect}
 use Rattle.lf_wire_nets.specs.declared.design_pins.DesignPin.{DesignPin}
+use Rattle.lf_wire_nets.specs.declared.design_pins.DesignPort.{DesignPort}
+use Rattle.lf_wire_nets.specs.declared.design_pins.PinParts.{PinParts}
 use Rattle.lf_wire_nets.specs.declared.terms.NetTerm.{NetTerm}
 use Rattle.lf_wire_nets.specs.declared.nets.DesignNet.{DesignNet}
 use Rattle.lf_wire_nets.specs.declared.nets.NetParts.{NetParts}
 use Rattle.lf_wire_nets.specs.declared.contents.DesignNets.{DesignNets}
 
+pub record IsDesignPort (p : DesignPort) : Type 0 where
+  pub at : IsLocation p.at
+  pub shape : IfSome p.shape IsRect
+
 pub record IsDesignPin (p : DesignPin) : Type 0 where
   pub name : IsName p.name
-  pub point : IfSome p.point (λ q. HasCoordinates q)
+  pub ports : All IsDesignPort p.ports
+
+-- Holds for the parts of a pin that were read so far.
+pub record ArePinParts (p : PinParts) : Type 0 where
+  pub ports : All IsDesignPort p.ports
+  pub at : IfSome p.at IsLocation
+  pub shape : IfSome p.shape IsRect
 
 pub record IsNetTerm (t : NetTerm) : Type 0 where
   pub component : IfSome t.component (λ n. IsName n)

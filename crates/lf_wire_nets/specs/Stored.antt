@@ -1,11 +1,11 @@
 -- What contracts see of pins and terms whose names are borrowed from a text.
 use Rattle.std.specs.Prelude.{ℕ, List, Option}
-use Rattle.lf_units.specs.declared.geometry.Point.{Point}
+use Rattle.lf_wire_nets.specs.declared.design_pins.DesignPort.{DesignPort}
 
--- A pin of the design (DEF PINS): its name, and the point of its first placement, if it has one.
+-- A pin of the design (DEF PINS): its name, and its ports that are placed, in the order of the text.
 pub record DesignPinFacts : Type 0 where
   pub name : List ℕ
-  pub point : Option Point
+  pub ports : List DesignPort
 
 -- A term of a net (DEF NETS): the name of a component, or `None` for a pin of the design, and the
 -- name of the pin.

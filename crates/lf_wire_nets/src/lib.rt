@@ -3,14 +3,13 @@
 //! It reads what wires need and `lf_def` skips: the sections PINS and NETS. All other sections and
 //! statements are skipped. Coordinates are in database units. Names are borrowed from the text.
 //!
-//! A contract sees of a `DesignPin` its name and its point, and of a `NetTerm` the names of its
+//! A contract sees of a `DesignPin` its name and its ports, and of a `NetTerm` the names of its
 //! component and of its pin.
 //!
 //! Used by `lf_wire_binding` and `lf_task_wires`.
 //!
 //! Modules, in reading order:
 //!
-//! - `coordinates`: points and orientations
 //! - `design_pins`: the pins of the design
 //! - `terms`: the terms of nets
 //! - `nets`: the nets
@@ -34,7 +33,6 @@
 #![tactic(auto)]
 
 mod contents;
-mod coordinates;
 mod design_pins;
 mod nets;
 mod read;
@@ -42,7 +40,7 @@ mod sections;
 mod terms;
 
 pub use contents::DesignNets;
-pub use design_pins::DesignPin;
+pub use design_pins::{DesignPin, DesignPort};
 pub use nets::DesignNet;
 pub use read::read_nets;
 pub use terms::NetTerm;

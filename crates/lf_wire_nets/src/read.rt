@@ -3,35 +3,18 @@
 ghost use Rattle.std.specs.Prelude.{◌≡◌, Ok, IfOk, IfErr};
 ghost use Rattle.lf_lex.specs.Tokens.{lexeme};
 ghost use Rattle.lf_lex.specs.Reading.{Reads, ReadsOn, Fails, turn};
-ghost use Rattle.lf_def.specs.Document.{is_skipped_section as is_skipped};
 ghost use Rattle.lf_wire_nets.specs.NetTexts as grammar;
 ghost use Rattle.lf_wire_nets.specs.Ranges.{AreDesignNets};
 
 use crate::contents::DesignNets;
 use crate::sections::{nets_section, pins_section};
+use lf_def::is_skipped_section;
 use lf_lex::{
     Lexer, LoadFault, ReadError, Token, end_name, is_token, skip_to_end, skip_to_semicolon,
     skip_to_word, token,
 };
 use lf_units::Sequence;
 use std::alloc::Global;
-
-/// True if `lf_def` skips the section up to END and its keyword.
-fn is_skipped_section(token: &Token) -> bool
-    ensures { result ≡ is_skipped (lexeme token.now) }
-{
-    is_token(b"PROPERTYDEFINITIONS", token)
-        || is_token(b"VIAS", token)
-        || is_token(b"STYLES", token)
-        || is_token(b"NONDEFAULTRULES", token)
-        || is_token(b"PINS", token)
-        || is_token(b"PINPROPERTIES", token)
-        || is_token(b"SLOTS", token)
-        || is_token(b"FILLS", token)
-        || is_token(b"SPECIALNETS", token)
-        || is_token(b"NETS", token)
-        || is_token(b"SCANCHAINS", token)
-}
 
 /// True if the section is skipped up to END and its keyword.
 fn is_other_section(token: &Token) -> bool
@@ -78,7 +61,7 @@ fn statement_from<'a>(
         return Ok(false);
     }
     if is_token(b"PINS", token) {
-        pins_section(lexer, &mut nets.pins)?;
+        pins_section(alloc, lexer, &mut nets.pins)?;
     } else if is_token(b"NETS", token) {
         nets_section(alloc, lexer, nets)?;
     } else {

@@ -20,6 +20,7 @@ use std::alloc::Global;
 /// Reads a pin, or END PINS. Returns whether more pins follow.
 #[tactic(auto, unfolding(lf_def::specs::Entries::entry_or_end))]
 fn pin_or_end<'a>(
+    alloc: Global,
     lexer: &mut Lexer<'a>,
     pins: &mut Sequence<DesignPin<'a>>,
 ) -> Result<bool, ReadError>
@@ -30,7 +31,7 @@ fn pin_or_end<'a>(
 {
     let token = token(lexer)?;
     if is_token(b"-", &token) {
-        let pin = design_pin(lexer)?;
+        let pin = design_pin(alloc, lexer)?;
         pins.push(pin)?;
         return Ok(true);
     }
@@ -43,19 +44,24 @@ fn pin_or_end<'a>(
 
 /// Reads the pins of a section, and its END. Pins borrow the text, so this loop does not use
 /// `read_block`.
-fn all_pins<'a>(lexer: &mut Lexer<'a>, pins: &mut Sequence<DesignPin<'a>>) -> Result<(), ReadError>
+fn all_pins<'a>(
+    alloc: Global,
+    lexer: &mut Lexer<'a>,
+    pins: &mut Sequence<DesignPin<'a>>,
+) -> Result<(), ReadError>
     requires range { All IsDesignPin pins.old }
     ensures read { Reads (λ _. pins.new) result
         (block (entry_or_end (codes "PINS") pin_grammar.design_pin) pins.old) lexer.old lexer.new }
     ensures range { All IsDesignPin pins.new }
 {
-    while pin_or_end(lexer, pins)? {}
+    while pin_or_end(alloc, lexer, pins)? {}
     Ok(())
 }
 
 /// Reads a PINS section, after its keyword, and appends its pins.
 #[tactic(auto, unfolding(lf_def::specs::Entries::section))]
 pub(crate) fn pins_section<'a>(
+    alloc: Global,
     lexer: &mut Lexer<'a>,
     pins: &mut Sequence<DesignPin<'a>>,
 ) -> Result<(), ReadError>
@@ -65,7 +71,7 @@ pub(crate) fn pins_section<'a>(
     ensures range { All IsDesignPin pins.new }
 {
     skip_to_semicolon(lexer)?;
-    all_pins(lexer, pins)
+    all_pins(alloc, lexer, pins)
 }
 
 /// Reads a net, after its minus, and appends it. `Err(TooMany)` at the 16,777,217th net, or at a

@@ -12,7 +12,6 @@
 //!
 //! Modules, in reading order:
 //!
-//! - `lengths`: lengths and points
 //! - `boxes`: the boxes of pins
 //! - `shapes`: the rectangles and polygons of a port
 //! - `pins`: the pins of macros
@@ -32,7 +31,6 @@
 #![tactic(auto)]
 
 mod boxes;
-mod lengths;
 mod macros;
 mod pins;
 mod read;

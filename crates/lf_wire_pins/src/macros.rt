@@ -3,15 +3,12 @@
 ghost use Rattle.std.specs.Prelude.{◌≡◌, All, IfOk};
 ghost use Rattle.lf_lex.specs.Tokens.{lexeme};
 ghost use Rattle.lf_lex.specs.Reading.{Reads, ReadsOn, block, turn};
-ghost use Rattle.lf_lef.specs.Macros as macros;
 ghost use Rattle.lf_wire_pins.specs.MacroPins as grammar;
 ghost use Rattle.lf_wire_pins.specs.MacroPins.{IsMacroPin, HasMacroPins};
 
 use crate::pins::{MacroPin, read_pin};
-use lf_lex::{
-    Block, Lexer, ReadError, Token, end_name, is_token, name, read_block, skip_to_end,
-    skip_to_semicolon, token,
-};
+use lf_lef::skip_macro_statement;
+use lf_lex::{Lexer, ReadError, Token, end_name, is_token, name, token};
 use lf_units::Sequence;
 use std::alloc::Global;
 use std::marker::Model;
@@ -48,44 +45,6 @@ impl<'a> MacroPins<'a> {
     }
 }
 
-/// Skips the statements of OBS or DENSITY.
-#[derive(Drop)]
-struct SkippedStatements;
-
-impl Block for SkippedStatements {
-    type State = ();
-
-    ghost statement = { λ _. macros.passed_statement };
-
-    #[tactic(auto, unfolding(lf_lef::specs::Macros::passed_statement))]
-    fn turn(&self, lexer: &mut Lexer, _state: &mut ()) -> Result<bool, ReadError> {
-        let token = token(lexer)?;
-        if is_token(b"END", &token) {
-            return Ok(false);
-        }
-        if !is_token(b";", &token) {
-            skip_to_semicolon(lexer)?;
-        }
-        Ok(true)
-    }
-}
-
-/// Skips a statement of a macro, after its first token.
-#[tactic(auto, unfolding(lf_lef::specs::Macros::skip_lef_from))]
-fn skip_from(lexer: &mut Lexer, token: &Token) -> Result<(), ReadError>
-    ensures { ReadsOn (λ x. x) result (macros.skip_lef_from (lexeme token.now)) lexer.old lexer.new }
-{
-    if is_token(b"OBS", token) || is_token(b"DENSITY", token) {
-        read_block(lexer, &SkippedStatements, &mut ())
-    } else if is_token(b"TIMING", token) {
-        skip_to_end(lexer, b"TIMING")
-    } else if !is_token(b";", token) {
-        skip_to_semicolon(lexer)
-    } else {
-        Ok(())
-    }
-}
-
 /// Reads a pin, after its keyword, and appends it.
 #[tactic(auto, unfolding(crate::specs::MacroPins::with_macro_pin))]
 fn add_pin<'a>(lexer: &mut Lexer<'a>, pins: &mut Sequence<MacroPin<'a>>) -> Result<(), ReadError>
@@ -118,7 +77,7 @@ fn pins_statement_from<'a>(
     if is_token(b"PIN", token) {
         add_pin(lexer, pins)?;
     } else {
-        skip_from(lexer, token)?;
+        skip_macro_statement(lexer, token)?;
     }
     Ok(true)
 }

@@ -3,68 +3,15 @@
 ghost use Rattle.std.specs.Prelude.{◌≡◌, [], Ok, All, IfErr, OnOk};
 ghost use Rattle.lf_lex.specs.Tokens.{lexeme};
 ghost use Rattle.lf_lex.specs.Reading.{Reads, ReadsOn, ReadsTurn, Fails, turn};
-ghost use Rattle.lf_lef.specs.Library as library;
 ghost use Rattle.lf_wire_pins.specs.MacroPins.{HasMacroPins};
 ghost use Rattle.lf_wire_pins.specs.LibraryPins as grammar;
 
 use crate::macros::{MacroPins, macro_pins};
-use lf_lex::{
-    Lexer, LoadFault, ReadError, Token, end_name, is_token, name, next, skip_to_end,
-    skip_to_semicolon, skip_to_word,
-};
+use lf_lef::{skip_lef_statement, skip_to_named_end};
+use lf_lex::{Lexer, LoadFault, ReadError, Token, end_name, is_token, next};
 use lf_units::Sequence;
 use std::alloc::Global;
 use std::marker::Model;
-
-/// True if a statement with this keyword is skipped up to END and the name that follows the
-/// keyword.
-fn is_named(token: &Token) -> bool
-    ensures { result ≡ library.is_named (lexeme token.now) }
-{
-    is_token(b"LAYER", token)
-        || is_token(b"VIA", token)
-        || is_token(b"VIARULE", token)
-        || is_token(b"NONDEFAULTRULE", token)
-        || is_token(b"ARRAY", token)
-}
-
-/// True if a statement with this keyword is skipped up to END and the keyword.
-fn is_group(token: &Token) -> bool
-    ensures { result ≡ library.is_group (lexeme token.now) }
-{
-    is_token(b"UNITS", token)
-        || is_token(b"PROPERTYDEFINITIONS", token)
-        || is_token(b"SPACING", token)
-        || is_token(b"IRDROP", token)
-        || is_token(b"NOISETABLE", token)
-        || is_token(b"CORRECTIONTABLE", token)
-}
-
-#[tactic(auto, unfolding(lf_lef::specs::Library::to_named_end))]
-fn skip_to_named_end(lexer: &mut Lexer) -> Result<(), ReadError>
-    ensures { Reads (λ x. x) result library.to_named_end lexer.old lexer.new }
-{
-    let name = name(lexer)?;
-    skip_to_end(lexer, name.text)
-}
-
-/// Skips a statement other than SITE and MACRO, after its first token.
-#[tactic(auto, unfolding(lf_lef::specs::Library::skip_lef_from))]
-fn skip_from(lexer: &mut Lexer, token: &Token) -> Result<(), ReadError>
-    ensures { ReadsOn (λ x. x) result (library.skip_lef_from (lexeme token.now)) lexer.old lexer.new }
-{
-    if is_named(token) {
-        skip_to_named_end(lexer)
-    } else if is_group(token) {
-        skip_to_end(lexer, token.text)
-    } else if is_token(b"BEGINEXT", token) {
-        skip_to_word(lexer, b"ENDEXT")
-    } else if !is_token(b";", token) {
-        skip_to_semicolon(lexer)
-    } else {
-        Ok(())
-    }
-}
 
 /// Skips a statement other than MACRO, after its first token.
 #[tactic(auto, unfolding(crate::specs::LibraryPins::skip_site_or))]
@@ -74,7 +21,7 @@ fn skip_site_or(lexer: &mut Lexer, token: &Token) -> Result<(), ReadError>
     if is_token(b"SITE", token) {
         skip_to_named_end(lexer)
     } else {
-        skip_from(lexer, token)
+        skip_lef_statement(lexer, token)
     }
 }
 

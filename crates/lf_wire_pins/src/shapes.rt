@@ -3,35 +3,13 @@
 ghost use Rattle.std.specs.Prelude.{IfOk};
 ghost use Rattle.lf_lex.specs.Tokens.{lexeme};
 ghost use Rattle.lf_lex.specs.Reading.{Reads, ReadsOn, turn};
-ghost use Rattle.lf_lef.specs.Pins as pins;
 ghost use Rattle.lf_wire_pins.specs.Boxes.{IsShapeBox, IsShapeBoxIfAny};
 ghost use Rattle.lf_wire_pins.specs.Shapes as grammar;
 
 use crate::boxes::{box_around, point_box, widen_box};
-use crate::lengths::{micros, point, point_from};
+use lf_lef::{past_iterate, past_mask, point, point_from};
 use lf_lex::{Block, Lexer, ReadError, Token, is_token, read_block, skip_to_semicolon, token};
 use lf_units::Rect;
-
-#[tactic(auto, unfolding(lf_lef::specs::Pins::past_mask))]
-fn past_mask<'a>(lexer: &mut Lexer<'a>, first: Token<'a>) -> Result<Token<'a>, ReadError>
-    ensures { ReadsOn lexeme result (pins.past_mask (lexeme first.entry)) lexer.old lexer.new }
-{
-    if !is_token(b"MASK", &first) {
-        return Ok(first);
-    }
-    micros(lexer)?;
-    token(lexer)
-}
-
-#[tactic(auto, unfolding(lf_lef::specs::Pins::past_iterate))]
-fn past_iterate<'a>(lexer: &mut Lexer<'a>, first: Token<'a>) -> Result<Token<'a>, ReadError>
-    ensures { ReadsOn lexeme result (pins.past_iterate (lexeme first.entry)) lexer.old lexer.new }
-{
-    if !is_token(b"ITERATE", &first) {
-        return Ok(first);
-    }
-    token(lexer)
-}
 
 /// Reads `[MASK n] [ITERATE] pt` of a shape: the box with this corner alone.
 #[tactic(auto, unfolding(crate::specs::Shapes::shape_corner))]

@@ -51,6 +51,10 @@ class Macro(NamedTuple):
     pins: Mapping[bytes, Point]
 
 
+# A port of a pin of the design is turned as a macro without extent.
+_PORT = Macro(0, 0, {})
+
+
 class Place(NamedTuple):
     """The lower left corner of a component's box in database units, and its orientation."""
 
@@ -76,10 +80,9 @@ class Netlist:
                 self.macro_names[entry.name] = entry.words[1] if len(entry.words) > 1 else b""
                 if place := _placed(entry):
                     self.places[entry.name] = place
-        self._pins: dict[bytes, Point] = {}
+        self._pins: dict[bytes, list[Point]] = {}
         for entry in design.entries(b"PINS"):
-            if place := _placed(entry):
-                self._pins.setdefault(entry.name, (2 * place.x, 2 * place.y))
+            self._pins.setdefault(entry.name, _points_of_ports(entry))
         names = {*self.macro_names.values()}
         self.macros: dict[bytes, Macro] = {}
         for text in libraries:
@@ -91,29 +94,31 @@ class Netlist:
         """Returns the macro of a component, or None if the texts do not have it."""
         return self.macros.get(self.macro_names.get(component, b""))
 
-    def point(self, pin: Pin) -> Point | None:
-        """Returns the point of a pin, or None if it does not count: something is missing, or has no place."""
+    def points(self, pin: Pin) -> list[Point]:
+        """Returns the points of a pin: one for each placed port of a pin of the design, and one for a pin of a component.
+
+        The list is empty if the pin does not count: something is missing, or has no place.
+        """
         if pin.component is None:
-            return self._pins.get(pin.name)
+            return self._pins.get(pin.name, [])
         macro, place = self.macro_of(pin.component), self.places.get(pin.component)
         if macro is None or place is None or pin.name not in macro.pins:
-            return None
-        x, y = turned(macro.pins[pin.name], macro, place.orient)
-        return 2 * place.x + x, 2 * place.y + y
+            return []
+        return [_placed_point(macro.pins[pin.name], macro, place)]
 
-    def point_or_middle(self, pin: Pin) -> Point | None:
-        """Returns the point of a pin, else the middle of its component if that has a place."""
-        if (point := self.point(pin)) is not None or pin.component is None:
-            return point
+    def points_or_middle(self, pin: Pin) -> list[Point]:
+        """Returns the points of a pin; if it has none, the middle of its component if that has a place."""
+        if (points := self.points(pin)) or pin.component is None:
+            return points
         macro, place = self.macro_of(pin.component), self.places.get(pin.component)
         if macro is None or place is None:
-            return None
+            return []
         wide, high = (macro.height, macro.width) if place.orient in _SIDEWAYS else (macro.width, macro.height)
-        return 2 * place.x + wide // 2, 2 * place.y + high // 2
+        return [(2 * place.x + wide // 2, 2 * place.y + high // 2)]
 
     def length(self, net: Net) -> int:
         """Returns the length of a net in half database units."""
-        points = [point for pin in net.pins if (point := self.point(pin)) is not None]
+        points = [point for pin in net.pins for point in self.points(pin)]
         if not points:
             return 0
         xs, ys = zip(*points)
@@ -165,15 +170,58 @@ def _pins(entry: Entry) -> Iterator[Pin]:
                 yield Pin(None if words[0] == _DESIGN else words[0], words[1])
 
 
-def _placed(entry: Entry) -> Place | None:
-    """The place in the first `+ PLACED`, `FIXED` or `COVER` of a component or a pin; None if it has none."""
+def _clauses(entry: Entry) -> Iterator[list[bytes]]:
+    """Yields the words of an entry's clauses, each without its `+`."""
     words = entry.words
-    for at in range(1, len(words) - 6):
-        if words[at] == b"+" and words[at + 1] in _PLACEMENTS and words[at + 2] == b"(":
-            if _NUMBER.fullmatch(words[at + 3]) and _NUMBER.fullmatch(words[at + 4]):
-                x, y = (int(Decimal(word.decode())) for word in words[at + 3 : at + 5])
-                return Place(x, y, words[at + 6])
+    starts = [at for at, word in enumerate(words) if word == b"+"]
+    for start, stop in zip(starts, [*starts[1:], len(words)]):
+        yield words[start + 1 : stop]
+
+
+def _corner(words: list[bytes]) -> Point | None:
+    """The point whose coordinates these words begin with, or None."""
+    if len(words) < 2 or not all(map(_NUMBER.fullmatch, words[:2])):
+        return None
+    return int(Decimal(words[0].decode())), int(Decimal(words[1].decode()))
+
+
+def _place_in(clause: list[bytes]) -> Place | None:
+    """The place in a clause of a component or a pin; None unless it is PLACED, FIXED or COVER."""
+    if len(clause) > 5 and clause[0] in _PLACEMENTS and clause[1] == b"(" and (at := _corner(clause[2:])):
+        return Place(*at, clause[5])
     return None
+
+
+def _placed(entry: Entry) -> Place | None:
+    """The place in the first clause of a component that has one; None if none has."""
+    return next(filter(None, map(_place_in, _clauses(entry))), None)
+
+
+def _placed_point(point: Point, macro: Macro, place: Place) -> Point:
+    """The point of a design that a point of a macro is at, if the macro is at this place."""
+    x, y = turned(point, macro, place.orient)
+    return 2 * place.x + x, 2 * place.y + y
+
+
+def _points_of_ports(entry: Entry) -> list[Point]:
+    """The points of a pin of the design, one for each of its ports that is placed: the middle of the least box around
+    the port's LAYER and POLYGON clauses, or where it is placed if it has none."""
+    found: list[Point] = []
+    place: Place | None = None
+    corners: list[Point] = []
+    for clause in [*_clauses(entry), [b"PORT"]]:
+        if clause[:1] == [b"PORT"]:
+            if place:
+                xs, ys = zip(*corners or [(0, 0)])
+                middle = min(xs) + max(xs), min(ys) + max(ys)
+                found.append(_placed_point(middle, _PORT, place))
+            place, corners = None, []
+        elif clause[:1] in ([b"LAYER"], [b"POLYGON"]):
+            starts = [at for at, word in enumerate(clause) if word == b"("]
+            corners += filter(None, (_corner(clause[at + 1 :]) for at in starts))
+        else:
+            place = place or _place_in(clause)
+    return found
 
 
 def _macro(words: list[bytes], units: int) -> Macro:

@@ -76,7 +76,7 @@ def _target(netlist: Netlist, nets: list[Net], name: bytes) -> tuple[Point | Non
     ys: list[int] = []
     for net in nets:
         others = [pin for pin in net.pins if pin.component != name]
-        points = [point for pin in others if (point := netlist.point_or_middle(pin)) is not None]
+        points = [point for pin in others for point in netlist.points_or_middle(pin)]
         if points:
             x, y = _own_point(macro, [pin for pin in net.pins if pin.component == name])
             xs += [min(at for at, _ in points) - x, max(at for at, _ in points) - x]

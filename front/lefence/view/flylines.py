@@ -19,7 +19,8 @@ def nets_of_page(
 ) -> tuple[list[list[object]], str]:
     """Returns the nets of a page's cells, which are given with their numbers, and a note on nets that are left out.
 
-    A net has its name, then for each pin its point in database units and the number of its cell, or -1.
+    A net has its name, then for each point of its pins the point in database units and the number of the pin's cell,
+    or -1.
     """
     if not cells or design.stat().st_size > MOST_BYTES:
         return [], "The nets are not read: the DEF file is too large." if cells else ""
@@ -36,7 +37,7 @@ def nets_of_page(
             continue
         words: list[object] = [net.name.decode("ascii", "backslashreplace")]
         for pin in net.pins:
-            if (point := netlist.point_or_middle(pin)) is not None:
+            for point in netlist.points_or_middle(pin):
                 words += [point[0] / 2, point[1] / 2, names.get(pin.component or b"", -1)]
         # (a net of one pin leads nowhere)
         if len(words) > 4:

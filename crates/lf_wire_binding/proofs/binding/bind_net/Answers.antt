@@ -1,6 +1,7 @@
-use Rattle.std.proofs.Common.{[], map, ap₂, ◌∙◌, arith}
+use Rattle.std.proofs.Common.{[], ap₂, ◌∙◌, arith}
+use Rattle.std.specs.List.{flat_map}
 use Rattle.std.proofs.lemmas.List.{length_push}
-use Rattle.lf_wire_binding.specs.Binding.{bound_pin}
+use Rattle.lf_wire_binding.specs.Binding.{bound_pins}
 use Rattle.lf_wire_binding.specs.Rows.{with_pins}
 use Rattle.lf_wire_binding.specs.Texts.{facts_of}
 use Rattle.lf_wire_binding.proofs.NetLemmas.{pins_last}
@@ -11,7 +12,7 @@ bind_terms-requires-clause-net c = rw c.in_ok-start_net.ensures.nets (omega (ari
 
 pub returns-clause-nets : goal.returns-clause-nets
 returns-clause-nets c =
-    let bind = bound_pin (facts_of c.args.texts.now) in
+    let bind = bound_pins (facts_of c.args.texts.now) in
     c.in_ok-bind_terms.ensures.nets
-    ∙ ap₂ (λ terms nets. with_pins (map bind terms) nets) c.as_slice.ensures c.in_ok-start_net.ensures.nets
-    ∙ pins_last (map bind c.args.net.now.terms) c.args.rows.now.netlist.nets []
+    ∙ ap₂ (λ terms nets. with_pins (flat_map bind terms) nets) c.as_slice.ensures c.in_ok-start_net.ensures.nets
+    ∙ pins_last (flat_map bind c.args.net.now.terms) c.args.rows.now.netlist.nets []
